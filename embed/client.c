@@ -204,10 +204,12 @@ static void act(void)
     static nb_event event;
     static nb_argument arguments[MOST_ARGUMENTS];
     nb_status status;
+    uint32_t is_kept;
     while ((status = nb_client_next_event(&session, &event, arguments, MOST_ARGUMENTS, bytes, sizeof bytes)) == NB_OK) {
         handle(&event, arguments);
-        status =
-            nb_is_null(&event.created) ? nb_client_finish_event(&session) : nb_client_finish_event_with(&session, 0);
+        /* The data stand for nothing, so nothing has to be freed if they are not kept. */
+        status = nb_is_null(&event.created) ? nb_client_finish_event(&session)
+                                            : nb_client_finish_event_with(&session, 0, &is_kept);
         if (status != NB_OK)
             fail(nb_status_text(status));
     }

@@ -504,7 +504,7 @@ static void add_client(int socket)
 static void read_from(struct client *client)
 {
     size_t count;
-    ssize_t came = socket_receive(client->socket, bytes, sizeof bytes, descriptors, &count);
+    ssize_t came = socket_receive(client->socket, bytes, NB_MOST_BYTES, descriptors, &count);
     if (came == -EAGAIN)
         return;
     if (came == 0)

@@ -18,28 +18,33 @@
  * Places. A session lives in a *place*: an nb_server or nb_client of yours, which has zeros in it at first (NB_EMPTY).
  * The session's memory comes from malloc and goes back by free; nb_server_end and nb_client_end give all of it back. A
  * place may stand anywhere, and may be moved between calls, but it must not be copied while it is in use: two places
- * with one session would free it twice. A place that is empty, ended, or in a call answers NB_NO_SESSION to each call
- * but the one that makes a session.
+ * with one session would free it twice. A place that is empty or ended answers NB_NO_SESSION to each call but the one
+ * that makes a session.
  *
- * Threads. A place is for one thread at a time: any thread may call, if no two calls of one place overlap in time.
- * Different places have nothing to do with each other. The library has no lock and no global variable.
+ * Threads. A place is for one thread at a time: any thread may call, if a lock of yours, or the start or end of a
+ * thread, lies between two calls of one place. Different places have nothing to do with each other. The library has no
+ * lock and no global variable.
  *
  * Memory. What a pointer names is lent for the call: nothing is kept of it when the call returns, and nothing in it is
  * allocated or freed. A *slice* is a pointer with how many elements it has; a slice without elements may have any
- * pointer, NULL too. Every other pointer has to name what its type says. Memory that a call writes must overlap no
- * other memory of the same call.
+ * pointer, NULL too. Every other pointer has to name what its type says, aligned for it. Memory that a call only writes
+ * need not be initialised. It must overlap no other memory of the same call: so nb_server_create_object(&server,
+ * &id.client, .., &id) is wrong, and nb_client_send_request(&client, &request, .., &request.sender) too.
  *
  * Answers. Each call answers a status. What else it answers is written through its last parameters, and is to be read
- * only if the status is NB_OK, or NB_TOO_SMALL, or NB_BAD_TABLE where that says so. Statuses stand in the order in
- * which they are looked for: if several reasons hold, the first one is answered. NB_NO_SESSION is the first of each
- * call and not listed again. After every status but NB_OK the session is as it was, unless the call says otherwise.
+ * only if the status is NB_OK, or another where the call says so. Statuses stand in the order in which they are looked
+ * for: if several reasons hold, the first one is answered. NB_NO_SESSION is the first of each call that needs a
+ * session, and not listed again. NB_OUT_OF_MEMORY may come before any that is listed. After every status but NB_OK the
+ * session is as it was, unless the call says otherwise.
  *
- * Ids. Ids are plain values: copy, keep, compare, and throw them away as you like. An id that names nothing (any more),
- * or was never handed out, is refused with NB_INVALID_ID; it never names another object later. So keep an id rather
- * than a pointer to what you made for it, and ask for the data by the id.
+ * Ids. Ids are plain values: copy, keep, and throw them away as you like. Compare them by nb_same_client,
+ * nb_same_global and nb_same_object, since the structs have unused bytes. An id that names nothing (any more), or was
+ * never handed out, never names another object later: calls refuse it with NB_INVALID_ID or do nothing. So keep an id
+ * rather than a pointer to what you made for it, and ask for the data by the id.
  *
  * Data. Each client, object and global may have a number of yours: `data`, 64 bits, often a pointer to a struct of
- * yours. A session never looks at it. Where `data` is answered for an object that has none, it is 0.
+ * yours. A session never looks at it: 0 is data like any other, and an object that was given 0 is noted, too. Where
+ * `data` is answered for an object that has none, it is 0.
  *
  * Descriptors. Each descriptor has one owner at a time.
  *
@@ -47,14 +52,23 @@
  *     session's if the status is NB_OK, and else stays yours.
  *   - The session hands each one back exactly once: as an argument of an action or event, by to_send and sent, by
  *     nb_server_next_gone, or by next_dropped. It is yours then: close it when you need it no more.
+ *   - Between to_send and sent make no other call for that client, and no nb_server_cleanup; of a client's session no
+ *     other call at all. sent counts all descriptors that wait as sent, and another call may have added some.
  *   - nb_server_end and nb_client_end forget those that are left. So before the end kill all clients, clean up, and
- *     empty next_gone and next_dropped. Of a client's session: nb_client_receive_failed, nb_client_next_event until
- *     NB_FAILED, and nb_client_next_dropped until NB_WOULD_BLOCK.
+ *     empty next_gone and next_dropped. Of a client's session: finish the event that is open, call
+ *     nb_client_receive_failed, take and finish events until NB_FAILED, and empty nb_client_next_dropped.
  *   - Actions and events that you do not care for may have descriptors, too. Close them.
  *
- * What a C program must not do: copy a place that is in use; call one place from two threads at once; pass a pointer
- * that names no memory, or a count above what is there; let memory that is written overlap other memory of the call;
- * write into a place. The library cannot see these. All else that a program may do wrong is answered with a status.
+ * What a C program must not do:
+ *
+ *   - use a place that never had zeros in it, write into a place, or copy one that is in use;
+ *   - call one place from two threads at once, or any from a signal handler, or from the forked child of a process that
+ *     has other threads;
+ *   - pass a pointer that names no memory, or a count above what is there;
+ *   - let memory that is written overlap other memory of the call;
+ *   - bring a malloc, realloc and free that are not of one allocator.
+ *
+ * The library cannot see these. Ids that are stale or made up, and structs with anything in them, are safe.
  *
  * Link with -lnumbyroga, or with libnumbyroga.a. It needs the C library alone. */
 #ifndef NUMBYROGA_H
@@ -94,7 +108,7 @@ typedef uint32_t nb_status;
 
 enum {
     NB_OK = 0,
-    NB_NO_SESSION = 1,    /* the place is empty, or in a call */
+    NB_NO_SESSION = 1,    /* the place is empty */
     NB_IN_USE = 2,        /* the place has a session already */
     NB_OUT_OF_MEMORY = 3, /* malloc refused */
     NB_WOULD_BLOCK = 4,   /* nothing more is there now */
@@ -106,13 +120,13 @@ enum {
     NB_TOO_MANY_DESCRIPTORS = 9, /* more than NB_MOST_DESCRIPTORS would wait */
     NB_CLOSED = 10,              /* the client is killed, or the connection has ended */
     NB_PROTOCOL_ERROR = 11,      /* the bytes are no message that the other side may send */
-    NB_TOO_BIG = 12,             /* a message is longer than a message, or than the buffer, may be */
-    NB_IO_ERROR = 13,            /* the socket failed, as the host told the session */
-    NB_FAILED = 14,              /* a client's session has an error: nb_client_last_error */
-    NB_OPEN = 15,                /* an action, or event, was handed out and is not finished */
-    NB_NOT_OPEN = 16,            /* no action, or event, is open */
-    NB_WRONG_KIND = 17,          /* a request is finished as a bind, or a bind as a request */
-    NB_MISSING_DATA = 18,        /* an object is made, and no data are given for it */
+    NB_TOO_BIG = 12,      /* a message has more than 65535 bytes, or does not fit into the buffer; in nb_error alone */
+    NB_IO_ERROR = 13,     /* the socket failed, as the host told the session */
+    NB_FAILED = 14,       /* a client's session has an error: nb_client_last_error */
+    NB_OPEN = 15,         /* an action, or event, was handed out and is not finished */
+    NB_NOT_OPEN = 16,     /* no action, or event, is open */
+    NB_WRONG_KIND = 17,   /* a request is finished as a bind, or a bind as a request */
+    NB_MISSING_DATA = 18, /* an object is made, and no data are given for it */
     NB_UNEXPECTED_DATA = 19,     /* no object is made, and data are given */
     NB_UNKNOWN_OPCODE = 20,      /* the interface has no such event, or request */
     NB_BAD_SIGNATURE = 21,       /* the arguments are not those of the message: their number, or the kind of one */
@@ -208,11 +222,11 @@ typedef struct {
 
 /* ======== The table of interfaces */
 
-/* A table is four slices; embed/scan makes them from protocol XML files. The rows of interfaces stand in order, and
- * have the numbers 4, 5, .. (NB_INTERFACE_FIRST). The messages of the first interface stand first: its requests in
- * order, then its events; then those of the next one. In the same way the arguments of all messages stand behind each
- * other. Names are ranges of the text, in UTF-8. `wl_display`, `wl_registry` and `wl_callback` are in each table
- * beforehand, with these numbers: */
+/* A table is four slices; numbyroga-scan (embed/scan) makes them from protocol XML files. The rows of interfaces stand
+ * in order, and have the numbers 4, 5, .. (NB_INTERFACE_FIRST). The messages of the first interface stand first: its
+ * requests in order, then its events; then those of the next one. In the same way the arguments of all messages stand
+ * behind each other. Names are ranges of the text, in UTF-8. `wl_display`, `wl_registry` and `wl_callback` are in each
+ * table beforehand, with these numbers: */
 enum {
     NB_INTERFACE_ANY = 0, /* no interface: an object argument that may be of any */
     NB_INTERFACE_DISPLAY = 1,
@@ -325,7 +339,7 @@ typedef struct {
 typedef struct {
     nb_object_id sender;
     uint32_t opcode;          /* its index among the requests of the sender's interface */
-    uint32_t has_data;        /* not 0: `data` are given for the object that it makes */
+    uint32_t has_data;        /* not 0: `data` are given for the object that it makes; ignored if it makes none */
     uint64_t data;            /* of that object */
     uint32_t has_child;       /* not 0: the next two are given. wl_registry.bind alone needs them */
     uint32_t child_interface; /* of the object that it makes */
@@ -377,7 +391,7 @@ enum { NB_NO_ERROR = 0, NB_ERROR_OF_IO = 1, NB_ERROR_OF_PROTOCOL = 2 };
 /* The error of a client's session. */
 typedef struct {
     uint32_t kind;    /* NB_NO_ERROR, NB_ERROR_OF_IO, NB_ERROR_OF_PROTOCOL */
-    nb_status status; /* of NB_ERROR_OF_IO: NB_CLOSED, NB_PROTOCOL_ERROR, NB_TOO_BIG, NB_IO_ERROR, .. */
+    nb_status status; /* of NB_ERROR_OF_IO: NB_CLOSED, NB_PROTOCOL_ERROR, NB_TOO_BIG or NB_IO_ERROR */
     int32_t number;   /* of NB_IO_ERROR: that of the system, as the host told it */
     uint32_t code,
         object_number; /* of NB_ERROR_OF_PROTOCOL: what the server said. 0 and 0 if the server broke the protocol */
@@ -388,7 +402,7 @@ typedef struct {
 
 /* Makes a session in the place, with this table and no client. nb_server_start, below, takes an nb_table.
  *
- * The rows and the text are copied; rows that no other row counts are not looked at. `fault` is written after
+ * The rows and the text are copied; rows behind those that the interfaces count are ignored. `fault` is written after
  * NB_BAD_TABLE and NB_OUT_OF_MEMORY. Statuses: NB_IN_USE; NB_BAD_TABLE (the fault says which interface and why);
  * NB_OUT_OF_MEMORY (the fault is NB_FAULT_OUT_OF_MEMORY). The place stays as it was after an error. */
 nb_status nb_server_new(nb_server *place, const uint8_t *text, size_t text_length, const nb_interface_row *interfaces,
@@ -409,8 +423,9 @@ nb_status nb_server_add_interfaces(nb_server *place, const uint8_t *text, size_t
                                    const nb_message_row *messages, size_t message_count,
                                    const nb_argument_row *arguments, size_t argument_count, nb_table_fault *fault);
 
-/* Writes 1 if malloc refused in the last call that changes the session, also where the call did its work all the same
- * (a client that could not be told something is killed then), and else 0. */
+/* Writes 1 if malloc refused in the last call of the core, which is any call but received, sent, set_room and those
+ * that only look; also where the call did its work all the same (a client that could not be told something is killed
+ * then). Else 0. A call that answers NB_OUT_OF_MEMORY for its own copies leaves it. */
 nb_status nb_server_memory_refused(nb_server *place, uint32_t *is_refused);
 
 /* ======== A server's session: clients */
@@ -424,9 +439,9 @@ nb_status nb_server_set_default_max_buffer_size(nb_server *place, uint64_t size)
 /* Sets the same for a client that is there. An unknown client is no error: nothing is done. */
 nb_status nb_server_set_max_buffer_size(nb_server *place, const nb_client_id *client, uint64_t size);
 
-/* Sets how many bytes wait in what nb_server_to_send answers until no more are put there (its *room*); what comes
- * behind them waits in the client's buffer, up to its limit. It is 65536 at first. With 0 nothing is put there any
- * more. Statuses: NB_INVALID_ID. */
+/* Sets the client's *room*: how many bytes may be ready for nb_server_to_send. The rest waits in the client's buffer,
+ * up to its limit. It is 65536 at first. With 0 nothing gets ready any more. If there is room now for what waits,
+ * nb_server_next_writable answers the client. Statuses: NB_INVALID_ID. */
 nb_status nb_server_set_room(nb_server *place, const nb_client_id *client, uint64_t room);
 
 /* Inserts a client, over a connection of the host. It has one object, the display. A note says that it was inserted.
@@ -456,14 +471,15 @@ nb_status nb_server_kill_client(nb_server *place, const nb_client_id *client);
 /* ======== A server's session: what came */
 
 /* The host received this from the client, by one recvmsg or several. The bytes are copied; they are read by
- * nb_server_next_action. Pass at most 65536 at once: a reading takes that much.
+ * nb_server_next_action. Pass at most 65536 bytes at once, and read until the answer is not NB_OK before you pass more:
+ * a reading takes that much, and if more is there, it answers NB_WOULD_BLOCK though messages wait.
  *
  * After NB_OK the descriptors are the session's. They come out in their order, each with the request that it belongs
  * to. Without bytes nothing arrives but the descriptors: that is not the end of the stream (nb_server_received_end).
  *
  * Statuses: NB_INVALID_ID; NB_TOO_MANY_DESCRIPTORS (more than 28 would wait to be read: read first; if the client sends
- * them with no request that takes them, kill it); NB_OUT_OF_MEMORY. After an error nothing has arrived: the stream has
- * a hole, so hand it in later, or kill the client. */
+ * them with no request that takes them, kill it); NB_OUT_OF_MEMORY. After an error nothing was taken: pass the same
+ * bytes again before any later ones, or kill the client. */
 nb_status nb_server_received(nb_server *place, const nb_client_id *client, const uint8_t *bytes, size_t length,
                              const int32_t *descriptors, size_t count);
 
@@ -487,7 +503,7 @@ nb_status nb_server_send_failed(nb_server *place, const nb_client_id *client);
  *
  * The arguments are written into `arguments`, and their strings and arrays into `bytes`. Its descriptors are yours.
  *
- * Statuses:
+ * Statuses; an action that was kept comes before any but NB_INVALID_ID, whatever became of its client since:
  *
  *   - NB_INVALID_ID: the client is not there (any more).
  *   - NB_OPEN: an action of the client is open.
@@ -496,7 +512,7 @@ nb_status nb_server_send_failed(nb_server *place, const nb_client_id *client);
  *   - NB_PROTOCOL_ERROR: what it sent is no message that it may send. It is killed.
  *   - NB_WOULD_BLOCK: no whole message is there. Receive first.
  *   - NB_OUT_OF_MEMORY: read again later. What was handled stays handled.
- *   - NB_IO_ERROR, ..: what the host told by nb_server_receive_failed. It is killed.
+ *   - NB_IO_ERROR: what the host told by nb_server_receive_failed. It is killed.
  *   - NB_TOO_SMALL: `action` has in `arguments` and `bytes` how many are needed, and nothing else. The action is kept:
  *     call again with more. With 65536 bytes and as many arguments as the largest message of the table has, this never
  *     comes. */
@@ -523,8 +539,8 @@ nb_status nb_server_finish_request_with(nb_server *place, const nb_client_id *cl
 nb_status nb_server_finish_bind(nb_server *place, const nb_client_id *client, uint64_t data, uint32_t *is_kept);
 
 /* Sends an event of an object: it waits until the host sends it. Strings and arrays are ranges of `bytes`; ranges may
- * overlap. An event that is a destructor ends its sender. To a client that was killed nothing is sent, and the answer
- * is NB_OK.
+ * overlap. An event that is a destructor ends its sender. To a client that was killed nothing is sent, and the event is
+ * not checked beyond NB_INVALID_INPUT: the answer is NB_OK.
  *
  * After NB_OK the descriptors among the arguments are the session's, also if nothing is sent.
  *
@@ -537,9 +553,8 @@ nb_status nb_server_send_event(nb_server *place, const nb_object_id *sender, uin
                                const nb_argument *arguments, size_t argument_count, const uint8_t *bytes,
                                size_t byte_count);
 
-/* Ends a client for an error: it is told by wl_display.error of this object, code and message, and killed. If the
- * object is gone, or null, see the order: a null id does nothing; a client that is not there, neither; an object that
- * is gone kills its client untold.
+/* Ends a client for an error: it is told by wl_display.error of this object, code and message, and killed. A null id,
+ * or one whose client is gone, does nothing. If the object alone is gone, its client is killed without being told.
  *
  * `message` has no zero byte. Statuses: NB_INVALID_INPUT (it has one); NB_OUT_OF_MEMORY (there was none for a copy of
  * the message; nothing is done). */
@@ -556,8 +571,8 @@ nb_status nb_server_post_error(nb_server *place, const nb_object_id *object, uin
 nb_status nb_server_create_object(nb_server *place, const nb_client_id *client, uint32_t interface, uint32_t version,
                                   uint32_t has_data, uint64_t data, nb_object_id *object);
 
-/* Destroys an object. If its number is one of the client's own, the client is told that it is free. If it had data, a
- * note is made. Statuses: NB_INVALID_ID (also of the display); NB_OUT_OF_MEMORY (it stays). */
+/* Destroys an object. If its number is one of the client's own, the client is told that it is free. If it had data, the
+ * next nb_server_cleanup makes a note. Statuses: NB_INVALID_ID (also of the display); NB_OUT_OF_MEMORY (it stays). */
 nb_status nb_server_destroy_object(nb_server *place, const nb_object_id *object);
 
 /* An object's number, interface and version. Statuses: NB_INVALID_ID. */
@@ -628,28 +643,32 @@ nb_status nb_server_global_name(nb_server *place, const nb_global_id *global, co
  * NB_WOULD_BLOCK at the end of each round; and for a client whose socket was full go on with nb_server_to_send when the
  * socket can be written.
  *
- * Statuses: NB_WOULD_BLOCK (there is none). */
+ * Statuses: NB_WOULD_BLOCK (nothing is to be sent to any of these, but what has no room: nb_server_set_room);
+ * NB_OUT_OF_MEMORY (there was no memory to get ready what waits for one of them. It is looked at again, after the
+ * others: call again for these now or in the next round). */
 nb_status nb_server_next_writable(nb_server *place, nb_client_id *client);
 
 /* Copies what is to be sent to a client next. `counts` says how much was copied. Nothing is taken away until
  * nb_server_sent. Send the descriptors with the first byte, by one sendmsg.
  *
- * If the bytes do not fit, as many are copied as do. After NB_OK with 0 bytes nothing waits. Statuses: NB_INVALID_ID;
- * NB_TOO_SMALL (the descriptors do not fit; 28 always do). */
+ * If the bytes do not fit, as many are copied as do. After NB_OK with 0 bytes nothing waits, if `byte_room` is not 0.
+ * Statuses: NB_INVALID_ID; NB_TOO_SMALL (the descriptors do not fit; 28 always do). */
 nb_status nb_server_to_send(nb_server *place, const nb_client_id *client, uint8_t *bytes, size_t byte_room,
                             int32_t *descriptors, size_t descriptor_room, nb_counts *counts);
 
-/* sendmsg took this many bytes, and with the first of them all descriptors. Those are yours now: close them. A count
- * above what waits is as much as waits. When nothing waits any more, the client comes by nb_server_next_writable again
- * if its buffer has more. Statuses: NB_INVALID_ID. */
+/* sendmsg took this many bytes, and with the first of them all descriptors. Those are yours now: close them. A greater
+ * count counts as all that waits. Once all was sent, nb_server_next_writable answers the client again if there is more.
+ * No other call for the client may come between nb_server_to_send and this one. Statuses: NB_INVALID_ID. */
 nb_status nb_server_sent(nb_server *place, const nb_client_id *client, uint32_t count);
 
 /* Takes the clients out that were killed: each comes once by nb_server_next_gone, and each of their objects with data
- * is noted. It costs nothing if none was killed. Statuses: NB_OUT_OF_MEMORY (they stay; call again). */
+ * is noted. So is each object that nb_server_destroy_object, or an event that is a destructor, has ended since. Call it
+ * each round: if there is nothing to do it costs nothing. Statuses: NB_OUT_OF_MEMORY (they stay; call again). */
 nb_status nb_server_cleanup(nb_server *place);
 
 /* The next client that was taken out: its id, its data, and the last bytes and descriptors for it, the error message
- * among them. Send what the socket takes, close all these descriptors, and close the socket.
+ * among them. Send what the socket takes, close all these descriptors, and close the socket. The notes of its objects
+ * come by nb_server_next_note: if you free what `data` stands for here, do not use it for those.
  *
  * Statuses: NB_WOULD_BLOCK (there is none); NB_TOO_SMALL (`gone` is written, with what waits; the client is kept: call
  * again with more). */
@@ -676,7 +695,8 @@ nb_status nb_client_connect(nb_client *place, const uint8_t *text, size_t text_l
                             size_t message_count, const nb_argument_row *arguments, size_t argument_count,
                             nb_table_fault *fault);
 
-/* Ends the session, and frees all that it has. The place is empty then. Descriptors that wait are forgotten. */
+/* Ends the session, and frees all that it has. The place is empty then. Descriptors that wait are forgotten, and no
+ * notes are made: free what the data of your objects stand for by yourself. */
 nb_status nb_client_end(nb_client *place);
 
 /* Appends interfaces to the table, as nb_server_add_interfaces. */
@@ -685,7 +705,7 @@ nb_status nb_client_add_interfaces(nb_client *place, const uint8_t *text, size_t
                                    const nb_message_row *messages, size_t message_count,
                                    const nb_argument_row *arguments, size_t argument_count, nb_table_fault *fault);
 
-/* Writes 1 if malloc refused in the last call that changes the session, and else 0. */
+/* Writes 1 if malloc refused in the last call of the core, as nb_server_memory_refused, and else 0. */
 nb_status nb_client_memory_refused(nb_client *place, uint32_t *is_refused);
 
 /* Sets how far the buffers may grow, as nb_server_set_max_buffer_size. If `has_limit` is 0 there is no limit, as at
@@ -721,7 +741,7 @@ nb_status nb_client_send_failed(nb_client *place, int32_t number);
 /* Hands out the next event. It is open, and no other comes, until it is finished. Events of the display the session
  * handles by itself, and those for an object that the client has destroyed it drops. Its descriptors are yours.
  *
- * Statuses:
+ * Statuses; an event that was kept comes before any:
  *
  *   - NB_FAILED: the session has an error, or gets one now (nb_client_last_error).
  *   - NB_OPEN: an event is open.
@@ -736,9 +756,11 @@ nb_status nb_client_next_event(nb_client *place, nb_event *event, nb_argument *a
  * (it made an object); NB_OUT_OF_MEMORY. It is still open after the last two. */
 nb_status nb_client_finish_event(nb_client *place);
 
-/* Finishes an event that made an object, which gets the data. Statuses: NB_NOT_OPEN; NB_UNEXPECTED_DATA (it made no
- * object; it is still open); NB_OUT_OF_MEMORY. */
-nb_status nb_client_finish_event_with(nb_client *place, uint64_t data);
+/* Finishes an event that made an object, which gets the data. `is_kept` is 1 if the object is there; 0 if you destroyed
+ * it before: then free what `data` stands for, since no note will name it.
+ *
+ * Statuses: NB_NOT_OPEN; NB_UNEXPECTED_DATA (it made no object; it is still open); NB_OUT_OF_MEMORY. */
+nb_status nb_client_finish_event_with(nb_client *place, uint64_t data, uint32_t *is_kept);
 
 /* Sends a request: it waits until the host sends it. If the request makes an object, the argument of its new id is null
  * (nb_placeholder), `has_data` is 1, and `created` is its id; else that is null. wl_registry.bind has the arguments
@@ -765,7 +787,8 @@ nb_status nb_client_object_info(nb_client *place, const nb_object_id *object, nb
  * an object without data). */
 nb_status nb_client_object_data(nb_client *place, const nb_object_id *object, uint64_t *data);
 
-/* Sets an object's data. Statuses: NB_INVALID_ID. */
+/* Sets an object's data. What it had before is forgotten: no note names it; nor do notes name data that an object gets
+ * after it was destroyed. Statuses: NB_INVALID_ID. */
 nb_status nb_client_set_object_data(nb_client *place, const nb_object_id *object, uint64_t data);
 
 /* Destroys an object on the client's side, without a request. Statuses: NB_INVALID_ID (also of the display, and of one
@@ -783,8 +806,8 @@ nb_status nb_client_flush(nb_client *place);
 nb_status nb_client_to_send(nb_client *place, uint8_t *bytes, size_t byte_room, int32_t *descriptors,
                             size_t descriptor_room, nb_counts *counts);
 
-/* sendmsg took this many bytes, and with the first of them all descriptors: close them. A count above what waits is as
- * much as waits. */
+/* sendmsg took this many bytes, and with the first of them all descriptors: close them. A greater count counts as all
+ * that waits. No other call may come between nb_client_to_send and this one. */
 nb_status nb_client_sent(nb_client *place, uint32_t count);
 
 /* ======== A client's session: what has happened */
@@ -797,8 +820,9 @@ nb_status nb_client_last_error(nb_client *place, nb_error *error, uint8_t *text,
  * data: those that it had when it was destroyed. Each object comes once. Statuses: NB_WOULD_BLOCK (there is none). */
 nb_status nb_client_next_note(nb_client *place, nb_object_id *destroyed, uint64_t *data);
 
-/* The next descriptor that the session had and no call will hand out. Close it. Statuses: NB_WOULD_BLOCK (there is
- * none). */
+/* The next descriptor that the session had and no call will hand out: that of an event for an object that was
+ * destroyed, once nb_client_next_event has read the event; or, once the session has failed, any that is left. Close it.
+ * Statuses: NB_WOULD_BLOCK (there is none). */
 nb_status nb_client_next_dropped(nb_client *place, int32_t *descriptor);
 
 /* ======== Shorter to write */
@@ -848,6 +872,11 @@ static inline int nb_is_null(const nb_object_id *id)
 static inline int nb_same_client(const nb_client_id *one, const nb_client_id *other)
 {
     return one->serial == other->serial && one->slot == other->slot;
+}
+
+static inline int nb_same_global(const nb_global_id *one, const nb_global_id *other)
+{
+    return one->serial == other->serial && one->name == other->name;
 }
 
 static inline int nb_same_object(const nb_object_id *one, const nb_object_id *other)

@@ -25,7 +25,7 @@ static nb_global_id globals[4];
 static nb_action action;
 static nb_event event;
 static nb_argument arguments[MOST_ROOM + 1];
-static uint8_t bytes[NB_MOST_BYTES + GUARD];
+static uint8_t bytes[NB_MOST_WAITING + GUARD];
 static int32_t descriptors[NB_MOST_DESCRIPTORS + 1];
 static uint8_t is_out[MOST_NUMBERS], came[MOST_NUMBERS]; /* a descriptor is the session's; how often it came back */
 static int32_t next_number;
@@ -267,7 +267,7 @@ static void settle(void)
     nb_note note;
     int32_t number;
     see(nb_server_cleanup(&server));
-    while (see(nb_server_next_gone(&server, &gone, bytes, NB_MOST_BYTES, descriptors, NB_MOST_DESCRIPTORS)) == NB_OK)
+    while (see(nb_server_next_gone(&server, &gone, bytes, NB_MOST_WAITING, descriptors, NB_MOST_DESCRIPTORS)) == NB_OK)
         for (uint32_t i = 0; i < gone.waiting.descriptors; i++)
             came_back(descriptors[i]);
     while (see(nb_server_next_note(&server, &note, bytes, NB_MOST_BYTES)) == NB_OK)
@@ -443,7 +443,7 @@ static void call_of_client(void)
         break;
     case 3: next_event(); break;
     case 4: see(nb_client_finish_event(&session)); break;
-    case 5: see(nb_client_finish_event_with(&session, take())); break;
+    case 5: see(nb_client_finish_event_with(&session, take(), &refused)); break;
     case 6:
     case 7:
         memset(&request, 0, sizeof request);
@@ -514,10 +514,12 @@ static void end(void)
     nb_counts counts = { 0, 0 };
     int32_t number;
     uint32_t count = 0;
-    see(nb_server_clients(&server, all, 256, &count));
-    for (uint32_t i = 0; i < count && i < 256; i++)
-        see(nb_server_kill_client(&server, &all[i]));
-    settle();
+    do { /* there may be more clients than are listed at once */
+        see(nb_server_clients(&server, all, 256, &count));
+        for (uint32_t i = 0; i < count && i < 256; i++)
+            see(nb_server_kill_client(&server, &all[i]));
+        settle();
+    } while (count > 256);
     while (see(nb_client_next_dropped(&session, &number)) == NB_OK)
         came_back(number);
     input_left = 0;

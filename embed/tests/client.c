@@ -127,6 +127,7 @@ static void events(void)
     nb_object_id noted;
     nb_error error;
     uint64_t data;
+    uint32_t is_kept = 7;
     connect_session();
     put(3, NB_QUAD_EVENT_MOVED, "u", (uint32_t)-9);
     put(3, NB_QUAD_EVENT_MADE, "u", 0xff000000);
@@ -137,13 +138,15 @@ static void events(void)
     HOLDS(nb_same_object(&event.sender, &object) && nb_is_null(&event.created) && event.is_destructor == 0);
     HOLDS(arguments[0].kind == NB_INT && arguments[0].value == -9);
     IS(next_event(), NB_OPEN);
-    IS(nb_client_finish_event_with(&session, 1), NB_UNEXPECTED_DATA);
+    IS(nb_client_finish_event_with(&session, 1, &is_kept), NB_UNEXPECTED_DATA);
+    HOLDS(is_kept == 7);
     OK(nb_client_finish_event(&session));
     OK(next_event());
     HOLDS(event.opcode == NB_QUAD_EVENT_MADE && event.created.number == 0xff000000 && event.version == 3);
     HOLDS(arguments[0].kind == NB_NEW_ID && nb_same_object(&arguments[0].object, &event.created));
     IS(nb_client_finish_event(&session), NB_MISSING_DATA);
-    OK(nb_client_finish_event_with(&session, 73));
+    OK(nb_client_finish_event_with(&session, 73, &is_kept));
+    HOLDS(is_kept == 1);
     /* Too little memory: the event is kept. */
     memset(&event, 0, sizeof event);
     IS(nb_client_next_event(&session, &event, arguments, 2, bytes, 4), NB_TOO_SMALL);
@@ -177,6 +180,36 @@ static void events(void)
     OK(nb_client_last_error(&session, &error, bytes, 24));
     HOLDS(error.kind == NB_ERROR_OF_PROTOCOL && error.code == 7 && error.object_number == 2);
     HOLDS(memcmp(bytes, "no such thingwl_registry", 24) == 0);
+    OK(nb_client_end(&session));
+}
+
+/* The client destroys what an event made, and then finishes the event: the data are not kept, and no note names
+ * them. */
+static void not_kept(void)
+{
+    nb_object_id made, noted;
+    nb_object_info info;
+    uint64_t data;
+    uint32_t is_kept = 7;
+    connect_session();
+    put(3, NB_QUAD_EVENT_MADE, "u", 0xff000000);
+    put(3, NB_QUAD_EVENT_MADE, "u", 0xff000001);
+    OK(come(NULL, 0));
+    OK(next_event());
+    made = event.created;
+    OK(nb_client_destroy_object(&session, &made));
+    OK(nb_client_finish_event_with(&session, 73, &is_kept));
+    HOLDS(is_kept == 0);
+    IS(nb_client_object_info(&session, &made, &info), NB_INVALID_ID);
+    IS(nb_client_next_note(&session, &noted, &data), NB_WOULD_BLOCK);
+    OK(next_event());
+    made = event.created;
+    OK(nb_client_finish_event_with(&session, 74, &is_kept));
+    HOLDS(is_kept == 1);
+    OK(nb_client_destroy_object(&session, &made));
+    OK(nb_client_next_note(&session, &noted, &data));
+    HOLDS(nb_same_object(&noted, &made) && data == 74);
+    IS(nb_client_next_note(&session, &noted, &data), NB_WOULD_BLOCK);
     OK(nb_client_end(&session));
 }
 
@@ -298,6 +331,7 @@ int main(void)
 {
     requests();
     events();
+    not_kept();
     ends();
     both(1);
     both(7);

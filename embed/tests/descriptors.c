@@ -255,10 +255,11 @@ static void at_random(void)
 {
     for (int run = 0; run < 300; run++) {
         nb_object_id files = begin_sending();
+        int32_t number;
         if (random_below(2))
             OK(nb_server_set_room(&server, &client, random_below(200)));
         for (int step = 0; step < 60; step++) {
-            switch (random_below(8)) {
+            switch (random_below(9)) {
             case 0:
                 put_give();
                 arrive_with(random_below(4));
@@ -281,6 +282,9 @@ static void at_random(void)
             case 7:
                 if (random_below(10) == 0)
                     nb_server_post_error(&server, &files, 1, NULL, 0);
+                break;
+            case 8: /* as long as the client is there, nothing of it is dropped */
+                IS(nb_server_next_dropped(&server, &number), NB_WOULD_BLOCK);
                 break;
             }
         }
@@ -334,11 +338,178 @@ static void of_a_client(void)
     OK(nb_client_end(&session));
 }
 
+/* Events with descriptors for a client, of an interface of their own. The protocol says whose each is: they come in the
+ * order of the events that take them. So those of an event for a live object come out with it, and those of one for an
+ * object that the client destroyed come back as dropped as soon as the event was read. */
+enum { LIVE = 3, DEAD = 4, PENDING = 256 };
+
+static nb_client told;
+static struct {
+    int is_dead;
+    int32_t number;
+} pending[PENDING]; /* put in, and not out again */
+static size_t pending_count;
+
+/* These came out; they have to be the first that wait for a live object, or for a dead one. */
+static void comes(int is_dead, int32_t number)
+{
+    size_t i = 0;
+    while (i < pending_count && pending[i].is_dead != is_dead)
+        i++;
+    check(i < pending_count && pending[i].number == number, __LINE__, "the next descriptor comes out");
+    if (i < pending_count)
+        memmove(pending + i, pending + i + 1, (--pending_count - i) * sizeof *pending);
+}
+
+static void begin_told(void)
+{
+    static const char names[] = "filesfile";
+    const nb_interface_row interface = { 0, 5, 1, 0, 1 };
+    const nb_message_row message = { 5, 4, 1, 0, 2 };
+    const nb_argument_row rows[] = { { NB_DESCRIPTOR, 0, 0 }, { NB_DESCRIPTOR, 0, 0 } };
+    nb_object_id display, registry, object;
+    OK(nb_client_start(&told, &quad, &fault));
+    OK(nb_client_add_interfaces(&told, (const uint8_t *)names, 9, &interface, 1, &message, 1, rows, 2, &fault));
+    OK(nb_client_display(&told, &display));
+    nb_argument given[] = { nb_placeholder(), nb_string(0, 5), nb_uint(1), nb_placeholder() };
+    nb_request request = { display, 1, 1, 1, 0, 0, 0, 0 };
+    OK(nb_client_send_request(&told, &request, given, 1, NULL, 0, &registry));
+    given[0] = nb_uint(1);
+    request = (nb_request){ registry, 0, 1, 1, 1, NB_QUAD + 1, 1, 0 };
+    OK(nb_client_send_request(&told, &request, given, 4, (const uint8_t *)"files", 5, &object));
+    HOLDS(object.number == LIVE);
+    OK(nb_client_send_request(&told, &request, given, 4, (const uint8_t *)"files", 5, &object));
+    HOLDS(object.number == DEAD);
+    OK(nb_client_destroy_object(&told, &object));
+    wire_length = 0;
+    pending_count = 0;
+}
+
+/* An event with two descriptors is put; they go with its bytes, of which the last ones come later. */
+static nb_status tell_two(int is_dead, size_t held_back)
+{
+    const int32_t *numbers = fresh(2);
+    put(is_dead ? DEAD : LIVE, 0, "");
+    nb_status status = nb_client_received(&told, wire, wire_length - held_back, numbers, 2);
+    if (status == NB_OK) {
+        for (int i = 0; i < 2; i++) {
+            pending[pending_count].is_dead = is_dead;
+            pending[pending_count++].number = numbers[i];
+        }
+        memmove(wire, wire + wire_length - held_back, held_back);
+        wire_length = held_back;
+    } else {
+        wire_length = 0;
+    }
+    return status;
+}
+
+static void tell_rest(void)
+{
+    OK(nb_client_received(&told, wire, wire_length, NULL, 0));
+    wire_length = 0;
+}
+
+/* Reads one event, with so much room for arguments. */
+static nb_status read_one(size_t room)
+{
+    nb_event event;
+    nb_status status = nb_client_next_event(&told, &event, arguments, room, bytes, sizeof bytes);
+    if (status == NB_OK) {
+        for (int i = 0; i < 2; i++)
+            comes(0, arguments[i].value);
+        OK(nb_client_finish_event(&told));
+    }
+    return status;
+}
+
+/* All that is dropped comes back: those before the first that an event may yet take. */
+static void take_dropped(int is_all_read)
+{
+    int32_t number;
+    while (nb_client_next_dropped(&told, &number) == NB_OK)
+        comes(1, number);
+    if (is_all_read)
+        for (size_t i = 0; i < pending_count; i++)
+            check(!pending[i].is_dead, __LINE__, "no descriptor of a dropped event is held");
+}
+
+static void of_events(void)
+{
+    begin_told(); /* with nothing behind it */
+    OK(tell_two(1, 0));
+    take_dropped(0);
+    HOLDS(pending_count == 2);
+    IS(read_one(16), NB_WOULD_BLOCK);
+    take_dropped(1);
+    HOLDS(pending_count == 0);
+    OK(tell_two(1, 0)); /* before an event that is kept, and before one of which half is there */
+    OK(tell_two(0, 0));
+    OK(tell_two(0, 4));
+    IS(read_one(1), NB_TOO_SMALL);
+    take_dropped(1);
+    HOLDS(pending_count == 4);
+    OK(read_one(16));
+    IS(read_one(16), NB_WOULD_BLOCK);
+    take_dropped(1);
+    HOLDS(pending_count == 2);
+    tell_rest();
+    OK(read_one(16));
+    HOLDS(pending_count == 0);
+    OK(nb_client_end(&told));
+
+    for (int run = 0; run < 300; run++) {
+        begin_told();
+        int is_all_read = 1, is_kept = 0;
+        for (int step = 0; step < 60; step++) {
+            nb_status status;
+            switch (random_below(6)) {
+            case 0:
+            case 1:
+                if (wire_length > 0)
+                    tell_rest();
+                if (pending_count < PENDING - 2)
+                    tell_two(random_below(2), random_below(3) ? 0 : 4);
+                is_all_read = 0;
+                break;
+            case 2:
+                if (wire_length > 0)
+                    tell_rest();
+                is_all_read = 0;
+                break;
+            case 3:
+                status = read_one(1);
+                HOLDS(status == NB_TOO_SMALL || status == NB_WOULD_BLOCK);
+                is_kept = status == NB_TOO_SMALL;
+                is_all_read = status == NB_WOULD_BLOCK;
+                break;
+            case 4:
+                status = read_one(16);
+                HOLDS(status == NB_OK || status == NB_WOULD_BLOCK);
+                HOLDS(!is_kept || status == NB_OK);
+                is_kept = 0;
+                is_all_read = status == NB_WOULD_BLOCK;
+                break;
+            case 5: take_dropped(is_all_read && wire_length == 0); break;
+            }
+        }
+        if (wire_length > 0)
+            tell_rest();
+        while (read_one(16) == NB_OK)
+            ;
+        take_dropped(1);
+        HOLDS(pending_count == 0);
+        OK(nb_client_end(&told));
+    }
+    next_number = 0;
+}
+
 int main(void)
 {
     received();
     sent();
     at_random();
     of_a_client();
+    of_events();
     return tell();
 }

@@ -83,7 +83,7 @@ static void client_calls(void)
     NONE(nb_client_send_failed(&session, 5));
     NONE(nb_client_next_event(&session, &event, arguments, 16, bytes, sizeof bytes));
     NONE(nb_client_finish_event(&session));
-    NONE(nb_client_finish_event_with(&session, 1));
+    NONE(nb_client_finish_event_with(&session, 1, &number));
     NONE(nb_client_send_request(&session, &request, arguments, 0, bytes, 0, &object));
     NONE(nb_client_object_info(&session, &object, &info));
     NONE(nb_client_object_data(&session, &object, &data));

@@ -305,6 +305,7 @@ static void requests(void)
     nb_object_id display, registry, object, created;
     nb_argument given[4] = { nb_placeholder(), nb_int(0), nb_int(0), nb_int(0) };
     nb_request request;
+    uint32_t is_kept = 7;
     memset(&request, 0, sizeof request);
     OK(nb_client_start(&session, &quad, &fault));
     OK(nb_client_display(&session, &display));
@@ -369,7 +370,8 @@ static void requests(void)
     OK(nb_client_send_request(&session, &request, given, 1, NULL, 0, &created));
     HOLDS(nb_is_null(&created)); /* data for an object that is not made are let go */
     IS(nb_client_finish_event(&session), NB_NOT_OPEN);
-    IS(nb_client_finish_event_with(&session, 1), NB_NOT_OPEN);
+    IS(nb_client_finish_event_with(&session, 1, &is_kept), NB_NOT_OPEN);
+    HOLDS(is_kept == 7);
     IS(nb_client_destroy_object(&session, &display), NB_INVALID_ID);
     IS(nb_client_destroy_object(&session, &wrong), NB_INVALID_ID);
     IS(nb_client_object_info(&session, &wrong, &(nb_object_info){ 0, 0, 0 }), NB_INVALID_ID);

@@ -154,6 +154,7 @@ static void use(void)
     nb_event event;
     nb_error error;
     uint64_t data;
+    uint32_t is_kept;
     int notes = 0;
     if (see(nb_client_start(&session, &quad, &fault)) != NB_OK)
         return;
@@ -175,7 +176,7 @@ static void use(void)
         if (see(nb_client_next_event(&session, &event, arguments, 16, bytes, sizeof bytes)) == NB_OK)
             for (int again = 0; again < 3; again++)
                 if (see(nb_is_null(&event.created) ? nb_client_finish_event(&session)
-                                                   : nb_client_finish_event_with(&session, 1)) == NB_OK)
+                                                   : nb_client_finish_event_with(&session, 1, &is_kept)) == NB_OK)
                     break;
     see(nb_client_flush(&session));
     see(nb_client_to_send(&session, bytes, sizeof bytes, descriptors, NB_MOST_DESCRIPTORS, &counts));
@@ -219,8 +220,50 @@ static void refuse_each(void (*run)(void), const char *name)
            statuses[NB_OUT_OF_MEMORY]);
 }
 
+/* A request of a client for a `sync`, which the session answers. */
+static void sync_of(const nb_client_id *id)
+{
+    client = *id;
+    put(1, 0, "u", 2);
+    OK(arrive(NULL, 0));
+    IS(nb_server_next_action(&server, &client, &action, arguments, 16, bytes, sizeof bytes), NB_WOULD_BLOCK);
+}
+
+/* The next client is this one, and is sent the answer of its `sync`. */
+static void sends_sync(const nb_client_id *id)
+{
+    nb_client_id writable;
+    OK(nb_server_next_writable(&server, &writable));
+    HOLDS(nb_same_client(&writable, id));
+    OK(nb_server_to_send(&server, &writable, bytes, sizeof bytes, descriptors, NB_MOST_DESCRIPTORS, &counts));
+    put(2, 0, "u", 0);
+    put(1, 1, "u", 2);
+    HOLDS(is_wire(bytes, counts.bytes));
+    OK(nb_server_sent(&server, &writable, counts.bytes));
+}
+
+/* A client for whose bytes there was no memory is asked again, behind the others. */
+static void asked_again(void)
+{
+    nb_client_id first, second, writable;
+    left = 0;
+    OK(nb_server_start(&server, &quad, &fault));
+    OK(nb_server_insert_client(&server, 5, 1, NULL, 0, &first));
+    OK(nb_server_insert_client(&server, 6, 1, NULL, 0, &second));
+    sync_of(&first);
+    sync_of(&second);
+    left = 1;
+    IS(nb_server_next_writable(&server, &writable), NB_OUT_OF_MEMORY);
+    left = 0;
+    sends_sync(&second);
+    sends_sync(&first);
+    IS(nb_server_next_writable(&server, &writable), NB_WOULD_BLOCK);
+    OK(nb_server_end(&server));
+}
+
 int main(void)
 {
+    asked_again();
     refuse_each(serve, "a server");
     refuse_each(use, "a client");
     return tell();

@@ -305,6 +305,22 @@ static void back_pressure(void)
     OK(nb_server_end(&server));
 }
 
+/* A client whose mailbox had no room is asked again once it has some: what waits in its buffer is not forgotten. */
+static void room(void)
+{
+    nb_object_id object = begin();
+    const nb_argument argument = nb_int(9);
+    OK(nb_server_set_room(&server, &client, 0));
+    OK(nb_server_send_event(&server, &object, NB_QUAD_EVENT_MOVED, &argument, 1, NULL, 0));
+    HOLDS(sends_nothing());
+    HOLDS(sends_nothing());
+    OK(nb_server_set_room(&server, &client, 65536));
+    put(3, NB_QUAD_EVENT_MOVED, "u", 9);
+    HOLDS(sends(&client));
+    HOLDS(sends_nothing());
+    OK(nb_server_end(&server));
+}
+
 /* The ends of a connection, as the host tells them. */
 static void ends(void)
 {
@@ -369,6 +385,7 @@ int main(void)
     globals();
     hidden();
     back_pressure();
+    room();
     ends();
     return tell();
 }

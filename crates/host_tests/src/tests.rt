@@ -2,7 +2,12 @@
 //! compares what the acts told.
 
 mod acts;
+mod args;
 mod client;
 mod client_acts;
+mod client_dropped;
+mod drill;
+mod drills;
 mod rows;
 mod server;
+mod told;

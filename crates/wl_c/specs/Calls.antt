@@ -4,7 +4,6 @@ use Rattle.std.specs.Prelude.{◌≡◌, ◌==◌, ℕ, Bool, if◌then◌else�
 use Rattle.wl_c.specs.Flags.{flag}
 use Rattle.wl_host.specs.Status.{code_of}
 use Rattle.wl_host.specs.declared.rows.TableFault.{TableFault}
-use Rattle.wl_host.specs.declared.rows.fault.TheConstants.{OUT_OF_MEMORY}
 use Rattle.wl_host.specs.declared.status.Status.{Status}
 
 -- ---- how an answer goes out
@@ -51,9 +50,9 @@ GaveFlag {S} before code old new after R =
 
 -- ---- tables
 
--- the number for a table that is refused
+-- the number for a table that is refused: for want of memory, which is fault 8, or for another fault
 abbrev pub fault_code : TableFault → ℕ
-fault_code refused = if refused.fault == OUT_OF_MEMORY then 3 else 8
+fault_code refused = if refused.fault == 8 then 3 else 8
 
 -- the table is taken, and the number is 0; or it is refused, and why is written
 abbrev pub WrittenFault : Result (Unit {0}) TableFault → ℕ → TableFault → TableFault → Type 0

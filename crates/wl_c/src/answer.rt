@@ -1,7 +1,7 @@
 //! How the answer of a session's call goes out to C.
 
 ghost use Rattle.std.specs.Prelude.{◌≡◌, ◌≢◌};
-ghost use Rattle.wl_c.specs.Calls.{Written, fault_code, flagged};
+ghost use Rattle.wl_c.specs.Calls.{Written, WrittenFault, fault_code, flagged};
 
 use wl_host::{Status, TableFault, fault};
 
@@ -30,6 +30,17 @@ pub fn write_flag(answer: Result<bool, Status>, out: &mut u32) -> u32
             Status::Ok.code()
         }
         Err(status) => status.code(),
+    }
+}
+
+/// Writes why a table was refused, if it was, and answers the number of the status.
+pub fn write_added(answer: Result<(), TableFault>, out: &mut TableFault) -> u32
+    ensures answered { WrittenFault answer result out.old out.new }
+    ensures unfaulted { result ≡ 0 → out.new ≡ out.old }
+{
+    match answer {
+        Ok(()) => Status::Ok.code(),
+        Err(refused) => write_fault(refused, out),
     }
 }
 

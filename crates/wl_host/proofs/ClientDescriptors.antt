@@ -1,8 +1,8 @@
 -- No call of a client's session loses a descriptor or hands one out twice.
-use Rattle.std.proofs.Common.{◌≡◌, ℕ, ℤ, ◌+◌, ◌-◌, ◌++◌, ◌⊎◌, inl, inr, List, [], ◌∷◌, Bool, true, false, Option, None, Some, Result, Ok, Err, refl, ap, arith, length, take, if◌then◌else◌}
+use Rattle.std.proofs.Common.{◌≡◌, ℕ, ℤ, ◌+◌, ◌-◌, ◌++◌, ◌<◌, ◌≤◌, ◌∙◌, drop, min, inl, inr, List, [], ◌∷◌, Bool, true, false, Option, None, Some, Result, refl, ap, arith, length, take, if◌then◌else◌}
 use Rattle.std.proofs.lemmas.List.{append-nil, length-append}
 use Rattle.std.proofs.Math.Seq.{take-append_seam}
-use Rattle.std.specs.Prelude.{◌==◌, is_some, option_to_list}
+use Rattle.std.specs.Prelude.{◌==◌, ◌^◌, ◌%◌, IfErr, is_some, option_to_list}
 use Rattle.wl_wire.specs.declared.argument.Argument.{Argument}
 use Rattle.wl_wire.specs.declared.argument.Argument.TheVariants as arg
 use Rattle.wl_wire.specs.declared.argument.Token.{Token}
@@ -11,12 +11,12 @@ use Rattle.wl_client.specs.Requests.{SessionMessage}
 use Rattle.wl_link.specs.Mailbox.{MailboxState}
 use Rattle.wl_host.specs.Arguments.{descriptor_in, descriptors_out, queue_after, queue_after_all}
 use Rattle.wl_host.specs.Arrivals.{Arrives}
-use Rattle.wl_host.specs.Client.{ConservesClient, Drops, HandsDropped, HostedClient, Receives, has_failed, let_go, mailbox_of, sent, sent_descriptors, taken_in, told, with_mailbox}
-use Rattle.wl_host.specs.Descriptors.{Conserves, Descriptors, given_up, kept_in, put_in}
+use Rattle.wl_host.specs.Client.{ConservesClient, Drops, HandsDropped, HasNoneDropped, HostedClient, Receives, all_passed, awaited, brought, has_failed, let_go, mailbox_of, sent, sent_descriptors, taken_in, told, with_mailbox, without_dropped}
+use Rattle.wl_host.specs.Descriptors.{Conserves, Descriptors, given_up, kept_in, last_held, put_in}
 use Rattle.wl_host.specs.declared.status.Status.{Status}
 use Rattle.wl_host.specs.Sending.{all_taken_out, came_out, descriptors_of, mailbox_after, queue_after as queue_after_send, sent_of, some_of}
 use Rattle.wl_host.proofs.Ledgers.{conserves_taken_out}
-use Rattle.wl_host.proofs.Queues.{conserves_given_up, conserves_nothing, conserves_out, conserves_passed, conserves_put_in, conserves_without}
+use Rattle.wl_host.proofs.Queues.{conserves_given_up, conserves_last_held, conserves_nothing, conserves_out, conserves_passed, conserves_put_in, conserves_without, few_last_held}
 
 -- what is true of one of the two queues is true of the session, if the other is as it was
 pub conserves_by_arrivals : (before after : HostedClient) (i o : List ℤ) → Conserves kept_in before.arrivals i o after.arrivals
@@ -31,7 +31,7 @@ conserves_by_departures before after i o h e = record { each = λ d. rw e (let g
 
 conserves_arrived : (m : MailboxState) (q : Descriptors) (bytes : List ℕ) (descriptors : List ℤ) (s : Status) (m' : MailboxState) (q' : Descriptors)
     → Arrives m q bytes descriptors s m' q' → Conserves kept_in q (taken_in s descriptors) [] q'
-conserves_arrived m q bytes descriptors s m' q' (inl (ok, now, put)) = rw (ok, put) (conserves_put_in q descriptors)
+conserves_arrived m q bytes descriptors s m' q' (inl (ok, now, put, few)) = rw (ok, put) (conserves_put_in q descriptors)
 conserves_arrived m q bytes descriptors s m' q' (inr (inl (many, over), now, same)) = rw (many, same) (conserves_nothing q)
 conserves_arrived m q bytes descriptors s m' q' (inr (inr memory, now, same)) = rw (memory, same) (conserves_nothing q)
 
@@ -47,9 +47,30 @@ conserves_let_go : (s : HostedClient) (kept : Option SessionMessage)
 conserves_let_go s None = record { each = λ d. let a = (conserves_given_up s.arrivals).each d in let b = (conserves_given_up s.departures).each d in omega (arith, a, b) }
 conserves_let_go s (Some event) = record { each = λ d. let b = (conserves_given_up s.departures).each d in omega (arith, b) }
 
-conserves_before_drop : (s : HostedClient) (failed : Bool) → ConservesClient s [] [] (if failed then let_go s else s)
-conserves_before_drop s true = conserves_let_go s s.kept
-conserves_before_drop s false = conserves_nothing s
+-- the count of what is awaited stops at the greatest number, and far fewer are held
+counted_awaited : (n a b d x y : ℕ) → n < 2 ^ 32 → x ≡ min (a + b) 18446744073709551615 → y ≡ min (x + d) 18446744073709551615 → n - y ≡ n - (a + (b + d))
+counted_awaited n a b d x y few e f = omega (arith, few, e, f)
+
+-- the last ones are held any more, so many as were counted
+pub passed_dropped : (s : HostedClient) (q : Descriptors) (a b d x y : ℕ) → length s.arrivals.held < 2 ^ 32
+    → a ≡ brought s.kept → b ≡ length s.core.session.link.incoming.tokens → d ≡ length (mailbox_of s).arrived.tokens
+    → x ≡ min (a + b) 18446744073709551615 → y ≡ min (x + d) 18446744073709551615 → q ≡ last_held y s.arrivals → record s { arrivals = q } ≡ without_dropped s
+passed_dropped s q a b d x y few ea eb ed ex ey is =
+    let n = length s.arrivals.held in
+    let same = counted_awaited n a b d x y few ex ey in
+    let k : n - y ≡ n - awaited s = omega (arith, same, ea, eb, ed) in
+    ap (λ (r : Descriptors). let t : HostedClient = record s { arrivals = r } in t) (is
+    ∙ ap (λ (k : ℕ). let r : Descriptors = record { passed = s.arrivals.passed ++ take k s.arrivals.held; held = drop k s.arrivals.held; front = (s.arrivals.front + k) % 2 ^ 32 } in r) k)
+
+conserves_without_dropped : (s : HostedClient) → ConservesClient s [] [] (without_dropped s)
+conserves_without_dropped s = conserves_by_arrivals s (without_dropped s) [] [] (conserves_last_held s.arrivals (awaited s)) refl
+
+conserves_if_failed : (s : HostedClient) (failed : Bool) → ConservesClient s [] [] (if failed then let_go s else s)
+conserves_if_failed s true = conserves_let_go s s.kept
+conserves_if_failed s false = conserves_nothing s
+
+conserves_before_drop : (s : HostedClient) → ConservesClient s [] [] (all_passed s)
+conserves_before_drop s = conserves_out (conserves_without_dropped s) (conserves_if_failed (without_dropped s) (has_failed s))
 
 conserves_handed : (arrived departed : List ℤ) (s : HostedClient) (answer : Result ℤ Status) (after : HostedClient)
     → s.arrivals.passed ≡ arrived → s.departures.passed ≡ departed → HandsDropped arrived departed s answer after
@@ -63,8 +84,36 @@ conserves_handed [] [] s answer after e f (none, same) = rw (none, same) (conser
 pub conserves_dropped : (before : HostedClient) (answer : Result ℤ Status) (after : HostedClient)
     → Drops before answer after → ConservesClient before [] (told answer) after
 conserves_dropped before answer after h =
-    let s : HostedClient = if has_failed before then let_go before else before in
-    conserves_out (conserves_before_drop before (has_failed before)) (conserves_handed s.arrivals.passed s.departures.passed s answer after refl refl h)
+    let s = all_passed before in conserves_out (conserves_before_drop before) (conserves_handed s.arrivals.passed s.departures.passed s answer after refl refl h)
+
+-- no more arrivals are held than an event may yet hand out
+few_held : (s : HostedClient) (failed : Bool) → length (if failed then let_go (without_dropped s) else without_dropped s).arrivals.held ≤ awaited s
+few_held s false = few_last_held s.arrivals (awaited s)
+few_held s true = by s.kept
+  where
+    by : (kept : Option SessionMessage)
+        → length (if is_some kept then last_held (awaited s) s.arrivals else given_up (last_held (awaited s) s.arrivals)).held ≤ awaited s
+    by None = omega arith
+    by (Some event) = few_last_held s.arrivals (awaited s)
+
+awaited_still : (s : HostedClient) (failed : Bool) → awaited (if failed then let_go (without_dropped s) else without_dropped s) ≡ awaited s
+awaited_still s true = refl
+awaited_still s false = refl
+
+none_left : (arrived departed : List ℤ) (s : HostedClient) (answer : Result ℤ Status) (after : HostedClient)
+    → s.arrivals.passed ≡ arrived → s.departures.passed ≡ departed → length s.arrivals.held ≤ awaited s
+    → HandsDropped arrived departed s answer after → IfErr answer (λ _. HasNoneDropped after)
+none_left (d ∷ arrived) departed s answer after e f few h = rw h.0 tt
+none_left [] (d ∷ departed) s answer after e f few h = rw h.0 tt
+none_left [] [] s answer after e f few h = rw (h.0, h.1) (e, f, few)
+
+pub none_dropped : (before : HostedClient) (answer : Result ℤ Status) (after : HostedClient)
+    → Drops before answer after → IfErr answer (λ _. HasNoneDropped after)
+none_dropped before answer after h =
+    let s = all_passed before in
+    let few = few_held before (has_failed before) in
+    let still = awaited_still before (has_failed before) in
+    none_left s.arrivals.passed s.departures.passed s answer after refl refl (omega (arith, few, still)) h
 
 -- ---- what is sent
 

@@ -1,21 +1,18 @@
 -- The notes that a client's core makes of a request: one at most, and none if it is refused. And what the host is told of them.
-use Rattle.std.proofs.Common.{◌≡◌, ℕ, ◌≤◌, ◌++◌, ◌+◌, ◌⊎◌, inl, inr, List, [], ◌∷◌, length, Bool, true, false, Option, None, Some, Result, Ok, Err, refl, ap, sym, arith}
+use Rattle.std.proofs.Common.{◌≡◌, ℕ, ◌≤◌, ◌++◌, inl, inr, List, [], length, Bool, true, false, Option, None, Some, Result, Ok, Err, refl, ap, sym, arith}
 use Rattle.std.proofs.lemmas.List.{append-nil}
-use Rattle.std.specs.Prelude.{MatchOption, MatchResult, MatchBool, IsSome, ◌==◌, is_some}
+use Rattle.std.specs.Prelude.{MatchResult, MatchBool, ◌==◌, is_some}
 use Rattle.wl_wire.specs.declared.error.IoFault.{IoFault}
-use Rattle.wl_wire.specs.Message.{WireMessage}
-use Rattle.wl_link.specs.Exchange.{Queue}
-use Rattle.wl_link.specs.Link.{LinkState, Wrote}
+use Rattle.wl_link.specs.Link.{LinkState}
 use Rattle.wl_link.specs.Puts.{lacks_memory}
-use Rattle.wl_link.specs.Store.{client_range, IsFull, IsLeastAbsent}
 use Rattle.wl_link.specs.Mailbox.{MailboxState, MailboxSends}
 use Rattle.wl_client.specs.declared.error.RequestError.{RequestError}
 use Rattle.wl_client.specs.declared.error.RequestError.TheVariants as refused
 use Rattle.wl_client.specs.declared.request.Granted.{Granted}
 use Rattle.wl_client.specs.declared.objects.Note.{Note}
 use Rattle.wl_client.specs.ObjectId.{IdParts}
-use Rattle.wl_client.specs.Requests.{Numbered, Requested, Sent, SentAs, SentWithChild, SessionMessage, Spec, Written, ended_by, error_after, id_of_new, new_child, number_of_new, request_check, wire_message, with_born, with_ended}
-use Rattle.wl_client.specs.Session.{Core, SessionState, core_of, id_at, last_possible_serial, named, noted}
+use Rattle.wl_client.specs.Requests.{Numbered, Requested, Sent, SentAs, SentWithChild, SessionMessage, Spec, ended_by, error_after, id_of_new, new_child, request_check, with_born, with_ended}
+use Rattle.wl_client.specs.Session.{SessionState, id_at, last_possible_serial, noted}
 use Rattle.wl_host.specs.declared.client.notes.DestroyedObject.{DestroyedObject}
 use Rattle.wl_host.specs.Client.{ClientCore, HostedClient, ended_objects, with_notes_of, without_notes}
 

@@ -1,9 +1,9 @@
 -- What a client's session reads: the event, if there is one; it makes no note.
-use Rattle.std.proofs.Common.{◌≡◌, ℕ, ◌⊎◌, inl, inr, List, [], ◌∷◌, Bool, true, false, Option, None, Some, Result, Ok, Err, refl, ap, sym, ◌∙◌, ◌≢◌, ℤ}
+use Rattle.std.proofs.Common.{◌≡◌, ℕ, inl, inr, List, [], ◌∷◌, Bool, true, false, Option, None, Some, Result, Ok, Err, refl, ap, sym, ◌∙◌, ◌≢◌, ℤ}
 use Rattle.std.specs.Prelude.{MatchOption, MatchResult}
 use Rattle.wl_wire.specs.declared.error.IoFault.{IoFault}
 use Rattle.wl_wire.specs.declared.error.IoFault.TheVariants as fault
-use Rattle.wl_link.specs.Exchange.{Queue, Sending}
+use Rattle.wl_link.specs.Exchange.{Sending}
 use Rattle.wl_link.specs.Link.{LinkState, count_of, counted_answer}
 use Rattle.wl_link.specs.Mailbox.{MailboxState, MailboxReceives, MailboxSends}
 use Rattle.wl_link.specs.Puts.{lacks_memory}

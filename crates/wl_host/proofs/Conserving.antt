@@ -1,5 +1,5 @@
 -- The calls of a server's session: no descriptor is lost, and none comes out twice.
-use Rattle.std.proofs.Common.{◌≡◌, ℕ, ℤ, ◌+◌, ◌==◌, ◌++◌, Bool, true, false, List, [], ◌∷◌, Option, None, Some, Result, Ok, Err, refl, ap, sym, ◌∙◌, arith, inl, inr, length}
+use Rattle.std.proofs.Common.{◌≡◌, ℕ, ℤ, ◌==◌, Bool, true, false, List, [], ◌∷◌, Option, None, Some, Result, Ok, Err, refl, ap, ◌∙◌, arith, inl, inr, length}
 use Rattle.std.specs.Global.{Global}
 use Rattle.wl_wire.specs.declared.error.OutOfMemory.{OutOfMemory}
 use Rattle.std.specs.Prelude.{Vec, if◌then◌else◌, MatchResult, nat_lt, option_to_list, slice_get, slice_set}
@@ -10,12 +10,11 @@ use Rattle.wl_server.specs.declared.notes.Note.{Note}
 use Rattle.wl_host.proofs.Keeping.{conserves_gone_all, conserves_handed_out, conserves_passed_next}
 use Rattle.wl_host.proofs.Ledgers.{conserves_ledger, conserves_taken_out}
 use Rattle.wl_host.proofs.Queues.{conserves_nothing, conserves_put_in}
-use Rattle.wl_host.specs.Arrivals.{mailbox_with}
 use Rattle.wl_host.specs.Descriptors.{Conserves, Descriptors, kept_in, occurrences, put_in}
 use Rattle.wl_host.specs.Notes.{Fetches, NextNote, noted, noted_if, text_of}
 use Rattle.wl_host.specs.Seats.{SeatsState, kept_by_ledger, gone_all, kept_by_seats, ledger_of, left_by_first, listed}
 use Rattle.wl_host.specs.Sending.{came_out, mailbox_after, queue_after, sent_of}
-use Rattle.wl_host.specs.Server.{CleansUp, handed_if, is_too_small, IsNotStored, NextDropped, Received, ReceivedBy, Sent, SentBy, ServerState, after_sent, asked_again, gone_with_first, handed, handed_out, kept_by_server, next_gone, or_would_block, sent_to_first, sent_by, sent_with, went_in, with_arrivals}
+use Rattle.wl_host.specs.Server.{CleansUp, handed_if, is_too_small, IsNotStored, NextDropped, Received, ReceivedBy, Sent, SentBy, ServerState, asked_again, gone_with_first, handed, handed_out, kept_by_server, next_gone, or_would_block, sent_to_first, sent_by, sent_with, went_in}
 use Rattle.wl_host.specs.declared.flat.FlatNote.{FlatNote}
 use Rattle.wl_host.specs.declared.flat.Gone.{Gone}
 use Rattle.wl_host.specs.declared.server.ledger.Departed.{Departed}

@@ -1,5 +1,5 @@
 -- Lent memory that is filled item by item.
-use Rattle.std.proofs.Common.{◌≡◌, ◌≤◌, ◌<◌, ℕ, suc, ◌+◌, ◌++◌, ◌∷◌, [], List, get_or, length, map, take, drop, drop-cons, min, nat_lt, slice_set, true, false, add-one, arith, append_assoc, refl, MutBor, length-append}
+use Rattle.std.proofs.Common.{◌≡◌, ◌≤◌, ◌<◌, ℕ, ◌+◌, ◌++◌, ◌∷◌, [], List, get_or, length, map, drop, drop-cons, min, nat_lt, true, false, add-one, arith, append_assoc, refl, MutBor, length-append}
 use Rattle.std.proofs.lemmas.Fn.{chained_keeps}
 use Rattle.std.proofs.lemmas.Grind.{common_steps}
 use Rattle.std.proofs.lemmas.List.{map-append, take-append-le, take_all, length-map}

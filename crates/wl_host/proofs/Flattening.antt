@@ -1,5 +1,5 @@
 -- Arguments that are written to lent memory, and read from flat structs.
-use Rattle.std.proofs.Common.{◌≡◌, ℕ, suc, ◌+◌, ◌-◌, ◌++◌, ◌<◌, ◌≤◌, ℤ, List, [], ◌∷◌, Option, None, Some, Bool, true, false, length, take, drop, refl, ap, sym, ◌∙◌, arith, add-one, append-nil, append_assoc, inl, inr, ◌⊎◌, Result, Ok, Err, subst}
+use Rattle.std.proofs.Common.{◌≡◌, ℕ, ◌+◌, ◌-◌, ◌++◌, ◌<◌, ◌≤◌, ℤ, List, [], ◌∷◌, Option, None, Some, true, false, length, take, drop, refl, ap, sym, ◌∙◌, arith, append-nil, append_assoc, inl, inr, Result, Ok, Err, subst}
 use Rattle.std.proofs.lemmas.Bool.{eqb-true, false_from_ne_true}
 use Rattle.std.proofs.lemmas.List.{drop-drop, drop-set-lt, length-append, length-take-le, take-append-drop, take-append-le, take_more_set}
 use Rattle.std.proofs.lemmas.Map.Views.{Contains-from_any}

@@ -1,5 +1,5 @@
 -- Actions that are handed out or ended, and events that are sent, with the ledgers of their clients.
-use Rattle.std.proofs.Common.{◌≡◌, ℕ, ℤ, ◌+◌, ◌++◌, ◌⊎◌, Bool, true, false, List, [], ◌∷◌, Option, None, Some, Result, Ok, Err, length, refl, ap, sym, ◌∙◌, arith, inl, inr, subst}
+use Rattle.std.proofs.Common.{◌≡◌, ℕ, ℤ, Bool, true, false, List, [], ◌∷◌, Option, None, Some, Result, Ok, Err, refl, ap, sym, ◌∙◌, arith, inl, inr, subst}
 use Rattle.std.proofs.Math.ListN.{set}
 use Rattle.std.proofs.lemmas.List.{set-get_or}
 use Rattle.std.proofs.lemmas.Option.{get_or_from_slice_get}
@@ -15,10 +15,10 @@ use Rattle.wl_server.specs.declared.error.EventError.TheVariants as event_error
 use Rattle.wl_server.specs.declared.reading.action.Action.{Action}
 use Rattle.wl_host.proofs.Ledgers.{conserves_ledger, slot_of_client}
 use Rattle.wl_host.proofs.Queues.{conserves_nothing, conserves_out, conserves_put_in, conserves_without}
-use Rattle.wl_host.specs.Actions.{EndsBind, HandsFrom, HandsNothing, HandsOut, HandsWhole, KeepsAction, Lent, NextAction, NextActionOf, args_of, descriptors_with, has_room, is_killed_by, marked_if, without_kept}
+use Rattle.wl_host.specs.Actions.{EndsBind, HandsFrom, HandsNothing, HandsOut, HandsWhole, KeepsAction, Lent, NextAction, NextActionOf, args_of, descriptors_with, fits, is_killed_by, marked_if, without_kept}
 use Rattle.wl_host.specs.Arguments.{descriptors_given, descriptors_out, queue_after, queue_after_all, descriptor_in}
 use Rattle.wl_host.specs.Calls.{CoreState, status_by}
-use Rattle.wl_host.specs.Descriptors.{Conserves, Descriptors, kept_in, occurrences, put_in}
+use Rattle.wl_host.specs.Descriptors.{Conserves, Descriptors, kept_in}
 use Rattle.wl_host.specs.Events.{Passed, SendsEvent, SendsEventOf, SendsFrom, queue_with}
 use Rattle.wl_host.specs.Flat.{client_of, no_action}
 use Rattle.wl_host.specs.Inside.Actions.{AnswersNext, NextOf, is_killed_in, status_of_next}
@@ -83,7 +83,7 @@ conserves_handed : (core : CoreState) (l l' : Ledger) (action : Action) (argumen
 conserves_handed core l l' action arguments bytes s lent h =
     let args = args_of (handed action) in
     let q = conserves_arguments l.received args in
-    in_bool (has_room args arguments bytes) (HandsWhole core l action arguments bytes s lent l') (KeepsAction l action arguments bytes s lent l')
+    in_bool (fits args arguments bytes) (HandsWhole core l action arguments bytes s lent l') (KeepsAction l action arguments bytes s lent l')
     (λ (room : Bool). Conserves kept_by_ledger l [] (if room then descriptors_out l.received args else []) l')
     (λ h. rw h.2 (record { each = λ d. let c = q.each d in omega arith }))
     (λ h. rw h.2 (record { each = λ d. refl })) h

@@ -1,8 +1,8 @@
 -- What becomes of the ledgers of clients: no descriptor is lost, and none comes out twice.
-use Rattle.std.proofs.Common.{◌≡◌, ℕ, ℤ, zero, suc, ◌+◌, ◌-◌, ◌*◌, ◌++◌, List, [], ◌∷◌, Option, None, Some, length, refl, ap, sym, ◌∙◌, arith, inl, inr}
+use Rattle.std.proofs.Common.{◌≡◌, ℕ, ℤ, ◌+◌, ◌++◌, List, [], ◌∷◌, Option, None, Some, refl, ap, arith, inl, inr}
 use Rattle.std.proofs.lemmas.List.Sums.{sum_by-cons, sum_by_push}
 use Rattle.std.specs.List.{slice_get, sum_by}
-use Rattle.std.specs.Prelude.{option_to_list, replicate, slice_set}
+use Rattle.std.specs.Prelude.{option_to_list}
 use Rattle.wl_link.specs.Mailbox.{MailboxState}
 use Rattle.wl_server.specs.Ids.{ClientParts}
 use Rattle.wl_host.proofs.Ledgers.{conserves_taken_out, slot_of_client, slot_of_ledger, sum_replaced}

@@ -12,7 +12,7 @@ use Rattle.wl_wire.specs.declared.argument.Token.{Token}
 use Rattle.wl_server.specs.Ids.{ClientParts}
 use Rattle.wl_host.proofs.Slots.{among_added}
 use Rattle.wl_host.proofs.Queues.{conserves_nothing, conserves_out, conserves_without}
-use Rattle.wl_host.specs.Descriptors.{Conserves, Descriptors, descriptor_of, kept_in, occurrences, without}
+use Rattle.wl_host.specs.Descriptors.{Conserves, Descriptors, kept_in, without}
 use Rattle.wl_host.specs.Inside.Seats.{AreMarked, IsMarked, PassesOutOf, taken}
 use Rattle.wl_host.specs.Seats.{HasNonePassed, LedgerPassesOut, PassesOut, SeatHasNonePassed, SeatPassesOut, SeatsState, added, if_serial, is_among, kept_by_ledger, kept_by_seat, kept_by_seats, ledger_at, ledger_of, padded, with_ledger}
 use Rattle.wl_host.specs.Sending.{all_taken_out, descriptors_of, some_of}

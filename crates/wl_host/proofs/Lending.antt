@@ -1,7 +1,6 @@
 -- A session that lends the ledger of a client and its mailbox: what it is after the loan.
 use Rattle.std.proofs.Common.{◌≡◌, ℕ, zero, suc, ℤ, Bool, true, false, List, [], ◌∷◌, Option, None, Some, length, refl, ap, sym, subst, ◌∙◌, inl, inr}
 use Rattle.std.specs.List.{slice_get}
-use Rattle.std.specs.Option.{option_map_or}
 use Rattle.std.specs.Prelude.{if◌then◌else◌, option_map, slice_set, ◌==◌}
 use Rattle.wl_link.specs.Mailbox.{MailboxState}
 use Rattle.wl_server.specs.Ids.{ClientParts}
@@ -67,7 +66,7 @@ same_arrived b id l m m' q at has f g =
 pub received_by : (b : ServerState) (id : ClientParts) (bytes : List ℕ) (ds : List ℤ) (s : Status) (l : Ledger) (m m' : MailboxState) (q : Descriptors)
     → ledger_of id b.seats.ledgers ≡ Some l → transport_of b.core.server id ≡ Some m → Arrives m l.received bytes ds s m' q → Received b id bytes ds s (arrived b id l m' q)
 received_by b id bytes ds s l m m' q at has h = rw (at, has) (elim h [
-  | inl y ↦ inl (y.0, ap (λ x. arrived b id l x q) y.1 ∙ ap (arrived b id l _) y.2)
+  | inl y ↦ inl (y.0, ap (λ x. arrived b id l x q) y.1 ∙ ap (arrived b id l _) y.2, y.3)
   | inr n ↦ inr (n.0, same_arrived b id l m m' q at has n.1 n.2)
 ])
 

@@ -1,7 +1,7 @@
 -- Lists of which the first items were passed over, after an item was taken out or the last ones were taken back. And that no
 -- call of a queue loses a descriptor or hands one out twice.
 use Rattle.std.proofs.Common.{◌≡◌, ℕ, ℤ, suc, ◌+◌, ◌-◌, ◌++◌, ◌<◌, ◌≤◌, List, [], ◌∷◌, Option, None, Some, length, take, drop, drop-cons, refl, ap, sym, ◌∙◌, arith, add-one}
-use Rattle.std.proofs.lemmas.List.{drop-drop, drop-take, length-take-le, take-append-drop, take-take, take_more_set}
+use Rattle.std.proofs.lemmas.List.{drop-drop, drop-take, length-drop, length-take-le, take-append-drop, take-take, take_more_set}
 use Rattle.std.proofs.lemmas.List.FromFn.{map-range_with_len_more}
 use Rattle.std.proofs.lemmas.Option.{get_or_from_slice_get, slice_get_within}
 use Rattle.std.proofs.Math.ListN.{set}
@@ -9,7 +9,7 @@ use Rattle.std.proofs.Math.Seq.{drop-append_seam, take-add, take-append_seam}
 use Rattle.std.specs.List.{remove, slice_get}
 use Rattle.std.specs.Prelude.{option_to_list}
 use Rattle.wl_wire.specs.declared.argument.Token.{Token}
-use Rattle.wl_host.specs.Descriptors.{Conserves, Descriptors, descriptor_of, distance, given_up, kept_in, next_tokens, occurrences, put_in, taken_out, token_after, without}
+use Rattle.wl_host.specs.Descriptors.{Conserves, Descriptors, descriptor_of, distance, given_up, kept_in, last_held, next_tokens, occurrences, put_in, taken_out, token_after, without}
 
 -- the last ones were taken back
 pub passed_of_shorter : {X : Type 0} (p n : ℕ) (xs : List X) → take p (take (p + n) xs) ≡ take p xs
@@ -17,6 +17,13 @@ passed_of_shorter p n xs = take-take p (p + n) xs (omega arith)
 
 pub held_of_shorter : {X : Type 0} (p n : ℕ) (xs : List X) → drop p (take (p + n) xs) ≡ take n (drop p xs)
 held_of_shorter p n xs = drop-take p n xs
+
+-- only the last ones are left
+pub passed_of_last : {X : Type 0} (p n : ℕ) (xs : List X) → take (p + n) xs ≡ take p xs ++ take n (drop p xs)
+passed_of_last p n xs = take-add p n xs
+
+pub held_of_last : {X : Type 0} (p n : ℕ) (xs : List X) → drop (p + n) xs ≡ drop n (drop p xs)
+held_of_last p n xs = sym (drop-drop n p xs ∙ ap (λ k. drop k xs) (omega arith))
 
 -- an item was taken out, and those before it are passed over
 pub front_of : {X : Type 0} (n : ℕ) (ys zs : List X) → length ys ≡ n → take n (ys ++ zs) ≡ ys
@@ -66,6 +73,18 @@ conserves_put_in q xs = record { each = λ d. omega (arith, occurrences_append d
 
 pub conserves_given_up : (q : Descriptors) → Conserves kept_in q [] [] (given_up q)
 conserves_given_up q = record { each = λ d. omega (arith, occurrences_append d q.passed q.held) }
+
+pub conserves_last_held : (q : Descriptors) (count : ℕ) → Conserves kept_in q [] [] (last_held count q)
+conserves_last_held q count = record {
+  each = λ d.
+      let n = length q.held - count in
+      let t = ap (occurrences d) (take-append-drop n q.held) in
+      omega (arith, t, occurrences_append d (take n q.held) (drop n q.held), occurrences_append d q.passed (take n q.held));
+}
+
+-- no more are held then
+pub few_last_held : (q : Descriptors) (count : ℕ) → length (last_held count q).held ≤ count
+few_last_held q count = let l = length-drop (length q.held - count) q.held in omega (arith, l)
 
 -- the first one that was passed over came out
 pub conserves_passed : (q r : Descriptors) (x : Option ℤ) → q.passed ≡ option_to_list x ++ r.passed → r.held ≡ q.held → Conserves kept_in q [] (option_to_list x) r

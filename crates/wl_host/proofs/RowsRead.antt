@@ -1,5 +1,5 @@
 -- What rows say, row by row.
-use Rattle.std.proofs.Common.{◌≡◌, ◌≤◌, ◌<◌, ℕ, ◌+◌, ◌∷◌, ◌++◌, [], List, length, drop, drop-cons, get_or, map, slice_range, Option, Some, None, option_map, true, false, nat_le, add-one, arith, refl, append_assoc}
+use Rattle.std.proofs.Common.{◌≡◌, ◌≤◌, ◌<◌, ℕ, ◌+◌, ◌∷◌, ◌++◌, [], List, length, drop, drop-cons, get_or, slice_range, Option, Some, None, option_map, true, false, add-one, arith, refl, append_assoc}
 use Rattle.std.proofs.lemmas.Str.{IsUtf8-from_is_utf8, is_utf8-from_IsUtf8}
 use Rattle.std.specs.Str.{IsUtf8, is_utf8}
 use Rattle.std.specs.Prelude.{Result, Ok, Err}

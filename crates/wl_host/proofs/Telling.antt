@@ -6,7 +6,7 @@ use Rattle.std.proofs.lemmas.List.Folds.{sum_by-replicate}
 use Rattle.std.proofs.lemmas.List.Sums.{sum_by-append, sum_by-set, sum_by_push}
 use Rattle.std.proofs.lemmas.Option.{slice_get-get_or, slice_get_past}
 use Rattle.std.proofs.Math.ListN.{get_or, get_or-append}
-use Rattle.std.specs.List.{slice_get, sum_by}
+use Rattle.std.specs.List.{sum_by}
 use Rattle.wl_server.specs.Ids.{ClientParts}
 use Rattle.wl_link.specs.Mailbox.{MailboxState}
 use Rattle.wl_server.specs.declared.error.InsertClientError.{InsertClientError}
@@ -19,7 +19,7 @@ use Rattle.wl_host.specs.declared.flat.FlatClientId.{FlatClientId}
 use Rattle.wl_host.specs.declared.flat.FlatGlobalId.{FlatGlobalId}
 use Rattle.wl_host.specs.declared.server.HostClient.{HostClient}
 use Rattle.wl_host.specs.declared.status.Status.{Status}
-use Rattle.wl_host.specs.Descriptors.{Conserves, Descriptors, given_up, kept_in}
+use Rattle.wl_host.specs.Descriptors.{Conserves, given_up, kept_in}
 use Rattle.wl_host.specs.Seats.{InsertsInto, SeatsState, departed, departed_of, empty_mailbox, kept_by_departed, kept_by_seat, kept_by_seats, ledger_at, left_by, new_ledger, padded, seated}
 use Rattle.wl_host.specs.Server.{ServerState, kept_by_server}
 use Rattle.wl_host.specs.declared.server.ledger.Ledger.{Ledger}
@@ -96,5 +96,5 @@ inserts_viewer before m client u groups hidden r result after is viewer told ins
     let named = subst (λ (x : MailboxState). InsertsInto before x client r after) is inserts in
     elim named [
       | inl asked ↦ inl (client, asked.0, viewer, asked.1, told ∙ ap told_id asked.2 ∙ flat_answer asked.0)
-      | inr refused ↦ inr (elim refused.0 [ inl full ↦ inl (told ∙ ap told_id full) | inr memory ↦ inr (told ∙ ap told_id memory) ], refused.1)
+      | inr refused ↦ inr (elim refused.0 [ inl full ↦ inl (told ∙ ap told_id full.0, full.1) | inr memory ↦ inr (told ∙ ap told_id memory) ], refused.1)
     ]

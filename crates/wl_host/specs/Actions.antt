@@ -7,6 +7,7 @@ use Rattle.wl_server.specs.Backend.{Calls}
 use Rattle.wl_server.specs.Deeds.{Handed, handed}
 use Rattle.wl_server.specs.Deeds as deeds
 use Rattle.wl_server.specs.Ids.{ClientParts, IdParts}
+use Rattle.wl_server.specs.Plain.{ReturnsBindData, ReturnsRequestData}
 use Rattle.std.specs.Result.{result_and}
 use Rattle.wl_server.specs.declared.error.FinishRefused.{FinishRefused}
 use Rattle.wl_server.specs.declared.error.ActionError.{ActionError}
@@ -17,13 +18,13 @@ use Rattle.wl_server.specs.declared.runs.step.Step.TheVariants as step
 use Rattle.wl_host.specs.Arguments.{all_bytes, descriptors_out, flat_arguments, queue_after_all}
 use Rattle.wl_host.specs.Calls.{CoreState, bit_of, data_or_zero, global_data_or_zero, kept_by, version_or_zero, world}
 use Rattle.wl_host.specs.Flat.{count_number, flat_global, flat_resource, no_action, no_object, over_front}
-use Rattle.wl_host.specs.Seats.{SeatsState, ledger_of, listed, with_ledger}
+use Rattle.wl_host.specs.Kinds as kinds
+use Rattle.wl_host.specs.Seats.{ledger_of, listed, with_ledger}
 use Rattle.wl_host.specs.Server.{ServerState}
 use Rattle.wl_host.specs.Status.{of_action}
 use Rattle.wl_host.specs.declared.flat.FlatAction.{FlatAction}
 use Rattle.wl_host.specs.declared.flat.FlatArgument.{FlatArgument}
 use Rattle.wl_host.specs.declared.flat.FlatObjectId.{FlatObjectId}
-use Rattle.wl_host.specs.declared.flat.TheConstants as kinds
 use Rattle.wl_host.specs.declared.server.ledger.Ledger.{Ledger}
 use Rattle.wl_host.specs.declared.status.Status.{Status}
 use Rattle.wl_host.specs.declared.status.Status.TheVariants as status
@@ -56,7 +57,7 @@ flat_needs h = record no_action { arguments = count_number (length (args_of h));
 -- with what the core knows of its objects and of its global
 abbrev pub flat_action : CoreState → Handed → FlatAction
 flat_action core (deeds.Request sender opcode args is_destructor created) = record {
-  kind = kinds.REQUEST;
+  kind = kinds.request;
   opcode = opcode;
   arguments = count_number (length args);
   is_destructor = bit_of is_destructor;
@@ -68,7 +69,7 @@ flat_action core (deeds.Request sender opcode args is_destructor created) = reco
   global = no_action.global;
 }
 flat_action core (deeds.Bind global object) = record {
-  kind = kinds.BIND;
+  kind = kinds.bind;
   opcode = 0;
   arguments = 0;
   is_destructor = 0;
@@ -82,11 +83,10 @@ flat_action core (deeds.Bind global object) = record {
 
 -- ---- the next action of a client
 
--- a reading that ended so killed the client
+-- a reading of a client that is stored, and that ended so, killed the client
 abbrev pub kills : ActionError → Bool
 kills (action_error.Io fault.WouldBlock) = false
 kills (action_error.Io fault.OutOfMemory) = false
-kills (action_error.Io fault.InvalidInput) = false
 kills (action_error.Io _) = true
 kills action_error.ActionOpen = false
 
@@ -108,8 +108,8 @@ ReadsNext before id (Some kept) read after = (read ≡ Ok kept) × (after ≡ be
 ReadsNext before id None read after = Calls world before (step.NextAction id) (reply.NextAction read) after
 
 -- the lent memory has room for the arguments and for their bytes
-abbrev pub has_room : List (Argument IdParts Token) → List FlatArgument → List ℕ → Bool
-has_room args arguments bytes = nat_le (length args) (length arguments) && nat_le (length (all_bytes args)) (length bytes)
+abbrev pub fits : List (Argument IdParts Token) → List FlatArgument → List ℕ → Bool
+fits args arguments bytes = nat_le (length args) (length arguments) && nat_le (length (all_bytes args)) (length bytes)
 
 -- the lent memory after a call
 pub record Lent : Type 0 where
@@ -142,7 +142,7 @@ KeepsAction l action arguments bytes s lent after =
 
 abbrev pub HandsFrom : CoreState → Ledger → Action → List FlatArgument → List ℕ → Status → Lent → Ledger → Type 0
 HandsFrom core l action arguments bytes s lent after =
-    MatchBool (has_room (args_of (handed action)) arguments bytes)
+    MatchBool (fits (args_of (handed action)) arguments bytes)
     (HandsWhole core l action arguments bytes s lent after) (KeepsAction l action arguments bytes s lent after)
 
 -- nothing was handed out
@@ -152,7 +152,7 @@ HandsNothing e arguments bytes s lent = (s ≡ e) × (lent ≡ record { out = no
 -- the descriptors that come out with the action, if it is handed out
 abbrev pub descriptors_with : Ledger → Action → List FlatArgument → List ℕ → List ℤ
 descriptors_with l action arguments bytes =
-    if has_room (args_of (handed action)) arguments bytes then descriptors_out l.received (args_of (handed action)) else []
+    if fits (args_of (handed action)) arguments bytes then descriptors_out l.received (args_of (handed action)) else []
 
 -- What was read is handed out with these descriptors, and the ledger is as that leaves it. Or nothing was read.
 abbrev pub HandsOut : CoreState → Ledger → Result Action ActionError → List FlatArgument → List ℕ → Status → Lent → List ℤ → Ledger → Type 0
@@ -195,21 +195,24 @@ EndsAction before id Ends result after =
     MatchOption (ledger_of id before.seats.ledgers) ((result ≡ Err status.InvalidId) × (after ≡ before))
     (λ l. MatchOption l.kept (Ends l result after) (λ kept. (result ≡ Err status.NotOpen) × (after ≡ before)))
 
--- the core is asked to end the request; the answer says whether the data are kept
+-- The core is asked to end the request. The answer says whether the data are kept: the core gives them back if the object that
+-- the request made is not there any more.
 abbrev pub EndsRequestOf : ServerState → ClientParts → Option ℕ → Ledger → Result Bool Status → ServerState → Type 0
 EndsRequestOf before id data_given l result after =
     (answer : Result (Option ℕ) (FinishRefused (Option ℕ))) × (core : CoreState)
     × Calls world before.core (step.FinishRequest id data_given) (reply.FinishRequest (result_and answer (Ok tt))) core
+    × ReturnsRequestData before.core id data_given answer core
     × (result ≡ kept_by answer) × (after ≡ ended l.ends_sender id (record before { core = core }))
 
 abbrev pub EndsRequest : ServerState → ClientParts → Option ℕ → Result Bool Status → ServerState → Type 0
 EndsRequest before id data_given result after = EndsAction before id (EndsRequestOf before id data_given) result after
 
--- the core is asked to end the bind
+-- the core is asked to end the bind, and gives the data back if the object that was bound is not there any more
 abbrev pub EndsBindOf : ServerState → ClientParts → ℕ → Ledger → Result Bool Status → ServerState → Type 0
 EndsBindOf before id data_given l result after =
     (answer : Result (Option ℕ) (FinishRefused ℕ)) × (core : CoreState)
     × Calls world before.core (step.FinishBind id data_given) (reply.FinishBind (result_and answer (Ok tt))) core
+    × ReturnsBindData before.core id data_given answer core
     × (result ≡ kept_by answer) × (after ≡ record before { core = core })
 
 abbrev pub EndsBind : ServerState → ClientParts → ℕ → Result Bool Status → ServerState → Type 0

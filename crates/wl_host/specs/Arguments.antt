@@ -1,5 +1,5 @@
 -- The arguments of a message as flat structs, and the arguments that flat structs stand for.
-use Rattle.std.specs.Prelude.{◌≡◌, ◌<◌, ◌^◌, ℕ, ◌+◌, ◌==◌, ℤ, pos, negsuc, List, [], ◌∷◌, ◌++◌, ◌⊎◌, length, take, drop, nat_le, nat_eq, Bool, false, if◌then◌else◌, Option, None, Some, unwrap_or, option_to_list}
+use Rattle.std.specs.Prelude.{◌≡◌, ◌<◌, ◌^◌, ℕ, ◌+◌, ◌==◌, ℤ, pos, negsuc, List, [], ◌∷◌, ◌++◌, ◌⊎◌, length, take, drop, nat_le, nat_eq, Bool, false, if◌then◌else◌, Option, None, Some, unwrap_or, option_to_list, true}
 use Rattle.std.specs.Int.{w32, cast_signed, cast_unsigned}
 use Rattle.std.specs.List.{list_any}
 use Rattle.wl_wire.specs.declared.argument.Argument.{Argument}
@@ -7,9 +7,9 @@ use Rattle.wl_wire.specs.declared.argument.Argument.TheVariants as arg
 use Rattle.wl_wire.specs.declared.argument.Token.{Token}
 use Rattle.wl_host.specs.Descriptors.{Descriptors, descriptor_of, put_in, token_after, without}
 use Rattle.wl_host.specs.Flat.{count_number, flat_bytes, flat_number, flat_object}
+use Rattle.wl_host.specs.Kinds as kinds
 use Rattle.wl_host.specs.declared.flat.FlatArgument.{FlatArgument}
 use Rattle.wl_host.specs.declared.flat.FlatObjectId.{FlatObjectId}
-use Rattle.wl_host.specs.declared.flat.kind.TheConstants as kinds
 use Rattle.wl_host.specs.declared.status.Status.{Status}
 use Rattle.wl_host.specs.declared.status.Status.TheVariants as status
 
@@ -31,6 +31,11 @@ module _ {Id : Type 0} where
   abbrev pub descriptor_in : Descriptors → Argument Id Token → Option ℤ
   descriptor_in q (arg.Fd t) = descriptor_of q t
   descriptor_in q _ = None
+
+  -- it is a descriptor
+  abbrev pub is_descriptor : Argument Id Token → Bool
+  is_descriptor (arg.Fd t) = true
+  is_descriptor _ = false
 
   -- what is held after the argument was handed out
   abbrev pub queue_after : Descriptors → Argument Id Token → Descriptors
@@ -55,15 +60,15 @@ written_at at part memory = take at memory ++ part ++ drop (at + length part) me
 module _ {Id : Type 0} (flat : Id → FlatObjectId) (user_data : Id → ℕ) where
   -- An argument whose bytes, if it has some, stand at that place. A token that names no descriptor is told as -1.
   abbrev pub flat_argument : Descriptors → ℕ → Argument Id Token → FlatArgument
-  flat_argument q at (arg.Int value) = flat_number kinds.INT value
-  flat_argument q at (arg.Uint value) = flat_number kinds.UINT (cast_signed w32 value)
-  flat_argument q at (arg.Fixed value) = flat_number kinds.FIXED value
-  flat_argument q at (arg.Str None) = flat_number kinds.NULL_STRING (pos 0)
-  flat_argument q at (arg.Str (Some text)) = flat_bytes kinds.STRING (count_number at) (count_number (length text))
-  flat_argument q at (arg.Object id) = flat_object kinds.OBJECT (flat id) (user_data id)
-  flat_argument q at (arg.NewId id) = flat_object kinds.NEW_ID (flat id) (user_data id)
-  flat_argument q at (arg.Array bytes) = flat_bytes kinds.ARRAY (count_number at) (count_number (length bytes))
-  flat_argument q at (arg.Fd t) = flat_number kinds.DESCRIPTOR (unwrap_or (descriptor_of q t) (negsuc 0))
+  flat_argument q at (arg.Int value) = flat_number kinds.int value
+  flat_argument q at (arg.Uint value) = flat_number kinds.uint (cast_signed w32 value)
+  flat_argument q at (arg.Fixed value) = flat_number kinds.fixed value
+  flat_argument q at (arg.Str None) = flat_number kinds.null_string (pos 0)
+  flat_argument q at (arg.Str (Some text)) = flat_bytes kinds.string (count_number at) (count_number (length text))
+  flat_argument q at (arg.Object id) = flat_object kinds.object (flat id) (user_data id)
+  flat_argument q at (arg.NewId id) = flat_object kinds.new_id (flat id) (user_data id)
+  flat_argument q at (arg.Array bytes) = flat_bytes kinds.array (count_number at) (count_number (length bytes))
+  flat_argument q at (arg.Fd t) = flat_number kinds.descriptor (unwrap_or (descriptor_of q t) (negsuc 0))
 
   -- arguments whose bytes stand behind each other, from that place on
   abbrev pub flat_arguments : Descriptors → ℕ → List (Argument Id Token) → List FlatArgument
@@ -74,7 +79,7 @@ module _ {Id : Type 0} (flat : Id → FlatObjectId) (user_data : Id → ℕ) whe
 
 -- the descriptor that goes in with the flat struct, if it is one
 abbrev pub descriptor_given : FlatArgument → List ℤ
-descriptor_given a = if a.kind == kinds.DESCRIPTOR then a.value ∷ [] else []
+descriptor_given a = if a.kind == kinds.descriptor then a.value ∷ [] else []
 
 -- the descriptors that go in with all of them
 abbrev pub descriptors_given : List FlatArgument → List ℤ
@@ -113,15 +118,15 @@ module _ {Id : Type 0} (stands_for : FlatObjectId → Id) (bytes : List ℕ) whe
   -- The argument that the flat struct stands for, if it can be read. A descriptor gets the token.
   abbrev pub argument_of : Token → FlatArgument → Option (Argument Id Token)
   argument_of t a =
-      (if a.kind == kinds.INT then Some (arg.Int a.value) else
-      (if a.kind == kinds.UINT then Some (arg.Uint (cast_unsigned w32 a.value)) else
-      (if a.kind == kinds.FIXED then Some (arg.Fixed a.value) else
-      (if a.kind == kinds.STRING then string_in (part_of bytes a) else
-      (if a.kind == kinds.OBJECT then Some (arg.Object (stands_for a.object)) else
-      (if a.kind == kinds.NEW_ID then Some (arg.NewId (stands_for a.object)) else
-      (if a.kind == kinds.ARRAY then array_in (part_of bytes a) else
-      (if a.kind == kinds.DESCRIPTOR then Some (arg.Fd t) else
-      (if a.kind == kinds.NULL_STRING then Some (arg.Str None) else
+      (if a.kind == kinds.int then Some (arg.Int a.value) else
+      (if a.kind == kinds.uint then Some (arg.Uint (cast_unsigned w32 a.value)) else
+      (if a.kind == kinds.fixed then Some (arg.Fixed a.value) else
+      (if a.kind == kinds.string then string_in (part_of bytes a) else
+      (if a.kind == kinds.object then Some (arg.Object (stands_for a.object)) else
+      (if a.kind == kinds.new_id then Some (arg.NewId (stands_for a.object)) else
+      (if a.kind == kinds.array then array_in (part_of bytes a) else
+      (if a.kind == kinds.descriptor then Some (arg.Fd t) else
+      (if a.kind == kinds.null_string then Some (arg.Str None) else
       None)))))))))
 
   -- The arguments that the flat structs stand for, if all can be read. Their descriptors are put in, in order, and get the

@@ -1,9 +1,7 @@
 -- What the calls of a server's session do, in the words of its core: the look-up or the step that each call is, and the status
 -- for what the core answered.
-use Rattle.std.specs.Prelude.{◌≡◌, ℕ, ◌⊎◌, ◌==◌, Bool, if◌then◌else◌, unwrap_or, true, false, not, nat_eq, List, Option, None, Some, Result, Ok, Err, option_map}
-use Rattle.std.specs.Int.Bits.{bit_and}
+use Rattle.std.specs.Prelude.{◌≡◌, ℕ, ◌⊎◌, ◌==◌, Bool, if◌then◌else◌, unwrap_or, true, false, List, Option, None, Some, Result, Ok, Err, option_map}
 use Rattle.std.specs.Option.{option_map_or}
-use Rattle.std.specs.Result.{result_and}
 use Rattle.wl_wire.specs.declared.interface.InterfaceId.{InterfaceId}
 use Rattle.wl_wire.specs.declared.interface.ObjectInfo.{ObjectInfo}
 use Rattle.wl_link.specs.Mailbox.{MailboxState, MailboxSends, MailboxReceives}
@@ -11,14 +9,11 @@ use Rattle.wl_server.specs.Backend.{BackendState, Calls}
 use Rattle.wl_server.specs.Ids.{ClientParts, GlobalParts, IdParts}
 use Rattle.wl_server.specs.Next.{NextClient, NextGlobal}
 use Rattle.wl_server.specs.PartStep.{World, over}
-use Rattle.wl_wire.specs.declared.argument.Token.{Token}
-use Rattle.wl_wire.specs.declared.message.Message.{Message}
 use Rattle.wl_link.specs.Exchange.{nothing}
 use Rattle.wl_link.specs.declared.mailbox.Ending.TheVariants as ending
 use Rattle.wl_server.specs.Lending.{state_over}
 use Rattle.wl_server.specs.Lookups.{handler_of, object_data_of, object_info_of, transport_of}
 use Rattle.wl_server.specs.declared.error.InsertClientError.{InsertClientError}
-use Rattle.wl_server.specs.declared.error.EventError.{EventError}
 use Rattle.wl_server.specs.declared.error.CreateError.{CreateError}
 use Rattle.wl_server.specs.declared.error.DestroyError.{DestroyError}
 use Rattle.wl_server.specs.declared.error.FinishRefused.{FinishRefused}
@@ -27,9 +22,9 @@ use Rattle.wl_server.specs.declared.error.InvalidId.{InvalidId}
 use Rattle.wl_server.specs.declared.ids.global_id.GlobalInfo.{GlobalInfo}
 use Rattle.wl_server.specs.declared.runs.step.Reply.TheVariants as reply
 use Rattle.wl_server.specs.declared.runs.step.Step.TheVariants as step
-use Rattle.wl_host.specs.Flat.{client_of, flat_client, flat_global, flat_resource, global_of, interface_number, resource_of}
+use Rattle.wl_host.specs.Flat.{client_of, flat_client, flat_global, flat_resource, interface_number, resource_of}
 use Rattle.wl_host.specs.Visibility.{IsViewed, IsViewer, sees}
-use Rattle.wl_host.specs.Status.{of_create, of_destroy, of_event, of_finish, of_global, of_insert}
+use Rattle.wl_host.specs.Status.{of_create, of_destroy, of_finish, of_global, of_insert}
 use Rattle.wl_host.specs.declared.flat.FlatClientId.{FlatClientId}
 use Rattle.wl_host.specs.declared.flat.FlatGlobalId.{FlatGlobalId}
 use Rattle.wl_host.specs.declared.flat.FlatGlobalInfo.{FlatGlobalInfo}
@@ -156,10 +151,10 @@ HasMailbox before id change after =
 abbrev pub new_mailbox : MailboxState
 new_mailbox = record { arrived = nothing; ending = ending.Open; waiting = nothing; room = 65536; send_fault = None }
 
--- a client with these data, groups and hidden globals; or no client can be inserted, or there was no memory for what is kept of it
+-- a client with these data, groups and hidden globals; or no slot or no serial is left, or there was no memory for what is kept of it
 abbrev pub InsertsClient : CoreState → ℕ → ℕ → List FlatGlobalId → Result FlatClientId Status → CoreState → Type 0
 InsertsClient before user_data groups hidden result after =
     ((client : HostClient) × (answer : Result ClientParts InsertClientError) × IsViewer user_data groups hidden client
     × Calls world before (step.InsertClient new_mailbox client) (reply.InsertClient answer) after
     × (result ≡ flattened flat_client of_insert answer))
-    ⊎ (((result ≡ Err status.Full) ⊎ (result ≡ Err status.OutOfMemory)) × (after ≡ before))
+    ⊎ ((((result ≡ Err status.Full) × NextClient before.server.last_client before.server.clients None) ⊎ (result ≡ Err status.OutOfMemory)) × (after ≡ before))

@@ -1,4 +1,5 @@
 -- What a client's session holds for its host, and what its calls do, in the words of its core.
+use Rattle.std.specs.List.{count_by}
 use Rattle.std.specs.Prelude.{◌≡◌, ℕ, ℤ, ◌+◌, ◌++◌, ◌≤◌, ◌^◌, ◌⊎◌, ◌==◌, ◌&&◌, List, [], ◌∷◌, length, map, nat_le, Bool, true, false, if◌then◌else◌, Option, None, Some, is_some, unwrap_or, Result, Ok, Err, MatchBool, MatchOption}
 use Rattle.wl_wire.specs.declared.argument.Argument.{Argument}
 use Rattle.wl_wire.specs.declared.argument.Token.{Token}
@@ -32,10 +33,10 @@ use Rattle.wl_host.specs.declared.flat.FlatObjectInfo.{FlatObjectInfo}
 use Rattle.wl_host.specs.declared.flat.FlatRequest.{FlatRequest}
 use Rattle.wl_host.specs.declared.status.Status.{Status}
 use Rattle.wl_host.specs.declared.status.Status.TheVariants as status
-use Rattle.wl_host.specs.Arguments.{all_bytes, arguments_of, descriptors_given, descriptors_out, flat_arguments, queue_after_all}
+use Rattle.wl_host.specs.Arguments.{all_bytes, arguments_of, descriptors_given, descriptors_out, flat_arguments, is_descriptor, queue_after_all}
 use Rattle.wl_host.specs.Arrivals.{Arrives}
 use Rattle.wl_host.specs.Calls.{flattened}
-use Rattle.wl_host.specs.Descriptors.{Conserves, Descriptors, given_up, kept_in, put_in}
+use Rattle.wl_host.specs.Descriptors.{Conserves, Descriptors, given_up, kept_in, last_held, put_in}
 use Rattle.wl_host.specs.Flat.{count_number, flat_proxy, interface_number, over_front, proxy_of}
 use Rattle.wl_host.specs.Sending.{came_out, mailbox_after, queue_after}
 use Rattle.wl_host.specs.Status.{of_finish_event, of_flush, of_next_event, of_proxy_destroy, of_request}
@@ -76,6 +77,24 @@ kept_by_client d s = kept_in d s.arrivals + kept_in d s.departures
 abbrev pub ConservesClient : HostedClient → List ℤ → List ℤ → HostedClient → Type 0
 ConservesClient = Conserves kept_by_client
 
+-- how many descriptors the event that is kept brought
+abbrev pub brought : Option SessionMessage → ℕ
+brought None = 0
+brought (Some event) = count_by is_descriptor event.args
+
+-- How many arrivals an event may yet hand out: those that the event that is kept brought, those that wait in the core, and those
+-- that it did not receive yet. They came last.
+abbrev pub awaited : HostedClient → ℕ
+awaited s = brought s.kept + (length s.core.session.link.incoming.tokens + length (mailbox_of s).arrived.tokens)
+
+-- the core has dropped those that came before, with their events
+abbrev pub without_dropped : HostedClient → HostedClient
+without_dropped s = record s { arrivals = last_held (awaited s) s.arrivals }
+
+-- No descriptor is left for the host to take back: none was passed over, and an event may yet hand out each arrival that is held.
+abbrev pub HasNoneDropped : HostedClient → Type 0
+HasNoneDropped s = (s.arrivals.passed ≡ []) × (s.departures.passed ≡ []) × (length s.arrivals.held ≤ awaited s)
+
 -- once the session has failed, nobody takes them any more, but for those of an event that is kept
 abbrev pub let_go : HostedClient → HostedClient
 let_go s = record s {
@@ -92,10 +111,13 @@ HandsDropped (d ∷ arrived) departed s answer after = (answer ≡ Ok d) × (aft
 HandsDropped [] (d ∷ departed) s answer after = (answer ≡ Ok d) × (after ≡ record s { departures = record s.departures { passed = departed } })
 HandsDropped [] [] s answer after = (answer ≡ Err status.WouldBlock) × (after ≡ s)
 
+-- what nobody takes was passed over
+abbrev pub all_passed : HostedClient → HostedClient
+all_passed s = let r = without_dropped s in if has_failed s then let_go r else r
+
 -- the next descriptor that the host takes back
 abbrev pub Drops : HostedClient → Result ℤ Status → HostedClient → Type 0
-Drops before answer after =
-    let s = if has_failed before then let_go before else before in HandsDropped s.arrivals.passed s.departures.passed s answer after
+Drops before answer after = HandsDropped (all_passed before).arrivals.passed (all_passed before).departures.passed (all_passed before) answer after
 
 -- what comes out with an answer
 abbrev pub told : Result ℤ Status → List ℤ
@@ -216,6 +238,11 @@ Flushes before s after =
 
 -- ---- events
 
+-- what the open event made; the null id if it made none
+abbrev pub created_by : Option OpenEvent → IdParts
+created_by None = null_parts
+created_by (Some event) = unwrap_or event.created null_parts
+
 -- the open event is finished
 abbrev pub FinishesOpen : HostedClient → Option ℕ → Status → HostedClient → Type 0
 FinishesOpen before u s after =
@@ -228,6 +255,17 @@ abbrev pub EndsEvent : HostedClient → Option ℕ → Status → HostedClient �
 EndsEvent before u s after =
     MatchOption before.kept (LacksRoom before s after ⊎ FinishesOpen before u s after)
     (λ event. (s ≡ status.NotOpen) × (after ≡ before))
+
+abbrev pub kept_if : Status → Bool → Result Bool Status
+kept_if status.Ok kept = Ok kept
+kept_if s kept = Err s
+
+-- The open event is finished, with data for the object that it made. The answer says whether that object is there. If the client
+-- has destroyed it, the data are not kept, and no note tells of them.
+abbrev pub EndsEventWith : HostedClient → ℕ → Result Bool Status → HostedClient → Type 0
+EndsEventWith before u result after =
+    (s : Status) × EndsEvent before (Some u) s after
+    × (result ≡ kept_if s (is_some (info_of after.core.session (created_by before.core.session.open_event))))
 
 abbrev pub event_of : Result SessionMessage EventError → Option SessionMessage
 event_of (Ok event) = Some event
@@ -257,11 +295,6 @@ bit_of false = 0
 -- the data of the object; 0 if it has none, or if the id names none
 abbrev pub data_or_zero : ClientCore → IdParts → ℕ
 data_or_zero core id = unwrap_or (user_data_of core.session id) 0
-
--- what the open event made; the null id if it made none
-abbrev pub created_by : Option OpenEvent → IdParts
-created_by None = null_parts
-created_by (Some event) = unwrap_or event.created null_parts
 
 abbrev pub ends_sender : Option OpenEvent → Bool
 ends_sender None = false

@@ -24,8 +24,9 @@ marked s core = record s { core = core; may_clean_up = true; may_have_notes = tr
 abbrev pub told_at : ServerState → CoreState → ℕ → ServerState
 told_at s core slot = record (marked s core) { seats = listed s.seats slot }
 
--- as many bytes wait in the client's mailbox at most, before no more are put there
+-- As many bytes wait in the client's mailbox at most, before no more are put there. The client is to be asked again: there may be
+-- room now for what waits in the core.
 abbrev pub SetsRoom : ServerState → ClientParts → ℕ → Status → ServerState → Type 0
 SetsRoom before id room s after =
     MatchOption (transport_of before.core.server id) ((s ≡ status.InvalidId) × (after ≡ before))
-    (λ m. (s ≡ status.Ok) × (after ≡ record before { core = state_over before.core id (record m { room = room }) }))
+    (λ m. (s ≡ status.Ok) × (after ≡ record before { core = state_over before.core id (record m { room = room }); seats = listed before.seats id.slot }))

@@ -55,6 +55,14 @@ taken_out q t (Some x) = record {
 abbrev pub without : Descriptors → Token → Descriptors
 without q t = taken_out q t (descriptor_of q t)
 
+-- the core holds only the last ones, so many, any more: those before them were passed over
+abbrev pub last_held : ℕ → Descriptors → Descriptors
+last_held count q = record {
+  passed = q.passed ++ take (length q.held - count) q.held;
+  held = drop (length q.held - count) q.held;
+  front = (q.front + (length q.held - count)) % 2 ^ 32;
+}
+
 -- the core holds none any more
 abbrev pub given_up : Descriptors → Descriptors
 given_up q = record { passed = q.passed ++ q.held; held = []; front = q.front }

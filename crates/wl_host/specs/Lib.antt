@@ -10,6 +10,8 @@ pub mod Faults
 pub mod Flat
 pub mod Globals
 pub mod Inside
+pub mod Killed
+pub mod Kinds
 pub mod Lent
 pub mod Lists
 pub mod Notes

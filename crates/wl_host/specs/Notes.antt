@@ -1,5 +1,5 @@
 -- Notes as flat structs, and how a server's session hands them out.
-use Rattle.std.specs.Prelude.{◌≡◌, ◌⊎◌, ◌≢◌, ℕ, ◌++◌, List, [], ◌∷◌, length, nat_lt, Bool, true, false, Result, Ok, Err, if◌then◌else◌, MatchResult}
+use Rattle.std.specs.Prelude.{◌≡◌, ◌⊎◌, ℕ, ◌++◌, List, [], ◌∷◌, length, nat_lt, Bool, true, false, Result, Ok, Err, if◌then◌else◌, MatchResult}
 use Rattle.wl_wire.specs.declared.error.ProtocolError.{ProtocolError}
 use Rattle.wl_server.specs.declared.notes.DisconnectReason.TheVariants.{ConnectionClosed, ProtocolError as ForError}
 use Rattle.wl_server.specs.declared.notes.Note.{Note}
@@ -7,12 +7,12 @@ use Rattle.wl_server.specs.declared.notes.Note.TheVariants.{Initialized, Disconn
 use Rattle.wl_server.specs.declared.runs.step.Reply.TheVariants as reply
 use Rattle.wl_server.specs.declared.runs.step.Step.TheVariants as step
 use Rattle.wl_server.specs.Backend.{Calls}
-use Rattle.wl_server.specs.Ids.{ClientParts, IdParts}
+use Rattle.wl_server.specs.Ids.{ClientParts}
 use Rattle.wl_host.specs.Calls.{world}
 use Rattle.wl_host.specs.Flat.{count_number, flat_client, flat_resource, no_object, over_front}
+use Rattle.wl_host.specs.Kinds as kinds
 use Rattle.wl_host.specs.Server.{ServerState}
 use Rattle.wl_host.specs.declared.flat.FlatNote.{FlatNote}
-use Rattle.wl_host.specs.declared.flat.TheConstants.{DESTROYED, INSERTED, KILLED}
 use Rattle.wl_host.specs.declared.status.Status.{Status}
 use Rattle.wl_host.specs.declared.status.Status.TheVariants as status
 
@@ -34,7 +34,7 @@ client_note kind client = record {
 
 -- of a client that was killed for this error
 abbrev pub error_note : ClientParts → ProtocolError → FlatNote
-error_note client e = record (client_note KILLED client) {
+error_note client e = record (client_note kinds.killed client) {
   is_protocol_error = 1;
   code = e.code;
   object_number = e.object_id;
@@ -43,10 +43,10 @@ error_note client e = record (client_note KILLED client) {
 }
 
 abbrev pub flat_note : Note ℕ → FlatNote
-flat_note (Initialized client) = client_note INSERTED client
-flat_note (Disconnected client ConnectionClosed) = client_note KILLED client
+flat_note (Initialized client) = client_note kinds.inserted client
+flat_note (Disconnected client ConnectionClosed) = client_note kinds.killed client
 flat_note (Disconnected client (ForError e)) = error_note client e
-flat_note (Destroyed client object u) = record (client_note DESTROYED client) { object = flat_resource object; «data» = u }
+flat_note (Destroyed client object u) = record (client_note kinds.destroyed client) { object = flat_resource object; «data» = u }
 
 -- the text of a note: that of a protocol error is its message, and then the name of the interface of the object that it is about
 abbrev pub text_of : Note ℕ → List ℕ

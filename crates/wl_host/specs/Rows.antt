@@ -1,5 +1,5 @@
 -- What flat rows say: the interfaces that they stand for, or the first row of an interface that names what is not there.
-use Rattle.std.specs.Prelude.{◌≡◌, ◌⊎◌, ℕ, ◌+◌, List, [], ◌∷◌, ◌++◌, length, take, drop, Bool, true, false, not, ◌==◌, ◌&&◌, nat_le, if◌then◌else◌, Option, None, Some, option_map, slice_get, slice_range, Result, Ok, Err}
+use Rattle.std.specs.Prelude.{◌≡◌, ◌⊎◌, ℕ, ◌+◌, List, [], ◌∷◌, ◌++◌, length, take, drop, not, ◌==◌, ◌&&◌, nat_le, if◌then◌else◌, Option, None, Some, option_map, slice_get, slice_range, Result, Ok, Err}
 use Rattle.std.specs.Option.{option_and_then}
 use Rattle.std.specs.Result.{result_map_both}
 use Rattle.std.specs.Str.{is_utf8}
@@ -9,7 +9,7 @@ use Rattle.wl_wire.specs.declared.argument.ArgumentType.{ArgumentType}
 use Rattle.wl_wire.specs.declared.argument.ArgumentType.TheVariants.{Int, Uint, Fixed, Str, Object, NewId, Array, Fd}
 use Rattle.wl_wire.specs.declared.protocol.TableError.{TableError}
 use Rattle.wl_wire.specs.declared.protocol.TableError.TheVariants as error
-use Rattle.wl_wire.specs.Table.{InterfaceRow as Interface, IsAcceptedTable, IsFirstFault, MessageRow as Message, fixed_rows, interface_at}
+use Rattle.wl_wire.specs.Table.{InterfaceRow as Interface, MessageRow as Message, interface_at}
 use Rattle.wl_host.specs.declared.rows.ArgumentRow.{ArgumentRow}
 use Rattle.wl_host.specs.declared.rows.InterfaceRow.{InterfaceRow}
 use Rattle.wl_host.specs.declared.rows.MessageRow.{MessageRow}

@@ -1,5 +1,5 @@
 -- What is kept of the clients of a server's session beside its core, and what becomes of it.
-use Rattle.std.specs.Prelude.{◌≡◌, ◌⊎◌, ℕ, zero, suc, ℤ, ◌+◌, ◌==◌, ◌&&◌, ◌-◌, ◌++◌, List, [], ◌∷◌, length, nat_lt, not, Bool, true, false, Option, None, Some, Result, Ok, Err, if◌then◌else◌, replicate, slice_get, slice_set}
+use Rattle.std.specs.Prelude.{◌≡◌, ◌⊎◌, ℕ, zero, suc, ℤ, ◌+◌, ◌==◌, ◌-◌, ◌++◌, List, [], ◌∷◌, length, nat_lt, Bool, false, Option, None, Some, Result, Err, if◌then◌else◌, replicate, slice_get, slice_set}
 use Rattle.std.specs.List.{list_any, sum_by}
 use Rattle.std.specs.Option.{option_map_or}
 use Rattle.wl_link.specs.Exchange.{nothing}
@@ -10,6 +10,7 @@ use Rattle.wl_server.specs.declared.runs.step.Reply.TheVariants as reply
 use Rattle.wl_server.specs.declared.runs.step.Step.TheVariants as step
 use Rattle.wl_server.specs.Backend.{Calls}
 use Rattle.wl_server.specs.Ids.{ClientParts}
+use Rattle.wl_server.specs.Next.{NextClient}
 use Rattle.wl_host.specs.Sending.{all_taken_out}
 use Rattle.wl_host.specs.Calls.{CoreState, flattened, world}
 use Rattle.wl_host.specs.Descriptors.{Descriptors, given_up, kept_in}
@@ -123,12 +124,12 @@ abbrev pub left_by : Option Ledger → List Descriptors
 left_by None = []
 left_by (Some l) = given_up l.received ∷ []
 
--- The core is asked to insert the client. Or it has no slot left, or there was no memory for what is kept of the client.
+-- The core is asked to insert the client. Or it has no slot or no serial left, or there was no memory for what is kept of the client.
 abbrev pub InsertsInto : CoreState → MailboxState → HostClient → Result ClientParts Status → CoreState → Type 0
 InsertsInto before m client result after =
     ((answer : Result ClientParts InsertClientError)
     × Calls world before (step.InsertClient m client) (reply.InsertClient answer) after × (result ≡ flattened (λ id. id) of_insert answer))
-    ⊎ (((result ≡ Err status.Full) ⊎ (result ≡ Err status.OutOfMemory)) × (after ≡ before))
+    ⊎ ((((result ≡ Err status.Full) × NextClient before.server.last_client before.server.clients None) ⊎ (result ≡ Err status.OutOfMemory)) × (after ≡ before))
 
 -- A new client has a ledger. A client whose slot the core gave to it is gone.
 abbrev pub seated : SeatsState → ClientParts → ℕ → SeatsState

@@ -1,5 +1,5 @@
 -- What is copied to lent memory of what is to be sent, and what is left once it was sent.
-use Rattle.std.specs.Prelude.{ℕ, ℤ, negsuc, ◌==◌, List, [], ◌∷◌, length, map, take, drop, min, nat_lt, Option, None, Some, if◌then◌else◌}
+use Rattle.std.specs.Prelude.{ℕ, ℤ, negsuc, ◌==◌, List, [], ◌∷◌, length, map, take, min, nat_lt, Option, None, Some, if◌then◌else◌}
 use Rattle.wl_link.specs.Exchange.{Queue}
 use Rattle.wl_link.specs.Mailbox.{MailboxState, behind}
 use Rattle.wl_wire.specs.declared.argument.Token.{Token}

@@ -1,7 +1,11 @@
 -- What contracts see of a server's session, and what its calls do.
-use Rattle.std.specs.Prelude.{◌≡◌, ◌⊎◌, ◌<◌, ℕ, ℤ, ◌+◌, ◌==◌, ◌||◌, ◌++◌, List, [], ◌∷◌, length, map, nat_lt, not, Bool, true, false, Option, None, Some, option_map, Result, Ok, Err, MatchOption, MatchResult, if◌then◌else◌}
+use Rattle.std.specs.Prelude.{◌≡◌, ◌⊎◌, ◌<◌, ◌≤◌, ℕ, ℤ, ◌+◌, ◌==◌, ◌||◌, List, [], ◌∷◌, length, map, nat_lt, not, Bool, true, false, Option, None, Some, Result, Ok, Err, IfOk, is_err, MatchOption, MatchResult, if◌then◌else◌}
 use Rattle.std.specs.Option.{option_map_or}
-use Rattle.wl_link.specs.Mailbox.{MailboxState}
+use Rattle.wl_wire.specs.declared.error.IoFault.{IoFault}
+use Rattle.wl_wire.specs.declared.error.OutOfMemory.{OutOfMemory}
+use Rattle.wl_link.specs.Link.{offer_of}
+use Rattle.wl_link.specs.Mailbox.{MailboxSends, MailboxState, mailbox_answer}
+use Rattle.wl_link.specs.Puts.{lacks_memory}
 use Rattle.wl_link.specs.declared.mailbox.Ending.{Ending}
 use Rattle.wl_server.specs.declared.notes.Note.{Note}
 use Rattle.wl_server.specs.declared.notes.DisconnectReason.TheVariants as reason
@@ -11,14 +15,17 @@ use Rattle.wl_server.specs.Backend.{Calls}
 use Rattle.wl_server.specs.Ids.{ClientParts}
 use Rattle.wl_server.specs.Lending.{state_over}
 use Rattle.wl_server.specs.Lookups.{transport_of}
+use Rattle.wl_server.specs.Part.{Part}
+use Rattle.wl_server.specs.Plain.{FlushedAs, client_in}
 use Rattle.wl_host.specs.Arrivals.{mailbox_with}
 use Rattle.wl_host.specs.Calls.{CoreState, world}
 use Rattle.wl_host.specs.Descriptors.{Descriptors, put_in}
-use Rattle.wl_host.specs.Flat.{flat_client, over_front}
-use Rattle.wl_host.specs.Seats.{PassesNext, SeatsState, gone_all, kept_by_seats, ledger_at, ledger_of, left_by_first, listed, with_ledger}
+use Rattle.wl_host.specs.Flat.{client_of, flat_client, over_front}
+use Rattle.wl_host.specs.Seats.{PassesNext, SeatsState, added, gone_all, is_among, kept_by_seats, ledger_at, ledger_of, left_by_first, listed, with_ledger}
 use Rattle.wl_host.specs.Sending.{Copied, copied, counts_of, descriptors_of, mailbox_after, queue_after, came_out, shown, some_of}
 use Rattle.wl_host.specs.declared.flat.FlatClientId.{FlatClientId}
 use Rattle.wl_host.specs.declared.flat.Gone.{Gone}
+use Rattle.wl_host.specs.declared.server.HostClient.{HostClient}
 use Rattle.wl_host.specs.declared.server.ledger.Departed.{Departed}
 use Rattle.wl_host.specs.declared.server.ledger.Ledger.{Ledger}
 use Rattle.wl_host.specs.declared.status.Status.{Status}
@@ -58,12 +65,13 @@ IsNotStored before s after = (s ≡ status.InvalidId) × (after ≡ before)
 abbrev pub with_arrivals : ServerState → ClientParts → Ledger → MailboxState → Descriptors → ServerState
 with_arrivals s id l m q = record s { core = state_over s.core id m; seats = with_ledger s.seats id (record l { received = q }) }
 
--- The bytes arrived, with tokens for the descriptors; or nothing is changed.
+-- The bytes arrived, with tokens for the descriptors, and no more than 28 of these wait; or nothing is changed.
 abbrev pub ReceivedBy : Option Ledger → Option MailboxState → ServerState → ClientParts → List ℕ → List ℤ → Status → ServerState → Type 0
 ReceivedBy None m before id bytes descriptors s after = IsNotStored before s after
 ReceivedBy (Some l) None before id bytes descriptors s after = IsNotStored before s after
 ReceivedBy (Some l) (Some m) before id bytes descriptors s after =
-    ((s ≡ status.Ok) × (after ≡ with_arrivals before id l (mailbox_with m l.received bytes descriptors) (put_in l.received descriptors)))
+    ((s ≡ status.Ok) × (after ≡ with_arrivals before id l (mailbox_with m l.received bytes descriptors) (put_in l.received descriptors))
+    × (length m.arrived.tokens + length descriptors ≤ 28))
     ⊎ ((((s ≡ status.TooManyDescriptors) × (28 < length m.arrived.tokens + length descriptors)) ⊎ (s ≡ status.OutOfMemory)) × (after ≡ before))
 
 abbrev pub Received : ServerState → ClientParts → List ℕ → List ℤ → Status → ServerState → Type 0
@@ -93,28 +101,63 @@ FailsSends before id s after =
 abbrev pub has_bytes : CoreState → ClientParts → Bool
 has_bytes c id = option_map_or (λ m. not (length m.waiting.bytes == 0)) (transport_of c.server id) false
 
--- what waits in the core is put into the client's mailbox, and there is something in it, or not
-abbrev pub HasMore : CoreState → ClientParts → Bool → CoreState → Type 0
-HasMore before id has after = (answer : _) × Calls world before (step.Flush (Some id)) (reply.Flush answer) after × (has ≡ has_bytes after id)
+-- What came of asking a client: it is found if there is something in its mailbox. Else there may have been no memory to put there
+-- what waits in the core.
+abbrev pub asked : ClientParts → Result (Unit {0}) IoFault → Bool → Result (Option ClientParts) OutOfMemory
+asked id answer has = if has then Ok (Some id) else (if lacks_memory answer then Err _ else Ok None)
 
--- The client that has the slot is asked; it is found if it has something. A slot without a client is passed over.
-abbrev pub Asks : CoreState → Option Ledger → Option ClientParts → CoreState → Type 0
-Asks before None found after = (found ≡ None) × (after ≡ before)
-Asks before (Some l) found after = (has : Bool) × HasMore before l.id has after × (found ≡ (if has then Some l.id else None))
+-- What waits in the core is put into the client's mailbox. Nothing becomes of other clients.
+abbrev pub AsksClient : CoreState → ClientParts → Result (Option ClientParts) OutOfMemory → CoreState → Type 0
+AsksClient before id one after =
+    (answer : Result (Unit {0}) IoFault) × Calls world before (step.Flush (Some id)) (reply.Flush answer) after
+    × FlushedAs MailboxSends before (Some id) answer after × (one ≡ asked id answer (has_bytes after id))
 
--- the clients at these slots are asked in turn, until one is found; and the slots behind it
-abbrev pub AsksInTurn : List (Option Ledger) → CoreState → List ℕ → Option ClientParts → List ℕ → CoreState → Type 0
-AsksInTurn ledgers before [] found rest after = (found ≡ None) × (rest ≡ []) × (after ≡ before)
+-- The client that has the slot is asked. A slot without a client is passed over.
+abbrev pub Asks : CoreState → Option Ledger → Result (Option ClientParts) OutOfMemory → CoreState → Type 0
+Asks before None one after = (one ≡ Ok None) × (after ≡ before)
+Asks before (Some l) one after = AsksClient before l.id one after
+
+-- The clients at these slots are asked in turn, until one is found; and the slots behind it are left. It ends also with a client
+-- for which there was no memory: that one is asked again, behind the others.
+abbrev pub AsksInTurn : List (Option Ledger) → CoreState → List ℕ → Result (Option ClientParts) OutOfMemory → List ℕ → CoreState → Type 0
+AsksInTurn ledgers before [] found rest after = (found ≡ Ok None) × (rest ≡ []) × (after ≡ before)
 AsksInTurn ledgers before (slot ∷ slots) found rest after =
-    (one : Option ClientParts) × (mid : CoreState) × Asks before (ledger_at slot ledgers) one mid
-    × MatchOption one (AsksInTurn ledgers mid slots found rest after) (λ id. (found ≡ one) × (rest ≡ slots) × (after ≡ mid))
+    (one : Result (Option ClientParts) OutOfMemory) × (mid : CoreState) × Asks before (ledger_at slot ledgers) one mid
+    × MatchResult one
+    (λ o. MatchOption o (AsksInTurn ledgers mid slots found rest after) (λ id. (found ≡ one) × (rest ≡ slots) × (after ≡ mid)))
+    (λ e. (found ≡ one) × (rest ≡ added slot slots) × (after ≡ mid))
+
+-- the client that was found, or why none was
+abbrev pub told_of : Result (Option ClientParts) OutOfMemory → Result FlatClientId Status
+told_of (Ok None) = Err status.WouldBlock
+told_of (Ok (Some id)) = Ok (flat_client id)
+told_of (Err e) = Err status.OutOfMemory
 
 abbrev pub NextWritable : ServerState → Result FlatClientId Status → ServerState → Type 0
 NextWritable before result after =
-    (found : Option ClientParts)
+    (found : Result (Option ClientParts) OutOfMemory)
     × AsksInTurn before.seats.ledgers before.core before.seats.writable found after.seats.writable after.core
-    × (result ≡ or_would_block (option_map flat_client found))
+    × (result ≡ told_of found)
     × (after ≡ record before { core = after.core; seats = record before.seats { writable = after.seats.writable } })
+
+-- bytes wait in the mailbox of a client that was found
+abbrev pub FoundHasBytes : CoreState → Result FlatClientId Status → Type 0
+FoundHasBytes core result = IfOk result (λ client. has_bytes core (client_of client) ≡ true)
+
+-- no bytes wait for the client in the core, or its mailbox takes none of them: the room of it is used up
+abbrev pub IsDrained : Option (Part MailboxState ℕ HostClient) → Type 0
+IsDrained None = Unit {0}
+IsDrained (Some p) = (p.link.outgoing.bytes ≡ []) ⊎ (is_err (mailbox_answer p.link.transport (offer_of p.link.outgoing)) ≡ true)
+
+-- none wait in the mailbox of the client on the seat, if there is one, nor for it in the core
+abbrev pub SeatHasNoBytes : CoreState → Option Ledger → Type 0
+SeatHasNoBytes core None = Unit {0}
+SeatHasNoBytes core (Some l) = (has_bytes core l.id ≡ false) × IsDrained (client_in core l.id)
+
+-- if no client has something to be sent, no bytes wait for those that were to be asked
+abbrev pub NoneAskedHasBytes : SeatsState → CoreState → Result FlatClientId Status → Type 0
+NoneAskedHasBytes asked core result =
+    result ≡ Err status.WouldBlock → (slot : ℕ) → is_among slot asked.writable ≡ true → SeatHasNoBytes core (ledger_at slot asked.ledgers)
 
 abbrev pub to_send_of : Option Ledger → Option MailboxState → List ℕ → List ℤ → Copied
 to_send_of None m bytes descriptors = record { status = status.InvalidId; bytes = bytes; descriptors = descriptors; counts = counts_of 0 0 }

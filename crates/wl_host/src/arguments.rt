@@ -1,8 +1,9 @@
 //! Arguments of messages, from flat structs and into memory that the host lends.
 
 ghost use Rattle.std.specs.Prelude.{◌≡◌, ◌+◌, ◌≤◌, ◌↔◌, ◌⊎◌, ◌∷◌, [], Some, IfErr, IfOk, IsTrue, OnErr, OnOk, false, length, min, true};
+ghost use Rattle.std.specs.List.{count_by};
 ghost use Rattle.wl_host.specs.declared.status.Status.TheVariants as status;
-ghost use Rattle.wl_host.specs.Arguments.{IsUnread, all_bytes, argument_of, arguments_of, array_in, bytes_of, descriptor_given, descriptors_given, flat_argument, flat_arguments, has_zero, part_of, queue_after, queue_after_all, string_in, written_at};
+ghost use Rattle.wl_host.specs.Arguments.{IsUnread, all_bytes, argument_of, arguments_of, array_in, bytes_of, descriptor_given, descriptors_given, flat_argument, flat_arguments, has_zero, is_descriptor, part_of, queue_after, queue_after_all, string_in, written_at};
 ghost use Rattle.wl_host.specs.Descriptors.{IsLonger, put_in, token_after};
 ghost use Rattle.wl_host.specs.Flat.{count_number, flat_bytes, flat_object, over_front};
 
@@ -90,6 +91,20 @@ fn length_of<Id>(arg: &Argument<Id, Token>) -> usize
         Argument::Array(array) => array.as_slice().len(),
         _ => 0,
     }
+}
+
+/// Whether the argument is a descriptor.
+fn is_descriptor<Id>(arg: &Argument<Id, Token>) -> bool
+    ensures { result ≡ is_descriptor arg.now }
+{
+    matches!(arg, Argument::Fd(_))
+}
+
+/// How many of the arguments are descriptors.
+pub fn descriptor_count<Id>(args: &[Argument<Id, Token>]) -> usize
+    ensures { result ≡ count_by is_descriptor args.now }
+{
+    args.iter().filter(|arg| is_descriptor(*arg)).count()
 }
 
 /// Copies the bytes of a string or an array to the place `at` of the lent bytes, which have room for them.

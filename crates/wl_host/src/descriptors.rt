@@ -4,8 +4,8 @@
 //! crate keeps them and numbers them: the token of a descriptor is how many came before it, in 32 bits, whatever the
 //! descriptor's own number is.
 
-ghost use Rattle.std.specs.Prelude.{◌≡◌, ◌<◌, ◌-◌, ◌^◌, ◌++◌, ◌==◌, [], IfNone, OnOk, OnErr, length, not, option_to_list, slice_get, take};
-ghost use Rattle.wl_host.specs.Descriptors.{descriptor_of, distance, given_up, next_tokens, put_in, taken_out, token_after};
+ghost use Rattle.std.specs.Prelude.{◌≡◌, ◌<◌, ◌-◌, ◌^◌, ◌++◌, [], IfNone, OnOk, OnErr, length, option_to_list, slice_get, take};
+ghost use Rattle.wl_host.specs.Descriptors.{descriptor_of, distance, given_up, last_held, next_tokens, put_in, taken_out, token_after};
 
 use std::alloc::{AllocError, Global};
 use std::collections::VecDeque;
@@ -158,11 +158,15 @@ impl DescriptorQueue {
         self.passed = self.descriptors.len();
     }
 
-    /// Whether a descriptor was passed over, and did not come out yet.
-    pub fn has_passed(&self) -> bool
-        ensures { result ≡ not (length self.now.passed == 0) }
+    /// Passes over those that are held, but for the last `count`: the core holds only these any more.
+    #[tactic(auto, using(crate::proofs::Queues::passed_of_last, crate::proofs::Queues::held_of_last))]
+    pub fn keep_last(&mut self, count: usize)
+        ensures after { self.new ≡ last_held count self.old }
+        ensures few { length self.old.held < 2 ^ 32 }
     {
-        self.passed > 0
+        let dropped = self.held().saturating_sub(count);
+        self.passed += dropped;
+        self.front = self.front.wrapping_add(dropped as u32);
     }
 
     /// Takes the next descriptor out that was passed over.

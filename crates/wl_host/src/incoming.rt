@@ -1,6 +1,5 @@
 //! What arrives, with the descriptors of its tokens. Both sessions share this.
 
-ghost use Rattle.std.specs.Prelude.{◌≡◌, ◌+◌, ◌<◌, ◌↔◌, ◌⊎◌, length};
 ghost use Rattle.wl_host.specs.Arrivals.{Arrives};
 
 use crate::descriptors::DescriptorQueue;

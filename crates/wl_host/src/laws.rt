@@ -1,14 +1,34 @@
-//! What follows from the definitions of flat structs alone. The function has a law as its contract, and does nothing.
+//! What follows from the definitions alone. Each function has a law as its contract, and does nothing.
 
-ghost use Rattle.std.specs.Prelude.{◌≡◌, ◌<◌, ◌^◌, ℕ, List, Some, length};
+ghost use Rattle.std.specs.Prelude.{◌≡◌, ◌<◌, ◌^◌, ℕ, ℤ, Bool, Err, List, Option, Result, Some, length, true};
 ghost use Rattle.std.specs.List.{AllByRecursion};
 ghost use Rattle.wl_client.specs.ObjectId.{IdParts as ProxyParts};
-ghost use Rattle.wl_server.specs.Ids.{IdParts};
+ghost use Rattle.wl_link.specs.declared.mailbox.Ending.{Ending};
+ghost use Rattle.wl_server.specs.Backend.{Calls};
+ghost use Rattle.wl_server.specs.Ids.{ClientParts, IdParts};
+ghost use Rattle.wl_server.specs.declared.runs.step.Reply.TheVariants as reply;
+ghost use Rattle.wl_server.specs.declared.runs.step.Step.TheVariants as step;
 ghost use Rattle.wl_wire.specs.declared.argument.Argument.{Argument};
 ghost use Rattle.wl_wire.specs.declared.argument.Token.{Token};
+ghost use Rattle.wl_host.specs.Actions.{EndsBind, EndsRequest, Lent, NextAction};
 ghost use Rattle.wl_host.specs.Arguments.{ComesBack, all_bytes, arguments_of, flat_arguments, moved};
+ghost use Rattle.wl_host.specs.Calls.{CreatesGlobal, CreatesObject, InsertsClient, SetsObjectData, world};
+ghost use Rattle.wl_host.specs.Clients.{SetsRoom, inserted};
 ghost use Rattle.wl_host.specs.Descriptors.{Descriptors};
+ghost use Rattle.wl_host.specs.Events.{Passed, PostsError, SendsEvent};
 ghost use Rattle.wl_host.specs.Flat.{flat_proxy, flat_resource, proxy_of, resource_of};
+ghost use Rattle.wl_host.specs.Killed.{IsSettled, KnowsEnd, StaysSettled};
+ghost use Rattle.wl_host.specs.Notes.{NextNote};
+ghost use Rattle.wl_host.specs.Server.{CleansUp, Ends, NextWritable, Received, Sent, ServerState};
+ghost use Rattle.wl_host.specs.Tables.{AddsInterfaces, IsNewServer};
+ghost use Rattle.wl_host.specs.declared.flat.FlatArgument.{FlatArgument};
+ghost use Rattle.wl_host.specs.declared.flat.FlatClientId.{FlatClientId};
+ghost use Rattle.wl_host.specs.declared.flat.FlatGlobalId.{FlatGlobalId};
+ghost use Rattle.wl_host.specs.declared.flat.FlatNote.{FlatNote};
+ghost use Rattle.wl_host.specs.declared.flat.FlatObjectId.{FlatObjectId};
+ghost use Rattle.wl_host.specs.declared.rows.Rows.{Rows};
+ghost use Rattle.wl_host.specs.declared.rows.TableFault.{TableFault};
+ghost use Rattle.wl_host.specs.declared.status.Status.{Status};
 
 /// Arguments that are handed out as flat structs and passed in again are the same arguments, in a server's session and in a
 /// client's. Their descriptors get the tokens that come next where they go in. The bytes of the strings and arrays are fewer
@@ -16,4 +36,35 @@ ghost use Rattle.wl_host.specs.Flat.{flat_proxy, flat_resource, proxy_of, resour
 pub fn flat_arguments_come_back()
     ensures server { (user_data : IdParts → ℕ) (out_of into : Descriptors) (args : List (Argument IdParts Token)) → AllByRecursion (ComesBack flat_resource resource_of) args → length (all_bytes args) < 2 ^ 32 → arguments_of resource_of (all_bytes args) into (flat_arguments flat_resource user_data out_of 0 args) ≡ Some (moved out_of into args) }
     ensures client { (user_data : ProxyParts → ℕ) (out_of into : Descriptors) (args : List (Argument ProxyParts Token)) → AllByRecursion (ComesBack flat_proxy proxy_of) args → length (all_bytes args) < 2 ^ 32 → arguments_of proxy_of (all_bytes args) into (flat_arguments flat_proxy user_data out_of 0 args) ≡ Some (moved out_of into args) }
+{}
+
+/// While the next `cleanup` of a server's session would not look for killed clients, nobody is killed: a new session is so, and
+/// each call leaves it so. After a cleanup that looked nobody is killed.
+///
+/// There is a clause for each call, in the words of its own clauses; `marked` is for those after which the next cleanup looks, and
+/// `beside` for those that leave the core as it was. Of the end of a request this holds if it is kept beside the core whether the
+/// request ends its sender; `next_action` keeps that when it hands the request out.
+pub fn a_cleanup_looks_for_the_killed()
+    ensures new { (rows : Rows) (s : ServerState) → IsNewServer rows s → IsSettled s }
+    ensures insert_client { (before after : ServerState) (user_data groups : ℕ) (hidden : List FlatGlobalId) (result : Result FlatClientId Status) → InsertsClient before.core user_data groups hidden result after.core → after ≡ inserted before after.core result user_data → StaysSettled before after }
+    ensures set_room { (before after : ServerState) (id : ClientParts) (room : ℕ) (s : Status) → SetsRoom before id room s after → StaysSettled before after }
+    ensures set_max_buffer_size { (before after : ServerState) (id : ClientParts) (size : ℕ) → Calls world before.core (step.SetClientMaxBufferSize id size) reply.SetClientMaxBufferSize after.core → after ≡ record before { core = after.core } → StaysSettled before after }
+    ensures set_default_max_buffer_size { (before after : ServerState) (size : ℕ) → Calls world before.core (step.SetDefaultMaxBufferSize size) reply.SetDefaultMaxBufferSize after.core → after ≡ record before { core = after.core } → StaysSettled before after }
+    ensures add_interfaces { (before after : ServerState) (rows : Rows) (result : Result (Unit {0}) TableFault) → AddsInterfaces rows before.core result after.core → after ≡ record before { core = after.core } → StaysSettled before after }
+    ensures received { (before after : ServerState) (id : ClientParts) (bytes : List ℕ) (descriptors : List ℤ) (s : Status) → Received before id bytes descriptors s after → StaysSettled before after }
+    ensures ended { (before after : ServerState) (id : ClientParts) (ending : Ending) (s : Status) → Ends before id ending s after → StaysSettled before after }
+    ensures next_action { (before after : ServerState) (id : ClientParts) (arguments : List FlatArgument) (bytes : List ℕ) (s : Status) (lent : Lent) (came_out : List ℤ) → NextAction before id arguments bytes s lent came_out after → StaysSettled before after }
+    ensures finish_request { (before after : ServerState) (id : ClientParts) (user_data : Option ℕ) (result : Result Bool Status) → KnowsEnd before id → EndsRequest before id user_data result after → StaysSettled before after }
+    ensures finish_bind { (before after : ServerState) (id : ClientParts) (user_data : ℕ) (result : Result Bool Status) → EndsBind before id user_data result after → StaysSettled before after }
+    ensures send_event { (before after : ServerState) (passed : Passed) (s : Status) → SendsEvent before passed s after → StaysSettled before after }
+    ensures post_error { (before after : ServerState) (object : FlatObjectId) (code : ℕ) (message : List ℕ) (s : Status) → PostsError before object code message s after → StaysSettled before after }
+    ensures create_object { (before after : ServerState) (client : FlatClientId) (interface version user_data : ℕ) (result : Result FlatObjectId Status) → CreatesObject before.core client interface version user_data result after.core → after ≡ record before { core = after.core } → StaysSettled before after }
+    ensures set_object_data { (before after : ServerState) (object : FlatObjectId) (user_data : ℕ) (s : Status) → SetsObjectData before.core object user_data s after.core → after ≡ record before { core = after.core } → StaysSettled before after }
+    ensures refused_global { (before after : ServerState) (interface version user_data groups : ℕ) (hidden : List FlatClientId) (s : Status) → CreatesGlobal before.core interface version user_data groups hidden (Err s) after.core → after ≡ record before { core = after.core } → StaysSettled before after }
+    ensures next_writable { (before after : ServerState) (result : Result FlatClientId Status) → NextWritable before result after → StaysSettled before after }
+    ensures sent { (before after : ServerState) (id : ClientParts) (count : ℕ) (s : Status) → Sent before id count s after → StaysSettled before after }
+    ensures next_note { (before after : ServerState) (out out' : FlatNote) (text text' : List ℕ) (s : Status) → NextNote before out text s out' text' after → StaysSettled before after }
+    ensures cleanup { (before after : ServerState) (s : Status) → CleansUp before s after → StaysSettled before after }
+    ensures marked { (before after : ServerState) → after.may_clean_up ≡ true → StaysSettled before after }
+    ensures beside { (before after : ServerState) → after.core ≡ before.core → after.may_clean_up ≡ before.may_clean_up → StaysSettled before after }
 {}

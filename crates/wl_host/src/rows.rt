@@ -1,6 +1,6 @@
 //! A table of interfaces as flat rows, and the interfaces that the rows say.
 
-ghost use Rattle.std.specs.Prelude.{◌≡◌, ◌≤◌, ◌<◌, Some, Ok, IfOk, IfErr, map, length, take, drop, MatchResult, option_map};
+ghost use Rattle.std.specs.Prelude.{◌≡◌, ◌<◌, Some, Ok, IfErr, map, length, MatchResult, option_map};
 ghost use Rattle.std.specs.String.{string_bytes};
 ghost use Rattle.wl_wire.specs.Table.{interface_row, interface_rows, message_row};
 ghost use Rattle.wl_host.specs.Rows.{IsRead, RefusesRows, cut, interface_said, message_said, name_at, next_messages, row_fault, said_by, fault_of, table_answer, type_of, with_argument};

@@ -1,35 +1,34 @@
-//! What a test does with a session, and what it tells.
+//! What a test does with a server's session, and what it tells.
 
+use crate::tests::args::{Arg, flat_all, number};
 use crate::tests::rows::{with_more_rows, with_rows};
+use crate::tests::told::{
+    bytes_of, tell_any_bytes, tell_arguments, tell_counts, tell_descriptor, tell_object, told,
+};
 use std::alloc::Global;
-use std::fmt::Write;
 use std::test::Fail;
 use wl_host::{
     Counts, FlatAction, FlatArgument, FlatClientId, FlatGlobalId, FlatNote, FlatObjectId, Gone,
-    Server, Status, fault, kind,
+    Server, Status, TableFault, fault, kind,
 };
 
-/// One call of the session.
+/// One call of the session. What it refers to is constant, so that acts can stand in a table.
 #[derive(Clone, Copy)]
-pub enum Act<'a> {
+pub enum Act {
     /// A global of the interface `pad` of version 2, with data and groups.
     Global(u64, u64),
     /// The same, which these clients do not see.
-    HiddenGlobal(u64, u64, &'a [FlatClientId]),
+    HiddenGlobal(u64, u64, &'static [FlatClientId]),
     /// A client, with data and groups.
     Insert(u64, u64),
     /// The same, which does not see these globals.
-    InsertWithout(u64, u64, &'a [FlatGlobalId]),
+    InsertWithout(u64, u64, &'static [FlatGlobalId]),
     /// The ids that the next client and the next global get.
     NextIds,
-    /// The name of the global for the client.
-    Name(FlatGlobalId, FlatClientId),
-    /// The global is disabled.
-    Disable(FlatGlobalId),
+    /// Which of the first six globals the client sees, if none of them was removed.
+    Sees(FlatClientId),
     /// The client receives these words, and these descriptors.
-    Received(FlatClientId, &'a [u32], &'a [i32]),
-    /// The client closed the connection.
-    End(FlatClientId),
+    Received(FlatClientId, &'static [u32], &'static [i32]),
     /// A send to the client failed.
     SendFailed(FlatClientId),
     /// The client is killed.
@@ -51,9 +50,11 @@ pub enum Act<'a> {
     /// An object of this interface is made for the client, with data.
     Create(FlatClientId, u32, u64),
     /// The first event of the object, with these arguments and bytes.
-    Send(FlatObjectId, &'a [FlatArgument], &'a [u8]),
+    Send(FlatObjectId, &'static [Arg], &'static [u8]),
     /// The client of the object is told of an error with this code and message, and killed.
-    PostError(FlatObjectId, u32, &'a [u8]),
+    PostError(FlatObjectId, u32, &'static [u8]),
+    /// Whether memory was refused in the last call of the core.
+    Refused,
     /// The next client to which something is to be sent.
     Writable,
     /// What is to be sent to the client.
@@ -70,112 +71,62 @@ pub enum Act<'a> {
     Dropped,
 }
 
-/// The id of a client.
-pub fn client(slot: u32, serial: u64) -> FlatClientId {
-    FlatClientId { serial, slot }
-}
-
-/// The id of a global.
-pub const fn global(name: u32, serial: u64) -> FlatGlobalId {
-    FlatGlobalId { serial, name }
-}
-
-/// The id of a `pad` of the client.
-pub fn pad(client: FlatClientId, number: u32, serial: u64) -> FlatObjectId {
-    FlatObjectId {
-        serial,
-        client,
-        interface: 4,
-        number,
-    }
-}
-
-/// An argument of a number or a descriptor.
-pub const fn number(kind: u32, value: i32) -> FlatArgument {
-    FlatArgument {
-        kind,
-        value,
-        at: 0,
-        length: 0,
-        object: FlatObjectId {
-            serial: 0,
-            client: FlatClientId { serial: 0, slot: 0 },
-            interface: 0,
-            number: 0,
-        },
-        data: 0,
-    }
-}
-
-/// An argument that is a string or an array.
-pub const fn beside(kind: u32, at: u32, length: u32) -> FlatArgument {
-    let mut arg = number(kind, 0);
-    arg.at = at;
-    arg.length = length;
-    arg
-}
-
 /// A client as `slot:serial`.
 fn tell_client(log: &mut String, id: &FlatClientId) -> Result<(), Fail> {
-    let FlatClientId { serial, slot } = *id;
+    let (slot, serial) = (id.slot, id.serial);
     write!(log, " client {slot}:{serial}")?;
     Ok(())
 }
 
-/// An object as `interface@number`.
-pub fn tell_object(log: &mut String, id: &FlatObjectId) -> Result<(), Fail> {
-    let FlatObjectId {
-        interface,
-        number,
-        ..
-    } = *id;
-    write!(log, " {interface}@{number}")?;
+/// What kind of action it is, and of what object.
+fn tell_sender(log: &mut String, action: &FlatAction) -> Result<(), Fail> {
+    let (kind, opcode, ends) = (action.kind, action.opcode, action.is_destructor);
+    let user_data = action.data;
+    write!(
+        log,
+        " kind {kind} opcode {opcode} ends {ends} data {user_data}"
+    )?;
+    tell_object(log, &action.sender)
+}
+
+/// The object that the action made, and what its arguments need.
+fn tell_created(log: &mut String, action: &FlatAction) -> Result<(), Fail> {
+    tell_object(log, &action.created)?;
+    let (version, count, bytes) = (action.version, action.arguments, action.bytes);
+    write!(log, " version {version} needs {count} {bytes}")?;
     Ok(())
 }
 
-/// An argument by its kind, with what it has.
-pub fn tell_argument(log: &mut String, arg: &FlatArgument) -> Result<(), Fail> {
-    let FlatArgument {
-        kind,
-        value,
-        at,
-        length,
-        ..
-    } = *arg;
-    write!(log, " ({kind}: {value} {at}+{length})")?;
-    Ok(())
-}
-
-/// The action, and as many arguments as it has.
+/// The action, and what was lent for its arguments and bytes.
 fn tell_action(
     log: &mut String,
     action: &FlatAction,
     arguments: &[FlatArgument],
+    bytes: &[u8],
 ) -> Result<(), Fail> {
-    let FlatAction {
-        kind,
-        opcode,
-        arguments: count,
-        is_destructor,
-        data: user_data,
-        version,
-        bytes,
-        ..
-    } = *action;
-    write!(
-        log,
-        " kind {kind} opcode {opcode} ends {is_destructor} data {user_data}"
-    )?;
-    tell_object(log, &action.sender)?;
-    tell_object(log, &action.created)?;
-    write!(log, " version {version} needs {count} {bytes}")?;
-    for arg in arguments {
-        tell_argument(log, arg)?;
-    }
-    Ok(())
+    tell_sender(log, action)?;
+    tell_created(log, action)?;
+    tell_arguments(log, arguments)?;
+    tell_any_bytes(log, bytes)
 }
 
-/// The next action of the client.
+/// The next action of the client, in memory that is lent for it.
+fn next_in(
+    log: &mut String,
+    server: &mut Server,
+    client: &FlatClientId,
+    arguments: &mut [FlatArgument],
+    bytes: &mut [u8],
+) -> Result<Status, Fail> {
+    let mut action = FlatAction::none();
+    let status = server.next_action(client, &mut action, arguments, bytes);
+    if matches!(status, Status::Ok | Status::TooSmall) {
+        tell_action(log, &action, arguments, bytes)?;
+    }
+    Ok(status)
+}
+
+/// The next action of the client, with so much room.
 fn next(
     log: &mut String,
     server: &mut Server,
@@ -186,47 +137,7 @@ fn next(
     let alloc = *log.allocator();
     let mut arguments = Vec::from_elem(alloc, number(0, 0), room)?;
     let mut bytes = Vec::from_elem(alloc, 0u8, most)?;
-    let mut action = FlatAction::none();
-    let status = server.next_action(client, &mut action, &mut arguments, &mut bytes);
-    if matches!(status, Status::Ok | Status::TooSmall) {
-        tell_action(log, &action, &arguments)?;
-    }
-    Ok(status)
-}
-
-/// The numbers, in square brackets.
-pub fn tell_numbers(log: &mut String, numbers: &[i32]) -> Result<(), Fail> {
-    write!(log, " [")?;
-    for number in numbers {
-        write!(log, " {number}")?;
-    }
-    write!(log, " ]")?;
-    Ok(())
-}
-
-/// The words, in square brackets, as hexadecimal numbers.
-fn tell_words(log: &mut String, bytes: &[u8]) -> Result<(), Fail> {
-    write!(log, " [")?;
-    for byte in bytes {
-        write!(log, " {byte:02x}")?;
-    }
-    write!(log, " ]")?;
-    Ok(())
-}
-
-/// What is to be sent: so many of the bytes and the descriptors.
-pub fn tell_counts(
-    log: &mut String,
-    counts: &Counts,
-    bytes: &[u8],
-    descriptors: &[i32],
-) -> Result<(), Fail> {
-    let bytes = bytes.get(..counts.bytes as usize).unwrap_or(&[]);
-    let descriptors = descriptors
-        .get(..counts.descriptors as usize)
-        .unwrap_or(&[]);
-    tell_words(log, bytes)?;
-    tell_numbers(log, descriptors)
+    next_in(log, server, client, &mut arguments, &mut bytes)
 }
 
 /// What is to be sent to the client.
@@ -244,24 +155,34 @@ fn to_send(log: &mut String, server: &Server, client: &FlatClientId) -> Result<S
     Ok(status)
 }
 
-/// The next client that is gone.
-fn next_gone(log: &mut String, server: &mut Server) -> Result<Status, Fail> {
-    let mut bytes = [0u8; 256];
-    let mut descriptors = [0i32; 28];
-    let mut gone = Gone {
-        client: client(0, 0),
+/// Nobody who is gone.
+fn nobody() -> Gone {
+    Gone {
+        client: FlatClientId::none(),
         data: 0,
         waiting: Counts {
             bytes: 0,
             descriptors: 0,
         },
-    };
+    }
+}
+
+/// A client that is gone, with what is to be sent to it.
+fn tell_gone(log: &mut String, gone: &Gone, bytes: &[u8], descriptors: &[i32]) -> Result<(), Fail> {
+    tell_client(log, &gone.client)?;
+    let user_data = gone.data;
+    write!(log, " data {user_data}")?;
+    tell_counts(log, &gone.waiting, bytes, descriptors)
+}
+
+/// The next client that is gone.
+fn next_gone(log: &mut String, server: &mut Server) -> Result<Status, Fail> {
+    let mut bytes = [0u8; 256];
+    let mut descriptors = [0i32; 28];
+    let mut gone = nobody();
     let status = server.next_gone(&mut gone, &mut bytes, &mut descriptors);
     if status == Status::Ok {
-        tell_client(log, &gone.client)?;
-        let user_data = gone.data;
-        write!(log, " data {user_data}")?;
-        tell_counts(log, &gone.waiting, &bytes, &descriptors)?;
+        tell_gone(log, &gone, &bytes, &descriptors)?;
     }
     Ok(status)
 }
@@ -273,12 +194,21 @@ fn no_note() -> FlatNote {
         is_protocol_error: 0,
         code: 0,
         object_number: 0,
-        client: client(0, 0),
+        client: FlatClientId::none(),
         object: FlatObjectId::null(),
         data: 0,
         message_length: 0,
         interface_length: 0,
     }
+}
+
+/// A note: what happened, to which client, and to which object.
+fn tell_note(log: &mut String, note: &FlatNote) -> Result<(), Fail> {
+    let (kind, is_error, code) = (note.kind, note.is_protocol_error, note.code);
+    let user_data = note.data;
+    write!(log, " kind {kind} error {is_error} {code} data {user_data}")?;
+    tell_client(log, &note.client)?;
+    tell_object(log, &note.object)
 }
 
 /// The next note.
@@ -287,34 +217,28 @@ fn next_note(log: &mut String, server: &mut Server) -> Result<Status, Fail> {
     let mut text = [0u8; 256];
     let status = server.next_note(&mut note, &mut text);
     if status == Status::Ok {
-        let FlatNote {
-            kind,
-            is_protocol_error,
-            code,
-            data: user_data,
-            ..
-        } = note;
-        write!(
-            log,
-            " kind {kind} error {is_protocol_error} {code} data {user_data}"
-        )?;
-        tell_client(log, &note.client)?;
-        tell_object(log, &note.object)?;
+        tell_note(log, &note)?;
     }
     Ok(status)
 }
 
+/// The status of a table that was asked to take more interfaces. The fault of one that it refused is told.
+pub fn tell_table(log: &mut String, answer: Result<(), TableFault>) -> Result<Status, Fail> {
+    let Err(refused) = answer else {
+        return Ok(Status::Ok);
+    };
+    let (at, why) = (refused.interface, refused.fault);
+    if why == fault::OUT_OF_MEMORY {
+        return Ok(Status::OutOfMemory);
+    }
+    write!(log, " interface {at} fault {why}")?;
+    Ok(Status::BadTable)
+}
+
 /// The interface `note` is added to the table.
 fn add_note(log: &mut String, server: &mut Server) -> Result<Status, Fail> {
-    match with_more_rows(|rows| server.add_interfaces(rows)) {
-        Ok(()) => Ok(Status::Ok),
-        Err(refused) if refused.fault == fault::OUT_OF_MEMORY => Ok(Status::OutOfMemory),
-        Err(refused) => {
-            let (at, why) = (refused.interface, refused.fault);
-            write!(log, " interface {at} fault {why}")?;
-            Ok(Status::BadTable)
-        }
-    }
+    let answer = with_more_rows(|rows| server.add_interfaces(rows));
+    tell_table(log, answer)
 }
 
 /// Tells the object that was made.
@@ -330,28 +254,20 @@ fn received(
     words: &[u32],
     descriptors: &[i32],
 ) -> Result<Status, Fail> {
-    let mut bytes = Vec::new(alloc);
-    for word in words {
-        bytes.extend_from_slice(&word.to_le_bytes())?;
-    }
+    let bytes = bytes_of(alloc, words)?;
     Ok(server.received(client, &bytes, descriptors))
 }
 
-/// The status of an answer, whose value is told.
-pub fn told<T, F: FnOnce(&mut String, T) -> Result<(), Fail>>(
-    log: &mut String,
-    answer: Result<T, Status>,
-    tell: F,
-) -> Result<Status, Fail>
-    requires { F.IsAlwaysCallable tell }
-{
-    match answer {
-        Ok(value) => {
-            tell(log, value)?;
-            Ok(Status::Ok)
-        }
-        Err(status) => Ok(status),
-    }
+/// The first event of the object is sent.
+fn send(
+    alloc: Global,
+    server: &mut Server,
+    id: &FlatObjectId,
+    args: &[Arg],
+    bytes: &[u8],
+) -> Result<Status, Fail> {
+    let arguments = flat_all(alloc, args)?;
+    Ok(server.send_event(id, 0, &arguments, bytes))
 }
 
 /// Tells a client.
@@ -375,27 +291,45 @@ fn next_ids(log: &mut String, server: &Server) -> Result<Status, Fail> {
     told(log, server.next_global_id(), tell_global)
 }
 
-/// Tells the name of a global.
-fn tell_name(log: &mut String, name: u32) -> Result<(), Fail> {
-    write!(log, " name {name}")?;
+/// Tells the global that has this number for its name and its serial, if the client sees it.
+fn sees_global(
+    log: &mut String,
+    server: &Server,
+    client: &FlatClientId,
+    name: u32,
+) -> Result<(), Fail> {
+    let id = FlatGlobalId {
+        serial: u64::from(name),
+        name,
+    };
+    if let Ok(name) = server.global_name(&id, client) {
+        write!(log, " {name}")?;
+    }
     Ok(())
 }
 
+/// Tells which of the first six globals the client sees.
+fn sees(log: &mut String, server: &Server, client: &FlatClientId) -> Result<Status, Fail> {
+    for name in 1..7u32 {
+        sees_global(log, server, client, name)?;
+    }
+    Ok(Status::Ok)
+}
+
 /// Tells whether the data are kept.
-fn tell_kept(log: &mut String, is_kept: bool) -> Result<(), Fail> {
+pub fn tell_kept(log: &mut String, is_kept: bool) -> Result<(), Fail> {
     write!(log, " kept {is_kept}")?;
     Ok(())
 }
 
-/// Tells a descriptor.
-pub fn tell_descriptor(log: &mut String, descriptor: i32) -> Result<(), Fail> {
-    write!(log, " descriptor {descriptor}")?;
-    Ok(())
+/// Tells whether memory was refused.
+fn tell_refused(log: &mut String, is_refused: bool) -> Result<Status, Fail> {
+    write!(log, " refused {is_refused}")?;
+    Ok(Status::Ok)
 }
 
-/// Does the act, and tells what came of it except the status, which it returns.
-pub fn act_on(log: &mut String, server: &mut Server, act: Act) -> Result<Status, Fail> {
-    let alloc = *log.allocator();
+/// Does an act about globals and what clients see of them.
+fn on_globals(log: &mut String, server: &mut Server, act: Act) -> Result<Status, Fail> {
     match act {
         Act::Global(user_data, groups) => {
             let answer = server.create_global(4, 2, user_data, groups, &[]);
@@ -414,14 +348,18 @@ pub fn act_on(log: &mut String, server: &mut Server, act: Act) -> Result<Status,
             told(log, answer, tell_found)
         }
         Act::NextIds => next_ids(log, server),
-        Act::Name(of, id) => told(log, server.global_name(&of, &id), tell_name),
-        Act::Disable(id) => Ok(server.disable_global(&id)),
+        Act::Sees(id) => sees(log, server, &id),
+        Act::AddNote => add_note(log, server),
+        _ => Err(Fail::new("no act of this kind")),
+    }
+}
+
+/// Does an act about what a client sends.
+fn on_requests(log: &mut String, server: &mut Server, act: Act) -> Result<Status, Fail> {
+    match act {
         Act::Received(id, words, descriptors) => {
-            received(alloc, server, &id, words, descriptors)
+            received(*log.allocator(), server, &id, words, descriptors)
         }
-        Act::End(id) => Ok(server.received_end(&id)),
-        Act::SendFailed(id) => Ok(server.send_failed(&id)),
-        Act::Kill(id) => Ok(server.kill_client(&id)),
         Act::Next(id, room, most) => next(log, server, &id, room, most),
         Act::Finish(id) => Ok(server.finish_request(&id)),
         Act::FinishWith(id, user_data) => {
@@ -430,45 +368,80 @@ pub fn act_on(log: &mut String, server: &mut Server, act: Act) -> Result<Status,
         Act::FinishBind(id, user_data) => {
             told(log, server.finish_bind(&id, user_data), tell_kept)
         }
-        Act::Moved(id, value) => Ok(server.send_event(&id, 0, &[number(kind::INT, value)], &[])),
-        Act::Given(id, value) => {
-            Ok(server.send_event(&id, 1, &[number(kind::DESCRIPTOR, value)], &[]))
-        }
-        Act::AddNote => add_note(log, server),
+        other => on_globals(log, server, other),
+    }
+}
+
+/// Does an act about objects and their events.
+fn on_events(log: &mut String, server: &mut Server, act: Act) -> Result<Status, Fail> {
+    match act {
         Act::Create(id, interface, user_data) => {
             let answer = server.create_object(&id, interface, 1, 1, user_data);
             told(log, answer, tell_made)
         }
-        Act::Send(id, arguments, bytes) => Ok(server.send_event(&id, 0, arguments, bytes)),
+        Act::Moved(id, value) => Ok(server.send_event(&id, 0, &[number(kind::INT, value)], &[])),
+        Act::Given(id, value) => {
+            Ok(server.send_event(&id, 1, &[number(kind::DESCRIPTOR, value)], &[]))
+        }
+        Act::Send(id, args, bytes) => send(*log.allocator(), server, &id, args, bytes),
         Act::PostError(id, code, message) => Ok(server.post_error(&id, code, message)),
-        Act::Writable => told(log, server.next_writable(), tell_found),
-        Act::ToSend(id) => to_send(log, server, &id),
-        Act::Sent(id, count) => Ok(server.sent(&id, count)),
-        Act::Cleanup => Ok(server.cleanup()),
-        Act::Gone => next_gone(log, server),
-        Act::Note => next_note(log, server),
-        Act::Dropped => told(log, server.next_dropped(), tell_descriptor),
+        other => on_requests(log, server, other),
     }
 }
 
-/// Does the acts, and tells each in a line: its status, and what came of it.
+/// Does an act about what is to be sent, and who is gone.
+fn on_sending(log: &mut String, server: &mut Server, act: Act) -> Result<Status, Fail> {
+    match act {
+        Act::Writable => told(log, server.next_writable(), tell_found),
+        Act::ToSend(id) => to_send(log, server, &id),
+        Act::Sent(id, count) => Ok(server.sent(&id, count)),
+        Act::Gone => next_gone(log, server),
+        Act::Dropped => told(log, server.next_dropped(), tell_descriptor),
+        other => on_events(log, server, other),
+    }
+}
+
+/// Does the act, and tells what came of it except the status, which it returns.
+fn act_on(log: &mut String, server: &mut Server, act: Act) -> Result<Status, Fail> {
+    match act {
+        Act::SendFailed(id) => Ok(server.send_failed(&id)),
+        Act::Kill(id) => Ok(server.kill_client(&id)),
+        Act::Refused => tell_refused(log, server.memory_refused()),
+        Act::Cleanup => Ok(server.cleanup()),
+        Act::Note => next_note(log, server),
+        other => on_sending(log, server, other),
+    }
+}
+
+/// Does the act, and tells it in a line: its status, and what came of it.
+pub fn tell_act(log: &mut String, server: &mut Server, act: Act) -> Result<Status, Fail> {
+    let mut line = String::new(*log.allocator());
+    let status = act_on(&mut line, server, act)?;
+    let line = line.as_str();
+    writeln!(log, "{status:?}{line}")?;
+    Ok(status)
+}
+
+/// Does the acts, and tells each in a line.
 fn do_all(log: &mut String, server: &mut Server, acts: &[Act]) -> Result<(), Fail> {
-    let alloc = *log.allocator();
     for act in acts {
-        let mut line = String::new(alloc);
-        let status = act_on(&mut line, server, *act)?;
-        let line = line.as_str();
-        writeln!(log, "{status:?}{line}")?;
+        tell_act(log, server, *act)?;
     }
     Ok(())
 }
 
+/// Does the acts with a new session, and tells each in a line.
+fn do_anew(log: &mut String, acts: &[Act]) -> Result<(), Fail> {
+    let alloc = *log.allocator();
+    match with_rows(|rows| Server::new(alloc, rows)) {
+        Ok(mut server) => do_all(log, &mut server, acts),
+        Err(_) => Err(Fail::new("the table was refused")),
+    }
+}
+
 /// What these acts tell, one after another, of a new session.
 pub fn run(alloc: Global, acts: &[Act]) -> Result<String, Fail> {
-    let Ok(mut server) = with_rows(|rows| Server::new(alloc, rows)) else {
-        return Err(Fail::new("the table was refused"));
-    };
     let mut log = String::new(alloc);
-    do_all(&mut log, &mut server, acts)?;
+    do_anew(&mut log, acts)?;
     Ok(log)
 }

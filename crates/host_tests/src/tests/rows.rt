@@ -1,7 +1,11 @@
-//! The table of the tests, as flat rows: one interface, `pad`, with the number 4. A second one, `note`, may be added.
+//! The table of the tests, as flat rows: one interface, `pad`, with the number 4. A second one, `note`, with the number 5, may be
+//! added.
 //!
 //! Requests of `pad`: `push(int, fd)`, `label(string)`, the destructor `close`, `make(new_id<pad>)`. Its events: `moved(int)`,
-//! `given(fd)`. The event of `note`: `said(string, array, fixed, fd, uint)`.
+//! `given(fd)`.
+//!
+//! The request of `note` has an argument of each kind: `tell(int, uint, fixed, string, string or null, pad, pad or null,
+//! new_id<pad>, array, fd)`. Its event: `said(string, array, fixed, fd, uint)`.
 
 use wl_host::{ArgumentRow, InterfaceRow, MessageRow, Rows, kind};
 
@@ -35,6 +39,13 @@ const fn argument(kind: u32, interface: u32) -> ArgumentRow {
         is_nullable: 0,
         interface,
     }
+}
+
+/// An argument that may be null.
+const fn nullable(kind: u32, interface: u32) -> ArgumentRow {
+    let mut row = argument(kind, interface);
+    row.is_nullable = 1;
+    row
 }
 
 /// Calls the closure with the table.
@@ -76,11 +87,21 @@ pub fn with_more_rows<T, F: FnOnce(&Rows) -> T>(f: F) -> T
         name_at: 0,
         name_length: 4,
         version: 1,
-        requests: 0,
+        requests: 1,
         events: 1,
     }];
-    let messages = [message(4, 4, 5)];
+    let messages = [message(4, 4, 10), message(8, 4, 5)];
     let arguments = [
+        argument(kind::INT, 0),
+        argument(kind::UINT, 0),
+        argument(kind::FIXED, 0),
+        argument(kind::STRING, 0),
+        nullable(kind::STRING, 0),
+        argument(kind::OBJECT, 4),
+        nullable(kind::OBJECT, 4),
+        argument(kind::NEW_ID, 4),
+        argument(kind::ARRAY, 0),
+        argument(kind::DESCRIPTOR, 0),
         argument(kind::STRING, 0),
         argument(kind::ARRAY, 0),
         argument(kind::FIXED, 0),
@@ -88,7 +109,7 @@ pub fn with_more_rows<T, F: FnOnce(&Rows) -> T>(f: F) -> T
         argument(kind::UINT, 0),
     ];
     let rows = Rows {
-        text: b"notesaid",
+        text: b"notetellsaid",
         interfaces: &interfaces,
         messages: &messages,
         arguments: &arguments,

@@ -1,15 +1,15 @@
 //! What a client's session receives, its events and its requests.
 
 ghost use Rattle.std.specs.Prelude.{IsSome, List, None, Some, [], ℤ, ◌≡◌, ◌≢◌};
-ghost use Rattle.wl_c.specs.Calls.{Did, Gave};
+ghost use Rattle.wl_c.specs.Calls.{Did, Gave, GaveFlag};
 ghost use Rattle.wl_host.specs.Arguments.{descriptors_given};
-ghost use Rattle.wl_host.specs.Client.{ConservesClient, EndsEvent, HandsNext, Receives, Sends, given_with, mailbox_of, taken_in, with_mailbox};
+ghost use Rattle.wl_host.specs.Client.{ConservesClient, EndsEvent, EndsEventWith, HandsNext, Receives, Sends, given_with, mailbox_of, taken_in, with_mailbox};
 ghost use Rattle.wl_host.specs.declared.status.Status.TheVariants as status;
 ghost use Rattle.wl_link.specs.declared.mailbox.Ending.TheVariants as ending;
 ghost use Rattle.wl_wire.specs.declared.error.IoFault.TheVariants as fault;
 
 use super::place::ClientPlace;
-use crate::answer::write_answer;
+use crate::answer::{write_answer, write_flag};
 use std::alloc::Global;
 use wl_host::{FlatArgument, FlatEvent, FlatObjectId, FlatRequest, Status};
 
@@ -100,6 +100,7 @@ pub extern "C" fn nb_client_next_event(
 ) -> u32
     ensures none { place.old.kept.held ≡ None → (result ≡ 1) × (place.new.kept.held ≡ None) × (event.new ≡ event.old) × (arguments.new ≡ arguments.old) × (bytes.new ≡ bytes.old) }
     ensures stays { IsSome place.old.kept.held → IsSome place.new.kept.held }
+    ensures call { Did place.old.kept.held result place.new.kept.held (λ s status t. (came_out : List ℤ) × HandsNext s (record { out = event.old; arguments = arguments.old; bytes = bytes.old }) status came_out t (record { out = event.new; arguments = arguments.new; bytes = bytes.new }) × ConservesClient s [] came_out t) }
 {
     let Some(mut session) = place.take(alloc) else {
         return Status::NoSession.code();
@@ -114,6 +115,7 @@ pub extern "C" fn nb_client_next_event(
 pub extern "C" fn nb_client_finish_event(alloc: Global, place: &mut ClientPlace) -> u32
     ensures none { place.old.kept.held ≡ None → (result ≡ 1) × (place.new.kept.held ≡ None) }
     ensures stays { IsSome place.old.kept.held → IsSome place.new.kept.held }
+    ensures call { Did place.old.kept.held result place.new.kept.held (λ s status t. EndsEvent s None status t) }
     ensures descriptors { Did place.old.kept.held result place.new.kept.held (λ s status t. ConservesClient s [] [] t) }
 {
     let Some(mut session) = place.take(alloc) else {
@@ -124,23 +126,26 @@ pub extern "C" fn nb_client_finish_event(alloc: Global, place: &mut ClientPlace)
     status.code()
 }
 
-/// Finishes the open event and gives this data to the object that it made.
+/// Finishes the open event and gives this data to the object that it made. `is_kept` tells whether that object lives.
 #[unsafe(no_mangle)]
 pub extern "C" fn nb_client_finish_event_with(
     alloc: Global,
     place: &mut ClientPlace,
     user_data: u64,
+    is_kept: &mut u32,
 ) -> u32
-    ensures none { place.old.kept.held ≡ None → (result ≡ 1) × (place.new.kept.held ≡ None) }
+    ensures none { place.old.kept.held ≡ None → (result ≡ 1) × (place.new.kept.held ≡ None) × (is_kept.new ≡ is_kept.old) }
     ensures stays { IsSome place.old.kept.held → IsSome place.new.kept.held }
-    ensures descriptors { Did place.old.kept.held result place.new.kept.held (λ s status t. ConservesClient s [] [] t) }
+    ensures unwritten { result ≢ 0 → is_kept.new ≡ is_kept.old }
+    ensures call { GaveFlag place.old.kept.held result is_kept.old is_kept.new place.new.kept.held (λ s answer t. EndsEventWith s user_data answer t) }
+    ensures descriptors { GaveFlag place.old.kept.held result is_kept.old is_kept.new place.new.kept.held (λ s answer t. ConservesClient s [] [] t) }
 {
     let Some(mut session) = place.take(alloc) else {
         return Status::NoSession.code();
     };
-    let status = session.finish_event_with(user_data);
+    let answer = session.finish_event_with(user_data);
     place.put(session);
-    status.code()
+    write_flag(answer, is_kept)
 }
 
 /// Sends a request. Its descriptors are the session's if, and only if, the status is `NB_OK`.
@@ -156,6 +161,7 @@ pub extern "C" fn nb_client_send_request(
     ensures none { place.old.kept.held ≡ None → (result ≡ 1) × (place.new.kept.held ≡ None) × (created.new ≡ created.old) }
     ensures stays { IsSome place.old.kept.held → IsSome place.new.kept.held }
     ensures unwritten { result ≢ 0 → created.new ≡ created.old }
+    ensures call { Gave place.old.kept.held result created.old created.new place.new.kept.held (λ s answer t. Sends s request.now arguments.now bytes.now answer t) }
     ensures descriptors { Gave place.old.kept.held result created.old created.new place.new.kept.held (λ s answer t. ConservesClient s (given_with answer (descriptors_given arguments.now)) [] t) }
 {
     let Some(mut session) = place.take(alloc) else {

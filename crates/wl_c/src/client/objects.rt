@@ -85,6 +85,7 @@ pub extern "C" fn nb_client_set_object_data(
 ) -> u32
     ensures none { place.old.kept.held ≡ None → (result ≡ 1) × (place.new.kept.held ≡ None) }
     ensures stays { IsSome place.old.kept.held → IsSome place.new.kept.held }
+    ensures call { Did place.old.kept.held result place.new.kept.held (λ s status t. GivesData s.core (proxy_of object.now) user_data status t.core) }
     ensures beside { Did place.old.kept.held result place.new.kept.held (λ s status t. t ≡ record s { core = t.core }) }
     ensures descriptors { Did place.old.kept.held result place.new.kept.held (λ s status t. ConservesClient s [] [] t) }
 {
@@ -105,6 +106,7 @@ pub extern "C" fn nb_client_destroy_object(
 ) -> u32
     ensures none { place.old.kept.held ≡ None → (result ≡ 1) × (place.new.kept.held ≡ None) }
     ensures stays { IsSome place.old.kept.held → IsSome place.new.kept.held }
+    ensures call { Did place.old.kept.held result place.new.kept.held (λ s status t. Destroys s (proxy_of object.now) status t) }
     ensures descriptors { Did place.old.kept.held result place.new.kept.held (λ s status t. ConservesClient s [] [] t) }
 {
     let Some(mut session) = place.take(alloc) else {

@@ -1,8 +1,8 @@
 //! What a client's session hands out to the host.
 
-ghost use Rattle.std.specs.Prelude.{IsSome, None, [], ◌≡◌, ◌≢◌};
+ghost use Rattle.std.specs.Prelude.{IfErr, IsSome, None, [], ◌≡◌, ◌≢◌};
 ghost use Rattle.wl_c.specs.Calls.{Did, Gave, Told};
-ghost use Rattle.wl_host.specs.Client.{ConservesClient, Drops, Flushes, HandsNote, sent, sent_descriptors, to_send, told};
+ghost use Rattle.wl_host.specs.Client.{ConservesClient, Drops, Flushes, HandsNote, HasNoneDropped, sent, sent_descriptors, to_send, told};
 ghost use Rattle.wl_host.specs.Sending.{copied};
 ghost use Rattle.wl_host.specs.declared.status.Status.TheVariants as status;
 
@@ -101,6 +101,7 @@ pub extern "C" fn nb_client_next_dropped(
     ensures stays { IsSome place.old.kept.held → IsSome place.new.kept.held }
     ensures unwritten { result ≢ 0 → descriptor.new ≡ descriptor.old }
     ensures call { Gave place.old.kept.held result descriptor.old descriptor.new place.new.kept.held (λ s answer t. Drops s answer t) }
+    ensures none_dropped { Gave place.old.kept.held result descriptor.old descriptor.new place.new.kept.held (λ s answer t. IfErr answer (λ _. HasNoneDropped t)) }
     ensures descriptors { Gave place.old.kept.held result descriptor.old descriptor.new place.new.kept.held (λ s answer t. ConservesClient s [] (told answer) t) }
 {
     let Some(mut session) = place.take(alloc) else {

@@ -9,7 +9,7 @@ ghost use Rattle.wl_host.specs.Tables.{AddsToClient, IsFaultOf, IsNewClient};
 ghost use Rattle.wl_host.specs.declared.status.Status.TheVariants as status;
 
 use super::place::ClientPlace;
-use crate::answer::{write_fault, write_flag};
+use crate::answer::{write_added, write_fault, write_flag};
 use std::alloc::Global;
 use wl_host::{
     ArgumentRow, Client, FlatError, InterfaceRow, MessageRow, Rows, Status, TableFault, fault,
@@ -92,12 +92,9 @@ pub extern "C" fn nb_client_add_interfaces(
         messages,
         arguments,
     };
-    let added = session.add_interfaces(&rows);
+    let answer = session.add_interfaces(&rows);
     place.put(session);
-    match added {
-        Ok(()) => Status::Ok.code(),
-        Err(refused) => write_fault(refused, fault),
-    }
+    write_added(answer, fault)
 }
 
 /// Writes 1 where memory was refused in the last call of the core that changes it, and 0 else.

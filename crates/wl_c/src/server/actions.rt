@@ -28,6 +28,7 @@ pub extern "C" fn nb_server_next_action(
 ) -> u32
     ensures none { place.old.kept.held ≡ None → (result ≡ 1) × (place.new.kept.held ≡ None) × (action.new ≡ action.old) × (arguments.new ≡ arguments.old) × (bytes.new ≡ bytes.old) }
     ensures stays { IsSome place.old.kept.held → IsSome place.new.kept.held }
+    ensures call { Did place.old.kept.held result place.new.kept.held (λ s status t. (came_out : List ℤ) × NextAction s (client_of client.now) arguments.old bytes.old status (record { out = action.new; arguments = arguments.new; bytes = bytes.new }) came_out t × Conserves kept_by_server s [] came_out t) }
 {
     let Some(mut session) = place.take(alloc) else {
         return Status::NoSession.code();
@@ -46,6 +47,7 @@ pub extern "C" fn nb_server_finish_request(
 ) -> u32
     ensures none { place.old.kept.held ≡ None → (result ≡ 1) × (place.new.kept.held ≡ None) }
     ensures stays { IsSome place.old.kept.held → IsSome place.new.kept.held }
+    ensures call { Did place.old.kept.held result place.new.kept.held (λ s status t. (answer : Result Bool Status) × EndsRequest s (client_of client.now) None answer t × (status ≡ status_of_end answer)) }
     ensures descriptors { Did place.old.kept.held result place.new.kept.held (λ s status t. Conserves kept_by_server s [] [] t) }
 {
     let Some(mut session) = place.take(alloc) else {

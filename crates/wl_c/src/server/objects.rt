@@ -117,6 +117,7 @@ pub extern "C" fn nb_server_set_object_data(
 ) -> u32
     ensures none { place.old.kept.held ≡ None → (result ≡ 1) × (place.new.kept.held ≡ None) }
     ensures stays { IsSome place.old.kept.held → IsSome place.new.kept.held }
+    ensures call { Did place.old.kept.held result place.new.kept.held (λ s status t. SetsObjectData s.core object.now user_data status t.core) }
     ensures beside { Did place.old.kept.held result place.new.kept.held (λ s status t. t ≡ record s { core = t.core }) }
     ensures descriptors { Did place.old.kept.held result place.new.kept.held (λ s status t. Conserves kept_by_server s [] [] t) }
 {

@@ -5,7 +5,7 @@ ghost use Rattle.wl_c.specs.Calls.{Did, Gave, Told};
 ghost use Rattle.wl_host.specs.Descriptors.{Conserves};
 ghost use Rattle.wl_host.specs.Flat.{client_of};
 ghost use Rattle.wl_host.specs.Notes.{NextNote};
-ghost use Rattle.wl_host.specs.Server.{CleansUp, NextDropped, NextWritable, Sent, gone_with_first, handed, kept_by_server, next_gone, sent_with, to_send};
+ghost use Rattle.wl_host.specs.Server.{CleansUp, FoundHasBytes, NextDropped, NextWritable, NoneAskedHasBytes, Sent, gone_with_first, handed, kept_by_server, next_gone, sent_with, to_send};
 ghost use Rattle.wl_host.specs.declared.status.Status.TheVariants as status;
 
 use super::place::ServerPlace;
@@ -24,6 +24,9 @@ pub extern "C" fn nb_server_next_writable(
     ensures stays { IsSome place.old.kept.held → IsSome place.new.kept.held }
     ensures unwritten { result ≢ 0 → client.new ≡ client.old }
     ensures call { Gave place.old.kept.held result client.old client.new place.new.kept.held (λ s answer t. NextWritable s answer t) }
+    ensures found { Gave place.old.kept.held result client.old client.new place.new.kept.held (λ s answer t. FoundHasBytes t.core answer) }
+    ensures none_found { Gave place.old.kept.held result client.old client.new place.new.kept.held (λ s answer t. NoneAskedHasBytes s.seats t.core answer) }
+    ensures descriptors { Gave place.old.kept.held result client.old client.new place.new.kept.held (λ s answer t. Conserves kept_by_server s [] [] t) }
 {
     let Some(mut session) = place.take(alloc) else {
         return Status::NoSession.code();
@@ -84,6 +87,7 @@ pub extern "C" fn nb_server_sent(
 pub extern "C" fn nb_server_cleanup(alloc: Global, place: &mut ServerPlace) -> u32
     ensures none { place.old.kept.held ≡ None → (result ≡ 1) × (place.new.kept.held ≡ None) }
     ensures stays { IsSome place.old.kept.held → IsSome place.new.kept.held }
+    ensures call { Did place.old.kept.held result place.new.kept.held (λ s status t. CleansUp s status t) }
     ensures descriptors { Did place.old.kept.held result place.new.kept.held (λ s status t. Conserves kept_by_server s [] [] t) }
 {
     let Some(mut session) = place.take(alloc) else {
@@ -130,6 +134,7 @@ pub extern "C" fn nb_server_next_note(
 ) -> u32
     ensures none { place.old.kept.held ≡ None → (result ≡ 1) × (place.new.kept.held ≡ None) × (note.new ≡ note.old) × (text.new ≡ text.old) }
     ensures stays { IsSome place.old.kept.held → IsSome place.new.kept.held }
+    ensures call { Did place.old.kept.held result place.new.kept.held (λ s status t. NextNote s note.old text.old status note.new text.new t) }
     ensures descriptors { Did place.old.kept.held result place.new.kept.held (λ s status t. Conserves kept_by_server s [] [] t) }
 {
     let Some(mut session) = place.take(alloc) else {

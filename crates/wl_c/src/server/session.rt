@@ -14,7 +14,7 @@ ghost use Rattle.wl_server.specs.declared.runs.step.Reply.TheVariants as reply;
 ghost use Rattle.wl_server.specs.declared.runs.step.Step.TheVariants as step;
 
 use super::place::ServerPlace;
-use crate::answer::{write_fault, write_flag};
+use crate::answer::{write_added, write_fault, write_flag};
 use std::alloc::Global;
 use wl_host::{
     ArgumentRow, FlatClientId, InterfaceRow, MessageRow, Rows, Server, Status, TableFault, fault,
@@ -85,6 +85,7 @@ pub extern "C" fn nb_server_add_interfaces(
     ensures none { place.old.kept.held ≡ None → (result ≡ 1) × (place.new.kept.held ≡ None) × (fault.new ≡ fault.old) }
     ensures stays { IsSome place.old.kept.held → IsSome place.new.kept.held }
     ensures unfaulted { result ≡ 0 → fault.new ≡ fault.old }
+    ensures call { Added place.old.kept.held result fault.old fault.new place.new.kept.held (λ s answer t. AddsInterfaces (record { text = text.entry; interfaces = interfaces.entry; messages = messages.entry; arguments = arguments.entry }) s.core answer t.core) }
     ensures beside { Added place.old.kept.held result fault.old fault.new place.new.kept.held (λ s answer t. t ≡ record s { core = t.core }) }
     ensures descriptors { Added place.old.kept.held result fault.old fault.new place.new.kept.held (λ s answer t. Conserves kept_by_server s [] [] t) }
 {
@@ -97,12 +98,9 @@ pub extern "C" fn nb_server_add_interfaces(
         messages,
         arguments,
     };
-    let added = session.add_interfaces(&rows);
+    let answer = session.add_interfaces(&rows);
     place.put(session);
-    match added {
-        Ok(()) => Status::Ok.code(),
-        Err(refused) => write_fault(refused, fault),
-    }
+    write_added(answer, fault)
 }
 
 /// Writes 1 where memory was refused in the last call of the core that changes it, and 0 else.

@@ -1,12 +1,11 @@
 -- What the functions share that hand out an action.
-use Rattle.std.specs.Prelude.{◌≡◌, ℕ, ℤ, List, [], Bool, false, Result, Ok, Err, MatchResult}
+use Rattle.std.specs.Prelude.{◌≡◌, Bool, false, Result, Ok, Err, MatchResult}
 use Rattle.wl_server.specs.Ids.{ClientParts}
 use Rattle.wl_server.specs.declared.error.ActionError.{ActionError}
 use Rattle.wl_server.specs.declared.reading.action.Action.{Action}
-use Rattle.wl_host.specs.Actions.{HandsFrom, Lent, ReadsNext, descriptors_with, kills, without_kept}
+use Rattle.wl_host.specs.Actions.{HandsFrom, Lent, ReadsNext, kills, without_kept}
 use Rattle.wl_host.specs.Calls.{CoreState}
 use Rattle.wl_host.specs.Status.{of_action}
-use Rattle.wl_host.specs.declared.flat.FlatArgument.{FlatArgument}
 use Rattle.wl_host.specs.declared.server.ledger.Ledger.{Ledger}
 use Rattle.wl_host.specs.declared.status.Status.{Status}
 

@@ -1,5 +1,5 @@
 -- What is true of the seats of a server's session at any time, and what the functions over their fields share.
-use Rattle.std.specs.Prelude.{◌≡◌, ◌⊎◌, ◌≤◌, ◌<◌, ◌^◌, ◌*◌, max, ℕ, ℤ, ◌+◌, List, length, true, Option, None, Some, Vec, slice_set, vec_capacity, vec_len}
+use Rattle.std.specs.Prelude.{◌≡◌, ◌⊎◌, ◌≤◌, ◌<◌, ◌^◌, ◌*◌, max, ℕ, ℤ, ◌+◌, List, true, Option, None, Some, Vec, slice_set, vec_capacity, vec_len}
 use Rattle.std.specs.Global.{Global}
 use Rattle.std.specs.List.{sum_by}
 use Rattle.std.specs.VecDeque.{deque_capacity, deque_len}
@@ -12,7 +12,7 @@ use Rattle.std.specs.contracts.option.Option as option
 use Rattle.std.specs.contracts.vec.Vec as vec
 use denote.RattleType.{RattleType}
 use Rattle.wl_server.specs.Ids.{ClientParts}
-use Rattle.wl_host.specs.Descriptors.{Descriptors, given_up}
+use Rattle.wl_host.specs.Descriptors.{Descriptors}
 use Rattle.wl_host.specs.declared.server.ledger.Departed.{Departed}
 use Rattle.wl_host.specs.declared.server.ledger.Ledger.{Ledger}
 use Rattle.wl_host.specs.declared.server.seats.Seats.TheInside.{Inside}

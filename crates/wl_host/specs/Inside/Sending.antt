@@ -1,5 +1,5 @@
 -- The descriptors of tokens, one after another.
-use Rattle.std.specs.Prelude.{◌≡◌, ℕ, ℤ, ◌+◌, ◌-◌, ◌^◌, ◌%◌, MatchOption, Option, Some, slice_get}
+use Rattle.std.specs.Prelude.{◌≡◌, ℕ, ℤ, ◌+◌, ◌-◌, ◌^◌, ◌%◌, MatchOption, slice_get}
 use Rattle.wl_wire.specs.declared.argument.Token.{Token}
 use Rattle.wl_host.specs.Descriptors.{Descriptors, unsigned}
 use Rattle.wl_host.specs.Sending.{shown}

@@ -3,10 +3,10 @@
 ghost use Rattle.std.specs.Prelude.{◌≡◌, ℤ, List, [], None, Some, if◌then◌else◌};
 ghost use Rattle.wl_client.specs.Requests.{session_content};
 ghost use Rattle.wl_host.specs.Arguments.{all_bytes, flat_arguments, queue_after_all};
-ghost use Rattle.wl_host.specs.Client.{ConservesClient, EndsEvent, HandsNext, ReadsUnlessKept, data_or_zero, fits, flat_event, kept_of};
+ghost use Rattle.wl_host.specs.Client.{ConservesClient, EndsEvent, EndsEventWith, HandsNext, ReadsUnlessKept, data_or_zero, fits, flat_event, kept_of};
 ghost use Rattle.wl_host.specs.Flat.{flat_proxy, over_front};
 
-use super::flattening::flat_event;
+use super::flattening::{flat_event, made_and_ends};
 use super::notes::take_notes;
 use super::{Client, Core};
 use crate::arguments::{Needs, write_arguments};
@@ -122,14 +122,19 @@ impl Client {
         self.finish(None)
     }
 
-    /// Ends the event that was handed out, and gives the object that it made these data.
+    /// Ends the event that was handed out, and gives the object that it made these data. Returns whether they are kept: they
+    /// are not if the client has destroyed the object. Then no note tells of them.
     ///
     /// The statuses are those of `finish_event`, with `UnexpectedData` in place of `MissingData`: the event made no object.
-    pub fn finish_event_with(&mut self, user_data: u64) -> Status
-        ensures call { EndsEvent self.old (Some user_data) result self.new }
+    pub fn finish_event_with(&mut self, user_data: u64) -> Result<bool, Status>
+        ensures call { EndsEventWith self.old user_data result self.new }
         ensures descriptors { ConservesClient self.old [] [] self.new }
     {
-        self.finish(Some(user_data))
+        let (created, _) = made_and_ends(&self.core);
+        match self.finish(Some(user_data)) {
+            Status::Ok => Ok(self.core.info(&created).is_ok()),
+            status => Err(status),
+        }
     }
 
     /// Ends the event that was handed out.

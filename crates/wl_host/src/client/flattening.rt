@@ -60,7 +60,7 @@ impl FromFlat for ObjectId {
 }
 
 /// What the open event made, and whether it ends its sender.
-fn made_and_ends(core: &Core) -> (ObjectId, bool)
+pub fn made_and_ends(core: &Core) -> (ObjectId, bool)
     ensures made { result.0 ≡ created_by core.now.session.open_event }
     ensures ends { result.1 ≡ ends_sender core.now.session.open_event }
 {

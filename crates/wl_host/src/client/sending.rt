@@ -1,12 +1,13 @@
 //! What the host is to send, and the descriptors that it takes back.
 
-ghost use Rattle.std.specs.Prelude.{◌≡◌, [], Some};
+ghost use Rattle.std.specs.Prelude.{◌≡◌, [], IfErr, Some};
 ghost use Rattle.wl_wire.specs.declared.error.IoFault.TheVariants as fault;
-ghost use Rattle.wl_host.specs.Client.{ConservesClient, Drops, Flushes, HandsDropped, has_failed, let_go, mailbox_of, sent, sent_descriptors, to_send, told, with_mailbox};
+ghost use Rattle.wl_host.specs.Client.{ConservesClient, Drops, Flushes, HandsDropped, HasNoneDropped, has_failed, let_go, mailbox_of, sent, sent_descriptors, to_send, told, with_mailbox, without_dropped};
 ghost use Rattle.wl_host.specs.Sending.{copied};
 ghost use Rattle.wl_host.specs.declared.status.Status.TheVariants as status;
 
 use super::Client;
+use crate::arguments::descriptor_count;
 use crate::flat::Counts;
 use crate::outgoing::{copy_out, take_off};
 use crate::status::Status;
@@ -77,14 +78,18 @@ impl Client {
 
     /// The next descriptor that no event and no request takes, and that the host takes back.
     ///
-    /// These are the descriptors of events for objects that the client has destroyed. Once the session has failed, and no
-    /// event is kept, they are all that were put in and did not come out. Then nothing is left to be sent.
+    /// These are the descriptors of events for objects that the client has destroyed, from the reading that met the event. Once
+    /// the session has failed, and no event is kept, they are all that were put in and did not come out. Then nothing is left
+    /// to be sent.
     ///
-    /// The status is `WouldBlock` if there is none.
+    /// The status is `WouldBlock` if there is none. Then an event may yet hand out each descriptor that arrived and did not come
+    /// out.
     pub fn next_dropped(&mut self) -> Result<i32, Status>
         ensures call { Drops self.old result self.new }
+        ensures none_dropped { IfErr result (λ _. HasNoneDropped self.new) }
         ensures descriptors { ConservesClient self.old [] (told result) self.new }
     {
+        self.pass_dropped();
         if self.has_failed() {
             self.let_go();
         }
@@ -102,6 +107,22 @@ impl Client {
             return Ok(descriptor);
         }
         Err(Status::WouldBlock)
+    }
+
+    /// Passes the arrivals over that the core has dropped. It reads them in the order in which they came, so those that an event
+    /// may yet hand out are the last ones.
+    fn pass_dropped(&mut self)
+        ensures { self.new ≡ without_dropped self.old }
+    {
+        let brought = if self.is_kept {
+            descriptor_count(self.event.args.as_slice())
+        } else {
+            0
+        };
+        let in_core = self.core.waiting()[1];
+        let in_mailbox = self.core.transport().tokens_left().len();
+        let awaited = brought.saturating_add(in_core).saturating_add(in_mailbox);
+        self.arrivals.keep_last(awaited);
     }
 
     /// Drops the descriptors that nobody takes any more, since the session has failed.

@@ -1,3 +1,5 @@
+//! The actions of clients, handed out and ended.
+
 ghost use Rattle.std.specs.Prelude.{◌≡◌, ◌≤◌, [], ℤ, List, Bool, Result, MatchOption, None, Ok, Err, Some, length, min};
 ghost use Rattle.std.specs.Result.{result_and};
 ghost use Rattle.wl_host.specs.declared.status.Status.{Status};
@@ -7,6 +9,7 @@ ghost use Rattle.wl_host.specs.Arguments.{all_bytes, flat_arguments, queue_after
 ghost use Rattle.wl_host.specs.Calls.{bit_of, data_or_zero, global_data_or_zero, kept_by, version_or_zero};
 ghost use Rattle.wl_host.specs.Flat.{client_of, flat_resource, no_action, over_front};
 ghost use Rattle.wl_host.specs.Descriptors.{Conserves};
+ghost use Rattle.wl_host.specs.Kinds as kinds;
 ghost use Rattle.wl_host.specs.Inside.Actions.{NextOf, is_killed_in, status_of_next};
 ghost use Rattle.wl_host.specs.Seats.{ledger_of};
 ghost use Rattle.wl_host.specs.Server.{kept_by_server};
@@ -25,15 +28,12 @@ use std::mem;
 use wl_server::{Action, ActionError, ClientId, FinishRefused, GlobalId, ObjectId};
 use wl_wire::IoFault;
 
-/// Whether a reading that ended so killed the client.
+/// Whether a reading of a client that is stored, and ended so, killed the client.
 fn kills(error: ActionError) -> bool
     ensures { result ≡ kills error }
 {
     match error {
-        ActionError::Io(fault) => !matches!(
-            fault,
-            IoFault::WouldBlock | IoFault::OutOfMemory | IoFault::InvalidInput
-        ),
+        ActionError::Io(fault) => !matches!(fault, IoFault::WouldBlock | IoFault::OutOfMemory),
         ActionError::ActionOpen => false,
     }
 }
@@ -90,7 +90,7 @@ fn flat_request(
     is_destructor: bool,
     created: Option<ObjectId>,
 ) -> FlatAction
-    ensures { result ≡ record no_action { kind = REQUEST; opcode = opcode; is_destructor = bit_of is_destructor; sender = flat_resource sender.now; «data» = data_or_zero core.now sender.now; created = flat_created created; version = version_created core.now created } }
+    ensures { result ≡ record no_action { kind = kinds.request; opcode = opcode; is_destructor = bit_of is_destructor; sender = flat_resource sender.now; «data» = data_or_zero core.now sender.now; created = flat_created created; version = version_created core.now created } }
 {
     let (object, version) = match created {
         Some(id) => (FlatObjectId::of_resource(id), version_of(core, &id)),

@@ -126,18 +126,19 @@ impl Server {
         Status::Ok
     }
 
-    /// Sets how many bytes wait in the client's mailbox until no more are put there (`wl_link::Mailbox::set_room`). The status
-    /// is `InvalidId` if the client is not stored.
+    /// Sets how many bytes wait in the client's mailbox until no more are put there (`wl_link::Mailbox::set_room`).
+    /// `next_writable` asks the client again: there may be room now for what waits in the core. The status is `InvalidId` if
+    /// the client is not stored.
     pub fn set_room(&mut self, client: &FlatClientId, room: u64) -> Status
         ensures room { SetsRoom self.old (client_of client.now) room result self.new }
         ensures descriptors { Conserves kept_by_server self.old [] [] self.new }
     {
-        match self.core.transport_mut(&client.id()) {
-            Ok(mailbox) => {
-                mailbox.set_room(room as usize);
-                Status::Ok
-            }
-            Err(error) => Status::from(error),
+        let id = client.id();
+        match self.core.transport_mut(&id) {
+            Ok(mailbox) => mailbox.set_room(room as usize),
+            Err(error) => return Status::from(error),
         }
+        self.seats.list(id.slot());
+        Status::Ok
     }
 }

@@ -1,6 +1,6 @@
 //! What a session keeps of a client beside the core.
 
-ghost use Rattle.std.specs.Prelude.{◌≡◌, ◌||◌, ◌==◌, MatchOption, length, not};
+ghost use Rattle.std.specs.Prelude.{◌≡◌, MatchOption};
 ghost use Rattle.wl_host.specs.Descriptors.{given_up};
 ghost use Rattle.wl_host.specs.Seats.{HasNonePassed, LedgerPassesOut, departed, left_of, new_ledger};
 

@@ -3,7 +3,8 @@
 ghost use Rattle.std.specs.Prelude.{◌≡◌, []};
 ghost use Rattle.wl_host.specs.Descriptors.{Conserves};
 ghost use Rattle.wl_host.specs.Flat.{client_of};
-ghost use Rattle.wl_host.specs.Server.{AsksInTurn, HasMore, NextWritable, Sent, kept_by_server, sent_with, to_send};
+ghost use Rattle.wl_host.specs.Seats.{ledger_at};
+ghost use Rattle.wl_host.specs.Server.{Asks, AsksClient, AsksInTurn, FoundHasBytes, NextWritable, NoneAskedHasBytes, Sent, has_bytes, kept_by_server, sent_with, to_send};
 
 use crate::flat::{Counts, FlatClientId};
 use crate::outgoing::{copy_out, take_off};
@@ -11,45 +12,83 @@ use crate::server::seats::Seats;
 use crate::server::{Core, Server};
 use crate::status::Status;
 use wl_server::ClientId;
+use wl_wire::{IoFault, OutOfMemory};
 
-/// Whether something waits in the client's mailbox, after what waits in the core was put there.
-fn has_more(core: &mut Core, id: &ClientId) -> bool
-    ensures { HasMore core.old id.now result core.new }
+/// Whether bytes wait in the client's mailbox.
+fn has_bytes(core: &Core, id: &ClientId) -> bool
+    ensures { result ≡ has_bytes core.now id.now }
 {
-    // What finds no room or no memory in the mailbox stays in the core.
-    let _ = core.flush(Some(*id));
     match core.transport(id) {
         Ok(mailbox) => !mailbox.bytes().is_empty(),
         Err(_) => false,
     }
 }
 
+/// The client, if something waits in its mailbox after what waits in the core was put there.
+///
+/// The error says that nothing does, since there was no memory to put it there.
+fn ask(core: &mut Core, id: &ClientId) -> Result<Option<ClientId>, OutOfMemory>
+    ensures { AsksClient core.old id.now result core.new }
+{
+    // What finds no room or no memory in the mailbox stays in the core.
+    let answer = core.flush(Some(*id));
+    if has_bytes(core, id) {
+        return Ok(Some(*id));
+    }
+    match answer {
+        Err(IoFault::OutOfMemory) => Err(OutOfMemory),
+        _ => Ok(None),
+    }
+}
+
+/// The client that has the slot, if something waits in its mailbox.
+fn ask_at(core: &mut Core, seats: &Seats, slot: u32) -> Result<Option<ClientId>, OutOfMemory>
+    ensures { Asks core.old (ledger_at slot seats.now.ledgers) result core.new }
+{
+    match seats.client_at(slot) {
+        Some(id) => ask(core, &id),
+        None => Ok(None),
+    }
+}
+
 /// The next client that has something to be sent, of those that are to be asked.
-fn next_of(core: &mut Core, seats: &mut Seats) -> Option<ClientId>
+fn next_of(core: &mut Core, seats: &mut Seats) -> Result<Option<ClientId>, OutOfMemory>
     ensures asked { AsksInTurn seats.old.ledgers core.old seats.old.writable result seats.new.writable core.new }
     ensures beside { seats.new ≡ record seats.old { writable = seats.new.writable } }
 {
     while let Some(slot) = seats.next_listed() {
-        if let Some(id) = seats.client_at(slot) {
-            if has_more(core, &id) {
-                return Some(id);
+        match ask_at(core, seats, slot) {
+            Ok(Some(id)) => return Ok(Some(id)),
+            Ok(None) => {}
+            Err(refused) => {
+                // What waits in the core would else be forgotten.
+                seats.list(slot);
+                return Err(refused);
             }
         }
     }
-    None
+    Ok(None)
 }
 
 impl Server {
     /// The next client to which something is to be sent. What waits for it in the core is put into its mailbox before.
     ///
-    /// A client comes again only after another call for it, or after all that was in its mailbox was sent. The status is
-    /// `WouldBlock` if there is no such client.
+    /// A client comes again only after another call for it, or after all that was in its mailbox was sent. The statuses are
+    ///
+    /// - `OutOfMemory` if there was no memory to put something into the mailbox of a client. That client is asked again, behind
+    ///   the others: the next call goes on with them;
+    /// - `WouldBlock` if there is no such client. Then nothing waits for any that was to be asked: not in its mailbox, and in the
+    ///   core only if the mailbox has no room (`set_room`).
     pub fn next_writable(&mut self) -> Result<FlatClientId, Status>
         ensures call { NextWritable self.old result self.new }
+        ensures found { FoundHasBytes self.new.core result }
+        ensures none_found { NoneAskedHasBytes self.old.seats self.new.core result }
+        ensures descriptors { Conserves kept_by_server self.old [] [] self.new }
     {
         match next_of(&mut self.core, &mut self.seats) {
-            Some(id) => Ok(FlatClientId::new(id)),
-            None => Err(Status::WouldBlock),
+            Ok(Some(id)) => Ok(FlatClientId::new(id)),
+            Ok(None) => Err(Status::WouldBlock),
+            Err(OutOfMemory) => Err(Status::OutOfMemory),
         }
     }
 

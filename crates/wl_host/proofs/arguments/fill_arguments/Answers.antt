@@ -1,4 +1,4 @@
-use Rattle.std.proofs.Common.{◌≡◌, ◌+◌, ◌≤◌, ◌∷◌, pos, get_or, length, drop, ap, rules, arith, add-one, drop-cons}
+use Rattle.std.proofs.Common.{◌≡◌, ◌+◌, ◌∷◌, pos, get_or, drop, add-one, drop-cons}
 use Rattle.wl_host.proofs.Flattening.{err_is, longer_put, put_more, read_more, room_more, unread}
 use Rattle.wl_host.specs.Flat.{flat_number}
 use Rattle.wl_host.proofs.arguments.fill_arguments.Goals as goal

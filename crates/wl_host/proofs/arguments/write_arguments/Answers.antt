@@ -1,5 +1,5 @@
-use Rattle.std.proofs.Common.{◌≡◌, ◌+◌, ◌<◌, ◌≤◌, ◌∷◌, length, drop, sym, ap, ◌∙◌, rules, arith, add-one, drop-cons}
-use Rattle.wl_host.specs.Arguments.{all_bytes, bytes_of}
+use Rattle.std.proofs.Common.{◌≡◌, ◌+◌, ◌<◌, ◌≤◌, ◌∷◌, length, drop, ap, arith, add-one, drop-cons}
+use Rattle.wl_host.specs.Arguments.{bytes_of}
 use Rattle.wl_host.proofs.Flattening.{argument_more, behind_more, bytes_behind, bytes_more, length_more, queue_more}
 use Rattle.wl_host.proofs.arguments.write_arguments.Goals as goal
 

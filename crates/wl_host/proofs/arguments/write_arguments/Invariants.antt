@@ -1,4 +1,4 @@
-use Rattle.std.proofs.Common.{◌≡◌, ◌≤◌, ◌+◌, ◌++◌, length, take, drop}
+use Rattle.std.proofs.Common.{◌≡◌, ◌+◌, ◌++◌, length, take, drop}
 use Rattle.wl_host.specs.Arguments.{all_bytes, flat_arguments, queue_after_all}
 use Rattle.wl_host.proofs.arguments.write_arguments.Given as goal
 

@@ -1,4 +1,4 @@
-use Rattle.std.proofs.Common.{◌≡◌, ◌∙◌, ℤ, List, [], ◌∷◌, ◌++◌, ◌+◌, ◌<◌, length, map, take, drop, ap, sym, arith, rules, of_z, to_z, w32}
+use Rattle.std.proofs.Common.{◌≡◌, ◌∙◌, [], ◌∷◌, ◌++◌, ◌+◌, ◌<◌, length, map, take, drop, ap, sym, arith, rules, of_z, to_z, w32}
 use Rattle.std.proofs.lemmas.List.{drop-drop, drop-set-lt, take_more_set}
 use Rattle.wl_host.proofs.Sending.{few_next, shown_more}
 use Rattle.wl_host.specs.Sending.{descriptors_of, shown}

@@ -1,4 +1,4 @@
-use Rattle.std.proofs.Common.{◌≡◌, ◌+◌, ◌<◌, ◌%◌, ◌^◌, length, rules, arith}
+use Rattle.std.proofs.Common.{rules, arith}
 use Rattle.wl_host.proofs.Queues.{tokens_more}
 use Rattle.wl_host.proofs.descriptors.DescriptorQueue.next_tokens.Goals as goal
 

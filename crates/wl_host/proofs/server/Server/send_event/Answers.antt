@@ -1,8 +1,6 @@
-use Rattle.std.proofs.Common.{◌≡◌, Some, rules}
+use Rattle.std.proofs.Common.{rules}
 use Rattle.wl_host.proofs.Handing.{not_sent, sent_conserves}
-use Rattle.wl_host.specs.Events.{Passed, SendsEvent}
-use Rattle.wl_host.specs.Flat.{client_of}
-use Rattle.wl_host.specs.Seats.{ledger_of}
+use Rattle.wl_host.specs.Events.{Passed}
 use Rattle.wl_host.proofs.server.Server.send_event.Goals as goal
 
 pub returns-in-Ok-clause-descriptors : goal.returns-in-Ok-clause-descriptors

@@ -1,4 +1,4 @@
-use Rattle.std.proofs.Common.{◌≡◌, ◌∙◌, ◌<◌, Some, length, ap, sym, rules}
+use Rattle.std.proofs.Common.{◌∙◌, ◌<◌, Some, length, ap, sym, rules}
 use Rattle.std.proofs.lemmas.Option.{slice_get-get_or}
 use Rattle.wl_host.proofs.Ledgers.{passed_at}
 use Rattle.wl_host.proofs.server.seats.next_passed_at.Goals as goal

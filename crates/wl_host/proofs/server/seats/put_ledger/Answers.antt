@@ -1,4 +1,4 @@
-use Rattle.std.proofs.Common.{◌≡◌, ◌∙◌, ◌+◌, ◌-◌, ◌<◌, ◌≤◌, length, sym, arith, vec_len}
+use Rattle.std.proofs.Common.{◌≡◌, ◌∙◌, ◌+◌, ◌-◌, ◌<◌, ◌≤◌, length, arith, vec_len}
 use Rattle.wl_host.proofs.Ledgers.{more_padded, put_after, put_value}
 use Rattle.wl_host.proofs.server.seats.put_ledger.Goals as goal
 

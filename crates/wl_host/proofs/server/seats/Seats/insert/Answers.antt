@@ -1,4 +1,4 @@
-use Rattle.std.proofs.Common.{◌≡◌, ◌∙◌, ◌<◌, ◌^◌, ap, arith, refl, rules, sym}
+use Rattle.std.proofs.Common.{◌∙◌, ◌<◌, ◌^◌, ap, arith, refl, rules, sym}
 use Rattle.wl_server.specs.Ids.{ClientParts}
 use Rattle.wl_host.proofs.Inserting.{as_told, none_passed, seats_put}
 use Rattle.wl_host.specs.declared.server.ledger.Ledger.{Ledger}
