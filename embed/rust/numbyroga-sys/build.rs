@@ -9,6 +9,13 @@ fn main() {
     println!("cargo::rerun-if-env-changed=NUMBYROGA_LIB_DIR");
     println!("cargo::rerun-if-changed=build.rs");
     if let Some(folder) = env::var_os("NUMBYROGA_LIB_DIR").map(PathBuf::from) {
+        // Cargo runs this in the folder of this package, and rustc elsewhere.
+        if folder.is_relative() {
+            fail(&format!(
+                "NUMBYROGA_LIB_DIR is {}: name the whole path, from / on, since a build runs in several folders",
+                folder.display()
+            ));
+        }
         if !folder.join(ARCHIVE).is_file() {
             fail(&format!(
                 "NUMBYROGA_LIB_DIR is {}, which has no {ARCHIVE}",

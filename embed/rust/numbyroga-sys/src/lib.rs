@@ -98,7 +98,7 @@ pub type nb_status = u32;
 
 /// Done.
 pub const NB_OK: nb_status = 0;
-/// The place is empty, or in a call.
+/// The place is empty.
 pub const NB_NO_SESSION: nb_status = 1;
 /// The place has a session already.
 pub const NB_IN_USE: nb_status = 2;
@@ -850,7 +850,11 @@ unsafe extern "C" {
     /// Finishes an event that made no object.
     pub safe fn nb_client_finish_event(place: &mut nb_client) -> nb_status;
     /// Finishes an event that made an object.
-    pub safe fn nb_client_finish_event_with(place: &mut nb_client, data: u64) -> nb_status;
+    pub safe fn nb_client_finish_event_with(
+        place: &mut nb_client,
+        data: u64,
+        is_kept: &mut u32,
+    ) -> nb_status;
     /// Sends a request.
     pub fn nb_client_send_request(
         place: &mut nb_client,

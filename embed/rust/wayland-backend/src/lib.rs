@@ -73,6 +73,7 @@ mod data;
 mod debug;
 #[allow(unsafe_code)]
 mod library;
+mod panics;
 mod socket;
 mod table;
 mod types;

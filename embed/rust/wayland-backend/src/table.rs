@@ -16,6 +16,8 @@ use crate::protocol::{AllowNull, ArgumentType, Interface, MessageDesc, ANONYMOUS
 /// Which row stands for which static.
 #[derive(Debug)]
 pub(crate) struct Table {
+    /// What is to be logged when no lock is held.
+    longer: Vec<Longer>,
     /// The static of each row: the first one of its name.
     statics: Vec<&'static Interface>,
     rows_by_name: HashMap<&'static str, u32>,
@@ -43,6 +45,7 @@ impl Table {
     /// The table of a new session.
     pub(crate) fn new() -> Table {
         let mut table = Table {
+            longer: Vec::new(),
             statics: Vec::new(),
             rows_by_name: HashMap::new(),
             rows_by_address: HashMap::default(),
@@ -81,6 +84,12 @@ impl Table {
         }
     }
 
+    /// Takes what is to be logged of the interfaces that were named. It is nothing almost always.
+    #[inline]
+    pub(crate) fn take_longer(&mut self) -> std::vec::Drain<'_, Longer> {
+        self.longer.drain(..)
+    }
+
     #[cold]
     fn append(
         &mut self,
@@ -112,7 +121,8 @@ impl Table {
             }
             if let Some(&row) = self.rows_by_name.get(interface.name) {
                 self.rows_by_address.insert(address(interface), row);
-                warn_if_longer(interface, self.interface(row));
+                let first = self.interface(row);
+                self.longer.extend(Longer::of(interface, first));
                 continue;
             }
             self.push(interface);
@@ -187,14 +197,27 @@ impl Table {
     }
 }
 
-/// Says so if a second static of a name has messages that the row has not: they cannot be sent or received.
-fn warn_if_longer(second: &Interface, first: &Interface) {
-    if second.requests.len() > first.requests.len() || second.events.len() > first.events.len() {
+/// A second static of a name that has messages which the row has not: they cannot be sent or received.
+#[derive(Debug)]
+pub(crate) struct Longer {
+    first: &'static Interface,
+    second: &'static Interface,
+}
+
+impl Longer {
+    fn of(second: &'static Interface, first: &'static Interface) -> Option<Longer> {
+        let is_longer = second.requests.len() > first.requests.len()
+            || second.events.len() > first.events.len();
+        is_longer.then_some(Longer { first, second })
+    }
+
+    /// Says so. No lock must be held, since a logger may use the session.
+    pub(crate) fn log(&self) {
         crate::log_warn!(
             "The interface {} is used in version {} and in version {}: messages of the latter alone cannot be used.",
-            first.name,
-            first.version,
-            second.version
+            self.first.name,
+            self.first.version,
+            self.second.version
         );
     }
 }

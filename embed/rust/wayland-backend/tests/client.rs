@@ -74,6 +74,7 @@ const GIVE: u16 = 2;
 const WRITE: u16 = 3;
 const TAKE: u16 = 4;
 const FILL: u16 = 5;
+const BORROW: u16 = 6;
 
 const MADE: u16 = 0;
 const GAVE: u16 = 1;
@@ -96,6 +97,10 @@ static THING: Interface = interface(
             ..message("take", &[ArgumentType::Object(AllowNull::No)])
         },
         message("fill", &[ArgumentType::Array]),
+        MessageDesc {
+            child_interface: Some(&PART),
+            ..message("borrow", &[ArgumentType::NewId, ArgumentType::Fd])
+        },
     ],
     &[
         maker("made", &PART),
@@ -473,6 +478,31 @@ fn a_descriptor_that_is_none_ends_the_connection() {
 }
 
 #[test]
+fn a_request_whose_descriptor_is_none_makes_its_object() {
+    let (client, server, thing) = bound(quiet());
+    let kept = file("kept");
+    let borrow = |descriptor| {
+        let new = Argument::NewId(ObjectId::null());
+        let request = message!(thing.clone(), BORROW, [new, Argument::Fd(descriptor)]);
+        client.send_request(request, Some(quiet()), None).unwrap()
+    };
+    let (part, next) = (borrow(1_000_000), borrow(kept.as_raw_fd()));
+    assert_eq!((part.protocol_id(), next.protocol_id()), (4, 5));
+    assert_eq!(client.info(part.clone()).unwrap().id, 4);
+    assert!(client.get_data(part).is_ok());
+    assert_eq!(client.info(next).unwrap().id, 5);
+    // Neither is sent.
+    assert!(client.flush().is_err());
+    server.set_nonblocking(true).unwrap();
+    assert!((&server).read(&mut [0; 1]).is_err());
+    // A misuse is told first, and is no fault of the connection.
+    let (client, _server, thing) = bound(quiet());
+    let arguments = [Argument::Uint(1), Argument::Fd(1_000_000)];
+    assert!(panic_of(|| send(&client, &thing, GIVE, &arguments)).starts_with("Unexpected"));
+    assert!(client.flush().is_ok());
+}
+
+#[test]
 fn a_full_socket_would_block_and_nothing_is_lost() {
     let (client, server, thing) = bound(quiet());
     let content = vec![7; 50_000];
@@ -809,14 +839,24 @@ fn a_callback_may_call_everything() {
 
 #[test]
 fn a_callback_that_panics_leaves_a_connection_that_goes_on() {
-    let (client, server, thing) = bound(data(|_, event| match event.opcode {
-        BLOB => None,
-        _ => panic!("no"),
+    let blobs = Arc::new(Mutex::new(0));
+    let counted = blobs.clone();
+    let (client, server, thing) = bound(data(move |_, event| match event.opcode {
+        BLOB => {
+            *counted.lock().unwrap() += 1;
+            None
+        }
+        MADE => panic!("no"),
+        _ => panic!("nor this"),
     }));
     give(&server, &bytes(3, MADE, &[0xFF00_0000]), &[]);
     give(&server, &bytes(3, BLOB, &[0]), &[]);
+    give(&server, &raw(3, VALUES, &[0; 24]), &[]);
+    give(&server, &bytes(3, BLOB, &[0]), &[]);
+    // What came with it is handed out, too: poll tells of it no more. The first panic goes on.
     assert_eq!(panic_of(|| read(&client)), "no");
-    assert_eq!(read(&client).unwrap(), 1);
+    assert_eq!(*blobs.lock().unwrap(), 2);
+    assert!(would_block(read(&client)));
     // The object is there, and has no data that take events.
     give(&server, &bytes(0xFF00_0000, 0, &[8]), &[]);
     assert!(panic_of(|| read(&client)).starts_with("Received an event for an object without data"));
@@ -846,6 +886,26 @@ fn data_that_are_missing_or_not_expected_panic() {
 }
 
 // ======== Objects
+
+#[test]
+fn an_object_has_data_within_the_event_that_makes_it() {
+    let found = Arc::new(Mutex::new(Vec::new()));
+    let kept = found.clone();
+    let (client, server, _) = bound(data(move |client, event| {
+        let [Argument::NewId(made)] = &event.args[..] else {
+            panic!("an event: {event:?}")
+        };
+        let text = client.get_data(made.clone()).map(|it| format!("{it:?}"));
+        kept.lock().unwrap().push((made.clone(), text));
+        Some(quiet())
+    }));
+    give(&server, &bytes(3, MADE, &[0xFF00_0000]), &[]);
+    assert_eq!(read(&client).unwrap(), 1);
+    let (made, text) = found.lock().unwrap().remove(0);
+    assert_eq!(text.as_deref(), Ok("MissingData"));
+    let text = client.get_data(made).map(|it| format!("{it:?}"));
+    assert_eq!(text.as_deref(), Ok("ObjectData { .. }"));
+}
 
 #[test]
 fn an_object_is_told_once_that_it_was_destroyed() {
@@ -982,6 +1042,21 @@ fn an_object_keeps_the_static_that_it_was_made_with() {
 }
 
 #[test]
+fn the_interface_of_an_object_is_its_own_whoever_asks() {
+    static SAME_PART: Interface = interface("part", &[], &[]);
+    let (client, _server, thing) = bound(quiet());
+    let (other, _other_server, other_thing) = bound(quiet());
+    let part = make(&client, &thing, quiet()).unwrap();
+    let request = message!(other_thing, MAKE, [Argument::NewId(ObjectId::null())]);
+    let same = other
+        .send_request(request, Some(quiet()), Some((&SAME_PART, 3)))
+        .unwrap();
+    assert_eq!(part, same);
+    let found = [client.info(same), other.info(part)].map(|info| info.unwrap().interface);
+    assert!(std::ptr::eq(found[0], &PART) && std::ptr::eq(found[1], &SAME_PART));
+}
+
+#[test]
 fn the_display_has_data_and_cannot_be_destroyed() {
     let (client, _server, _) = bound(quiet());
     assert!(client.get_data(client.display_id()).is_ok());
@@ -1026,6 +1101,21 @@ fn bytes_that_are_no_message_end_the_connection() {
     let (client, server, _) = bound(quiet());
     give(&server, &bytes(77, 0, &[]), &[]);
     assert!(matches!(read(&client), Err(WaylandError::Protocol(_))));
+}
+
+#[test]
+fn nothing_is_received_after_an_error() {
+    let (client, server, _) = bound(quiet());
+    give(&server, &bytes(77, 0, &[]), &[]);
+    assert!(matches!(read(&client), Err(WaylandError::Protocol(_))));
+    // What the server sends then fills the socket, and not this process.
+    server.set_nonblocking(true).unwrap();
+    while (&server).write(&[0; 4096]).is_ok() {}
+    for _ in 0..100 {
+        assert!(matches!(read(&client), Err(WaylandError::Protocol(_))));
+    }
+    let full = (&server).write(&[0; 4096]).unwrap_err();
+    assert_eq!(full.kind(), std::io::ErrorKind::WouldBlock);
 }
 
 #[test]
@@ -1149,7 +1239,45 @@ fn a_reader_beside_one_that_reads_waits_until_it_has_ended() {
     assert!(!second.is_finished());
     go.send(()).unwrap();
     assert_eq!(first.join().unwrap().unwrap(), 1);
-    assert_eq!(second.join().unwrap().unwrap(), 0);
+    // Its reading was prepared afterwards, and finds nothing.
+    assert!(would_block(second.join().unwrap()));
+}
+
+#[test]
+fn a_reading_is_prepared_when_no_other_thread_reads() {
+    let (begun, begins) = mpsc::channel();
+    let (go, goes) = mpsc::channel::<()>();
+    let (begun, goes) = (Mutex::new(begun), Mutex::new(goes));
+    let handed_out = Arc::new(Mutex::new(0));
+    let counted = handed_out.clone();
+    let (client, server, _) = bound(data(move |client, _| {
+        // The thread that reads does not wait for itself.
+        drop(client.prepare_read().unwrap());
+        let mut count = counted.lock().unwrap();
+        *count += 1;
+        if *count == 1 {
+            drop(count);
+            begun.lock().unwrap().send(()).unwrap();
+            goes.lock().unwrap().recv().unwrap();
+        }
+        None
+    }));
+    give(&server, &bytes(3, BLOB, &[0]).repeat(2), &[]);
+    let reader = client.clone();
+    let first = thread::spawn(move || read(&reader));
+    begins.recv().unwrap();
+    let second = thread::spawn(move || {
+        let guard = client.prepare_read().unwrap();
+        // If the events had not been handed out yet, neither would poll tell of them.
+        let count = *handed_out.lock().unwrap();
+        drop(guard);
+        count
+    });
+    thread::sleep(Duration::from_millis(50));
+    assert!(!second.is_finished(), "it waits");
+    go.send(()).unwrap();
+    assert_eq!(second.join().unwrap(), 2);
+    assert_eq!(first.join().unwrap().unwrap(), 2);
 }
 
 #[test]

@@ -1,7 +1,6 @@
 //! A connection: a socket, a session behind a lock, and who reads from it.
 
 use std::fmt;
-use std::io;
 use std::os::unix::io::{AsFd, BorrowedFd, RawFd};
 use std::os::unix::net::UnixStream;
 use std::sync::{Arc, Condvar, Mutex, MutexGuard, PoisonError};
@@ -10,7 +9,7 @@ use rustix::io::Errno;
 
 use super::misuse;
 use super::reading::Readers;
-use super::session::{Leftovers, Refused, Session};
+use super::session::{Failure, Leftovers, Refused, Session};
 use super::{InvalidId, ObjectData, ObjectId, WaylandError};
 use crate::debug;
 use crate::library::{Sent, Status};
@@ -20,6 +19,8 @@ use crate::protocol::{Interface, Message, ObjectInfo};
 pub(super) struct Connection {
     socket: UnixStream,
     session: Mutex<Session>,
+    /// The id of the display, which never changes.
+    display: ObjectId,
     pub(super) readers: Mutex<Readers>,
     /// A reading has ended, or all that were prepared were given up.
     pub(super) read: Condvar,
@@ -37,9 +38,11 @@ impl fmt::Debug for Connection {
 
 impl Connection {
     pub(super) fn new(socket: UnixStream) -> Connection {
+        let mut session = Session::new();
         Connection {
             socket,
-            session: Mutex::new(Session::new()),
+            display: session.display(),
+            session: Mutex::new(session),
             readers: Mutex::new(Readers::default()),
             read: Condvar::new(),
             prints: debug::is_on_for_clients(),
@@ -57,7 +60,7 @@ impl Connection {
     }
 
     pub(super) fn display(&self) -> ObjectId {
-        self.lock().display()
+        self.display.clone()
     }
 
     pub(super) fn last_error(&self) -> Option<WaylandError> {
@@ -65,16 +68,7 @@ impl Connection {
     }
 
     pub(super) fn info(&self, id: &ObjectId) -> Result<ObjectInfo, InvalidId> {
-        let info = self
-            .lock()
-            .library
-            .object_info(&id.raw())
-            .ok_or(InvalidId)?;
-        Ok(ObjectInfo {
-            id: info.number,
-            interface: id.interface,
-            version: info.version,
-        })
+        self.lock().info(id).ok_or(InvalidId)
     }
 
     pub(super) fn get_data(&self, id: &ObjectId) -> Result<Arc<dyn ObjectData>, InvalidId> {
@@ -97,7 +91,7 @@ impl Connection {
         if session.library.destroy_object(&id.raw()).is_err() {
             return Err(InvalidId);
         }
-        session.take_note(&mut leftovers);
+        session.take_notes(&mut leftovers);
         drop(session);
         leftovers.settle();
         Ok(())
@@ -120,6 +114,7 @@ impl Connection {
                 Ok(created)
             }
             Err(Refused::InvalidId) => {
+                leftovers.settle();
                 if self.prints {
                     let arguments = debug::List(&message.args);
                     debug::print_discarded(&message.sender_id, name_of(message), arguments);
@@ -127,10 +122,14 @@ impl Connection {
                 Err(InvalidId)
             }
             Err(Refused::Misuse(status)) => {
+                leftovers.settle();
                 let info = self.info(&message.sender_id).ok();
                 panic!("{}", misuse::text(status, message, child_spec, info))
             }
-            Err(Refused::BadInterface(error)) => panic!("{error}"),
+            Err(Refused::BadInterface(error)) => {
+                leftovers.settle();
+                panic!("{error}")
+            }
         }
     }
 
@@ -144,7 +143,12 @@ impl Connection {
     }
 
     pub(super) fn flush(&self) -> Result<(), WaylandError> {
-        let mut session = self.lock();
+        // The session is free again when the error is logged.
+        let flushed = self.flush_locked(&mut self.lock());
+        flushed.map_err(Failure::logged)
+    }
+
+    fn flush_locked(&self, session: &mut Session) -> Result<(), Failure> {
         loop {
             // There may be no room for all of it until some was sent.
             let is_handed_over = match session.flush() {
@@ -153,9 +157,11 @@ impl Connection {
                 Err(_) => return Err(session.failed()),
             };
             match session.library.send(self.socket()) {
-                Ok(Sent::All) if is_handed_over => return Ok(()),
+                Ok(Sent::All | Sent::Nothing) if is_handed_over => return Ok(()),
+                // What waits has no room, and nothing leaves to make some.
+                Ok(Sent::Nothing) => return Err(Errno::AGAIN.into()),
                 Ok(_) => {}
-                Err(Errno::AGAIN) => return Err(io::Error::from(Errno::AGAIN).into()),
+                Err(Errno::AGAIN) => return Err(Errno::AGAIN.into()),
                 Err(error) => session.send_failed(error),
             }
         }

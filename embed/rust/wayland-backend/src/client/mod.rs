@@ -4,7 +4,7 @@
 //! Events are read by way of [`Backend::prepare_read`], and handed to the [`ObjectData`] of their objects.
 //!
 //! No lock is held while a callback runs: it may call the backend as it likes. If it panics, the panic comes out of the
-//! call that read the event, and the backend can be used further.
+//! call that read the event, when all events that came with it were handed out; and the backend can be used further.
 
 use std::any::Any;
 use std::fmt;
@@ -280,7 +280,10 @@ impl Backend {
         self.connection.set_data(&id, data)
     }
 
-    /// Says that events are going to be read. It does not wait, and never answers `None`.
+    /// Says that events are going to be read. It never answers `None`.
+    ///
+    /// While another thread reads, it waits until that one has ended: so what came before was handed out, and `poll` tells
+    /// of all that comes then. A callback that prepares a reading does not wait for the one that has called it.
     #[inline]
     #[must_use]
     pub fn prepare_read(&self) -> Option<ReadEventsGuard> {

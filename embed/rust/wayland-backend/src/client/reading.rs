@@ -2,17 +2,17 @@
 
 use std::io;
 use std::os::unix::io::OwnedFd;
-use std::panic::{catch_unwind, resume_unwind, AssertUnwindSafe};
 use std::sync::{MutexGuard, PoisonError};
 use std::thread::{self, ThreadId};
 
 use rustix::io::Errno;
 
 use super::connection::Connection;
-use super::session::{Leftovers, OpenEvent};
+use super::session::{Failure, Leftovers, OpenEvent, Session};
 use super::{Backend, ObjectId, WaylandError};
 use crate::debug;
 use crate::library::{Arguments, Received, Status};
+use crate::panics::Panics;
 use crate::protocol::Message;
 
 /// Who reads, or is going to.
@@ -31,8 +31,24 @@ impl Connection {
         self.readers.lock().unwrap_or_else(PoisonError::into_inner)
     }
 
+    /// Prepares a reading. While another thread reads, this waits until it has ended: then what it read has been handed
+    /// out. A callback of the reading itself does not wait.
     pub(super) fn prepare_read(&self) {
-        self.lock_readers().prepared += 1;
+        let mut readers = self.lock_readers();
+        if readers.current.is_some() {
+            let thread = thread::current().id();
+            while readers.current.is_some_and(|current| current != thread) {
+                readers = self.wait(readers);
+            }
+        }
+        readers.prepared += 1;
+    }
+
+    /// Waits until a reading has ended, or all that were prepared were given up.
+    fn wait<'a>(&self, readers: MutexGuard<'a, Readers>) -> MutexGuard<'a, Readers> {
+        self.read
+            .wait(readers)
+            .unwrap_or_else(PoisonError::into_inner)
     }
 
     /// Gives a prepared reading up. If it was the last one, those that wait for a reader go on.
@@ -57,14 +73,11 @@ impl Connection {
         readers.prepared -= 1;
         if readers.current == Some(thread) {
             // A callback of this thread's own reading.
-            return Err(nothing_to_read());
+            return Err(io::Error::from(Errno::AGAIN).into());
         }
         let ended = readers.ended;
         while readers.prepared > 0 || readers.current.is_some() {
-            readers = self
-                .read
-                .wait(readers)
-                .unwrap_or_else(PoisonError::into_inner);
+            readers = self.wait(readers);
             if readers.ended != ended {
                 return Ok(false);
             }
@@ -83,10 +96,6 @@ impl Drop for Reading<'_> {
     }
 }
 
-fn nothing_to_read() -> WaylandError {
-    io::Error::from(Errno::AGAIN).into()
-}
-
 /// Reads, or waits until another thread has read.
 pub(super) fn read(backend: &Backend) -> Result<usize, WaylandError> {
     let connection = &*backend.connection;
@@ -100,36 +109,43 @@ pub(super) fn read(backend: &Backend) -> Result<usize, WaylandError> {
     }
 }
 
-/// Hands events out until the socket has no more. The answer is how many.
+/// Hands events out until the socket has no more. The answer is how many. If a callback panics, the panic goes on when all
+/// events were handed out.
 fn dispatch(backend: &Backend) -> Result<usize, WaylandError> {
     let connection = &*backend.connection;
+    let mut panics = Panics::default();
     let mut leftovers = Leftovers::default();
     let mut dispatched = 0;
     let mut session = connection.lock();
     let mut received = session.receive(connection.socket());
     let result = loop {
-        let mut arguments = Arguments::new();
-        match session.next_event(&mut arguments) {
+        let mut message = Message {
+            sender_id: ObjectId::null(),
+            opcode: 0,
+            args: Arguments::new(),
+        };
+        match session.next_event(&mut message) {
             Ok(event) => {
                 drop(session);
-                hand_out(backend, event, arguments, &mut leftovers);
+                session = hand_out(backend, event, message, &mut leftovers, &mut panics);
                 dispatched += 1;
-                session = connection.lock();
             }
             // If the socket had no more, it may have by now. Then poll says so.
             Err(Status::WOULD_BLOCK) if received == Received::Some => {
                 received = session.receive(connection.socket());
             }
             Err(Status::FAILED) => break Err(session.failed()),
-            Err(_) if dispatched == 0 => break Err(nothing_to_read()),
+            Err(_) if dispatched == 0 => break Err(Failure::from(Errno::AGAIN)),
             Err(_) => break Ok(dispatched),
         }
     };
     session.library.close_dropped();
     session.take_unused(&mut leftovers);
     drop(session);
-    leftovers.settle();
-    result
+    panics.catch(|| leftovers.settle());
+    let result = panics.catch(|| result.map_err(Failure::logged));
+    panics.go_on();
+    result.expect("no callback has panicked")
 }
 
 impl Connection {
@@ -148,45 +164,47 @@ impl Connection {
     }
 }
 
-/// Hands an event to its object's data, and finishes it.
-fn hand_out(
-    backend: &Backend,
+/// Hands an event to its object's data, and finishes it. The session stays locked for the next event.
+fn hand_out<'a>(
+    backend: &'a Backend,
     event: OpenEvent,
-    args: Arguments<ObjectId>,
+    message: Message<ObjectId, OwnedFd>,
     leftovers: &mut Leftovers,
-) {
+    panics: &mut Panics,
+) -> MutexGuard<'a, Session> {
     let connection = &*backend.connection;
     let OpenEvent {
-        sender: sender_id,
-        opcode,
         data,
         created,
         ends_sender,
     } = event;
-    let message = Message {
-        sender_id,
-        opcode,
-        args,
-    };
-    connection.print_event(&message);
-    let answer = catch_unwind(AssertUnwindSafe(|| data.event(backend, message)));
-    let (answer, panic) = match answer {
-        Ok(answer) => (answer, None),
-        Err(panic) => (None, Some(panic)),
-    };
-    let is_answered = answer.is_some();
-    connection
-        .lock()
-        .finish_event(created.as_ref(), ends_sender, answer, leftovers);
-    leftovers.settle();
-    match (&created, panic) {
-        (_, Some(panic)) => resume_unwind(panic),
-        (Some(created), None) if !is_answered => {
-            panic!("Callback creating object {created} did not provide any object data.")
+    let answer = panics.catch(|| {
+        connection.print_event(&message);
+        data.event(backend, message)
+    });
+    // What a callback that panicked would have answered is not known.
+    let is_answered = answer
+        .as_ref()
+        .map_or(created.is_some(), |answer| answer.is_some());
+    let mut session = connection.lock();
+    session.finish_event(created.as_ref(), ends_sender, answer.flatten(), leftovers);
+    if leftovers.is_empty() && created.is_some() == is_answered {
+        return session;
+    }
+    drop(session);
+    panics.catch(|| leftovers.settle());
+    match created {
+        Some(created) if !is_answered => {
+            _ = panics.catch(|| {
+                panic!("Callback creating object {created} did not provide any object data.")
+            })
         }
-        (None, None) if is_answered => {
-            panic!("An object data was returned from a callback not creating any object")
+        None if is_answered => {
+            _ = panics.catch(|| {
+                panic!("An object data was returned from a callback not creating any object")
+            })
         }
         _ => {}
     }
+    connection.lock()
 }

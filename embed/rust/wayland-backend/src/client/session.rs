@@ -2,7 +2,7 @@
 
 use std::collections::VecDeque;
 use std::io;
-use std::os::unix::io::{BorrowedFd, RawFd};
+use std::os::unix::io::{BorrowedFd, OwnedFd, RawFd};
 use std::sync::Arc;
 
 use rustix::io::Errno;
@@ -11,11 +11,11 @@ use smallvec::SmallVec;
 use super::{DisplayData, MissingData, ObjectData, ObjectId, WaylandError};
 use crate::data::Slab;
 use crate::library::{
-    Arguments, Client, Event, Outgoing, RawArgument, RawObjectId, Received, Request, SessionError,
-    Status,
+    Client, Event, Outgoing, RawArgument, RawObjectId, Received, Request, SessionError, Status,
 };
-use crate::protocol::{ArgumentType, Interface, Message, ProtocolError};
-use crate::table::{BadInterface, Table};
+use crate::panics::Panics;
+use crate::protocol::{ArgumentType, Interface, Message, ObjectInfo, ProtocolError};
+use crate::table::{BadInterface, Longer, Table};
 
 /// What is kept for an object.
 #[derive(Debug)]
@@ -39,8 +39,35 @@ pub(super) struct Session {
     /// What ended the connection on this side: the socket failed while it was written, or a descriptor of a request could
     /// not be duplicated, so that nothing behind it can be sent.
     fault: Option<Errno>,
-    /// Whether the error was logged.
-    is_logged: bool,
+    /// Whether a call was answered that the session has an error. Nothing is received any more.
+    has_failed: bool,
+}
+
+/// Why a call failed.
+pub(super) struct Failure {
+    error: WaylandError,
+    /// Whether the error is to be logged.
+    is_new: bool,
+}
+
+impl Failure {
+    /// The error. It is logged when it is answered first. The session must not be locked, since a logger may use it.
+    pub(super) fn logged(self) -> WaylandError {
+        if self.is_new {
+            crate::log_error!("{}", self.error);
+        }
+        self.error
+    }
+}
+
+impl From<Errno> for Failure {
+    /// An error that is no end of the connection.
+    fn from(error: Errno) -> Failure {
+        Failure {
+            error: io::Error::from(error).into(),
+            is_new: false,
+        }
+    }
 }
 
 /// Why a request was not sent.
@@ -52,10 +79,7 @@ pub(super) enum Refused {
 
 /// An event that is open.
 pub(super) struct OpenEvent {
-    /// The object that it was sent to.
-    pub(super) sender: ObjectId,
-    pub(super) opcode: u16,
-    /// The data of that object.
+    /// The data of the object that it was sent to.
     pub(super) data: Arc<dyn ObjectData>,
     /// The object that it made.
     pub(super) created: Option<ObjectId>,
@@ -65,27 +89,48 @@ pub(super) struct OpenEvent {
 /// What a call leaves to be done when the lock is free, since it is the program's code.
 #[derive(Default)]
 pub(super) struct Leftovers {
-    /// Objects that were destroyed, whose data are to be told.
+    /// The objects that were destroyed, whose data are to be told. There is one, almost always.
     ended: SmallVec<[(Arc<dyn ObjectData>, ObjectId); 1]>,
     /// Data that nobody can ask for any more.
-    unused: SmallVec<[Arc<dyn ObjectData>; 1]>,
+    unused: Vec<Arc<dyn ObjectData>>,
+    /// Interfaces that can be used in part, which is to be logged.
+    longer: Vec<Longer>,
 }
 
 impl Leftovers {
     /// Tells the data of the objects that were destroyed, and drops the other data.
     #[inline]
     pub(super) fn settle(&mut self) {
-        if !self.ended.is_empty() || !self.unused.is_empty() {
+        if !self.is_empty() {
             self.settle_all();
         }
     }
 
-    fn settle_all(&mut self) {
-        // A callback that panics leaves none behind.
-        for (data, id) in std::mem::take(&mut self.ended) {
-            data.destroyed(id);
+    #[inline]
+    pub(super) fn is_empty(&self) -> bool {
+        self.ended.is_empty() && self.unused.is_empty() && self.longer.is_empty()
+    }
+
+    /// These data are not needed any more. There are none almost always.
+    #[inline]
+    fn leave(&mut self, data: Option<Arc<dyn ObjectData>>) {
+        if let Some(data) = data {
+            self.unused.push(data);
         }
-        self.unused.clear();
+    }
+
+    fn settle_all(&mut self) {
+        let mut panics = Panics::default();
+        for longer in self.longer.drain(..) {
+            panics.catch(|| longer.log());
+        }
+        for (data, id) in self.ended.drain(..) {
+            panics.catch(|| data.destroyed(id));
+        }
+        for data in self.unused.drain(..) {
+            panics.catch(|| drop(data));
+        }
+        panics.go_on();
     }
 }
 
@@ -99,7 +144,7 @@ impl Session {
             left_lately: 0,
             outgoing: Outgoing::default(),
             fault: None,
-            is_logged: false,
+            has_failed: false,
         };
         let display = session.library.display();
         let interface = session.table.interface(display.interface);
@@ -140,15 +185,13 @@ impl Session {
         })
     }
 
-    /// The error of a session that has one, which is logged once.
-    pub(super) fn failed(&mut self) -> WaylandError {
+    /// The error of a session that has one.
+    pub(super) fn failed(&mut self) -> Failure {
         let error = self
             .error()
             .unwrap_or_else(|| io::Error::from(Errno::PIPE).into());
-        if !std::mem::replace(&mut self.is_logged, true) {
-            crate::log_error!("{error}");
-        }
-        error
+        let is_new = !std::mem::replace(&mut self.has_failed, true);
+        Failure { error, is_new }
     }
 
     /// The socket failed while it was written.
@@ -165,10 +208,32 @@ impl Session {
         self.library.flush()
     }
 
+    /// What is kept for an object.
+    fn kept(&mut self, id: &RawObjectId) -> Option<&Kept> {
+        let key = self.library.object_data(id)?;
+        self.data.get(key)
+    }
+
+    /// The number, interface and version of an object.
+    pub(super) fn info(&mut self, id: &ObjectId) -> Option<ObjectInfo> {
+        let info = self.library.object_info(&id.raw())?;
+        // The id may be another connection's.
+        let interface = self.kept(&id.raw()).map(|kept| kept.interface);
+        Some(ObjectInfo {
+            id: info.number,
+            interface: interface.unwrap_or(id.interface),
+            version: info.version,
+        })
+    }
+
     /// The data of an object.
     pub(super) fn get_data(&mut self, id: &ObjectId) -> Option<Arc<dyn ObjectData>> {
-        let key = self.library.object_data(&id.raw())?;
-        Some(self.data.get(key)?.data.clone())
+        if let Some(kept) = self.kept(&id.raw()) {
+            return Some(kept.data.clone());
+        }
+        // An object that an event has just made gets its data when the callback has answered.
+        self.library.object_info(&id.raw())?;
+        Some(Arc::new(MissingData))
     }
 
     /// Gives an object other data, and answers those that it had. The error says that it is gone.
@@ -213,10 +278,11 @@ impl Session {
             if let Some((child, version)) = child_spec {
                 let library = &mut self.library;
                 let row = self.table.row(child, |rows| library.add_interfaces(rows));
+                leftovers.longer.extend(self.table.take_longer());
                 match row {
                     Ok(row) => request.child_interface = row,
                     Err(error) => {
-                        leftovers.unused.extend(data);
+                        leftovers.leave(data);
                         return Err(Refused::BadInterface(error));
                     }
                 }
@@ -229,10 +295,10 @@ impl Session {
                     request.has_data = 1;
                     request.data = self.data.insert(Kept { data, interface });
                 }
-                (data, _) => leftovers.unused.extend(data),
+                (data, _) => leftovers.leave(data),
             }
         } else {
-            leftovers.unused.extend(data);
+            leftovers.leave(data);
         }
         let sent = self.send(message, &request);
         let created = match (sent, interface) {
@@ -251,49 +317,47 @@ impl Session {
             }
         };
         if description.is_some_and(|description| description.is_destructor) {
-            self.take_note(leftovers);
+            self.take_notes(leftovers);
         }
         Ok(created)
     }
 
-    /// Hands a request to the session. If a descriptor cannot be duplicated, nothing is sent any more.
+    /// Hands a request to the session. If a descriptor cannot be duplicated, the session gets a number that is none in its
+    /// place, so that the object of the request is there; and nothing is sent any more.
     fn send(
         &mut self,
         message: &Message<ObjectId, RawFd>,
         request: &Request,
     ) -> Result<RawObjectId, Status> {
-        let sent = match self.outgoing.set(&message.args, ObjectId::raw) {
-            Ok(()) => self.library.send_request(request, &mut self.outgoing),
-            Err(error) => {
-                self.fault.get_or_insert(error);
-                Ok(RawObjectId::default())
-            }
-        };
-        if sent.is_err() || self.fault.is_some() {
+        let fault = self.outgoing.set(&message.args, ObjectId::raw).err();
+        let sent = self.library.send_request(request, &mut self.outgoing);
+        match sent {
+            // An error that came before stays.
+            Ok(_) if fault.is_some() && self.error().is_none() => self.fault = fault,
+            Ok(_) => {}
             // Its descriptors are not sent.
-            self.outgoing.clear();
+            Err(_) => self.outgoing.clear(),
         }
         sent
     }
 
     fn remove_data(&mut self, key: u64, leftovers: &mut Leftovers) {
-        leftovers
-            .unused
-            .extend(self.data.remove(key).map(|kept| kept.data));
+        leftovers.leave(self.data.remove(key).map(|kept| kept.data));
     }
 
-    /// Receives once, unless nothing can be read any more.
+    /// Receives once, unless nothing can be read any more: then it would be kept for ever.
     pub(super) fn receive(&mut self, socket: BorrowedFd<'_>) -> Received {
-        match self.fault {
-            None => self.library.receive(socket),
-            Some(_) => Received::Nothing,
+        if self.fault.is_some() || self.has_failed {
+            return Received::Nothing;
         }
+        self.library.receive(socket)
     }
 
-    /// The next event, and who takes it. Its arguments are appended to `arguments`.
+    /// The next event, which is written into the message, and who takes it.
+    #[inline]
     pub(super) fn next_event(
         &mut self,
-        arguments: &mut Arguments<ObjectId>,
+        message: &mut Message<ObjectId, OwnedFd>,
     ) -> Result<OpenEvent, Status> {
         if self.fault.is_some() {
             return Err(Status::FAILED);
@@ -304,7 +368,7 @@ impl Session {
             data,
             ..
         } = self;
-        let event = library.next_event(arguments, |event, argument| {
+        let event = library.next_event(&mut message.args, |event, argument| {
             argument_id(table, data, event, argument)
         })?;
         let (receiver, interface) = match data.get(event.data) {
@@ -316,9 +380,9 @@ impl Session {
         };
         let created = (event.created.number != 0)
             .then(|| ObjectId::new(&event.created, child_interface(table, data, &event)));
+        message.sender_id = ObjectId::new(&event.sender, interface);
+        message.opcode = event.opcode as u16;
         Ok(OpenEvent {
-            sender: ObjectId::new(&event.sender, interface),
-            opcode: event.opcode as u16,
             data: receiver,
             created,
             ends_sender: event.is_destructor != 0,
@@ -335,14 +399,14 @@ impl Session {
     ) {
         match created {
             None => {
-                leftovers.unused.extend(answer);
+                leftovers.leave(answer);
                 let finished = self.library.finish_event(None);
-                debug_assert_eq!(finished, Ok(()));
+                debug_assert_eq!(finished, Ok(false));
             }
             Some(created) => self.finish_making(created, answer, leftovers),
         }
         if ends_sender {
-            self.take_note(leftovers);
+            self.take_notes(leftovers);
         }
     }
 
@@ -363,23 +427,21 @@ impl Session {
             interface: created.interface,
         });
         let finished = self.library.finish_event(Some(key));
-        debug_assert_eq!(finished, Ok(()));
-        if self.library.object_info(&raw).is_none() {
+        debug_assert!(finished.is_ok(), "{finished:?}");
+        if finished != Ok(true) {
             // The callback has destroyed it: no note tells when its data leave.
             self.keep_until_free(raw, key);
         }
     }
 
-    /// Takes the object that the last call of the session has destroyed, if it had data. Each call that may destroy one is
-    /// followed by this one under the same lock, so there is no other.
-    pub(super) fn take_note(&mut self, leftovers: &mut Leftovers) {
-        let Some((raw, key)) = self.library.next_note() else {
-            return;
-        };
-        if let Some(kept) = self.data.get(key) {
-            let id = ObjectId::new(&raw, kept.interface);
-            leftovers.ended.push((kept.data.clone(), id));
-            self.keep_until_free(raw, key);
+    /// Takes the objects with data that were destroyed.
+    pub(super) fn take_notes(&mut self, leftovers: &mut Leftovers) {
+        while let Some((raw, key)) = self.library.next_note() {
+            if let Some(kept) = self.data.get(key) {
+                let id = ObjectId::new(&raw, kept.interface);
+                leftovers.ended.push((kept.data.clone(), id));
+                self.keep_until_free(raw, key);
+            }
         }
     }
 

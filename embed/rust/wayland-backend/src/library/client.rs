@@ -11,7 +11,12 @@ use super::rows::table_answer;
 use super::{
     answer, done, send_once, take_back, Arguments, Event, Outgoing, RawArgument, RawObjectId,
     RawObjectInfo, Received, Request, Rows, Sent, Status, TableFault, MOST_DESCRIPTORS,
+    NO_DESCRIPTOR,
 };
+
+/// No limit of a session's buffers is lower.
+#[cfg(feature = "libwayland_client_1_23")]
+const LEAST_LIMIT: usize = 4096;
 
 /// The error of a client's session.
 #[derive(Clone, Debug, PartialEq, Eq)]
@@ -42,6 +47,8 @@ pub(crate) struct Client {
     place: sys::nb_client,
     lent: Lent,
     inbox: Inbox,
+    /// Whether the socket took nothing when something was sent last.
+    is_full: bool,
 }
 
 impl Client {
@@ -70,6 +77,7 @@ impl Client {
             place,
             lent: Lent::new(),
             inbox: Inbox::default(),
+            is_full: false,
         }
     }
 
@@ -103,29 +111,28 @@ impl Client {
             limit.is_some().into(),
             size,
         ));
-        // What a flush hands over and the socket does not take would not count.
-        let room = limit.map_or(u64::MAX, |limit| limit as u64);
+        // What a flush hands over and the socket does not take would not count. The session makes no buffer smaller
+        // than this.
+        let room = limit.map_or(u64::MAX, |limit| limit.max(LEAST_LIMIT) as u64);
         done(sys::nb_client_set_room(&mut self.place, room));
     }
 
     /// Receives once from the socket. The end of the stream and a failure are told to the session, which answers them
     /// when its events are taken.
     pub(crate) fn receive(&mut self, from: BorrowedFd<'_>) -> Received {
-        let place = &mut self.place;
-        let arrival = self
-            .inbox
-            .receive(from, &mut self.lent.bytes, |bytes, numbers| {
-                // SAFETY: each slice is lent with its own length.
-                answer(unsafe {
-                    sys::nb_client_received(
-                        place,
-                        bytes.as_ptr(),
-                        bytes.len(),
-                        numbers.as_ptr(),
-                        numbers.len(),
-                    )
-                })
-            });
+        let (place, buffer) = (&mut self.place, self.lent.receiving());
+        let arrival = self.inbox.receive(from, buffer, |bytes, numbers| {
+            // SAFETY: each slice is lent with its own length.
+            answer(unsafe {
+                sys::nb_client_received(
+                    place,
+                    bytes.as_ptr(),
+                    bytes.len(),
+                    numbers.as_ptr(),
+                    numbers.len(),
+                )
+            })
+        });
         match arrival {
             Arrival::Came(received) => return received,
             Arrival::Ended => done(sys::nb_client_received_end(&mut self.place)),
@@ -188,15 +195,18 @@ impl Client {
         Ok(event)
     }
 
-    /// Finishes the open event, with the data of the object that it made.
+    /// Finishes the open event, with the data of the object that it made. The answer is whether that object is
+    /// there; if the client has destroyed it, no note will name the data.
     ///
     /// Statuses: `NOT_OPEN`, `MISSING_DATA`, `UNEXPECTED_DATA`.
     #[inline]
-    pub(crate) fn finish_event(&mut self, data: Option<u64>) -> Result<(), Status> {
+    pub(crate) fn finish_event(&mut self, data: Option<u64>) -> Result<bool, Status> {
+        let mut is_kept = 0;
         answer(match data {
-            Some(data) => sys::nb_client_finish_event_with(&mut self.place, data),
+            Some(data) => sys::nb_client_finish_event_with(&mut self.place, data, &mut is_kept),
             None => sys::nb_client_finish_event(&mut self.place),
-        })
+        })?;
+        Ok(is_kept != 0)
     }
 
     /// Sends a request, and answers the object that it makes. If it succeeds, the descriptors of the message are the
@@ -285,7 +295,7 @@ impl Client {
     pub(crate) fn send(&mut self, to: BorrowedFd<'_>) -> Result<Sent, Errno> {
         let mut numbers = [0; MOST_DESCRIPTORS];
         let mut counts = sys::nb_counts::default();
-        let bytes = &mut self.lent.bytes;
+        let bytes = self.lent.sending(self.is_full);
         // SAFETY: each slice is lent with its own length.
         let status = unsafe {
             sys::nb_client_to_send(
@@ -299,7 +309,7 @@ impl Client {
         };
         done(status);
         let place = &mut self.place;
-        send_once(to, counts, bytes, &numbers, |count| {
+        send_once(to, &mut self.is_full, counts, bytes, &numbers, |count| {
             done(sys::nb_client_sent(place, count))
         })
     }
@@ -363,8 +373,10 @@ impl Client {
     pub(crate) fn close_dropped(&mut self) {
         let mut number = -1;
         while sys::nb_client_next_dropped(&mut self.place, &mut number) == sys::NB_OK {
-            // SAFETY: the session has just handed it out.
-            drop(unsafe { take_back(number) });
+            if number != NO_DESCRIPTOR {
+                // SAFETY: the session has just handed it out.
+                drop(unsafe { take_back(number) });
+            }
         }
     }
 }
@@ -391,5 +403,52 @@ impl Drop for Client {
         }
         self.close_dropped();
         sys::nb_client_end(&mut self.place);
+    }
+}
+
+#[cfg(test)]
+mod tests {
+    use std::io::Read;
+    use std::os::fd::AsFd;
+    use std::os::unix::net::UnixStream;
+
+    use super::*;
+    use crate::library::FIRST_TRY;
+    use crate::protocol::Argument;
+
+    #[test]
+    fn little_is_copied_for_a_socket_that_is_full() {
+        let (ours, mut theirs) = UnixStream::pair().unwrap();
+        let mut client = Client::new();
+        let sync = Request {
+            sender: client.display(),
+            has_data: 1,
+            ..Request::default()
+        };
+        let mut message = Outgoing::default();
+        for _ in 0..200_000 {
+            let new = Argument::<(), _>::NewId(());
+            message.set(&[new], |()| RawObjectId::default()).unwrap();
+            client.send_request(&sync, &mut message).unwrap();
+        }
+        client.flush().unwrap();
+        while client.send(ours.as_fd()).is_ok() {}
+        // How many bytes the session wrote.
+        let copied = |client: &mut Client| {
+            client.lent.bytes.fill(0xAA);
+            let sent = client.send(ours.as_fd());
+            let left = client
+                .lent
+                .bytes
+                .iter()
+                .rev()
+                .take_while(|&&byte| byte == 0xAA);
+            (client.lent.bytes.len() - left.count(), sent)
+        };
+        assert_eq!(copied(&mut client), (FIRST_TRY, Err(Errno::AGAIN)));
+        theirs.read_exact(&mut [0; 200_000]).unwrap();
+        assert_eq!(copied(&mut client), (FIRST_TRY, Ok(Sent::Some)));
+        let (count, _) = copied(&mut client);
+        assert_eq!(count, client.lent.bytes.len());
     }
 }

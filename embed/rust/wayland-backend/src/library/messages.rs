@@ -7,7 +7,7 @@ use numbyroga_sys as sys;
 use rustix::io::Errno;
 use smallvec::SmallVec;
 
-use super::{take_back, RawArgument, RawObjectId};
+use super::{take_back, RawArgument, RawObjectId, FIRST_TRY, NO_DESCRIPTOR};
 use crate::protocol::{Argument, INLINE_ARGS};
 
 /// The arguments of a message that came.
@@ -27,13 +27,15 @@ pub(crate) struct Outgoing {
 impl Outgoing {
     /// Takes these arguments in place of those that were there. `id` says which object of the library an id names.
     ///
-    /// Descriptors are duplicated: the caller's stay its own. An error is that of the duplication.
+    /// Descriptors are duplicated: the caller's stay its own. An error is that of the first one that could not be. The
+    /// message can be handed to a session all the same, if that sends nothing any more.
     pub(crate) fn set<Id>(
         &mut self,
         arguments: &[Argument<Id, RawFd>],
         id: impl Fn(&Id) -> RawObjectId,
     ) -> Result<(), Errno> {
         self.clear();
+        let mut answer = Ok(());
         for argument in arguments {
             let flat = match argument {
                 Argument::Int(value) => number(sys::NB_INT, *value),
@@ -52,16 +54,27 @@ impl Outgoing {
                     object: id(object),
                     ..Default::default()
                 },
-                Argument::Fd(descriptor) => {
-                    let copy = duplicate(*descriptor)?;
-                    let flat = number(sys::NB_DESCRIPTOR, copy.as_raw_fd());
-                    self.descriptors.push(copy);
-                    flat
-                }
+                Argument::Fd(descriptor) => match duplicate(*descriptor) {
+                    Ok(copy) => {
+                        let flat = number(sys::NB_DESCRIPTOR, copy.as_raw_fd());
+                        self.descriptors.push(copy);
+                        flat
+                    }
+                    Err(error) => {
+                        answer = answer.and(Err(error));
+                        number(sys::NB_DESCRIPTOR, NO_DESCRIPTOR)
+                    }
+                },
             };
             self.arguments.push(flat);
         }
-        Ok(())
+        answer
+    }
+
+    /// Takes so many numbers as arguments.
+    pub(crate) fn set_numbers(&mut self, count: usize) {
+        self.clear();
+        self.arguments.resize(count, number(sys::NB_INT, 0));
     }
 
     fn range(&mut self, kind: u32, bytes: &[u8]) -> RawArgument {
@@ -93,7 +106,7 @@ impl Outgoing {
 
     /// The session has taken the descriptors.
     pub(super) fn give_up_descriptors(&mut self) {
-        for descriptor in self.descriptors.drain(..) {
+        while let Some(descriptor) = self.descriptors.pop() {
             let _ = descriptor.into_raw_fd();
         }
     }
@@ -131,6 +144,18 @@ impl Lent {
             arguments: vec![RawArgument::default(); 32],
             bytes: vec![0; sys::NB_MOST_BYTES],
         }
+    }
+
+    /// Room for one receive: as much as a session reads at once.
+    pub(super) fn receiving(&mut self) -> &mut [u8] {
+        &mut self.bytes[..sys::NB_MOST_BYTES]
+    }
+
+    /// Room for one send: little, if the socket took nothing the last time.
+    pub(super) fn sending(&mut self, is_full: bool) -> &mut [u8] {
+        let most = if is_full { FIRST_TRY } else { usize::MAX };
+        let room = self.bytes.len().min(most);
+        &mut self.bytes[..room]
     }
 
     /// Makes room for as much as the session says it needs.

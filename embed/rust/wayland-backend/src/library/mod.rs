@@ -117,6 +117,9 @@ fn no_memory() -> ! {
     handle_alloc_error(Layout::new::<u64>())
 }
 
+/// Stands in a message in place of a descriptor that could not be duplicated. Such a message is never sent.
+const NO_DESCRIPTOR: i32 = -1;
+
 /// Takes back a descriptor that a session hands out.
 ///
 /// # Safety
@@ -132,19 +135,26 @@ unsafe fn take_back(number: i32) -> OwnedFd {
     unsafe { OwnedFd::from_raw_fd(number) }
 }
 
+/// How many bytes are lent for the first send after the socket took nothing: it takes as little as that, or nothing
+/// again. Each byte that is lent is copied.
+const FIRST_TRY: usize = 4096;
+
 /// What one send to a socket took.
 #[derive(Clone, Copy, Debug, PartialEq, Eq)]
 pub(crate) enum Sent {
-    /// All that the session had handed over, which may be nothing.
+    /// The session had handed nothing over.
+    Nothing,
+    /// All that the session had handed over.
     All,
     /// A part of it, or as much as one send can have.
     Some,
 }
 
 /// Sends once to a socket what a session has told, and closes the descriptors that were sent. `sent` tells the session
-/// how many bytes were taken.
+/// how many bytes were taken. Whether the socket is full is noted.
 fn send_once(
     to: BorrowedFd<'_>,
+    is_full: &mut bool,
     counts: sys::nb_counts,
     bytes: &[u8],
     numbers: &[i32],
@@ -153,7 +163,8 @@ fn send_once(
     let room = bytes.len();
     let bytes = &bytes[..counts.bytes as usize];
     if bytes.is_empty() {
-        return Ok(Sent::All);
+        *is_full = false;
+        return Ok(Sent::Nothing);
     }
     let numbers = &numbers[..counts.descriptors as usize];
     let mut descriptors = SmallVec::<[BorrowedFd<'_>; MOST_DESCRIPTORS]>::new();
@@ -165,10 +176,12 @@ fn send_once(
         // SAFETY: the session owns these descriptors, so they are open until `sent` hands them out.
         descriptors.push(unsafe { BorrowedFd::borrow_raw(number) });
     }
-    let taken = socket::send(to, bytes, &descriptors)?;
-    if taken == 0 {
-        return Err(Errno::AGAIN);
-    }
+    let taken = match socket::send(to, bytes, &descriptors) {
+        Ok(0) => Err(Errno::AGAIN),
+        answer => answer,
+    };
+    *is_full = taken == Err(Errno::AGAIN);
+    let taken = taken?;
     sent(taken as u32);
     for &number in numbers {
         // SAFETY: by `sent` the session has handed them out, all with the first byte.

@@ -189,8 +189,8 @@ impl Server {
         from: BorrowedFd<'_>,
         inbox: &mut Inbox,
     ) -> Received {
-        let place = &mut self.place;
-        let arrival = inbox.receive(from, &mut self.lent.bytes, |bytes, numbers| {
+        let (place, buffer) = (&mut self.place, self.lent.receiving());
+        let arrival = inbox.receive(from, buffer, |bytes, numbers| {
             // SAFETY: each slice is lent with its own length.
             answer(unsafe {
                 sys::nb_server_received(
@@ -509,10 +509,16 @@ impl Server {
     }
 
     /// Sends once to a client's socket what the session has ready for it. For a client that is gone that is nothing.
-    pub(crate) fn send(&mut self, client: &RawClientId, to: BorrowedFd<'_>) -> Result<Sent, Errno> {
+    /// `is_full` says whether the socket took nothing the last time, and is noted anew.
+    pub(crate) fn send(
+        &mut self,
+        client: &RawClientId,
+        to: BorrowedFd<'_>,
+        is_full: &mut bool,
+    ) -> Result<Sent, Errno> {
         let mut numbers = [0; MOST_DESCRIPTORS];
         let mut counts = sys::nb_counts::default();
-        let bytes = &mut self.lent.bytes;
+        let bytes = self.lent.sending(*is_full);
         // SAFETY: each slice is lent with its own length.
         let status = unsafe {
             sys::nb_server_to_send(
@@ -526,10 +532,10 @@ impl Server {
             )
         };
         if answer(status).is_err() {
-            return Ok(Sent::All);
+            return Ok(Sent::Nothing);
         }
         let place = &mut self.place;
-        send_once(to, counts, bytes, &numbers, |count| {
+        send_once(to, is_full, counts, bytes, &numbers, |count| {
             done(sys::nb_server_sent(place, client, count));
         })
     }
@@ -652,5 +658,55 @@ fn fill<T: Copy + Default>(
             return Ok(list);
         }
         list.resize(count as usize, T::default());
+    }
+}
+
+#[cfg(test)]
+mod tests {
+    use std::os::fd::AsFd;
+    use std::os::unix::net::UnixStream;
+
+    use super::*;
+    use crate::library::FIRST_TRY;
+
+    #[test]
+    fn little_is_copied_for_a_socket_that_is_full() {
+        const SYNCS: u32 = 20_000;
+        let (ours, _theirs) = UnixStream::pair().unwrap();
+        let mut server = Server::new();
+        server.set_default_max_buffer_size(1 << 24);
+        let client = server.insert_client(0, &[]).unwrap();
+        // Each wl_display.sync is answered by 24 bytes, more than a socket takes.
+        let asked: Vec<u8> = (0..SYNCS)
+            .flat_map(|number| [1, 12 << 16, 2 + number % 2])
+            .flat_map(u32::to_ne_bytes)
+            .collect();
+        let (mut action, mut arguments) = (Action::default(), Arguments::new());
+        for part in asked.chunks(4096) {
+            let place = &mut server.place;
+            // SAFETY: each slice is lent with its own length.
+            let status = unsafe {
+                sys::nb_server_received(place, &client, part.as_ptr(), part.len(), [].as_ptr(), 0)
+            };
+            assert_eq!(answer(status), Ok(()));
+            let next = server.next_action(&client, &mut action, &mut arguments, |_, _| ());
+            assert_eq!(next, Err(Status::WOULD_BLOCK));
+        }
+        let mut is_full = false;
+        while let Some(client) = server.next_writable() {
+            while !is_full {
+                match server.send(&client, ours.as_fd(), &mut is_full) {
+                    Ok(Sent::Some) => {}
+                    _ => break,
+                }
+            }
+        }
+        assert!(is_full);
+        server.lent.bytes.fill(0xAA);
+        let sent = server.send(&client, ours.as_fd(), &mut is_full);
+        assert_eq!(sent, Err(Errno::AGAIN));
+        let bytes = &server.lent.bytes;
+        let left = bytes.iter().rev().take_while(|&&byte| byte == 0xAA);
+        assert_eq!(bytes.len() - left.count(), FIRST_TRY);
     }
 }

@@ -3,18 +3,19 @@
 use std::{
     fmt, io,
     os::fd::{AsFd, BorrowedFd, OwnedFd},
-    sync::{Arc, Mutex},
+    sync::{Arc, Mutex, MutexGuard},
 };
 
 use rustix::{event::epoll, io::retry_on_intr};
 use smallvec::SmallVec;
 
 use super::{
-    state::{lock, tell, Called, Data, Misuse, Open, State, Unused},
+    state::{lock, Called, Data, State, Unused},
     ClientId, Handle, InitError, ObjectId,
 };
 use crate::{
     library::{Received, Status},
+    panics::Panics,
     protocol::Message,
 };
 
@@ -96,8 +97,12 @@ impl<D> Backend<D> {
         client_id: ClientId,
     ) -> io::Result<usize> {
         let handle = self.handle();
-        let answer = self.read(&handle, data, &client_id, Until::Blocked);
-        self.clean(&handle, data);
+        let mut panics = Panics::default();
+        let state = lock(&self.state);
+        let until = Until::Blocked;
+        let answer = self.read(state, &handle, data, &client_id, until, &mut panics);
+        self.clean(&handle, data, &mut panics);
+        panics.go_on();
         answer
     }
 
@@ -117,16 +122,23 @@ impl<D> Backend<D> {
         let handle = self.handle();
         let mut ready = epoll::EventVec::with_capacity(MOST_READY);
         let mut dispatched = 0;
+        let mut panics = Panics::default();
         // Clients that are ready stand in a queue, so after so many rounds each has had its turns.
         let clients = lock(&self.state).core.slots();
         for _ in 0..MOST_TURNS * (1 + clients / MOST_READY) {
-            retry_on_intr(|| epoll::wait(&*self.poll, &mut ready, 0))?;
+            let waited = retry_on_intr(|| epoll::wait(&*self.poll, &mut ready, 0));
+            if let Err(error) = waited {
+                panics.go_on();
+                return Err(error.into());
+            }
             if ready.is_empty() {
                 break;
             }
             for event in ready.iter() {
-                let client = lock(&self.state).core.client_at(event.data.u64() as u32);
-                let Some(client) = client else { continue };
+                let state = lock(&self.state);
+                let Some(client) = state.core.client_at(event.data.u64() as u32) else {
+                    continue;
+                };
                 let flags = event.flags;
                 let has_ended = flags.contains(epoll::EventFlags::HUP);
                 let until = if has_ended {
@@ -134,31 +146,32 @@ impl<D> Backend<D> {
                 } else {
                     Until::Short
                 };
-                if let Ok(count) = self.read(&handle, data, &client, until) {
-                    dispatched += count;
-                }
+                let answer = self.read(state, &handle, data, &client, until, &mut panics);
+                dispatched += answer.unwrap_or(0);
             }
-            self.clean(&handle, data);
+            self.clean(&handle, data, &mut panics);
         }
+        panics.go_on();
         Ok(dispatched)
     }
 
     /// Receives from the client, and calls the handlers for what it asks.
-    fn read(
-        &self,
+    fn read<'a>(
+        &'a self,
+        mut state: MutexGuard<'a, State<D>>,
         handle: &Handle,
         data: &mut D,
         client: &ClientId,
         until: Until,
+        panics: &mut Panics,
     ) -> io::Result<usize> {
         let mut bytes = 0;
         let status = loop {
-            let mut state = lock(&self.state);
             let received = state.core.receive(client);
             bytes += state.core.take_bytes(client);
-            drop(state);
-            // If a handler has panicked, requests may be left of what came before. So they are asked for in any case.
-            let status = self.call_all(handle, data, client);
+            // They are asked for in any case: a client that was killed has none.
+            let status;
+            (state, status) = self.call_all(state, handle, data, client, panics);
             let has_more = match received {
                 Received::Nothing => false,
                 Received::All => until == Until::Blocked,
@@ -168,24 +181,35 @@ impl<D> Backend<D> {
                 break status;
             }
         };
-        let mut state = lock(&self.state);
         let count = state.core.take_count(client);
         if status == Status::WOULD_BLOCK && count > 0 {
             return Ok(count);
         }
         let error = state.core.error_of(client, status);
         if status != Status::WOULD_BLOCK {
+            let before = state.core.put();
             state.core.unwatch(client);
             state.core.take_notes();
+            let due = state.core.due_of(client, before);
             drop(state);
-            tell(&*self.state);
+            if let Some(due) = due {
+                panics.catch(|| due.tell());
+            }
         }
         Err(error)
     }
 
     /// Calls the handlers for what the client asks, until there is no whole request any more. No lock is held while one
-    /// runs. The answer says why there is none.
-    fn call_all(&self, handle: &Handle, data: &mut D, client: &ClientId) -> Status {
+    /// runs. If one panics, its request counts as handled, and the others are called. The answer says why there is no
+    /// request; the state is locked again.
+    fn call_all<'a>(
+        &'a self,
+        mut state: MutexGuard<'a, State<D>>,
+        handle: &Handle,
+        data: &mut D,
+        client: &ClientId,
+        panics: &mut Panics,
+    ) -> (MutexGuard<'a, State<D>>, Status) {
         let raw = client.raw();
         loop {
             let mut message = Message {
@@ -193,21 +217,15 @@ impl<D> Backend<D> {
                 opcode: 0,
                 args: SmallVec::new(),
             };
-            let next = lock(&self.state).next_call(&raw, &mut message);
-            let (called, open) = match next {
+            let (called, open) = match state.next_call(&raw, &mut message) {
                 Ok(next) => next,
-                Err(status) => return status,
+                Err(status) => return (state, status),
             };
-            // If a handler panics, the request counts as handled.
-            let mut unfinished = Unfinished {
-                state: &self.state,
-                open,
-                is_finished: false,
-                is_told: false,
-            };
-            let answer = match called {
-                Called::Object(object) if unfinished.open.ends() => {
-                    self.call_last(handle, data, client, object, message, &mut unfinished)
+            drop(state);
+            let mut is_told = false;
+            let answer = panics.catch(|| match called {
+                Called::Object(object) if open.ends() => {
+                    self.call_last(handle, data, client, object, message, &mut is_told)
                 }
                 Called::Object(object) => object.request(handle, data, client.clone(), message),
                 Called::Global {
@@ -215,9 +233,24 @@ impl<D> Backend<D> {
                     global,
                     object,
                 } => handler.map(|it| it.bind(handle, data, client.clone(), global, object)),
-            };
-            if let Some(misuse) = unfinished.finish(answer) {
-                panic!("{misuse}");
+            });
+            let has_answered = answer.is_some();
+            let answer = answer.flatten();
+            state = lock(&self.state);
+            if answer.is_none() && open.is_plain() {
+                state.finish_alone(&open);
+                continue;
+            }
+            let mut unused = Unused::new();
+            let misuse = state.finish(&open, answer, is_told, &mut unused);
+            let misuse = misuse.filter(|_| has_answered);
+            if misuse.is_some() || !unused.is_empty() {
+                drop(state);
+                panics.catch(|| drop(unused));
+                if let Some(misuse) = misuse {
+                    panics.catch(|| panic!("{misuse}"));
+                }
+                state = lock(&self.state);
             }
         }
     }
@@ -230,38 +263,38 @@ impl<D> Backend<D> {
         client: &ClientId,
         object: Data<D>,
         message: Message<ObjectId, OwnedFd>,
-        unfinished: &mut Unfinished<'_, D>,
+        is_told: &mut bool,
     ) -> Option<Data<D>> {
         let (again, id) = (object.clone(), message.sender_id.clone());
         let answer = object.request(handle, data, client.clone(), message);
         // If the handler has destroyed the object by itself, the program is told by the next clean-up.
         let info = lock(&self.state).core.server.object_info(&id.raw());
         if info.is_some() {
-            unfinished.is_told = true;
+            *is_told = true;
             again.destroyed(handle, data, client.clone(), id);
         }
         answer
     }
 
-    /// Tells the program of objects that are gone, and takes the clients out that were killed.
-    fn clean(&self, handle: &Handle, data: &mut D) {
+    /// Tells the program of objects that are gone, and takes the clients out that were killed. If another thread tells the
+    /// program that a client is gone, this waits for it: the objects of the client come after it.
+    fn clean(&self, handle: &Handle, data: &mut D, panics: &mut Panics) {
         let mut state = lock(&self.state);
         let killed = state.clean();
         let count = state.gather_ended();
-        let has_news = !state.core.told.is_empty();
+        let due = state.core.all_due();
         drop(state);
-        if has_news {
-            tell(&*self.state);
+        if let Some(due) = due {
+            panics.catch(|| due.tell());
         }
         for _ in 0..count {
-            // One after the other is taken out, so that after a panic the next clean-up goes on.
             let Some((object, id)) = lock(&self.state).next_ended() else {
                 break;
             };
             let client = id.client();
-            object.destroyed(handle, data, client, id);
+            panics.catch(|| object.destroyed(handle, data, client, id));
         }
-        drop(killed);
+        panics.catch(|| drop(killed));
     }
 }
 
@@ -272,32 +305,4 @@ enum Until {
     Blocked,
     /// Until its socket gave less than there was room for, and so had no more.
     Short,
-}
-
-/// A request or bind whose handler runs.
-struct Unfinished<'a, D: 'static> {
-    state: &'a Mutex<State<D>>,
-    open: Open,
-    is_finished: bool,
-    /// Whether the program has been told that the sender is gone.
-    is_told: bool,
-}
-
-impl<D> Unfinished<'_, D> {
-    #[inline]
-    fn finish(&mut self, answer: Option<Data<D>>) -> Option<Misuse> {
-        self.is_finished = true;
-        // It is dropped after the lock.
-        let mut unused = Unused::new();
-        let mut state = lock(self.state);
-        state.finish(&self.open, answer, self.is_told, &mut unused)
-    }
-}
-
-impl<D> Drop for Unfinished<'_, D> {
-    fn drop(&mut self) {
-        if !self.is_finished {
-            self.finish(None);
-        }
-    }
 }

@@ -14,7 +14,10 @@ use numbyroga_sys as sys;
 use rustix::{event::epoll, io::Errno, net::sockopt::get_socket_peercred, process::Pid};
 use smallvec::SmallVec;
 
-use super::{ClientData, ClientId, Credentials, DisconnectReason, GlobalId, InvalidId, ObjectId};
+use super::{
+    news::{News, Told},
+    ClientData, ClientId, Credentials, DisconnectReason, GlobalId, InvalidId, ObjectId,
+};
 use crate::{
     debug,
     library::{
@@ -49,6 +52,8 @@ pub(super) struct Connection {
     is_watched: bool,
     /// Whether something may wait for the client.
     is_listed: bool,
+    /// Whether its socket took nothing when something was sent last.
+    is_full: bool,
     /// How many bytes of events, at most, have been sent since nothing waited.
     queued: usize,
     /// Why the program kills the client, while it does.
@@ -74,18 +79,15 @@ impl Connection {
     }
 }
 
-/// What the program is to be told of a client, when no lock is held.
-pub(super) enum Told {
-    Initialized(Arc<dyn ClientData>, ClientId),
-    Disconnected(Arc<dyn ClientData>, ClientId, DisconnectReason),
+/// News that the program is to be told before a call returns, when the state is not locked any more.
+pub(super) struct Due {
+    news: Arc<News>,
+    until: u64,
 }
 
-impl Told {
+impl Due {
     pub(super) fn tell(self) {
-        match self {
-            Told::Initialized(data, id) => data.initialized(id),
-            Told::Disconnected(data, id, reason) => data.disconnected(id, reason),
-        }
+        self.news.tell(self.until);
     }
 }
 
@@ -166,7 +168,9 @@ pub(super) struct Core {
     connections: Vec<Option<Connection>>,
     /// The slots of clients for which something may wait.
     listed: VecDeque<u32>,
-    pub(super) told: VecDeque<Told>,
+    pub(super) news: Arc<News>,
+    /// How many news have been put so far.
+    put: u64,
     pub(super) ended: VecDeque<Ended>,
     outgoing: Outgoing,
     /// What a client has asked last.
@@ -187,7 +191,8 @@ impl Core {
             },
             connections: Vec::new(),
             listed: VecDeque::new(),
-            told: VecDeque::new(),
+            news: Arc::default(),
+            put: 0,
             ended: VecDeque::new(),
             outgoing: Outgoing::default(),
             action: Action::default(),
@@ -199,24 +204,56 @@ impl Core {
     /// The number that the library has for an interface. It learns what it does not know yet.
     pub(super) fn row(&mut self, interface: &'static Interface) -> Result<u32, BadInterface> {
         let Core { server, names, .. } = self;
-        names
-            .table
-            .row(interface, |rows| server.add_interfaces(rows))
+        let table = &mut names.table;
+        let row = table.row(interface, |rows| server.add_interfaces(rows));
+        for longer in table.take_longer() {
+            self.news.put(Told::Longer(longer));
+            self.put += 1;
+        }
+        row
     }
 
     // ---- What happened
+
+    /// How many news have been put so far.
+    pub(super) fn put(&self) -> u64 {
+        self.put
+    }
+
+    /// What is to be told before a call returns: what it has put, where `before` had been put before.
+    #[inline]
+    pub(super) fn due(&self, before: u64) -> Option<Due> {
+        (self.put != before).then(|| self.due_until(self.put))
+    }
+
+    /// The same, and what has to be told until the program knows all of the client.
+    pub(super) fn due_of(&self, client: &ClientId, before: u64) -> Option<Due> {
+        let until = match self.put == before {
+            true => self.news.until_known(client),
+            false => self.put,
+        };
+        (until > 0).then(|| self.due_until(until))
+    }
+
+    /// All that was put and has not been told.
+    pub(super) fn all_due(&self) -> Option<Due> {
+        let is_due = !self.news.are_told(self.put);
+        is_due.then(|| self.due_until(self.put))
+    }
+
+    fn due_until(&self, until: u64) -> Due {
+        Due {
+            news: self.news.clone(),
+            until,
+        }
+    }
 
     /// Takes the session's notes. The program is to be told of them when no lock is held.
     pub(super) fn take_notes(&mut self) {
         while let Some(note) = self.server.next_note() {
             match note {
-                Note::Inserted(client) => {
-                    let id = ClientId::of(&client);
-                    if let Some(connection) = self.connection(&id) {
-                        let data = connection.data.clone();
-                        self.told.push_back(Told::Initialized(data, id));
-                    }
-                }
+                // Who has inserted it tells its data.
+                Note::Inserted(_) => {}
                 Note::Killed { client, error } => {
                     let id = ClientId::of(&client);
                     let Some(connection) = self.connection(&id) else {
@@ -233,7 +270,8 @@ impl Core {
                         }),
                     };
                     let data = connection.data.clone();
-                    self.told.push_back(Told::Disconnected(data, id, reason));
+                    self.news.put(Told::Disconnected(data, id, reason));
+                    self.put += 1;
                 }
                 Note::Destroyed { object, data } => {
                     let object = self.names.id(&object, data);
@@ -280,48 +318,51 @@ impl Core {
     }
 
     /// The id of the client that comes next.
-    pub(super) fn next_client(&mut self) -> ClientId {
-        match self.server.next_client_id() {
-            Ok(raw) => ClientId::of(&raw),
-            Err(status) => panic!("the server can have no more clients: {status}"),
-        }
+    pub(super) fn next_client(&mut self) -> Result<ClientId, Status> {
+        self.server.next_client_id().map(|raw| ClientId::of(&raw))
     }
 
-    /// Inserts a client, which does not see these globals. It is killed if its socket cannot be waited for.
+    /// Inserts a client, which does not see these globals. It is not read before [`Core::watch`].
     pub(super) fn insert(
         &mut self,
         stream: UnixStream,
         data: Arc<dyn ClientData>,
         hidden: &[RawGlobalId],
-    ) -> io::Result<ClientId> {
-        let raw = match self.server.insert_client(0, hidden) {
-            Ok(raw) => raw,
-            Err(status) => panic!("the server can have no more clients: {status}"),
-        };
+    ) -> Result<ClientId, Status> {
+        let raw = self.server.insert_client(0, hidden)?;
         let slot = raw.slot as usize;
         if self.connections.len() <= slot {
             self.connections.resize_with(slot + 1, || None);
         }
-        let slot_number = epoll::EventData::new_u64(raw.slot.into());
-        let watched = epoll::add(&*self.poll, &stream, slot_number, epoll::EventFlags::IN);
         self.connections[slot] = Some(Connection {
             serial: raw.serial,
             stream,
             data,
             inbox: Inbox::default(),
             handed_out: 0,
-            is_watched: watched.is_ok(),
+            is_watched: false,
             is_listed: false,
+            is_full: false,
             queued: 0,
             reason: None,
         });
         self.take_notes();
-        let id = ClientId::of(&raw);
-        if let Err(error) = watched {
-            self.kill(&id, DisconnectReason::ConnectionClosed);
-            return Err(error.into());
+        Ok(ClientId::of(&raw))
+    }
+
+    /// Waits from now on for what the client sends. It is killed if its socket cannot be waited for.
+    pub(super) fn watch(&mut self, id: &ClientId) -> io::Result<()> {
+        let poll = self.poll.clone();
+        let Some(connection) = self.connection(id) else {
+            return Ok(()); // it was killed meanwhile
+        };
+        let slot = epoll::EventData::new_u64(id.slot.into());
+        let watched = epoll::add(&*poll, &connection.stream, slot, epoll::EventFlags::IN);
+        connection.is_watched = watched.is_ok();
+        if watched.is_err() {
+            self.kill(id, DisconnectReason::ConnectionClosed);
         }
-        Ok(id)
+        Ok(watched?)
     }
 
     pub(super) fn kill(&mut self, id: &ClientId, reason: DisconnectReason) {
@@ -421,11 +462,8 @@ impl Core {
     // ---- Globals
 
     /// The id of the global that comes next.
-    pub(super) fn next_global(&mut self) -> GlobalId {
-        match self.server.next_global_id() {
-            Ok(raw) => GlobalId::of(&raw),
-            Err(status) => panic!("the server can have no more globals: {status}"),
-        }
+    pub(super) fn next_global(&mut self) -> Result<GlobalId, Status> {
+        self.server.next_global_id().map(|raw| GlobalId::of(&raw))
     }
 
     pub(super) fn disable_global(&mut self, id: &GlobalId) {
@@ -543,9 +581,7 @@ impl Core {
             args,
         } = message;
         if self.outgoing.set(args, ObjectId::raw).is_err() {
-            self.outgoing.clear();
-            self.kill(&sender_id.client(), DisconnectReason::ConnectionClosed);
-            return Ok(());
+            return self.send_without_descriptor(message);
         }
         let size = self.outgoing.size();
         let answer = self
@@ -566,6 +602,36 @@ impl Core {
             self.log_event(message);
         }
         Ok(())
+    }
+
+    /// Answers for an event with a descriptor that cannot be duplicated. If nothing else is wrong with it, its client is
+    /// killed.
+    #[cold]
+    fn send_without_descriptor(
+        &mut self,
+        message: &Message<ObjectId, RawFd>,
+    ) -> Result<(), Status> {
+        let Message {
+            sender_id,
+            opcode,
+            args,
+        } = message;
+        let event = sender_id.interface.events.get(usize::from(*opcode));
+        let signature = event.map_or(&[][..], |event| event.signature);
+        // With too many arguments nothing is sent, and the answer is what is wrong before the arguments are looked at.
+        self.outgoing.set_numbers(signature.len() + 1);
+        let answer = self
+            .server
+            .send_event(&sender_id.raw(), *opcode, &mut self.outgoing);
+        self.outgoing.clear();
+        let types = args.iter().map(Argument::get_type);
+        let is_fitting = signature.len() == args.len()
+            && types.zip(signature).all(|(one, two)| one.same_type(*two));
+        if answer == Err(Status::BAD_SIGNATURE) && is_fitting {
+            self.kill(&sender_id.client(), DisconnectReason::ConnectionClosed);
+            return Ok(());
+        }
+        answer
     }
 
     /// Ends the client for an error of the object, and tells it at once.
@@ -605,7 +671,7 @@ impl Core {
                 full.push_back(slot);
             }
         }
-        self.listed = full;
+        self.listed.append(&mut full);
         self.server.close_dropped();
         self.take_notes();
     }
@@ -631,7 +697,8 @@ impl Core {
             serial: connection.serial,
             slot,
         };
-        while self.server.send(&id, connection.stream.as_fd())? == Sent::Some {}
+        let (to, is_full) = (connection.stream.as_fd(), &mut connection.is_full);
+        while self.server.send(&id, to, is_full)? == Sent::Some {}
         connection.is_listed = false;
         connection.queued = 0;
         Ok(())

@@ -11,19 +11,21 @@ use std::{
 
 use super::{
     core::Core,
-    state::{lock, tell, AnyState, NotMade, State},
+    state::{lock, AnyState, NotMade, State},
     ClientData, ClientId, Credentials, DisconnectReason, GlobalHandler, GlobalId, GlobalInfo,
     InvalidId, ObjectData, ObjectId,
 };
 use crate::{
     library::Status,
+    panics::Panics,
     protocol::{Interface, Message, ObjectInfo},
 };
 
 /// A handle of a server: all that can be done with it but reading.
 ///
-/// It keeps the server's state alive. Where two threads use handles of one server, one waits for the other, but no
-/// thread waits for another one's handlers.
+/// It keeps the server's state alive. Where two threads use handles of one server, one waits for the other. While one of
+/// them calls a [`ClientData`], another one whose call inserts or ends a client waits, so that clients are told in order. No
+/// thread waits for other handlers of another one.
 ///
 /// # Panics
 ///
@@ -86,7 +88,8 @@ impl Handle {
 
     /// Inserts a client that is connected by the stream.
     ///
-    /// Each global's [`GlobalHandler::can_view`] is asked, and then [`ClientData::initialized`] is called.
+    /// Each global's [`GlobalHandler::can_view`] is asked, and then [`ClientData::initialized`] is called. The client is
+    /// read when that has returned.
     ///
     /// # Errors
     ///
@@ -100,9 +103,15 @@ impl Handle {
         // What the handlers said of the client that comes next.
         let mut next = None;
         let mut seen = HashMap::new();
-        let (inserted, has_news) = loop {
+        // Until its data know of the client, nobody tells them that it is gone.
+        let news = lock(&*self.state).core().news.clone();
+        let telling = news.begin(u64::MAX);
+        let inserted = loop {
             let mut state = lock(&*self.state);
-            let id = state.core().next_client();
+            let id = match state.core().next_client() {
+                Ok(id) => id,
+                Err(status) => break Err(status),
+            };
             if next.as_ref() != Some(&id) {
                 seen.clear();
                 next = Some(id.clone());
@@ -111,8 +120,7 @@ impl Handle {
             views.retain(|(global, _)| !seen.contains_key(global));
             if views.is_empty() {
                 let hidden = raw_hidden(&seen, GlobalId::raw);
-                let inserted = state.core().insert(stream, data, &hidden);
-                break (inserted, !state.core().told.is_empty());
+                break state.core().insert(stream, data.clone(), &hidden);
             }
             drop(state);
             for (global, view) in views {
@@ -120,10 +128,18 @@ impl Handle {
                 seen.insert(global, is_seen);
             }
         };
-        if has_news {
-            tell(&*self.state);
+        let id = match inserted {
+            Ok(id) => id,
+            Err(status) => panic!("the server can have no more clients: {status}"),
+        };
+        let mut panics = Panics::default();
+        panics.catch(|| data.initialized(id.clone()));
+        let watched = lock(&*self.state).core().watch(&id);
+        if let Some(telling) = telling {
+            panics.catch(|| telling.end());
         }
-        inserted
+        panics.go_on();
+        watched.map(|()| id)
     }
 
     /// The client of an object.
@@ -327,7 +343,10 @@ impl Handle {
     /// If the object is gone, its client is killed and not told why.
     #[inline]
     pub fn post_error(&self, object_id: ObjectId, error_code: u32, message: CString) {
-        self.with_core(|core| core.post_error(&object_id, error_code, message.as_bytes()))
+        let message = message.as_bytes();
+        self.with_client(&object_id.client(), |core| {
+            core.post_error(&object_id, error_code, message);
+        });
     }
 
     /// Kills a client. It is told nothing; [`ClientData::disconnected`] is called with the reason.
@@ -335,7 +354,7 @@ impl Handle {
     /// A client that was killed before is not killed again.
     #[inline]
     pub fn kill_client(&self, client_id: ClientId, reason: DisconnectReason) {
-        self.with_core(|core| core.kill(&client_id, reason))
+        self.with_client(&client_id, |core| core.kill(&client_id, reason));
     }
 
     /// Makes a global, and announces it to the clients that see it ([`GlobalHandler::can_view`]).
@@ -361,6 +380,8 @@ impl Handle {
         let mut seen = HashMap::new();
         loop {
             let (id, mut clients) = self.with_core(|core| (core.next_global(), core.clients()));
+            let id =
+                id.unwrap_or_else(|status| panic!("the server can have no more globals: {status}"));
             if next.as_ref() != Some(&id) {
                 seen.clear();
                 next = Some(id.clone());
@@ -373,8 +394,15 @@ impl Handle {
             let made = self.with_state::<D, _>("create_global", |state| {
                 state.make_global(interface, version, &handler, &id, &seen)
             });
-            if made {
-                return id;
+            match made {
+                Ok(true) => return id,
+                Ok(false) => {}
+                Err(NotMade::Bad(bad)) => panic!("{bad}"),
+                Err(NotMade::NoClient) => unreachable!("a global is no client's"),
+                Err(NotMade::Refused(status)) => panic!(
+                    "Cannot create global {} version {version}: {status}",
+                    interface.name
+                ),
             }
         }
     }
@@ -470,13 +498,27 @@ impl Handle {
     fn with_core<R>(&self, call: impl FnOnce(&mut Core) -> R) -> R {
         let mut state = lock(&*self.state);
         let core = state.core();
+        let before = core.put();
         let answer = call(core);
-        let has_news = !core.told.is_empty();
+        let due = core.due(before);
         drop(state);
-        if has_news {
-            tell(&*self.state);
+        if let Some(due) = due {
+            due.tell();
         }
         answer
+    }
+
+    /// The same, for a call that may end the client. If it has ended before, and another thread tells so, this waits.
+    fn with_client(&self, client: &ClientId, call: impl FnOnce(&mut Core)) {
+        let mut state = lock(&*self.state);
+        let core = state.core();
+        let before = core.put();
+        call(core);
+        let due = core.due_of(client, before);
+        drop(state);
+        if let Some(due) = due {
+            due.tell();
+        }
     }
 
     /// The same with the state of a program's type. `name` is the method that was called.
@@ -486,11 +528,12 @@ impl Handle {
             drop(state);
             panic!("Wrong type parameter passed to Handle::{name}().");
         };
+        let before = typed.core.put();
         let answer = call(typed);
-        let has_news = !typed.core.told.is_empty();
+        let due = typed.core.due(before);
         drop(state);
-        if has_news {
-            tell(&*self.state);
+        if let Some(due) = due {
+            due.tell();
         }
         answer
     }

@@ -6,7 +6,8 @@
 //! any thread.
 //!
 //! No lock is held while a handler runs, so a handler may call everything. A handler that panics leaves a server that
-//! can be used: the request that it was called for counts as handled.
+//! can be used: the request that it was called for counts as handled. The panic comes out of the dispatch, when the other
+//! handlers were called for what came.
 
 use std::{fmt, os::fd::OwnedFd, sync::Arc};
 
@@ -17,6 +18,7 @@ mod backend;
 mod core;
 mod handle;
 mod ids;
+mod news;
 mod state;
 
 pub use backend::Backend;

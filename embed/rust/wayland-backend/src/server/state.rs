@@ -32,17 +32,6 @@ pub(super) fn lock<S: ?Sized>(state: &Mutex<S>) -> MutexGuard<'_, S> {
     state.lock().unwrap_or_else(PoisonError::into_inner)
 }
 
-/// Tells the program what was found out about clients: also what another thread found out, if that comes later.
-pub(super) fn tell<S: AnyState + ?Sized>(state: &Mutex<S>) {
-    loop {
-        let next = lock(state).core().told.pop_front();
-        match next {
-            Some(told) => told.tell(),
-            None => return,
-        }
-    }
-}
-
 /// What the program keeps for an object.
 pub(super) type Data<D> = Arc<dyn ObjectData<D>>;
 
@@ -137,6 +126,12 @@ impl Open {
     pub(super) fn ends(&self) -> bool {
         self.ends.is_some()
     }
+
+    /// Whether nothing is made by it, and nothing ends.
+    #[inline]
+    pub(super) fn is_plain(&self) -> bool {
+        self.created.is_none() && self.ends.is_none()
+    }
 }
 
 /// Whose handler is to be called.
@@ -174,7 +169,7 @@ impl fmt::Display for Misuse {
     }
 }
 
-/// Why an object was not made.
+/// Why an object or a global was not made.
 pub(super) enum NotMade {
     NoClient,
     Bad(BadInterface),
@@ -280,7 +275,8 @@ impl<D> State<D> {
 
     // ---- Globals
 
-    /// Makes a global, if `id` is the next one's and it is known of each client whether it sees the global.
+    /// Makes a global, if `id` is the next one's and it is known of each client whether it sees the global. The error says
+    /// why it cannot be made at all.
     pub(super) fn make_global(
         &mut self,
         interface: &'static Interface,
@@ -288,22 +284,17 @@ impl<D> State<D> {
         handler: &Arc<dyn GlobalHandler<D>>,
         id: &GlobalId,
         seen: &HashMap<ClientId, bool>,
-    ) -> bool {
-        let row = self
-            .core
-            .row(interface)
-            .unwrap_or_else(|bad| panic!("{bad}"));
+    ) -> Result<bool, NotMade> {
+        let row = self.core.row(interface).map_err(NotMade::Bad)?;
         let clients = self.core.clients();
-        if self.core.next_global() != *id || clients.iter().any(|(it, _)| !seen.contains_key(it)) {
-            return false;
+        if self.core.next_global().as_ref() != Ok(id)
+            || clients.iter().any(|(it, _)| !seen.contains_key(it))
+        {
+            return Ok(false);
         }
         let hidden = raw_hidden(seen, ClientId::raw);
-        if let Err(status) = self.core.server.create_global(row, version, 0, &hidden) {
-            panic!(
-                "Cannot create global {} version {version}: {status}",
-                interface.name
-            );
-        }
+        let made = self.core.server.create_global(row, version, 0, &hidden);
+        made.map_err(NotMade::Refused)?;
         self.core.take_notes();
         let name = id.name as usize;
         if self.globals.len() <= name {
@@ -315,7 +306,7 @@ impl<D> State<D> {
             interface,
             handler,
         });
-        true
+        Ok(true)
     }
 
     fn global(&self, id: &GlobalId) -> Option<&Global<D>> {
@@ -420,7 +411,9 @@ impl<D> State<D> {
         misuse
     }
 
-    fn finish_alone(&mut self, open: &Open) {
+    /// Finishes a request that made no object.
+    #[inline]
+    pub(super) fn finish_alone(&mut self, open: &Open) {
         let answer = self.core.server.finish_request(&open.client, None);
         debug_assert!(
             matches!(answer, Ok(_) | Err(Status::INVALID_ID)),

@@ -10,9 +10,11 @@ use std::sync::atomic::{AtomicUsize, Ordering};
 use std::sync::{Arc, Mutex};
 
 use peer::{message, Arg, Event, Peer};
-use program::{bind, made_by, maker, thing, Global, Object, Program, Server, Told, MAKER, THING};
+use program::{
+    bind, made_by, maker, text_of, thing, Global, Object, Program, Server, Told, MAKER, THING,
+};
 use wayland_backend::message;
-use wayland_backend::protocol::{Argument, Interface, ProtocolError};
+use wayland_backend::protocol::{Argument, ArgumentType, Interface, MessageDesc, ProtocolError};
 use wayland_backend::server::{
     Backend, ClientData, ClientId, DisconnectReason, Handle, InvalidId, ObjectData, ObjectId,
 };
@@ -441,6 +443,94 @@ fn a_handler_that_panics_leaves_a_server_that_can_be_used() {
         .starts_with("Received a message on an uninitialized object"));
     assert!(!peer.events().is_empty());
     assert!(!peer.has_ended);
+}
+
+#[test]
+fn what_came_with_a_request_whose_handler_panics_is_handled() {
+    let mut server = Server::with_maker(|| {
+        Object::handling("maker", |_, _, _, message| match message.opcode {
+            maker::POKE => None,
+            _ => panic!("as it was meant"),
+        })
+    });
+    let (first, _, _) = server.connect_and_bind();
+    let (second, _, _) = server.connect_and_bind();
+    let (third, _, told) = server.connect_and_bind();
+    drop(third);
+    let poke = || message(3, maker::POKE, &[]);
+    let make = || message(3, maker::MAKE, &[Arg::Word(4)]);
+    let destroy = || message(3, maker::DESTROY, &[]);
+    first.send_bytes(&[poke(), make(), poke(), destroy()].concat(), &[]);
+    second.send_bytes(&poke(), &[]);
+    let call =
+        std::panic::AssertUnwindSafe(|| server.backend.dispatch_all_clients(&mut server.program));
+    let panic = std::panic::catch_unwind(call).unwrap_err();
+    assert_eq!(panic.downcast_ref(), Some(&"as it was meant"));
+    // poll does not tell of it any more.
+    let mut log = server.program.take_log();
+    log.sort();
+    assert_eq!(
+        log,
+        [
+            "destroy maker@3",
+            "gone maker@3",
+            "gone maker@3",
+            "make maker@3",
+            "poke maker@3",
+            "poke maker@3",
+            "poke maker@3",
+        ]
+    );
+    assert_eq!(told.take(), ["closed"]);
+    assert_eq!(server.round(), 0);
+}
+
+/// Data that panic when they are told, and count that.
+struct Panicking(Arc<AtomicUsize>);
+
+impl ClientData for Panicking {
+    fn initialized(&self, _: ClientId) {
+        self.0.fetch_add(1, Ordering::SeqCst);
+        panic!("at the beginning");
+    }
+
+    fn disconnected(&self, _: ClientId, _: DisconnectReason) {
+        self.0.fetch_add(1, Ordering::SeqCst);
+        panic!("at the end");
+    }
+}
+
+#[test]
+fn data_that_panic_when_they_are_told_leave_the_others_told() {
+    let mut server = plain_server();
+    let count = Arc::new(AtomicUsize::new(0));
+    let (mut peers, mut told) = (Vec::new(), Vec::new());
+    for _ in 0..2 {
+        let (peer, stream) = Peer::new();
+        let data = Arc::new(Panicking(count.clone()));
+        let mut handle = server.handle();
+        assert_eq!(
+            panic_of(|| drop(handle.insert_client(stream, data))),
+            "at the beginning"
+        );
+        peers.push(peer);
+        let (peer, _, one) = server.connect();
+        peers.push(peer);
+        told.push(one);
+    }
+    // They are served all the same.
+    peers[0].send(1, 1, &[Arg::Word(2)]);
+    assert_eq!(server.round(), 1);
+    assert_eq!(peers[0].events().len(), 1);
+    drop(peers);
+    assert_eq!(server.panicking_round(), "at the end");
+    assert_eq!(count.load(Ordering::SeqCst), 4);
+    for told in told {
+        assert_eq!(told.take(), ["initialized", "closed"]);
+    }
+    let mut count = 0;
+    server.handle().with_all_clients(|_| count += 1);
+    assert_eq!(count, 0);
 }
 
 #[test]
@@ -918,6 +1008,43 @@ fn a_bad_descriptor_kills_the_client() {
 }
 
 #[test]
+fn a_bad_descriptor_of_an_event_that_cannot_be_sent_kills_nobody() {
+    let mut server = plain_server();
+    let (peer, client, told) = server.connect_and_bind();
+    let id = object(&server, &client, &MAKER, 3);
+    let child = server
+        .handle()
+        .create_object::<Program>(client.clone(), &MAKER, 1, Object::plain("child"))
+        .unwrap();
+    let bad = || Argument::Fd(1_000_000);
+    let handle = server.handle();
+    let send = |id: &ObjectId, opcode, args: &[Argument<ObjectId, i32>]| {
+        handle.send_event(wayland_backend::protocol::Message {
+            sender_id: id.clone(),
+            opcode,
+            args: args.into(),
+        })
+    };
+    handle.destroy_object::<Program>(&child).unwrap();
+    assert_eq!(send(&child, maker::GIVEN, &[bad()]), Err(InvalidId));
+    let text = panic_of(|| drop(send(&id, 99, &[bad()])));
+    assert_eq!(text, "Unknown opcode 99 for object maker@3[0].");
+    let text = panic_of(|| drop(send(&id, maker::GIVEN, &[bad(), bad()])));
+    assert!(text.starts_with("Unexpected signature"), "{text}");
+    let text = panic_of(|| drop(send(&id, maker::OVER, &[bad()])));
+    assert!(text.starts_with("Unexpected signature"), "{text}");
+    assert_eq!(told.take(), [""; 0]);
+    assert_eq!(send(&id, maker::GIVEN, &[bad()]), Ok(()));
+    assert_eq!(told.take(), ["closed"]);
+    // One that was killed is sent nothing, and one that is gone is not known.
+    assert_eq!(send(&id, maker::GIVEN, &[bad()]), Ok(()));
+    drop(peer);
+    server.round();
+    assert_eq!(send(&id, maker::GIVEN, &[bad()]), Err(InvalidId));
+    assert_eq!(told.take(), [""; 0]);
+}
+
+#[test]
 fn a_client_that_reads_nothing_is_killed_in_the_end() {
     let mut server = plain_server();
     let (peer, client, told) = server.connect_and_bind();
@@ -986,6 +1113,48 @@ fn what_a_full_socket_does_not_take_is_sent_later() {
 }
 
 #[test]
+fn a_burst_is_read_whole_after_a_client_left_much_behind() {
+    let mut server = plain_server();
+    let (slow, client, _) = server.connect_and_bind();
+    let child = {
+        let id = object(&server, &client, &MAKER, 3);
+        let child = server
+            .handle()
+            .create_object::<Program>(client.clone(), &THING, 1, Object::plain("child"))
+            .unwrap();
+        let made = message!(id, maker::MADE, [Argument::NewId(child.clone())]);
+        server.handle().send_event(made).unwrap();
+        child
+    };
+    // Its socket is full, and more waits for it than one receive brings.
+    while server.backend.flush(Some(client.clone())).is_ok() {
+        for number in 0..1000 {
+            let event = message!(child.clone(), thing::TOUCHED, [Argument::Uint(number)]);
+            server.handle().send_event(event).unwrap();
+        }
+    }
+    for number in 0..8000 {
+        let event = message!(child.clone(), thing::TOUCHED, [Argument::Uint(number)]);
+        server.handle().send_event(event).unwrap();
+    }
+    let _ = server.backend.flush(None);
+    drop(slow);
+    server.round();
+    assert!(server.handle().get_client_data(client).is_err());
+    // Bursts of about as much as a session reads at once.
+    let (mut peer, _, _) = server.connect_and_bind();
+    for bytes in [65_528usize, 65_536, 65_544, 67_000, 69_632, 69_640, 140_000] {
+        server.program.take_log();
+        let poke = peer::message(3, maker::POKE, &[]);
+        let count = bytes / poke.len();
+        peer.send_bytes(&poke.repeat(count), &[]);
+        server.round();
+        assert_eq!(server.program.take_log().len(), count, "{bytes} bytes");
+    }
+    assert!(peer.events().is_empty());
+}
+
+#[test]
 fn messages_of_up_to_65532_bytes_arrive() {
     let mut server = Server::with_maker(|| {
         Object::handling("maker", |_, program, _, message| {
@@ -1049,10 +1218,7 @@ fn messages_of_up_to_65532_bytes_arrive() {
 
 fn panic_of(call: impl FnOnce()) -> String {
     let ended = std::panic::catch_unwind(std::panic::AssertUnwindSafe(call));
-    *ended
-        .expect_err("the call panics")
-        .downcast::<String>()
-        .unwrap()
+    text_of(ended.expect_err("the call panics"))
 }
 
 #[test]
@@ -1161,6 +1327,170 @@ fn handles_work_in_other_threads_while_the_server_reads() {
         .filter(|line| line.starts_with("gone"))
         .count();
     assert_eq!(gone, 600);
+}
+
+/// Data that take their time when they are told.
+struct Slow(Mutex<Vec<&'static str>>, std::time::Duration);
+
+impl Slow {
+    fn new() -> Arc<Slow> {
+        Arc::new(Slow(
+            Mutex::default(),
+            std::time::Duration::from_millis(300),
+        ))
+    }
+
+    fn say(&self, what: &'static str) {
+        self.0.lock().unwrap().push(what);
+    }
+
+    fn told(&self) -> Vec<&'static str> {
+        self.0.lock().unwrap().clone()
+    }
+
+    /// Waits until it has been told this.
+    fn wait_for(&self, what: &'static str) {
+        while self.told().last() != Some(&what) {
+            std::thread::yield_now();
+        }
+    }
+}
+
+impl ClientData for Slow {
+    fn initialized(&self, _: ClientId) {
+        self.say("begins");
+        std::thread::sleep(self.1);
+        self.say("has begun");
+    }
+
+    fn disconnected(&self, _: ClientId, _: DisconnectReason) {
+        self.say("ends");
+        std::thread::sleep(self.1);
+        self.say("has ended");
+    }
+}
+
+/// An object that tells the client's data when it is asked, and when it is gone.
+struct Beside(Arc<Slow>);
+
+impl ObjectData<Program> for Beside {
+    fn request(
+        self: Arc<Self>,
+        _: &Handle,
+        _: &mut Program,
+        _: ClientId,
+        _: wayland_backend::protocol::Message<ObjectId, OwnedFd>,
+    ) -> Option<Arc<dyn ObjectData<Program>>> {
+        self.0.say("asked");
+        None
+    }
+
+    fn destroyed(self: Arc<Self>, _: &Handle, _: &mut Program, _: ClientId, _: ObjectId) {
+        self.0.say("gone");
+    }
+}
+
+#[test]
+fn a_client_is_told_in_order_beside_other_threads() {
+    let slow = Slow::new();
+    let data = slow.clone();
+    let mut server = Server::with_maker(move || Arc::new(Beside(data.clone())));
+    let (peer, stream) = Peer::new();
+    peer.send(1, 1, &[Arg::Word(2)]);
+    bind(&peer, 1, 3);
+    peer.send(3, maker::POKE, &[]);
+    let (mut handle, data) = (server.handle(), slow.clone());
+    let inserting = std::thread::spawn(move || handle.insert_client(stream, data).unwrap());
+    while !slow.told().contains(&"asked") {
+        server.round();
+    }
+    assert_eq!(slow.told(), ["begins", "has begun", "asked"]);
+    let client = inserting.join().unwrap();
+    let (handle, id) = (server.handle(), client.clone());
+    let killing = std::thread::spawn(move || {
+        handle.kill_client(id, DisconnectReason::ConnectionClosed);
+    });
+    slow.wait_for("ends");
+    // A second call for the client returns when it has been told.
+    let (handle, id, data) = (server.handle(), client.clone(), slow.clone());
+    let second = std::thread::spawn(move || {
+        handle.kill_client(id, DisconnectReason::ConnectionClosed);
+        data.told().contains(&"has ended")
+    });
+    let dispatched = server
+        .backend
+        .dispatch_single_client(&mut server.program, client);
+    assert!(dispatched.is_err());
+    assert_eq!(slow.told()[3..], ["ends", "has ended", "gone"]);
+    killing.join().unwrap();
+    assert!(second.join().unwrap());
+}
+
+#[test]
+fn a_client_that_another_thread_kills_while_it_begins_ends_after_that() {
+    let server = plain_server();
+    let slow = Slow::new();
+    let (_peer, stream) = Peer::new();
+    let (mut handle, data) = (server.handle(), slow.clone());
+    let inserting = std::thread::spawn(move || handle.insert_client(stream, data).unwrap());
+    slow.wait_for("begins");
+    let mut clients = Vec::new();
+    server.handle().with_all_clients(|id| clients.push(id));
+    // Calls that tell nothing do not wait.
+    assert!(server.handle().get_client_data(clients[0].clone()).is_ok());
+    assert_eq!(slow.told(), ["begins"]);
+    server
+        .handle()
+        .kill_client(clients.remove(0), DisconnectReason::ConnectionClosed);
+    assert_eq!(slow.told(), ["begins", "has begun", "ends", "has ended"]);
+    inserting.join().unwrap();
+}
+
+thread_local! {
+    /// What this thread's panics call.
+    static ON_PANIC: std::cell::RefCell<Option<Handle>> = const { std::cell::RefCell::new(None) };
+}
+
+#[test]
+fn a_panic_hook_may_call_the_server() {
+    // An object of no interface can be made by wl_registry.bind alone.
+    static BAD: Interface = Interface {
+        name: "bad",
+        version: 1,
+        requests: &[MessageDesc {
+            name: "make",
+            signature: &[ArgumentType::NewId],
+            since: 1,
+            is_destructor: false,
+            child_interface: None,
+            arg_interfaces: &[],
+        }],
+        events: &[],
+        c_ptr: None,
+    };
+    let before = std::panic::take_hook();
+    std::panic::set_hook(Box::new(move |info| {
+        let handle = ON_PANIC.with_borrow_mut(Option::take);
+        match handle {
+            Some(handle) => handle.with_all_clients(|_| ()),
+            None => before(info),
+        }
+    }));
+    let (done, is_done) = std::sync::mpsc::channel();
+    std::thread::spawn(move || {
+        let server = Server::new();
+        ON_PANIC.set(Some(server.handle()));
+        let handle = server.handle();
+        let global = Global::new(|| Object::plain("bad"));
+        let text = panic_of(|| _ = handle.create_global::<Program>(&BAD, 1, global));
+        let _ = done.send(text);
+    });
+    let text = is_done.recv_timeout(std::time::Duration::from_secs(10));
+    let text = text.expect("the hook waits for a lock");
+    assert!(
+        text.starts_with("The interface bad cannot be used"),
+        "{text}"
+    );
 }
 
 #[test]

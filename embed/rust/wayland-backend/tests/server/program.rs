@@ -257,6 +257,14 @@ impl ClientData for Told {
     }
 }
 
+/// The text of a panic.
+pub fn text_of(panic: Box<dyn std::any::Any + Send>) -> String {
+    match panic.downcast::<String>() {
+        Ok(text) => *text,
+        Err(text) => text.downcast::<&str>().unwrap().to_string(),
+    }
+}
+
 pub struct Server {
     pub backend: Backend<Program>,
     pub program: Program,
@@ -296,11 +304,7 @@ impl Server {
     /// One round in which a handler panics. The answer is the panic's text.
     pub fn panicking_round(&mut self) -> String {
         let ended = catch_unwind(AssertUnwindSafe(|| self.round()));
-        let text = ended.expect_err("the round panics");
-        match text.downcast::<String>() {
-            Ok(text) => *text,
-            Err(text) => text.downcast::<&str>().unwrap().to_string(),
-        }
+        text_of(ended.expect_err("the round panics"))
     }
 
     pub fn connect(&self) -> (Peer, ClientId, Arc<Told>) {

@@ -2,9 +2,8 @@
 
 use std::sync::atomic::Ordering;
 
-use wayland_backend::client;
 use wayland_backend::protocol::Argument;
-use wayland_backend::server;
+use wayland_backend::{client, message, server};
 
 use crate::pair::*;
 use crate::table::*;
@@ -15,6 +14,7 @@ pub fn run(checks: &mut Checks) {
     server_destroys(checks);
     equal_errors(checks);
     client_limit(checks);
+    lowest_limits(checks);
     server_limits(checks);
     names_of_globals(checks);
 }
@@ -138,6 +138,35 @@ fn client_limit(checks: &mut Checks) {
         &format!("a client fails at its limit, and only there: {counts:?} requests"),
         grows,
     );
+}
+
+/// A limit below what a session's buffer has anyway. A flush sends what waits, and returns.
+fn lowest_limits(checks: &mut Checks) {
+    for limit in [0, 1, 4095] {
+        let (mut server, client) = pair();
+        client.backend.set_max_buffer_size(Some(limit));
+        let (done, is_done) = std::sync::mpsc::channel();
+        let (backend, shape) = (client.backend.clone(), client.shape.clone());
+        std::thread::spawn(move || {
+            let are_flushed = (0..1000).all(|number| {
+                let request = message!(shape.clone(), NUMBER, [Argument::Int(number)]);
+                let sent = backend.send_request(request, None, None);
+                sent.is_ok() && (number % 100 != 99 || backend.flush().is_ok())
+            });
+            done.send(are_flushed)
+        });
+        let flushed = is_done.recv_timeout(std::time::Duration::from_secs(10));
+        checks.equal(
+            &format!("with a limit of {limit} bytes a flush returns"),
+            flushed,
+            Ok(true),
+        );
+        if flushed.is_err() {
+            continue; // the session is locked
+        }
+        server.serve();
+        checks.equal("and all is sent", server.came().len(), 1000);
+    }
 }
 
 /// How many events wait for a client that does not read, until it is killed.

@@ -138,10 +138,7 @@ fn in_request(checks: &mut Checks) {
         "a handler's panic comes out of the dispatch",
         panics(|| _ = server.dispatch()),
     );
-    // As with the original: what was received with it waits until the client is heard of again.
-    client.number(15);
-    client.flush();
-    server.serve();
+    // What was received with it is served at once, since poll does not tell of it any more.
     let came: Vec<_> = server
         .came()
         .into_iter()
@@ -150,7 +147,7 @@ fn in_request(checks: &mut Checks) {
     checks.equal(
         "and what came after it is served",
         came,
-        vec![(12, None), (14, None), (0, Some(3)), (15, None)],
+        vec![(12, None), (14, None), (0, Some(3))],
     );
     checks.check("and the session works", works(&mut server, &client));
 }
@@ -172,7 +169,6 @@ fn in_event(checks: &mut Checks) {
         "a handler's panic comes out of the reading",
         panics(|| _ = client.read()),
     );
-    client.read();
     let came: Vec<_> = client.came().into_iter().map(|it| it.number).collect();
     checks.equal("and what came after it is read", came, vec![12, 14]);
     checks.check("and the session works", works(&mut server, &client));

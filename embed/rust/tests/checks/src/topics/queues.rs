@@ -3,6 +3,7 @@
 use std::sync::atomic::{AtomicBool, Ordering};
 use std::sync::Arc;
 use std::thread;
+use std::time::Duration;
 
 use rustix::event::{poll, PollFd, PollFlags};
 use wayland_client::protocol::{wl_callback, wl_registry};
@@ -80,6 +81,14 @@ pub fn run(checks: &mut Checks) {
             })
         })
         .collect();
+    // wayland-client looks at its queue before it prepares a reading, and not again: an event that another thread reads in
+    // between wakes nobody. So something comes now and then.
+    let queue = connection.new_event_queue::<Of>();
+    while threads.iter().any(|it| !it.is_finished()) {
+        connection.display().sync(&queue.handle(), ());
+        let _ = connection.flush();
+        thread::sleep(Duration::from_millis(20));
+    }
     let counts: Vec<_> = threads.into_iter().map(|it| it.join().ok()).collect();
     checks.equal(
         "six queues in six threads each get their own events",

@@ -1,6 +1,9 @@
 //! Globals.
 
+use std::os::unix::net::UnixStream;
 use std::sync::Arc;
+
+use wayland_backend::server;
 
 use crate::table::*;
 use crate::told::Told;
@@ -10,6 +13,8 @@ use crate::Case;
 pub const CASES: &[Case] = &[
     ("global_life", global_life),
     ("global_hidden", global_hidden),
+    ("hidden_global_life", hidden_global_life),
+    ("global_seen_by_client_data", global_seen_by_client_data),
     ("global_bound_after_disable", global_bound_after_disable),
     ("global_of_too_high_a_version", global_of_too_high_a_version),
     ("global_info", global_info),
@@ -71,6 +76,119 @@ fn global_hidden(told: &Told) {
     world.send(&[2, 32 << 16, 1, 6, 0x7061_6873, 0x65, 3, 3]);
     world.serve();
     world.receive();
+}
+
+/// A global that nobody sees is made, disabled and removed beside a client with two registries.
+fn hidden_global_life(told: &Told) {
+    let mut world = World::new(told, Setup::default());
+    let handle = world.handle();
+    let display = world.client().display_id();
+    let null = wayland_backend::client::ObjectId::null;
+    world.request(
+        &display,
+        1,
+        vec![wayland_backend::protocol::Argument::NewId(null())],
+    );
+    world.turn();
+    let handler = Arc::new(Global {
+        told: told.clone(),
+        bound: Default::default(),
+        is_shown: false,
+        object: Box::new(|told| ServerObject::new(told, "hidden")),
+    });
+    let hidden = handle.create_global::<State>(&SHAPE, 2, handler);
+    world.serve();
+    world.read();
+    world.tell(
+        "hidden",
+        handle
+            .global_info(hidden.clone())
+            .map(|it| (it.version, it.disabled)),
+    );
+    handle.disable_global::<State>(hidden.clone());
+    world.serve();
+    world.read();
+    handle.remove_global::<State>(hidden.clone());
+    world.tell("info", handle.global_info(hidden).is_ok());
+    world.serve();
+    world.read();
+    // Its name is the next global's, which all see.
+    handle.create_global::<State>(&SHAPE, 1, world.handler.clone());
+    world.serve();
+    world.read();
+}
+
+/// A client that is no member of anything.
+struct Guest(Told);
+
+impl server::ClientData for Guest {
+    fn disconnected(&self, _: server::ClientId, reason: server::DisconnectReason) {
+        self.0.say(format!("guest disconnected: {reason:?}"));
+    }
+}
+
+/// A global that guests do not see.
+struct ForMembers(Told);
+
+impl server::GlobalHandler<State> for ForMembers {
+    fn can_view(
+        &self,
+        _: server::ClientId,
+        data: &Arc<dyn server::ClientData>,
+        _: server::GlobalId,
+    ) -> bool {
+        data.downcast_ref::<Guest>().is_none()
+    }
+
+    fn bind(
+        self: Arc<Self>,
+        _: &server::Handle,
+        _: &mut State,
+        _: server::ClientId,
+        _: server::GlobalId,
+        id: server::ObjectId,
+    ) -> Arc<dyn server::ObjectData<State>> {
+        self.0.say(format!("bind {id} of members"));
+        Arc::new(ServerObject::new(&self.0, "for members"))
+    }
+}
+
+/// A member and a guest, one global for members before the guest comes and one after that.
+fn global_seen_by_client_data(told: &Told) {
+    let mut world = World::new(told, Setup::default());
+    let mut handle = world.handle();
+    handle.create_global::<State>(&SHAPE, 2, Arc::new(ForMembers(told.clone())));
+    world.serve();
+    world.read();
+    let (guest, theirs) = UnixStream::pair().unwrap();
+    guest.set_nonblocking(true).unwrap();
+    handle
+        .insert_client(theirs, Arc::new(Guest(told.clone())))
+        .unwrap();
+    world.raw = Some(guest);
+    world.send(&[1, 12 << 16 | 1, 2]);
+    world.serve();
+    world.receive();
+    handle.create_global::<State>(&SHAPE, 1, Arc::new(ForMembers(told.clone())));
+    world.serve();
+    world.read();
+    world.receive();
+    for name in [2, 3] {
+        world
+            .bind(
+                name,
+                "shape",
+                1,
+                &SHAPE,
+                Arc::new(ClientObject::new(told, "of members")),
+            )
+            .unwrap();
+    }
+    world.turn();
+    world.send(&[2, 32 << 16, 3, 6, 0x7061_6873, 0x65, 1, 3]);
+    world.serve();
+    world.receive();
+    world.turn();
 }
 
 fn global_bound_after_disable(told: &Told) {
