@@ -1,4 +1,4 @@
-//! The tests of `wl_bench`. They call public items alone, and nothing stands on this crate.
+//! The tests of `wl_bench`, `wl_replay` and `wl_bench_program`. They call public items alone, and nothing stands on this crate.
 #![tactic(auto)]
 
 #[cfg(test)]

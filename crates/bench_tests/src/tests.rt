@@ -1,5 +1,6 @@
-//! The tests of `wl_bench`: lines that drive a server, recordings of them, and bytes as text.
+//! The tests of `wl_bench`: lines that drive a server, recordings of them, bytes as text, and the program over all of these.
 
 mod commands;
 mod hex;
+mod program;
 mod recordings;

@@ -1,7 +1,7 @@
 //! The tests of `wl-bench run`: lines that drive a server, and what is printed.
 
 mod bad;
-mod broken;
+pub mod broken;
 mod calls;
 mod conversations;
 mod dispatches;

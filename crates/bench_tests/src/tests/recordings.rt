@@ -2,6 +2,7 @@
 
 mod conversations;
 mod differences;
+mod flushes;
 
 use std::alloc::Global;
 use std::test::Fail;

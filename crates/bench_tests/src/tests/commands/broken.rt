@@ -23,7 +23,7 @@ impl io::Read for Source<'_> {
 
 /// A writer that takes so many writes and flushes, and then fails each.
 #[derive(Drop)]
-struct Sink {
+pub struct Sink {
     taken: Vec<u8>,
     flushed: usize,
     writes: usize,
@@ -31,7 +31,7 @@ struct Sink {
 }
 
 impl Sink {
-    fn new(alloc: Global, writes: usize, flushes: usize) -> Self {
+    pub fn new(alloc: Global, writes: usize, flushes: usize) -> Self {
         Sink {
             taken: Vec::new(alloc),
             flushed: 0,
@@ -64,7 +64,7 @@ impl Write for Sink {
 }
 
 /// Fails if the output took anything but these bytes, or another number of them was flushed.
-fn took(rt: &impl Abort, output: &Sink, bytes: &[u8], flushed: usize) {
+pub fn took(rt: &impl Abort, output: &Sink, bytes: &[u8], flushed: usize) {
     assert_eq!(rt; output.taken.as_slice(), bytes);
     assert_eq!(rt; output.flushed, flushed);
 }
