@@ -4,4 +4,7 @@
 
 mod drill;
 mod drills;
+mod drops;
+mod hints;
+mod no_memory;
 mod transports;

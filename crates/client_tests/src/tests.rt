@@ -6,8 +6,10 @@
 
 mod acts;
 mod cuts;
+mod drops;
 mod events;
 mod faults;
+mod hints;
 mod objects;
 mod replayed;
 mod requests;

@@ -4,6 +4,9 @@
 
 mod drill;
 mod drills;
+mod drops;
 mod faults;
 mod full;
+mod no_memory;
+mod notes;
 mod transports;

@@ -6,9 +6,11 @@
 //! | the steps of a run by `replay` as data | `steps` |
 //! | what a server's calls answer, a line each | `told` |
 //! | bytes that a client sends | `arrivals` |
+//! | values that count their drops | `counted` |
 #![tactic(auto)]
 
 pub mod arrivals;
+pub mod counted;
 pub mod steps;
 pub mod told;
 pub mod values;

@@ -8,6 +8,7 @@ mod buffers;
 mod cuts;
 mod cutting;
 mod dispatches;
+mod drops;
 mod globals;
 mod handlers;
 mod long;

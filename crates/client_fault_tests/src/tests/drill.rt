@@ -111,18 +111,25 @@ fn judge_stopped(
     go_on(rt, client, run, rest)
 }
 
+/// Fails if the run, which answered so, is not as it has to be.
+fn judge_answer(
+    rt: &(impl Eprint + AllocGlobal),
+    client: &mut Client,
+    run: &Run,
+    answer: &Result<Vec<Reply<u32>>, Stopped<u32>>,
+) -> Result<(), Fail> {
+    match answer {
+        Ok(replies) => judge_whole(rt, client, run, run.entries, replies.as_slice()),
+        Err(stopped) => judge_stopped(rt, client, run, stopped),
+    }
+}
+
 /// Makes the run, and fails if it is not as it has to be; whether memory was refused.
 fn play(rt: &(impl Eprint + AllocGlobal), client: &mut Client, run: &Run) -> Result<bool, Fail> {
-    match client.replay(steps_of(rt.alloc(), run.entries)?) {
-        Ok(replies) => {
-            judge_whole(rt, client, run, run.entries, replies.as_slice())?;
-            Ok(false)
-        }
-        Err(stopped) => {
-            judge_stopped(rt, client, run, &stopped)?;
-            Ok(true)
-        }
-    }
+    let steps = steps_of(rt.alloc(), run.entries)?;
+    let answer = client.replay(steps);
+    judge_answer(rt, client, run, &answer)?;
+    Ok(answer.is_err())
 }
 
 /// What the session's error tells.
@@ -171,5 +178,7 @@ fn connected(alloc: Global) -> Result<Client, Fail> {
 /// Makes the run of a new client, and fails if it is not as it has to be.
 pub fn drill(rt: &(impl Eprint + AllocGlobal), run: &Run) -> Result<(), Fail> {
     let mut client = connected(rt.alloc())?;
-    play_to(rt, &mut client, run)
+    let answer = play_to(rt, &mut client, run);
+    drop(client);
+    answer
 }

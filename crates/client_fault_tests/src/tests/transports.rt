@@ -155,7 +155,9 @@ fn connected(alloc: Global) -> Result<Client, Fail> {
 /// The same of a new client.
 fn played(alloc: Global, calls: &[Call]) -> Result<Vec<String>, Fail> {
     let mut client = connected(alloc)?;
-    played_by(alloc, &mut client, calls)
+    let answer = played_by(alloc, &mut client, calls);
+    drop(client);
+    answer
 }
 
 /// Whether a receive may take what comes at this call: something arrives, or it is read.
@@ -260,6 +262,18 @@ fn has_to_tell<'a>(call: Call, has_failed: bool, (was, is): (&'a str, &'a str)) 
     }
 }
 
+/// Fails if the call tells something else than it has to, where a call before it has failed or not; whether one has failed now.
+fn fails_since(
+    rt: &impl Eprint,
+    call: Call,
+    has_failed: bool,
+    (was, is): (&str, &str),
+) -> Result<bool, Fail> {
+    let fails_now = has_failed || (is_asked(call) && is == FAILED);
+    is_text(rt, is, has_to_tell(call, fails_now, (was, is)))?;
+    Ok(fails_now)
+}
+
 /// Fails if a call of a run, in which the transport fails, tells something else than it has to: up to the first reading or
 /// flush that answers the fault, what it tells if nothing fails; and from then on each that reads or flushes fails.
 fn fails_for_good(
@@ -270,9 +284,7 @@ fn fails_for_good(
 ) -> Result<(), Fail> {
     let mut has_failed = false;
     for (call, (was, is)) in run.iter().zip(clean.iter().zip(texts)) {
-        has_failed = has_failed || (is_asked(*call) && is.as_str() == FAILED);
-        let text = has_to_tell(*call, has_failed, (was.as_str(), is.as_str()));
-        is_text(rt, is.as_str(), text)?;
+        has_failed = fails_since(rt, *call, has_failed, (was.as_str(), is.as_str()))?;
     }
     holds(rt, "a call fails", has_failed)
 }
@@ -315,15 +327,25 @@ fn is_judged(
     Ok(is_met)
 }
 
-/// The receive at that call fails; whether it is met, which it has to be for what arrives.
+/// The receive at that call fails; whether it is met.
+fn receive_is_stored(
+    rt: &(impl Eprint + AllocGlobal),
+    run: &[Call],
+    clean: &[String],
+    at: usize,
+) -> Result<bool, Fail> {
+    let calls = with_receive(rt.alloc(), run, at, IoFault::Other(5))?;
+    is_stored(rt, run, clean, calls.as_slice())
+}
+
+/// The same; and it has to be met for what arrives.
 fn receive_fails(
     rt: &(impl Eprint + AllocGlobal),
     run: &[Call],
     clean: &[String],
     (at, call): (usize, Call),
 ) -> Result<bool, Fail> {
-    let calls = with_receive(rt.alloc(), run, at, IoFault::Other(5))?;
-    let is_met = is_stored(rt, run, clean, calls.as_slice())?;
+    let is_met = receive_is_stored(rt, run, clean, at)?;
     let has_to_be = !matches!(call, Call::Next);
     holds(rt, "what arrives is received", is_met || !has_to_be)?;
     Ok(is_met)

@@ -466,7 +466,7 @@ fn connected(alloc: Global) -> Result<Client, Fail> {
 }
 
 /// What the acts tell, one after the other.
-fn log_by(alloc: Global, client: &mut Client, way: Way, acts: &[Act]) -> Result<String, Fail> {
+pub fn log_by(alloc: Global, client: &mut Client, way: Way, acts: &[Act]) -> Result<String, Fail> {
     let mut log = String::new(alloc);
     for act in acts {
         perform(alloc, client, &mut log, way, *act)?;

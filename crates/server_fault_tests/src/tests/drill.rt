@@ -48,6 +48,13 @@ pub struct Run<'a> {
     pub sends: usize,
 }
 
+/// The step of the call, alone.
+pub fn only(alloc: Global, call: Call) -> Result<Vec<Made>, Fail> {
+    let mut steps = Vec::new(alloc);
+    steps.push(step(alloc, call)?)?;
+    Ok(steps)
+}
+
 /// The client of the call, if it names one.
 fn client_of_call(call: Call) -> Option<Who> {
     match call {
@@ -446,5 +453,7 @@ fn play(
 /// Makes the run of a new server, and fails if it is not as it has to be.
 pub fn drill(rt: &(impl Abort + Print + AllocGlobal), run: &Run) -> Result<(), Fail> {
     let mut server = Backend::new(rt.alloc(), quad_table(rt.alloc())?);
-    play(rt, &mut server, run)
+    let answer = play(rt, &mut server, run);
+    drop(server);
+    answer
 }

@@ -459,14 +459,24 @@ fn push_registry(entries: &mut Vec<Entry>, who: Who) -> Result<(), Fail> {
     Ok(entries.push(Entry::Do(Call::Next(who), "Io error: would block\n"))?)
 }
 
+/// Three clients are inserted.
+static THREE: [Entry; 3] = [
+    Entry::Do(Call::Insert(true), "client 0, 1\n"),
+    Entry::Do(Call::Insert(true), "client 1, 2\n"),
+    Entry::Do(Call::Insert(true), "client 2, 3\n"),
+];
+
+/// Puts the steps by which each of the three has a registry.
+fn push_registries(entries: &mut Vec<Entry>) -> Result<(), Fail> {
+    push_registry(entries, FIRST)?;
+    push_registry(entries, SECOND)?;
+    push_registry(entries, THIRD)
+}
+
 /// Puts the steps by which three clients have a registry each, and so many globals are created.
 fn push_three(entries: &mut Vec<Entry>, globals: u32) -> Result<(), Fail> {
-    entries.push(Entry::Do(Call::Insert(true), "client 0, 1\n"))?;
-    entries.push(Entry::Do(Call::Insert(true), "client 1, 2\n"))?;
-    entries.push(Entry::Do(Call::Insert(true), "client 2, 3\n"))?;
-    for who in [FIRST, SECOND, THIRD] {
-        push_registry(entries, who)?;
-    }
+    entries.extend_from_slice(&THREE)?;
+    push_registries(entries)?;
     for name in 1..=globals {
         entries.push(Entry::Global(name))?;
     }

@@ -1,9 +1,9 @@
 //! A server with one client: requests of the display, objects, events, errors, and a transport that lacks memory.
 
-use super::run::{Act, Look, Row, rows_tell};
-use server_test_kit::arrivals::{MAKE_BY_SERVER, SYNC, SYNC_AT_5};
+use super::run::{Act, Beside, Look, Row, rows_tell};
+use server_test_kit::arrivals::{GET_REGISTRY, MAKE_BY_SERVER, SYNC, SYNC_AT_5};
 use server_test_kit::steps::Call;
-use server_test_kit::values::{DISPLAY, Event, FIRST, SECOND, Thing};
+use server_test_kit::values::{DISPLAY, Event, FIRST, Named, SECOND, Thing};
 use std::test::Fail;
 use test_kit::quad::QUAD;
 use wl_wire::{IoFault, WL_REGISTRY_INTERFACE};
@@ -17,8 +17,13 @@ const SECOND_MADE: Thing = Thing(FIRST, 0xFF00_0001, 2, QUAD);
 /// No object, but for its client.
 const NONE: Thing = Thing(FIRST, 0, 0, QUAD);
 
+/// `wl_registry.bind`, by registry 2, of the global 1, as an interface whose name is 150 times `a`, of version 3, with the new
+/// id 3.
+const BIND_OF_150_LETTERS: &[u8] =
+    b"\x02\0\0\0\0\0\xb0\0\x01\0\0\0\x97\0\0\0aaaaaaaaaaaaaaaaaaaaaaaaaaaaaaaaaaaaaaaaaaaaaaaaaaaaaaaaaaaaaaaaaaaaaaaaaaaaaaaaaaaaaaaaaaaaaaaaaaaaaaaaaaaaaaaaaaaaaaaaaaaaaaaaaaaaaaaaaaaaaaaaaaaaaa\0\0\x03\0\0\0\x03\0\0\0";
+
 /// The runs, and what they tell.
-static ROWS: [Row; 12] = [
+static ROWS: [Row; 14] = [
     // A sync is answered, and its callback is gone at once: its number is used again, with the next serial.
     Row {
         name: "sync is answered",
@@ -166,6 +171,58 @@ static ROWS: [Row; 12] = [
             Act::Do(Call::Send(Event::Bare(MADE, 9))),
         ],
         told: "client 0, 1\ncreated 4278190080, 1, 4 of 0\ndone\ndone\nIo error: broken pipe\ninitialized 0, 1\ndisconnected 0, 1: closed\nout: client 0, 1 with 0 sends\ndestroyed 4278190080, 1, 4 of 0 with 9\nIo error: invalid input\nInvalid Id\n",
+    },
+    // A bind as an interface with a long name: the error's text of 193 bytes is sent and noted whole, and no memory is refused.
+    Row {
+        name: "an error of 193 bytes",
+        acts: &[
+            Act::Do(Call::Insert(true)),
+            Act::Do(Call::Global(QUAD, 3)),
+            Act::Do(Call::Disable(Named(1, 1))),
+            Act::Do(Call::Arrive(FIRST, &GET_REGISTRY)),
+            Act::Do(Call::Arrive(FIRST, BIND_OF_150_LETTERS)),
+            Act::Beside(Beside::NextInto(FIRST)),
+            Act::Do(Call::TakeSent(FIRST)),
+            Act::Do(Call::Notes),
+        ],
+        told: "client 0, 1\nglobal 1, 1\nIo error: broken pipe\n01 00 00 00 00 00 d8 00 01 00 00 00 00 00 00 00 c2 00 00 00 49 6e 76 61 6c 69 64 20 62 69 6e 64 69 6e 67 20 6f 66 20 61 61 61 61 61 61 61 61 61 61 61 61 61 61 61 61 61 61 61 61 61 61 61 61 61 61 61 61 61 61 61 61 61 61 61 61 61 61 61 61 61 61 61 61 61 61 61 61 61 61 61 61 61 61 61 61 61 61 61 61 61 61 61 61 61 61 61 61 61 61 61 61 61 61 61 61 61 61 61 61 61 61 61 61 61 61 61 61 61 61 61 61 61 61 61 61 61 61 61 61 61 61 61 61 61 61 61 61 61 61 61 61 61 61 61 61 61 61 61 61 61 61 61 61 61 61 61 61 61 61 61 61 61 61 61 61 61 61 61 61 61 61 61 61 61 61 61 61 61 61 20 76 65 72 73 69 6f 6e 20 33 20 66 6f 72 20 67 6c 6f 62 61 6c 20 31 2e 00 00 00\ninitialized 0, 1\ndisconnected 0, 1: error 0 on wl_display 1: Invalid binding of aaaaaaaaaaaaaaaaaaaaaaaaaaaaaaaaaaaaaaaaaaaaaaaaaaaaaaaaaaaaaaaaaaaaaaaaaaaaaaaaaaaaaaaaaaaaaaaaaaaaaaaaaaaaaaaaaaaaaaaaaaaaaaaaaaaaaaaaaaaaaaaaaaaaaa version 3 for global 1.\n",
+    },
+    // A client that is killed while an action is open: that answers first, and after its end each reading that the client is
+    // killed, whatever else is called, until a cleanup takes the client out. Of the two arrivals none is received.
+    Row {
+        name: "readings of a killed client",
+        acts: &[
+            Act::Do(Call::Insert(true)),
+            Act::Do(Call::Create(FIRST, QUAD, 3, 9)),
+            Act::Do(Call::Arrive(FIRST, &MAKE_BY_SERVER)),
+            Act::Do(Call::Next(FIRST)),
+            Act::Do(Call::Kill(FIRST)),
+            Act::Do(Call::Arrive(FIRST, &SYNC)),
+            Act::Do(Call::Arrive(FIRST, &SYNC)),
+            Act::Do(Call::Next(FIRST)),
+            Act::Do(Call::NextWithin(FIRST, 64)),
+            Act::Do(Call::Finish(FIRST, Some(5))),
+            Act::Do(Call::Next(FIRST)),
+            Act::Do(Call::NextWithin(FIRST, 64)),
+            Act::Do(Call::Send(Event::Moved(MADE, 7))),
+            Act::Do(Call::Limit(FIRST, 4096)),
+            Act::Do(Call::Global(QUAD, 3)),
+            Act::Do(Call::Flush(FIRST)),
+            Act::Do(Call::Destroy(MADE)),
+            Act::Do(Call::Insert(true)),
+            Act::Do(Call::Notes),
+            Act::Do(Call::Next(FIRST)),
+            Act::Beside(Beside::NextInto(FIRST)),
+            Act::Beside(Beside::NextWithinInto(FIRST, 64)),
+            Act::Look(Look::Arrivals(FIRST)),
+            Act::Do(Call::Cleanup),
+            Act::Do(Call::Next(FIRST)),
+            Act::Do(Call::NextWithin(FIRST, 64)),
+            Act::Do(Call::Insert(true)),
+            Act::Do(Call::Next(FIRST)),
+            Act::Look(Look::Arrivals(FIRST)),
+        ],
+        told: "client 0, 1\ncreated 4278190080, 1, 4 of 0\nrequest 1 to 4278190080, 1, 4 of 0: new 2, 2, 4 of 0, which makes 2, 2, 4 of 0\nan action is open\nan action is open\n64 left, 0 read\nfinished\nIo error: broken pipe\nIo error: broken pipe\n64 left, 0 read\ndone\nglobal 1, 1\ndone\ndone\nclient 1, 2\ninitialized 0, 1\ndisconnected 0, 1: closed\ninitialized 1, 2\nIo error: broken pipe\nIo error: broken pipe\nIo error: broken pipe\n64 left, 0 read\n2 arrivals\nout: client 0, 1 with 0 sends\nIo error: invalid input\nIo error: invalid input\n64 left, 0 read\nclient 0, 3\nIo error: invalid input\nInvalid Id\n",
     },
     // An error that the program posts, on an object that is kept and on one that is not.
     Row {
