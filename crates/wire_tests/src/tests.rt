@@ -3,7 +3,9 @@
 mod descriptors;
 mod enums;
 mod errors;
+mod log_text;
 mod longest;
+mod looked_up;
 mod numbered;
 mod refused;
 mod strings;

@@ -138,7 +138,7 @@ deleted_wrote =
     short_wrote (link_with arrived nothing with_done) deleted (omega (arith, deleted_size)) (omega (arith, deleted_size, with_done_length))
 
 said : ℕ → WireMessage → Said
-said serial m = record { serial = serial; message = m }
+said serial m = record { serial = serial; message = m; makes_text = false }
 
 -- ---- the flush
 

@@ -6,9 +6,11 @@ mod Lines
 mod Making
 pub mod OneCommand
 pub mod Numbers
+mod OneOutcome
 mod Others
 mod Places
 mod Rows
+mod SameRecords
 pub mod RunLines
 mod Sharing
 mod Slots

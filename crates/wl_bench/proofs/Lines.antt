@@ -24,15 +24,12 @@ few_of_client ws slot (FailIn fault) h = let n = ap length h.1 in (omega arith, 
 few_of_client ws slot (FailOut fault) h = let n = ap length h.1 in (omega arith, omega arith)
 
 few_words : (ws : List (List ℕ)) (c : Command) → IsCommand c ws → IsFewWords ws
-few_words ws Insert h = let n = ap length h in (omega arith, omega arith)
 few_words ws (Client slot c) h = few_of_client ws slot c h.1
 few_words ws (Dispatch slots) h = let n = ap length h.1 in (omega arith, omega arith)
 few_words ws (Create name version) h = let n = ap length h.2 in (omega arith, omega arith)
 few_words ws (Disable name) h = let n = ap length h.1 in (omega arith, omega arith)
 few_words ws (Remove name) h = let n = ap length h.1 in (omega arith, omega arith)
-few_words ws Flush h = let n = ap length h in (omega arith, omega arith)
-few_words ws Cleanup h = let n = ap length h in (omega arith, omega arith)
-few_words ws Notes h = let n = ap length h in (omega arith, omega arith)
+few_words ws _ h = let n = ap length h in (omega arith, omega arith)
 
 pub no_words : (ws : List (List ℕ)) → length ws < 1 → (c : Command) → ¬ (IsCommand c ws)
 no_words ws short c h = let few = few_words ws c h in omega arith

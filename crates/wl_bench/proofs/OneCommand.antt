@@ -98,13 +98,9 @@ fault_at m =
     else Other (pos 5)))))
 
 named : (fault : IoFault) (name : List ℕ) → NamesFault fault name → fault ≡ fault_at (mark name)
-named WouldBlock name h = rw h refl
-named Pipe name h = rw h refl
-named TooBig name h = rw h refl
-named Proto name h = rw h refl
-named InvalidInput name h = rw h refl
 named OutOfMemory name h = absurd h
 named (Other n) name h = rw (h.0, h.1) refl
+named _ name h = rw h refl
 
 same_fault : (fault fault' : IoFault) (name name' : List ℕ) → NamesFault fault name → NamesFault fault' name' → name ≡ name' → fault ≡ fault'
 same_fault fault fault' name name' h k same = named fault name h ∙ (ap (λ (w : List ℕ). fault_at (mark w)) same ∙ sym (named fault' name' k))
@@ -155,23 +151,14 @@ one_of_client ws slot slot' Read (Arrive bytes' tokens') h k = absurd (clash (fi
 one_of_client ws slot slot' Read Read h k = tt
 one_of_client ws slot slot' Read Finish h k = absurd (clash (first_mark ws) _ _ (ap first_mark h) (ap first_mark k) refl)
 one_of_client ws slot slot' Read Kill h k = absurd (clash (first_mark ws) _ _ (ap first_mark h) (ap first_mark k) refl)
-one_of_client ws slot slot' Read (Accept counts') h k = absurd (clash (first_mark ws) _ _ (ap first_mark h) (ap first_mark k.1) refl)
-one_of_client ws slot slot' Read (FailIn fault') h k = absurd (clash (first_mark ws) _ _ (ap first_mark h) (ap first_mark k.1) refl)
-one_of_client ws slot slot' Read (FailOut fault') h k = absurd (clash (first_mark ws) _ _ (ap first_mark h) (ap first_mark k.1) refl)
 one_of_client ws slot slot' Finish (Arrive bytes' tokens') h k = absurd (clash (first_mark ws) _ _ (ap first_mark h) (ap first_mark k.2) refl)
 one_of_client ws slot slot' Finish Read h k = absurd (clash (first_mark ws) _ _ (ap first_mark h) (ap first_mark k) refl)
 one_of_client ws slot slot' Finish Finish h k = tt
 one_of_client ws slot slot' Finish Kill h k = absurd (clash (first_mark ws) _ _ (ap first_mark h) (ap first_mark k) refl)
-one_of_client ws slot slot' Finish (Accept counts') h k = absurd (clash (first_mark ws) _ _ (ap first_mark h) (ap first_mark k.1) refl)
-one_of_client ws slot slot' Finish (FailIn fault') h k = absurd (clash (first_mark ws) _ _ (ap first_mark h) (ap first_mark k.1) refl)
-one_of_client ws slot slot' Finish (FailOut fault') h k = absurd (clash (first_mark ws) _ _ (ap first_mark h) (ap first_mark k.1) refl)
 one_of_client ws slot slot' Kill (Arrive bytes' tokens') h k = absurd (clash (first_mark ws) _ _ (ap first_mark h) (ap first_mark k.2) refl)
 one_of_client ws slot slot' Kill Read h k = absurd (clash (first_mark ws) _ _ (ap first_mark h) (ap first_mark k) refl)
 one_of_client ws slot slot' Kill Finish h k = absurd (clash (first_mark ws) _ _ (ap first_mark h) (ap first_mark k) refl)
 one_of_client ws slot slot' Kill Kill h k = tt
-one_of_client ws slot slot' Kill (Accept counts') h k = absurd (clash (first_mark ws) _ _ (ap first_mark h) (ap first_mark k.1) refl)
-one_of_client ws slot slot' Kill (FailIn fault') h k = absurd (clash (first_mark ws) _ _ (ap first_mark h) (ap first_mark k.1) refl)
-one_of_client ws slot slot' Kill (FailOut fault') h k = absurd (clash (first_mark ws) _ _ (ap first_mark h) (ap first_mark k.1) refl)
 one_of_client ws slot slot' (Accept counts) (Arrive bytes' tokens') h k = absurd (clash (first_mark ws) _ _ (ap first_mark h.1) (ap first_mark k.2) refl)
 one_of_client ws slot slot' (Accept counts) Read h k = absurd (clash (first_mark ws) _ _ (ap first_mark h.1) (ap first_mark k) refl)
 one_of_client ws slot slot' (Accept counts) Finish h k = absurd (clash (first_mark ws) _ _ (ap first_mark h.1) (ap first_mark k) refl)
@@ -194,16 +181,14 @@ one_of_client ws slot slot' (FailOut fault) Kill h k = absurd (clash (first_mark
 one_of_client ws slot slot' (FailOut fault) (Accept counts') h k = absurd (clash (first_mark ws) _ _ (ap first_mark h.1) (ap first_mark k.1) refl)
 one_of_client ws slot slot' (FailOut fault) (FailIn fault') h k = absurd (clash (mark (word_at 2 ws)) _ _ (ap (λ (vs : List (List ℕ)). mark (word_at 2 vs)) h.1) (ap (λ (vs : List (List ℕ)). mark (word_at 2 vs)) k.1) refl)
 one_of_client ws slot slot' (FailOut fault) (FailOut fault') h k = same_fault fault fault' h.0 k.0 h.2 k.2 (ap (word_at 3) (sym h.1 ∙ k.1))
+one_of_client ws slot slot' _ _ h k = absurd (clash (first_mark ws) _ _ (ap first_mark h) (ap first_mark k.1) refl)
 
 -- ---- all commands
 
 one_of_words : (ws : List (List ℕ)) (c d : Command) → IsCommand c ws → IsCommand d ws → AskSame c d
 one_of_words ws Insert Insert h k = tt
 one_of_words ws Insert (Client slot' d) h k = absurd (apart ws slot' d _ k.1 (ap first_mark h) refl)
-one_of_words ws Insert (Dispatch slots') h k = absurd (clash (first_mark ws) _ _ (ap first_mark h) (ap first_mark k.1) refl)
 one_of_words ws Insert (Create name' version') h k = absurd (clash (first_mark ws) _ _ (ap first_mark h) (ap first_mark k.2) refl)
-one_of_words ws Insert (Disable name') h k = absurd (clash (first_mark ws) _ _ (ap first_mark h) (ap first_mark k.1) refl)
-one_of_words ws Insert (Remove name') h k = absurd (clash (first_mark ws) _ _ (ap first_mark h) (ap first_mark k.1) refl)
 one_of_words ws Insert Flush h k = absurd (clash (first_mark ws) _ _ (ap first_mark h) (ap first_mark k) refl)
 one_of_words ws Insert Cleanup h k = absurd (clash (first_mark ws) _ _ (ap first_mark h) (ap first_mark k) refl)
 one_of_words ws Insert Notes h k = absurd (clash (first_mark ws) _ _ (ap first_mark h) (ap first_mark k) refl)
@@ -256,31 +241,23 @@ one_of_words ws (Remove name) Cleanup h k = absurd (clash (first_mark ws) _ _ (a
 one_of_words ws (Remove name) Notes h k = absurd (clash (first_mark ws) _ _ (ap first_mark h.1) (ap first_mark k) refl)
 one_of_words ws Flush Insert h k = absurd (clash (first_mark ws) _ _ (ap first_mark h) (ap first_mark k) refl)
 one_of_words ws Flush (Client slot' d) h k = absurd (apart ws slot' d _ k.1 (ap first_mark h) refl)
-one_of_words ws Flush (Dispatch slots') h k = absurd (clash (first_mark ws) _ _ (ap first_mark h) (ap first_mark k.1) refl)
 one_of_words ws Flush (Create name' version') h k = absurd (clash (first_mark ws) _ _ (ap first_mark h) (ap first_mark k.2) refl)
-one_of_words ws Flush (Disable name') h k = absurd (clash (first_mark ws) _ _ (ap first_mark h) (ap first_mark k.1) refl)
-one_of_words ws Flush (Remove name') h k = absurd (clash (first_mark ws) _ _ (ap first_mark h) (ap first_mark k.1) refl)
 one_of_words ws Flush Flush h k = tt
 one_of_words ws Flush Cleanup h k = absurd (clash (first_mark ws) _ _ (ap first_mark h) (ap first_mark k) refl)
 one_of_words ws Flush Notes h k = absurd (clash (first_mark ws) _ _ (ap first_mark h) (ap first_mark k) refl)
 one_of_words ws Cleanup Insert h k = absurd (clash (first_mark ws) _ _ (ap first_mark h) (ap first_mark k) refl)
 one_of_words ws Cleanup (Client slot' d) h k = absurd (apart ws slot' d _ k.1 (ap first_mark h) refl)
-one_of_words ws Cleanup (Dispatch slots') h k = absurd (clash (first_mark ws) _ _ (ap first_mark h) (ap first_mark k.1) refl)
 one_of_words ws Cleanup (Create name' version') h k = absurd (clash (first_mark ws) _ _ (ap first_mark h) (ap first_mark k.2) refl)
-one_of_words ws Cleanup (Disable name') h k = absurd (clash (first_mark ws) _ _ (ap first_mark h) (ap first_mark k.1) refl)
-one_of_words ws Cleanup (Remove name') h k = absurd (clash (first_mark ws) _ _ (ap first_mark h) (ap first_mark k.1) refl)
 one_of_words ws Cleanup Flush h k = absurd (clash (first_mark ws) _ _ (ap first_mark h) (ap first_mark k) refl)
 one_of_words ws Cleanup Cleanup h k = tt
 one_of_words ws Cleanup Notes h k = absurd (clash (first_mark ws) _ _ (ap first_mark h) (ap first_mark k) refl)
 one_of_words ws Notes Insert h k = absurd (clash (first_mark ws) _ _ (ap first_mark h) (ap first_mark k) refl)
 one_of_words ws Notes (Client slot' d) h k = absurd (apart ws slot' d _ k.1 (ap first_mark h) refl)
-one_of_words ws Notes (Dispatch slots') h k = absurd (clash (first_mark ws) _ _ (ap first_mark h) (ap first_mark k.1) refl)
 one_of_words ws Notes (Create name' version') h k = absurd (clash (first_mark ws) _ _ (ap first_mark h) (ap first_mark k.2) refl)
-one_of_words ws Notes (Disable name') h k = absurd (clash (first_mark ws) _ _ (ap first_mark h) (ap first_mark k.1) refl)
-one_of_words ws Notes (Remove name') h k = absurd (clash (first_mark ws) _ _ (ap first_mark h) (ap first_mark k.1) refl)
 one_of_words ws Notes Flush h k = absurd (clash (first_mark ws) _ _ (ap first_mark h) (ap first_mark k) refl)
 one_of_words ws Notes Cleanup h k = absurd (clash (first_mark ws) _ _ (ap first_mark h) (ap first_mark k) refl)
 one_of_words ws Notes Notes h k = tt
+one_of_words ws _ _ h k = absurd (clash (first_mark ws) _ _ (ap first_mark h) (ap first_mark k.1) refl)
 
 -- a line is one command at most
 pub one_of_line : (line : List ℕ) (c d : Command) → IsLine c line → IsLine d line → AskSame c d

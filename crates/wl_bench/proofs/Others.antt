@@ -30,27 +30,27 @@ use Rattle.wl_bench.specs.Bench.{BenchReply, BenchServer, BenchState, BenchStep,
 
 -- ---- a step about a client
 
-abbrev BenchSeen : Type 0
+abbrev pub BenchSeen : Type 0
 BenchSeen = Seen Script ℕ (Unit {0})
 
 -- the step leaves each other client as it is
-abbrev LeavesEach : ClientParts → BenchStep → Type 0
+abbrev pub LeavesEach : ClientParts → BenchStep → Type 0
 LeavesEach target s =
     (id : ClientParts) → same_client target id ≡ false → (offer : Offer ShownToAll) (answer : BenchReply) (before after : BenchSeen) (lacked : Bool)
     (did : List (Deed ℕ)) → PartStep bench_world id offer s answer before lacked did after → after ≡ before
 
 -- what the program answers: one line, and not the lists of a cleanup or of notes
-abbrev speaks : BenchReply → Bool
+abbrev pub speaks : BenchReply → Bool
 speaks (reply.Cleanup r) = false
 speaks (reply.TakeNotes r) = false
 speaks _ = true
 
-abbrev AnswersPlainly : BenchStep → Type 0
+abbrev pub AnswersPlainly : BenchStep → Type 0
 AnswersPlainly s =
     (id : ClientParts) (offer : Offer ShownToAll) (answer : BenchReply) (before after : BenchSeen) (lacked : Bool) (did : List (Deed ℕ))
     → PartStep bench_world id offer s answer before lacked did after → speaks answer ≡ true
 
-abbrev StaysIn : ClientParts → BenchStep → Type 0
+abbrev pub StaysIn : ClientParts → BenchStep → Type 0
 StaysIn target s = LeavesEach target s × AnswersPlainly s
 
 -- what is about this client is not felt where it is another
@@ -115,7 +115,7 @@ bind_stays target given = (
 
 -- ---- the calls of a command about a client
 
-abbrev EachStays : ClientParts → List BenchStep → Type 0
+abbrev pub EachStays : ClientParts → List BenchStep → Type 0
 EachStays target [] = Unit {0}
 EachStays target (s ∷ steps) = StaysIn target s × EachStays target steps
 
@@ -129,7 +129,7 @@ accepts_stay : (target : ClientParts) (counts : List ℕ) → EachStays target (
 accepts_stay target [] = tt
 accepts_stay target (n ∷ counts) = (accept_stays target n, accepts_stay target counts)
 
-calls_stay : (seat : Seat) (n : ℕ) (c : ClientCommand) → EachStays seat.client (client_calls seat n c)
+pub calls_stay : (seat : Seat) (n : ℕ) (c : ClientCommand) → EachStays seat.client (client_calls seat n c)
 calls_stay seat n (Arrive bytes tokens) = (arrive_stays seat.client bytes tokens, tt)
 calls_stay seat n Read = (read_stays seat.client, tt)
 calls_stay seat n Finish = (finish_stays seat.client seat.action n, tt)
@@ -143,7 +143,7 @@ one_more_stays target [] s h stays = (stays, tt)
 one_more_stays target (first ∷ steps) s h stays = (h.0, one_more_stays target steps s h.1 stays)
 
 -- what one step does to a client
-step_of : (id : ClientParts) (s : BenchStep) (answer : BenchReply) (before after : BenchServer) (entry : Entry Script ℕ ShownToAll (Unit {0}))
+pub step_of : (id : ClientParts) (s : BenchStep) (answer : BenchReply) (before after : BenchServer) (entry : Entry Script ℕ ShownToAll (Unit {0}))
     → entry.call ≡ Asked s answer → OneStep bench_world before entry after
     → PartStep bench_world id before.offer s answer (seen id before) (entry.lacks id) (entry.did id) (seen id after)
 step_of id s answer before after entry call one =
@@ -159,7 +159,7 @@ kept target id other (s ∷ steps) (a ∷ answers) before after h (mid, (entry, 
     ∙ h.0.0 id other before.offer a (seen id before) (seen id mid) (entry.lacks id) (entry.did id) (step_of id s a before mid entry call one)
 
 -- the reply to the last of the calls
-last_speaks : (target : ClientParts) (calls others : List BenchStep) (earlier : List BenchReply) (answer : BenchReply) (taken : List BenchReply)
+pub last_speaks : (target : ClientParts) (calls others : List BenchStep) (earlier : List BenchReply) (answer : BenchReply) (taken : List BenchReply)
     (before after : BenchServer) → EachStays target calls → length calls ≡ length earlier + 1
     → Performs bench_world before (entries (calls ++ others) (earlier ++ answer ∷ taken)) after → speaks answer ≡ true
 last_speaks target [] others earlier answer taken before after h count run = absurd (omega (arith, count))

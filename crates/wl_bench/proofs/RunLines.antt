@@ -186,23 +186,7 @@ answered f n before after line command answer text held mid held' some is does s
 -- what a command names, each that asks for the same names
 pub same_none : (b : BenchState) (c d : Command) → AskSame c d → NamesNone b c → NamesNone b d
 same_none b (Client slot c) (Client slot' d) same none = subst (λ (s : ℕ). latest s b.clients ≡ None) same.0 none
-same_none b (Client slot c) Insert same none = absurd same
-same_none b (Client slot c) (Dispatch slots) same none = absurd same
-same_none b (Client slot c) (Create name version) same none = absurd same
-same_none b (Client slot c) (Disable name) same none = absurd same
-same_none b (Client slot c) (Remove name) same none = absurd same
-same_none b (Client slot c) Flush same none = absurd same
-same_none b (Client slot c) Cleanup same none = absurd same
-same_none b (Client slot c) Notes same none = absurd same
 same_none b (Dispatch slots) (Dispatch slots') same none = subst (λ (xs : List ℕ). LacksClient b xs) same none
-same_none b (Dispatch slots) (Client slot c) same none = absurd same
-same_none b (Dispatch slots) Insert same none = absurd same
-same_none b (Dispatch slots) (Create name version) same none = absurd same
-same_none b (Dispatch slots) (Disable name) same none = absurd same
-same_none b (Dispatch slots) (Remove name) same none = absurd same
-same_none b (Dispatch slots) Flush same none = absurd same
-same_none b (Dispatch slots) Cleanup same none = absurd same
-same_none b (Dispatch slots) Notes same none = absurd same
 same_none b Insert d same none = absurd none
 same_none b (Create name version) d same none = absurd none
 same_none b (Disable name) d same none = absurd none
@@ -210,6 +194,7 @@ same_none b (Remove name) d same none = absurd none
 same_none b Flush d same none = absurd none
 same_none b Cleanup d same none = absurd none
 same_none b Notes d same none = absurd none
+same_none b _ _ same none = absurd same
 
 -- a line is bad where its command names a slot at which none is
 pub bad_slot : (b : BenchState) (line : Line) (command : Command) → line ≢ [] → IsLine command line → NamesNone b command

@@ -33,9 +33,5 @@ session_flushed {T} {U} sends s flushed link answer after none made ends =
 pub fault_stored : {T U : Type 0} (s after : SessionState T U) (f : IoFault) → (f ≡ fault.WouldBlock → ⊥) → (f ≡ fault.OutOfMemory → ⊥)
     → after ≡ record s { error = Some (Io f) } → FlushEnds s (Err f) (Err flush.Failed) after
 fault_stored s after fault.WouldBlock blocks memory e = absurd (blocks refl)
-fault_stored s after fault.Pipe blocks memory e = (refl, e)
-fault_stored s after fault.TooBig blocks memory e = (refl, e)
-fault_stored s after fault.Proto blocks memory e = (refl, e)
-fault_stored s after fault.InvalidInput blocks memory e = (refl, e)
 fault_stored s after fault.OutOfMemory blocks memory e = absurd (memory refl)
-fault_stored s after (fault.Other n) blocks memory e = (refl, e)
+fault_stored s after _ blocks memory e = (refl, e)

@@ -42,15 +42,7 @@ module _ {T U : Type 0} (table : List InterfaceRow) (link link' : LinkState T) (
       (failed, inl (unasked, λ i. session_of table link' (same i) (stores i) (opened_same i) notes))
   carried (Breaks e o) (Ended end) (same, opened_same, (failed, inr (asked, stores))) =
       (failed, inr (asked, λ i. session_of table link' (same i) (stores i) (opened_same i) notes))
-  carried (Swallows o) LacksMore h = absurd h
-  carried (Swallows o) (GaveEvent e) h = absurd h
-  carried (Swallows o) (Ended end) h = absurd h
-  carried (HandsOut m event o) LacksMore h = absurd h
-  carried (HandsOut m event o) WentOn h = absurd h
-  carried (HandsOut m event o) (Ended end) h = absurd h
-  carried (Breaks e o) LacksMore h = absurd h
-  carried (Breaks e o) WentOn h = absurd h
-  carried (Breaks e o) (GaveEvent e') h = absurd h
+  carried _ _ h = absurd h
 
   -- the message was taken off the link
   pub handled_handles : (m : WireMessage) (message_result : MessageResult) → ReadsIn table objects.store link (Ok m) link'

@@ -1,8 +1,9 @@
 -- What holds over runs of calls.
 pub mod ChangeLaws
-pub mod IdentityLaws
 pub mod FailedLaws
+pub mod IdentityLaws
 pub mod ReadingLaws
 pub mod RoomLaws
 pub mod OutcomeLaws
 pub mod StretchLaws
+pub mod AccountLaws

@@ -99,15 +99,7 @@ module _ {T U : Type 0} where
   carried sends s (Breaks e o) (Ended end) after (failed, inl (unasked, same)) =
       inl ([], [], [], Ok tt, s.link, false, (refl, refl, refl, refl), (refl, ap (λ (x : SessionState T U). x.link) same, refl), refl, ap core_of same, refl, unasked)
   carried sends s (Breaks e o) (Ended end) after (failed, inr (asked, same)) = inr (refl, asked, refl, refl, ap reader_state_of same)
-  carried sends s (Swallows o) LacksMore after h = absurd h
-  carried sends s (Swallows o) (GaveEvent e) after h = absurd h
-  carried sends s (Swallows o) (Ended end) after h = absurd h
-  carried sends s (HandsOut m event o) LacksMore after h = absurd h
-  carried sends s (HandsOut m event o) WentOn after h = absurd h
-  carried sends s (HandsOut m event o) (Ended end) after h = absurd h
-  carried sends s (Breaks e o) LacksMore after h = absurd h
-  carried sends s (Breaks e o) WentOn after h = absurd h
-  carried sends s (Breaks e o) (GaveEvent e') after h = absurd h
+  carried sends s _ _ after h = absurd h
 
   -- ---- which turns leave the session live
 

@@ -77,13 +77,7 @@ module _ {U : Type 0} where
 
 request_argument : (n : ℕ) (a : Argument IdParts Token) → with_ids (λ id. id.number) (λ _. n) a ≡ wire_argument n a
 request_argument n (arg.Int z) = refl
-request_argument n (arg.Uint u) = refl
-request_argument n (arg.Fixed z) = refl
-request_argument n (arg.Str text) = refl
-request_argument n (arg.Object id) = refl
-request_argument n (arg.NewId id) = refl
-request_argument n (arg.Array bytes) = refl
-request_argument n (arg.Fd token) = refl
+request_argument n _ = refl
 
 request_arguments : (n : ℕ) (args : List (Argument IdParts Token)) → map (with_ids (λ id. id.number) (λ _. n)) args ≡ map (wire_argument n) args
 request_arguments n [] = refl

@@ -5,7 +5,6 @@
 -- the changes alone. They exist in contracts only.
 use Rattle.std.specs.Prelude.{◌≡◌, ◌≢◌, List, [], ◌∷◌, ◌++◌, map, All, Bool, Some, IsSome, Contains, Result, Ok, Err}
 use Rattle.wl_link.specs.Identity.{Birth, Change, Ended, IsBornInStep, IsMadeInStep, HasIdentity, births_of, RunEnds, StepEnds, first_objects, HandedId, Found, New, argument_ids}
-use Rattle.wl_link.specs.Script.{Script}
 use Rattle.wl_client.specs.declared.error.EventError.{EventError}
 use Rattle.wl_client.specs.declared.error.RequestError.{RequestError}
 use Rattle.wl_client.specs.declared.objects.Kept.{Kept}
@@ -13,12 +12,13 @@ use Rattle.wl_client.specs.declared.objects.Note.{Note}
 use Rattle.wl_client.specs.declared.objects.Note.TheVariants.{Destroyed}
 use Rattle.wl_client.specs.declared.step.Reply.{Reply}
 use Rattle.wl_client.specs.declared.step.Reply.TheVariants as reply
+use Rattle.wl_client.specs.Histories.{Deed, Does, Called, Changed}
 use Rattle.wl_client.specs.ObjectId.{IdParts}
 use Rattle.wl_client.specs.Objects.{info_of}
 use Rattle.wl_client.specs.Reading.{event_content}
 use Rattle.wl_client.specs.Requests.{SessionMessage}
 use Rattle.wl_client.specs.Session.{SessionState, id_at, id_of, serial_of, display_object, noted, objects_of}
-use Rattle.wl_client.specs.Steps.{Entry, StepOf}
+use Rattle.wl_client.specs.Steps.{Making}
 
 -- ---- the ids of a reply
 
@@ -66,28 +66,39 @@ module _ {U : Type 0} where
   IsHandedIn changes (Found id) = id.number ≢ 0 → IsMadeInStep changes (id_of id)
   IsHandedIn changes (New id) = id.number ≢ 0 → IsMadeInStep changes (id_of id) × IsBornInStep serial_of changes (id_of id)
 
-  -- The entries of a run lead from `s` to `after`. For each entry there is a list of changes, which lead the objects along;
-  -- an object ends in it exactly if it becomes no longer the program's. The ids of the reply, and those of the new notes,
-  -- are made in it. The notes that waited, and then those of the objects that end in the step, are those that the reply
-  -- hands out, and then those that wait after the step.
-  abbrev pub Follows : SessionState Script U → List (Entry U) → List (List (Change (Kept U))) → SessionState Script U → Type 0
+module _ {T U : Type 0} where
+  -- the ids and the notes that a deed hands out; a change of the transport hands out none
+  abbrev pub ids_by : Deed T U → List (HandedId IdParts)
+  ids_by (Called e) = ids_in e.answer
+  ids_by (Changed t) = []
+
+  abbrev pub notes_by : Deed T U → List Note
+  notes_by (Called e) = notes_in e.answer
+  notes_by (Changed t) = []
+
+module _ {T U : Type 0} (makes : Making T U) where
+  -- The deeds of a history lead from `s` to `after`. For each deed there is a list of changes, which lead the objects
+  -- along; an object ends in it exactly if it becomes no longer the program's. The ids of the reply, and those of the new
+  -- notes, are made in it. The notes that waited, and then those of the objects that end in the step, are those that the
+  -- reply hands out, and then those that wait after the step.
+  abbrev pub Follows : SessionState T U → List (Deed T U) → List (List (Change (Kept U))) → SessionState T U → Type 0
   Follows s [] [] after = after ≡ s
   Follows s [] (changes ∷ rest) after = ⊥
-  Follows s (e ∷ run) [] after = ⊥
-  Follows s (e ∷ run) (changes ∷ rest) after =
-      (mid : SessionState Script U) × StepOf s e.step e.answer e.refused mid
+  Follows s (d ∷ deeds) [] after = ⊥
+  Follows s (d ∷ deeds) (changes ∷ rest) after =
+      (mid : SessionState T U) × Does makes s d mid
       × StepEnds serial_of is_over (objects_of s) changes (objects_of mid)
-      × All (IsHandedIn changes) (ids_in e.answer)
-      × (s.notes ++ ended_notes changes ≡ notes_in e.answer ++ mid.notes)
+      × All (IsHandedIn changes) (ids_by d)
+      × (s.notes ++ ended_notes changes ≡ notes_by d ++ mid.notes)
       × All (IsHandedIn changes) (map Found (note_ids (ended_notes changes)))
-      × Follows mid run rest after
+      × Follows mid deeds rest after
 
-  -- A run from the connecting on has a list of changes for each entry, which lead to the objects that it ends with. The kept
-  -- serials are distinct, and each id that was handed out names the object that it was made of exactly while that is kept,
-  -- and afterwards none. So `info` answers for an id only while that very object is kept.
-  pub record HasOwnIds (begins : SessionState Script U) (run : List (Entry U)) (ends : SessionState Script U) : Type 0 where
+  -- A history from the connecting on has a list of changes for each deed, which lead to the objects that it ends with. The
+  -- kept serials are distinct, and each id that was handed out names the object that it was made of exactly while that is
+  -- kept, and afterwards none. So `info` answers for an id only while that very object is kept.
+  pub record HasOwnIds (begins : SessionState T U) (deeds : List (Deed T U)) (ends : SessionState T U) : Type 0 where
     pub changes : List (List (Change (Kept U)))
-    pub follows : Follows begins run changes ends
+    pub follows : Follows begins deeds changes ends
     pub ends_so : RunEnds serial_of is_over (first_objects display_object) changes (objects_of ends)
     pub identity : HasIdentity serial_of changes (objects_of ends)
     pub info : (id : IdParts) (birth : Birth) → Contains (births_of changes).made (id_of id, birth) → IsSome (info_of ends id)

@@ -1,13 +1,8 @@
 -- A session that lends its transport.
 use Rattle.std.specs.Borrow.{Lends, MutBor, Fml}
 use denote.RattleType.{RattleType}
-use Rattle.wl_link.specs.Link.{with_transport}
-use Rattle.wl_client.specs.Session.{SessionState, ClientState}
+use Rattle.wl_client.specs.Session.{ClientState, over_transport}
 use Rattle.wl_client.specs.contracts.backend.Backend.{the_row}
-
--- the session with another value of its transport
-abbrev pub over_transport : {T U : Type 0} → SessionState T U → T → SessionState T U
-over_transport s transport = record s { link = with_transport s.link transport }
 
 -- the same for a client
 abbrev pub client_over : {T U : Type 0} → ClientState T U → T → ClientState T U

@@ -9,6 +9,7 @@ pub mod Handling
 pub mod Reading
 pub mod Finish
 pub mod Steps
+pub mod Histories
 -- Laws of runs.
 pub mod Handed
 pub mod Named
@@ -17,5 +18,6 @@ pub mod Failed
 pub mod Replies
 pub mod Cutting
 pub mod Stretches
+pub mod Accounts
 -- What only the functions inside promise each other.
 pub mod Inside

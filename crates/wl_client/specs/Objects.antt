@@ -19,6 +19,20 @@ module _ {U : Type 0} where
   user_data_in None = None
   user_data_in (Some x) = x.value.user_data
 
+  -- The closure is called once with the user data of the object, which then has what the call left. Without such data it is
+  -- not called, and nothing is changed.
+  abbrev pub LendsDataOf : {R : Type 0} → (U → R → U → Type 0) → Object (Kept U) → Option R → Object (Kept U) → Type 0
+  LendsDataOf call before answer after =
+      MatchOption before.value.user_data ((answer ≡ None) × (after ≡ before))
+      (λ u. (r : _) × (left : U) × call u r left × (answer ≡ Some r) × (after ≡ with_user_data left before))
+
+  -- the same with the object that the id names, among the objects of a session
+  abbrev pub LendsDataIn : {R : Type 0} → (U → R → U → Type 0) → Store (Kept U) → IdParts → Result R InvalidId → Store (Kept U) → Type 0
+  LendsDataIn call before id answer after =
+      MatchOption (named before id) ((answer ≡ Err _) × (after ≡ before))
+      (λ x. MatchOption x.value.user_data ((answer ≡ Err _) × (after ≡ before))
+      (λ u. (r : _) × (left : U) × call u r left × (answer ≡ Ok r) × (after ≡ rewritten before id.number (with_user_data left x))))
+
   -- the object at the number is no longer the client's
   abbrev pub given_up : Store (Kept U) → ℕ → Object (Kept U) → Store (Kept U)
   given_up store n x = rewritten store n (with_flags true x.value.server_destroyed x)
@@ -37,6 +51,13 @@ module _ {T U : Type 0} where
   DataSet before id u answer after =
       MatchOption (named before.store id) ((answer ≡ Err _) × (after ≡ before))
       (λ x. (answer ≡ Ok tt) × (after ≡ record before { store = rewritten before.store id.number (with_user_data u x) }))
+
+  -- The closure is called once with the user data of the object that the id names, which then has what the call left, as
+  -- if that had been set. Without such data it is not called, and nothing is changed.
+  abbrev pub LendsData : {R : Type 0} → (U → R → U → Type 0) → SessionState T U → IdParts → Result R InvalidId → SessionState T U → Type 0
+  LendsData call before id answer after =
+      MatchOption (user_data_of before id) ((answer ≡ Err _) × (after ≡ before))
+      (λ u. (r : _) × (left : U) × call u r left × (answer ≡ Ok r) × DataSet before id left (Ok tt) after)
 
   -- the object that the client may destroy by the id: not the display, and none that it has destroyed
   abbrev pub destroyable : SessionState T U → IdParts → Option (Object (Kept U))

@@ -4,7 +4,7 @@ use Rattle.wl_wire.specs.declared.interface.InterfaceId.{InterfaceId}
 use Rattle.wl_wire.specs.Table.{InterfaceRow, anonymous_id, display_id}
 use Rattle.wl_link.specs.declared.object.Object.{Object}
 use Rattle.wl_link.specs.Identity.{Id, Objects, names}
-use Rattle.wl_link.specs.Link.{LinkState, IsFresh}
+use Rattle.wl_link.specs.Link.{LinkState, IsFresh, with_transport}
 use Rattle.wl_link.specs.Store.{Store, empty_store, stored}
 use Rattle.wl_client.specs.declared.error.WaylandError.{WaylandError}
 use Rattle.wl_client.specs.declared.objects.Kept.{Kept}
@@ -138,6 +138,10 @@ module _ {T U : Type 0} where
 
   abbrev pub with_objects : SessionState T U → Objects (Kept U) → SessionState T U
   with_objects s objects = record s { store = objects.store; last_serial = objects.last_serial }
+
+  -- the session with another value of its transport
+  abbrev pub over_transport : SessionState T U → T → SessionState T U
+  over_transport s transport = record s { link = with_transport s.link transport }
 
   -- a session over the transport in which nothing has happened
   abbrev pub IsConnected : List InterfaceRow → T → SessionState T U → Type 0

@@ -1,8 +1,10 @@
 -- The calls of a session one after another.
 --
 -- A step is a call that changes the session, with its arguments, or a call by which the program changes the transport by
--- script. An entry of a run is a step, its reply, and whether memory was refused in it.
+-- script. An entry of a run is a step, its reply, and whether memory was refused in it. `CallOf` says what a call does over
+-- any transport, and `StepOf` what a step does over the transport by script.
 use Rattle.std.specs.Prelude.{◌≡◌, ℕ, ◌<◌, List, [], ◌∷◌, ◌++◌, length, map, Bool, true, false, Result, Ok, Err}
+use Rattle.wl_wire.specs.declared.error.IoFault.{IoFault}
 use Rattle.wl_wire.specs.declared.error.OutOfMemory.{OutOfMemory}
 use Rattle.wl_wire.specs.declared.protocol.TableError.{TableError}
 use Rattle.wl_wire.specs.Table.{AnswersGrowth, InterfaceRow, grown, interface_rows, refused_growth}
@@ -77,33 +79,44 @@ module _ {U : Type 0} where
   ArrivesWith before chunk (Err arrive.TooManyTokens) after = (28 < length chunk.tokens) × (after ≡ before)
   ArrivesWith before chunk (Err arrive.OutOfMemory) after = ¬ (28 < length chunk.tokens) × (after ≡ before)
 
+module _ {T U : Type 0} where
   -- the table takes these rows, or not, as it answers; all else is as it was
-  abbrev pub InterfacesAdded : SessionState Script U → List InterfaceRow → Result (Unit {0}) TableError → SessionState Script U → Type 0
+  abbrev pub InterfacesAdded : SessionState T U → List InterfaceRow → Result (Unit {0}) TableError → SessionState T U → Type 0
   InterfacesAdded before rows answer after = AnswersGrowth before.table rows answer × (after ≡ record before { table = grown before.table rows answer })
 
-  -- a step, its reply, whether memory was refused, and the session after it
-  abbrev pub StepOf : SessionState Script U → Step U → Reply U → Bool → SessionState Script U → Type 0
-  StepOf before (step.SetData id u) answer refused after =
+-- what a step does: the session before it, the step, its reply, whether memory was refused, and the session after it
+abbrev pub Making : Type 0 → Type 0 → Type 1
+Making T U = SessionState T U → Step U → Reply U → Bool → SessionState T U → Type 0
+
+module _ {T U : Type 0} (sends : T → Queue → Result ℕ IoFault → T → Type 0) (receives : T → ℕ → Result Queue IoFault → T → Type 0) where
+  -- a call of a session over a transport that sends and receives so; the steps of the transport by script are none
+  abbrev pub CallOf : Making T U
+  CallOf before (step.SetData id u) answer refused after =
       (r : _) × (answer ≡ reply.SetData r) × (refused ≡ false) × DataSet before id u r after
-  StepOf before (step.DestroyObject id) answer refused after =
+  CallOf before (step.DestroyObject id) answer refused after =
       (r : _) × (answer ≡ reply.DestroyObject r) × (refused ≡ refused_destroy r) × DestroyedBy before id r after
-  StepOf before (step.SendRequest m u spec) answer refused after =
-      (r : _) × (answer ≡ reply.SendRequest r) × (refused ≡ refused_request r) × Requested ScriptSends before (session_content m) u spec r after
-  StepOf before step.Flush answer refused after =
-      (r : _) × (answer ≡ reply.Flush r) × (refused ≡ refused_flush r) × SessionFlushed ScriptSends before r after
-  StepOf before step.NextEvent answer refused after =
-      (r : _) × (answer ≡ reply.NextEvent r) × NextEvent ScriptSends ScriptReceives before (event_content r) refused after
-  StepOf before (step.FinishEvent u) answer refused after =
+  CallOf before (step.SendRequest m u spec) answer refused after =
+      (r : _) × (answer ≡ reply.SendRequest r) × (refused ≡ refused_request r) × Requested sends before (session_content m) u spec r after
+  CallOf before step.Flush answer refused after =
+      (r : _) × (answer ≡ reply.Flush r) × (refused ≡ refused_flush r) × SessionFlushed sends before r after
+  CallOf before step.NextEvent answer refused after =
+      (r : _) × (answer ≡ reply.NextEvent r) × NextEvent sends receives before (event_content r) refused after
+  CallOf before (step.FinishEvent u) answer refused after =
       (r : _) × (answer ≡ reply.FinishEvent r) × (refused ≡ refused_finish r) × Finishes before u r after
-  StepOf before step.DispatchInnerQueue answer refused after =
+  CallOf before step.DispatchInnerQueue answer refused after =
       (answer ≡ reply.DispatchInnerQueue (Ok 0)) × (refused ≡ false) × (after ≡ before)
-  StepOf before (step.SetMaxBufferSize limit) answer refused after =
+  CallOf before (step.SetMaxBufferSize limit) answer refused after =
       (answer ≡ reply.SetMaxBufferSize) × (refused ≡ false)
-      × ((link : LinkState Script) × LimitSet before.link limit link × (after ≡ record before { link = link }))
-  StepOf before (step.AddInterfaces more) answer refused after =
+      × ((link : LinkState T) × LimitSet before.link limit link × (after ≡ record before { link = link }))
+  CallOf before (step.AddInterfaces more) answer refused after =
       (r : _) × (answer ≡ reply.AddInterfaces r) × (refused ≡ refused_growth r) × InterfacesAdded before (interface_rows more.items) r after
-  StepOf before step.TakeNotes answer refused after =
+  CallOf before step.TakeNotes answer refused after =
       (notes : _) × (answer ≡ reply.TakeNotes notes) × (refused ≡ false) × (notes.items ≡ before.notes) × (after ≡ record before { notes = [] })
+  CallOf before _ answer refused after = ⊥
+
+module _ {U : Type 0} where
+  -- a step over the transport by script: a call of that transport, or of the session
+  abbrev pub StepOf : Making Script U
   StepOf before (step.Arrive bytes tokens) answer refused after =
       (r : _) × (answer ≡ reply.Arrive r) × (refused ≡ refused_arrive r)
       × ArrivesWith before (record { bytes = bytes.items; tokens = tokens.items }) r after
@@ -119,6 +132,7 @@ module _ {U : Type 0} where
   StepOf before step.TakeSent answer refused after =
       (sent : _) × (answer ≡ reply.TakeSent sent) × (refused ≡ false) × (map parcel sent.items ≡ before.link.transport.sent)
       × (after ≡ with_script before (record before.link.transport { sent = [] }))
+  StepOf before call answer refused after = CallOf ScriptSends ScriptReceives before call answer refused after
 
 -- ---- runs
 

@@ -4,7 +4,6 @@ use Rattle.wl_wire.specs.declared.error.IoFault.TheVariants as fault
 use Rattle.wl_wire.specs.declared.error.MessageParseError.TheVariants as parse
 use Rattle.wl_link.specs.Exchange.{Queue, joined, nothing}
 use Rattle.wl_link.specs.Link.{EachWithin, incoming_limit}
-use Rattle.wl_link.specs.Runs.{EachPart}
 use Rattle.wl_link.specs.Reader.{Given}
 use Rattle.wl_link.specs.Script.{Script, ScriptSends}
 use Rattle.wl_link.specs.Served.{Served, state_as}
@@ -15,10 +14,11 @@ use Rattle.wl_client.specs.declared.step.Reply.{Reply}
 use Rattle.wl_client.specs.declared.step.Reply.TheVariants as reply
 use Rattle.wl_client.specs.declared.step.Step.{Step}
 use Rattle.wl_client.specs.declared.step.Step.TheVariants as step
+use Rattle.wl_client.specs.Histories.{Deed, History, called}
 use Rattle.wl_client.specs.Reading.{ReadsAs, client, event_content, handed_by, reader_state_of, reads_on}
 use Rattle.wl_client.specs.Requests.{SessionMessage}
 use Rattle.wl_client.specs.Session.{SessionState, core_of}
-use Rattle.wl_client.specs.Steps.{Entry, Leads}
+use Rattle.wl_client.specs.Steps.{Entry, Leads, StepOf}
 
 module _ {U : Type 0} where
   -- ---- its entries
@@ -118,6 +118,9 @@ module _ {U : Type 0} where
   abbrev pub CutsStretch : SessionState Script U → List (Entry U) → SessionState Script U → Type 0
   CutsStretch before run after = (IsStretch before run after → IsRunServed before run after) × (IsStretchWithin before run after → IsStretch before run after)
 
-  -- so it is with each part of a run
-  abbrev pub EachPartIsCut : SessionState Script U → List (Entry U) → Type 0
-  EachPartIsCut begun run = EachPart Leads CutsStretch begun run
+  -- So it is with each part of a history that is a run: whenever the deeds before the part lead from its begin to where the
+  -- part begins, and the part leads on from there.
+  abbrev pub EachPartIsCut : SessionState Script U → List (Deed Script U) → Type 0
+  EachPartIsCut begun deeds =
+      (earlier later : List (Deed Script U)) (part : List (Entry U)) (first last : SessionState Script U)
+      → deeds ≡ earlier ++ (called part ++ later) → History StepOf begun earlier first → Leads first part last → CutsStretch first part last

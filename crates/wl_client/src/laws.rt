@@ -1,27 +1,31 @@
 //! Laws that follow from the definitions of a session alone. Each function does nothing; its contract states a law.
 //!
-//! A *run* is a list of calls, each with its reply, from `connect` on if nothing else is said. An id *names* an object if
-//! its number has that object and its serial is that object's.
+//! A *run* is a list of calls over the transport by script, each with its reply. A *history* is a list of calls over any
+//! transport, each with its reply, and of changes that the program makes to the transport between them. Where a law says
+//! so, it begins with `connect`. A law that is about every transport has a clause for the transport by script, whose own
+//! calls may be among the steps. An id *names* an object if its number has that object and its serial is that object's.
 
-ghost use Rattle.std.specs.Prelude.{◌≡◌, ◌∷◌, [], List, Option, None, Ok, IsSome, false, length, ℕ};
+ghost use Rattle.std.specs.Prelude.{◌≡◌, ◌∷◌, [], Bool, List, Option, None, Ok, IsSome, false, length, ℕ};
 ghost use Rattle.wl_wire.specs.Table.{InterfaceRow};
-ghost use Rattle.wl_link.specs.Exchange.{Queue, nothing};
+ghost use Rattle.wl_link.specs.Exchange.{IsFunction, IsReceiveFunction, Queue, nothing};
 ghost use Rattle.wl_link.specs.Reader.{AllFed, Given, Gives, ReaderState, Reads, Turn, received_in};
-ghost use Rattle.wl_link.specs.Script.{Script};
+ghost use Rattle.wl_link.specs.Script.{Script, ScriptReceives, ScriptSends};
 ghost use Rattle.wl_client.specs.Cutting.{GoesOn, IsServed};
 ghost use Rattle.wl_client.specs.Finish.{Finishes};
 ghost use Rattle.wl_client.specs.Reading.{client, reader_state_of};
 ghost use Rattle.wl_client.specs.Requests.{SessionMessage};
 ghost use Rattle.wl_client.specs.declared.step.Reply.{Reply};
 ghost use Rattle.wl_client.specs.declared.step.Step.{Step};
+ghost use Rattle.wl_client.specs.Accounts.{IsAccountedFor};
 ghost use Rattle.wl_client.specs.Failed.{StaysFailed};
 ghost use Rattle.wl_client.specs.Handed.{HasOwnIds};
+ghost use Rattle.wl_client.specs.Histories.{Deed, History};
 ghost use Rattle.wl_client.specs.Named.{KeepsNaming};
 ghost use Rattle.wl_client.specs.ObjectId.{IdParts};
 ghost use Rattle.wl_client.specs.Noted.{NotesWhatEnded};
 ghost use Rattle.wl_client.specs.Replies.{SameReply, SameReplies};
 ghost use Rattle.wl_client.specs.Session.{Core, SessionState, IsConnected, named};
-ghost use Rattle.wl_client.specs.Steps.{Entry, Leads, StepOf, entries};
+ghost use Rattle.wl_client.specs.Steps.{CallOf, Entry, Leads, StepOf, entries};
 ghost use Rattle.wl_client.specs.Stretches.{IsRunServed, IsStretch, IsStretchWithin, SameLeft, arrived, events_of, finished};
 
 use crate::next_event::READ_TURNS;
@@ -31,46 +35,82 @@ use wl_link::Transport;
 /// and then none.
 ///
 /// Each id in a reply is made in the step of that reply. The id of a new object, of a request or an event, is that of an
-/// object which this step made. The law also holds of a run that stopped because memory was refused. Its last step is then
-/// the one in which that happened.
-pub fn each_id_names_its_own_object<U>()
-    ensures { (table : List InterfaceRow) (transport : Script) (before after : SessionState Script U) (run : List (Entry U)) →
-        IsConnected table transport before → Leads before run after → HasOwnIds before run after }
+/// object which this step made. The law also holds where memory was refused in a step.
+pub fn each_id_names_its_own_object<T: Transport, U>()
+    ensures every { (table : List InterfaceRow) (transport : T) (before after : SessionState T U) (deeds : List (Deed T U)) →
+        IsConnected table transport before → History (CallOf T.sends T.receives) before deeds after → HasOwnIds (CallOf T.sends T.receives) before deeds after }
+    ensures script { (table : List InterfaceRow) (transport : Script) (before after : SessionState Script U) (deeds : List (Deed Script U)) →
+        IsConnected table transport before → History StepOf before deeds after → HasOwnIds StepOf before deeds after }
 {}
 
 /// The identity law for any id, no matter where it comes from: also for one that `display_id` or a look-up returned.
 ///
-/// From each point of a run on at which the id names an object, it names that object as long as that is kept, and then none
-/// (`named`). If it names none at a later point, it never names one again (`none`).
-pub fn each_id_that_names_an_object_keeps_it<U>()
-    ensures named { (table : List InterfaceRow) (transport : Script) (begun point after : SessionState Script U) (done later : List (Entry U)) →
-        IsConnected table transport begun → Leads begun done point → Leads point later after →
-        KeepsNaming begun done point later after }
-    ensures none { (table : List InterfaceRow) (transport : Script) (begun point mid after : SessionState Script U) (done between later : List (Entry U)) →
-        IsConnected table transport begun → Leads begun done point → Leads point between mid → Leads mid later after →
+/// From each point of a history on at which the id names an object, it names that object as long as that is kept, and then
+/// none (`named`). If it names none at a later point, it never names one again (`none`).
+pub fn each_id_that_names_an_object_keeps_it<T: Transport, U>()
+    ensures named { (table : List InterfaceRow) (transport : T) (begun point after : SessionState T U) (done later : List (Deed T U)) →
+        IsConnected table transport begun → History (CallOf T.sends T.receives) begun done point → History (CallOf T.sends T.receives) point later after →
+        KeepsNaming (CallOf T.sends T.receives) begun done point later after }
+    ensures none { (table : List InterfaceRow) (transport : T) (begun point mid after : SessionState T U) (done between later : List (Deed T U)) →
+        IsConnected table transport begun → History (CallOf T.sends T.receives) begun done point →
+        History (CallOf T.sends T.receives) point between mid → History (CallOf T.sends T.receives) mid later after →
+        (id : IdParts) → IsSome (named point.store id) → ¬ IsSome (named mid.store id) → ¬ IsSome (named after.store id) }
+    ensures named_by_script { (table : List InterfaceRow) (transport : Script) (begun point after : SessionState Script U) (done later : List (Deed Script U)) →
+        IsConnected table transport begun → History StepOf begun done point → History StepOf point later after →
+        KeepsNaming StepOf begun done point later after }
+    ensures none_by_script { (table : List InterfaceRow) (transport : Script) (begun point mid after : SessionState Script U) (done between later : List (Deed Script U)) →
+        IsConnected table transport begun → History StepOf begun done point → History StepOf point between mid → History StepOf mid later after →
         (id : IdParts) → IsSome (named point.store id) → ¬ IsSome (named mid.store id) → ¬ IsSome (named after.store id) }
 {}
 
 /// The law of notes: each object that ends with user data is noted once, and no other.
 ///
-/// Over every run, the notes that were taken, followed by those that still wait, are those of the objects that ended with
-/// user data, in order. Each note was made in the step in which its object ended.
-pub fn each_object_that_ends_is_noted_once<U>()
-    ensures { (table : List InterfaceRow) (transport : Script) (before after : SessionState Script U) (run : List (Entry U)) →
-        IsConnected table transport before → Leads before run after → NotesWhatEnded before run after }
+/// Over every history, the notes that were taken, followed by those that still wait, are those of the objects that ended
+/// with user data, in order. Each note was made in the step in which its object ended.
+pub fn each_object_that_ends_is_noted_once<T: Transport, U>()
+    ensures every { (table : List InterfaceRow) (transport : T) (before after : SessionState T U) (deeds : List (Deed T U)) →
+        IsConnected table transport before → History (CallOf T.sends T.receives) before deeds after → NotesWhatEnded (CallOf T.sends T.receives) before deeds after }
+    ensures script { (table : List InterfaceRow) (transport : Script) (before after : SessionState Script U) (deeds : List (Deed Script U)) →
+        IsConnected table transport before → History StepOf before deeds after → NotesWhatEnded StepOf before deeds after }
 {}
 
-/// The law of errors: a session that has an error keeps one. Over every run, each reading and each flush answers `Failed`.
-pub fn a_failed_session_stays_failed<U>()
-    ensures { (before after : SessionState Script U) (run : List (Entry U)) →
-        IsSome before.error → Leads before run after → StaysFailed run after }
+/// The law of errors: a session that has an error keeps one. Over every history, each reading and each flush answers
+/// `Failed`.
+pub fn a_failed_session_stays_failed<T: Transport, U>()
+    ensures every { (before after : SessionState T U) (deeds : List (Deed T U)) →
+        IsSome before.error → History (CallOf T.sends T.receives) before deeds after → StaysFailed deeds after }
+    ensures script { (before after : SessionState Script U) (deeds : List (Deed Script U)) →
+        IsSome before.error → History StepOf before deeds after → StaysFailed deeds after }
 {}
 
-/// If memory is not refused, each step has one outcome, and so has each run.
+/// The laws of identity, of names, of notes and of errors hold of every history from `connect` on, and all of them of the
+/// same changes of its objects.
+pub fn each_client_is_accounted_for<T: Transport, U>()
+    ensures every { (table : List InterfaceRow) (transport : T) (begun after : SessionState T U) (deeds : List (Deed T U)) →
+        IsConnected table transport begun → History (CallOf T.sends T.receives) begun deeds after → IsAccountedFor (CallOf T.sends T.receives) begun deeds after }
+    ensures script { (table : List InterfaceRow) (transport : Script) (begun after : SessionState Script U) (deeds : List (Deed Script U)) →
+        IsConnected table transport begun → History StepOf begun deeds after → IsAccountedFor StepOf begun deeds after }
+{}
+
+/// A call of a session over the transport by script is a step over that transport (`step`). So a history of such calls is one
+/// of steps (`history`), and what is said of a run by `Backend::replay` may be joined to it.
+pub fn calls_over_scripts_are_steps<U>()
+    ensures step { (before : SessionState Script U) (call : Step U) (answer : Reply U) (refused : Bool) (after : SessionState Script U) →
+        CallOf ScriptSends ScriptReceives before call answer refused after → StepOf before call answer refused after }
+    ensures history { (before after : SessionState Script U) (deeds : List (Deed Script U)) →
+        History (CallOf ScriptSends ScriptReceives) before deeds after → History StepOf before deeds after }
+{}
+
+/// If memory is not refused, each step over the transport by script has one outcome, and so has each run.
 ///
 /// The session before a step, and the step, determine the reply and the session after it. This leaves open only the
-/// addresses of a reply's lists in memory.
-pub fn each_run_has_one_outcome<U>()
+/// addresses of a reply's lists in memory. Over another transport the same holds of a call, if each send and each receive
+/// of the transport has one outcome (`call`).
+pub fn each_run_has_one_outcome<T: Transport, U>()
+    ensures call { IsFunction T.sends → IsReceiveFunction T.receives →
+        (before after after' : SessionState T U) (step : Step U) (answer answer' : Reply U) →
+        CallOf T.sends T.receives before step answer false after → CallOf T.sends T.receives before step answer' false after' →
+        SameReply answer answer' × (after ≡ after') }
     ensures step { (before after after' : SessionState Script U) (step : Step U) (answer answer' : Reply U) →
         StepOf before step answer false after → StepOf before step answer' false after' →
         SameReply answer answer' × (after ≡ after') }

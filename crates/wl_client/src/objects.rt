@@ -3,7 +3,8 @@
 ghost use Rattle.std.specs.Prelude.{◌≡◌, false, None, Some, IsSome, Ok, Err, MatchOption, MatchResult, option_copied};
 ghost use Rattle.wl_link.specs.Store.{held};
 ghost use Rattle.wl_client.specs.Session.{named, noted, alive, fresh_object as the_object, id_at as the_id};
-ghost use Rattle.wl_client.specs.Objects.{info_of, user_data_of, DataSet, DestroyedBy};
+ghost use Rattle.std.specs.Fn.{FnOnceReturnsAtMut};
+ghost use Rattle.wl_client.specs.Objects.{info_of, user_data_of, DataSet, DestroyedBy, LendsData, LendsDataIn, LendsDataOf};
 ghost use Rattle.wl_client.specs.Finish.{data_given};
 ghost use Rattle.wl_client.specs.Inside.Sending.{given_up_at};
 ghost use Rattle.wl_client.specs.Steps.{refused_destroy};
@@ -129,6 +130,37 @@ pub fn give_data<U: Drop>(
     Ok(())
 }
 
+/// Calls `f` with the user data of the object, which it may change. Returns what `f` returns, and `None` if there are no
+/// user data.
+fn lend_data_of<U: Drop, R, F: FnOnce(&mut U) -> R>(object: &mut Object<Kept<U>>, f: F) -> Option<R>
+    requires { F.IsAlwaysCallable f }
+    ensures { LendsDataOf (FnOnceReturnsAtMut F.FnOnce f) object.old result object.new }
+{
+    match &mut object.value.user_data {
+        Some(user_data) => Some(f(user_data)),
+        None => None,
+    }
+}
+
+/// The same with the object that the id names. The error says that the id names no object, or one without user data.
+fn lend_data<U: Drop, R, F: FnOnce(&mut U) -> R>(
+    objects: &mut ObjectMap<Kept<U>>,
+    id: &ObjectId,
+    f: F,
+) -> Result<R, InvalidId>
+    requires { F.IsAlwaysCallable f }
+    ensures { LendsDataIn (FnOnceReturnsAtMut F.FnOnce f) objects.old.store id.now result objects.new.store }
+{
+    match named_in(objects, id) {
+        Some(object) if object.value.user_data.is_some() => {}
+        _ => return Err(InvalidId),
+    }
+    match objects.with(id.protocol_id(), |object| lend_data_of(object, f)) {
+        Some(Some(answer)) => Ok(answer),
+        _ => Err(InvalidId),
+    }
+}
+
 /// Flags the object with this number, if there is one, as destroyed by the client.
 pub fn give_up<U: Drop>(objects: &mut ObjectMap<Kept<U>>, number: u32)
     ensures { objects.new.store ≡ given_up_at objects.old.store number (held objects.old.store number) }
@@ -184,6 +216,24 @@ impl<T: Drop, U: Drop> Backend<T, U> {
     {
         self.refused = false;
         give_data(&mut self.objects, id, user_data)
+    }
+
+    /// Calls `f` once with the user data of the object that the id names, which it may change in place. Returns what `f`
+    /// returns. It allocates nothing, apart from what `f` allocates.
+    ///
+    /// It does what `set_data` does with the data that `f` leaves, and needs no copy of them. The error is `InvalidId` if
+    /// the id names no object, or one without user data; then `f` is not called.
+    pub fn with_data<R, F: FnOnce(&mut U) -> R>(
+        &mut self,
+        id: &ObjectId,
+        f: F,
+    ) -> Result<R, InvalidId>
+        requires { F.IsAlwaysCallable f }
+        ensures lent { LendsData (FnOnceReturnsAtMut F.FnOnce f) self.old.session id.now result self.new.session }
+        ensures refused { self.new.refused ≡ false }
+    {
+        self.refused = false;
+        lend_data(&mut self.objects, id, f)
     }
 
     /// Destroys the object that the id names, on the client's side. It is noted, if it has user data.

@@ -3,13 +3,13 @@
 ghost use Rattle.std.specs.Prelude.{◌≡◌, ◌∷◌, ◌++◌, List, [], true, false, Err, IfOk, IfErr, IsOk, is_err, length, map};
 ghost use Rattle.wl_wire.specs.Table.{InterfaceRow};
 ghost use Rattle.wl_link.specs.Script.{Script, parcel};
-ghost use Rattle.wl_client.specs.Handed.{HasOwnIds};
+ghost use Rattle.wl_client.specs.Accounts.{AccountsForStopped, IsAccountedFor};
+ghost use Rattle.wl_client.specs.Histories.{Deed, History, called};
 ghost use Rattle.wl_client.specs.Named.{KeepsNaming};
-ghost use Rattle.wl_client.specs.Noted.{AccountsForStopped, NotesWhatEnded};
 ghost use Rattle.wl_client.specs.Replies.{SameReplies};
 ghost use Rattle.wl_client.specs.Session.{IsConnected, SessionState};
 ghost use Rattle.wl_client.specs.Inside.Performing.{IsOfScript};
-ghost use Rattle.wl_client.specs.Steps.{ArrivesWith, Entry, Leads, Scripts, StepOf, StopsAt, entries, refused_arrive, refused_script, with_script};
+ghost use Rattle.wl_client.specs.Steps.{ArrivesWith, Leads, Scripts, StepOf, StopsAt, entries, refused_arrive, refused_script, with_script};
 ghost use Rattle.wl_client.specs.Stretches.{EachPartIsCut};
 
 use crate::backend::Backend;
@@ -144,43 +144,40 @@ impl<U: Drop> Backend<Memory, U> {
     /// that step, and has the replies to those before it; the later steps are dropped. If there was no room for the
     /// replies, it names step 0, and no call was made. A run of no steps needs no room.
     ///
-    /// The contract is about this run together with the runs before it, from `connect` on:
+    /// The contract is about this run together with the history before it, from `connect` on: earlier runs, other calls, and
+    /// what the program made of the transport between them.
     ///
     /// - Each id that was handed out, by a reply, an event or a note, names the object that it was made of as long as that
-    ///   is kept, and then none (`identity`). The same holds of any id, from a point on at which it names an object
-    ///   (`named`).
-    /// - The notes are those of the objects that ended with user data, in order (`notes`).
+    ///   is kept, and then none. The same holds of any id, from a point on at which it names an object. The notes are those of
+    ///   the objects that ended with user data, in order. A session that has an error keeps one, and reads and flushes no
+    ///   more. All of this is said of the same changes of the objects (`accounted`); `named` says it of a point that is given.
+    /// - Each part of the history that is a run, in which bytes arrive, and events are read and finished, hands out the same
+    ///   as if all that arrived had come at once (`cutting`).
     /// - A run that stopped has both too (`stopped_accounts`).
-    /// - Each part of the run in which bytes arrive, and events are read and finished, hands out the same as if all that
-    ///   arrived had come at once (`cutting`).
     /// - The steps can lead to no other replies, and to no other session after them (`outcome`).
     pub fn replay(&mut self, steps: Vec<Step<U>>) -> Result<Vec<Reply<U>>, Stopped<U>>
         ensures none { steps.items ≡ [] → IsOk result }
         ensures count { IfOk result (λ replies. length replies.items ≡ length steps.items) }
         ensures steps { IfOk result (λ replies. Leads self.old.session (entries steps.items replies.items) self.new.session) }
-        ensures joined { IfOk result (λ replies. (begun : SessionState Script U) (run : List (Entry U)) →
-            Leads begun run self.old.session → Leads begun (run ++ entries steps.items replies.items) self.new.session) }
-        ensures identity { IfOk result (λ replies.
-            (table : List InterfaceRow) (transport : Script) (begun : SessionState Script U) (run : List (Entry U)) →
-            IsConnected table transport begun → Leads begun run self.old.session →
-            HasOwnIds begun (run ++ entries steps.items replies.items) self.new.session) }
+        ensures joined { IfOk result (λ replies. (begun : SessionState Script U) (deeds : List (Deed Script U)) →
+            History StepOf begun deeds self.old.session → History StepOf begun (deeds ++ called (entries steps.items replies.items)) self.new.session) }
+        ensures accounted { IfOk result (λ replies.
+            (table : List InterfaceRow) (transport : Script) (begun : SessionState Script U) (deeds : List (Deed Script U)) →
+            IsConnected table transport begun → History StepOf begun deeds self.old.session →
+            IsAccountedFor StepOf begun (deeds ++ called (entries steps.items replies.items)) self.new.session) }
         ensures named { IfOk result (λ replies.
-            (table : List InterfaceRow) (transport : Script) (begun point : SessionState Script U) (done later : List (Entry U)) →
-            IsConnected table transport begun → Leads begun done point → Leads point later self.old.session →
-            KeepsNaming begun done point (later ++ entries steps.items replies.items) self.new.session) }
-        ensures notes { IfOk result (λ replies.
-            (table : List InterfaceRow) (transport : Script) (begun : SessionState Script U) (run : List (Entry U)) →
-            IsConnected table transport begun → Leads begun run self.old.session →
-            NotesWhatEnded begun (run ++ entries steps.items replies.items) self.new.session) }
-        ensures cutting { IfOk result (λ replies. (begun : SessionState Script U) (run : List (Entry U)) →
-            Leads begun run self.old.session → EachPartIsCut begun (run ++ entries steps.items replies.items)) }
+            (table : List InterfaceRow) (transport : Script) (begun point : SessionState Script U) (done later : List (Deed Script U)) →
+            IsConnected table transport begun → History StepOf begun done point → History StepOf point later self.old.session →
+            KeepsNaming StepOf begun done point (later ++ called (entries steps.items replies.items)) self.new.session) }
+        ensures cutting { IfOk result (λ replies. (begun : SessionState Script U) (deeds : List (Deed Script U)) →
+            History StepOf begun deeds self.old.session → EachPartIsCut begun (deeds ++ called (entries steps.items replies.items))) }
         ensures outcome { IfOk result (λ replies. (others : List (Reply U)) (other : SessionState Script U) →
             length others ≡ length steps.items → Leads self.old.session (entries steps.items others) other →
             SameReplies replies.items others × (self.new.session ≡ other)) }
         ensures stopped_accounts { IfErr result (λ stopped.
-            (table : List InterfaceRow) (transport : Script) (begun : SessionState Script U) (run : List (Entry U)) →
-            IsConnected table transport begun → Leads begun run self.old.session →
-            AccountsForStopped begun run steps.items stopped.replies.items self.new.session) }
+            (table : List InterfaceRow) (transport : Script) (begun : SessionState Script U) (deeds : List (Deed Script U)) →
+            IsConnected table transport begun → History StepOf begun deeds self.old.session →
+            AccountsForStopped begun deeds steps.items stopped.replies.items self.new.session) }
         ensures stopped { IfErr result (λ stopped. StopsAt self.old.session steps.items stopped.step stopped.replies.items self.new.session) }
         ensures refused { self.new.refused ≡ is_err result }
     {

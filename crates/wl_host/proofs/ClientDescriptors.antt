@@ -137,14 +137,8 @@ taken_back q descriptors count e =
 
 -- an argument comes out
 conserves_argument : (q : Descriptors) (a : Argument IdParts Token) → Conserves kept_in q [] (option_to_list (descriptor_in q a)) (queue_after q a)
-conserves_argument q (arg.Int value) = conserves_nothing q
-conserves_argument q (arg.Uint value) = conserves_nothing q
-conserves_argument q (arg.Fixed value) = conserves_nothing q
-conserves_argument q (arg.Str text) = conserves_nothing q
-conserves_argument q (arg.Object id) = conserves_nothing q
-conserves_argument q (arg.NewId id) = conserves_nothing q
-conserves_argument q (arg.Array bytes) = conserves_nothing q
 conserves_argument q (arg.Fd t) = conserves_without q t
+conserves_argument q _ = conserves_nothing q
 
 pub conserves_arguments : (q : Descriptors) (args : List (Argument IdParts Token)) → Conserves kept_in q [] (descriptors_out q args) (queue_after_all q args)
 conserves_arguments q [] = conserves_nothing q

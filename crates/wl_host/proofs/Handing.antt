@@ -49,14 +49,8 @@ conserves_server s t u i o e c = record { each = λ d. rw e (c.each d) }
 
 module _ {Id : Type 0} where
   conserves_argument : (q : Descriptors) (a : Argument Id Token) → Conserves kept_in q [] (option_to_list (descriptor_in q a)) (queue_after q a)
-  conserves_argument q (arg.Int value) = conserves_nothing q
-  conserves_argument q (arg.Uint value) = conserves_nothing q
-  conserves_argument q (arg.Fixed value) = conserves_nothing q
-  conserves_argument q (arg.Str text) = conserves_nothing q
-  conserves_argument q (arg.Object id) = conserves_nothing q
-  conserves_argument q (arg.NewId id) = conserves_nothing q
-  conserves_argument q (arg.Array bytes) = conserves_nothing q
   conserves_argument q (arg.Fd t) = conserves_without q t
+  conserves_argument q _ = conserves_nothing q
 
   -- the descriptors of arguments come out
   pub conserves_arguments : (q : Descriptors) (args : List (Argument Id Token)) → Conserves kept_in q [] (descriptors_out q args) (queue_after_all q args)
@@ -152,13 +146,7 @@ bind_ends before after id id' u result same h = subst (λ (x : ClientParts). End
 
 refused_takes_none : (e : EventError) (xs : List ℤ) → went_in (of_event e) xs ≡ []
 refused_takes_none event_error.InvalidId xs = refl
-refused_takes_none event_error.UnknownOpcode xs = refl
-refused_takes_none event_error.BadSignature xs = refl
-refused_takes_none event_error.NullObject xs = refl
-refused_takes_none event_error.NullNewId xs = refl
-refused_takes_none event_error.ForeignObject xs = refl
-refused_takes_none event_error.WrongInterface xs = refl
-refused_takes_none event_error.OutOfMemory xs = refl
+refused_takes_none _ xs = refl
 
 answer_conserves : (q : Descriptors) (p : Passed) (answer : Result (Unit {0}) EventError) → Conserves kept_in q (went_in (status_by of_event answer) (descriptors_given p.arguments)) [] (queue_with q p answer)
 answer_conserves q p (Ok u) = conserves_put_in q (descriptors_given p.arguments)

@@ -155,11 +155,7 @@ module _ {T U G C : Type 0} (sends : T → Queue → Result ℕ IoFault → T �
   faulted_says : (c : Core U C) (f : IoFault) → c.is_killed ≡ false → (faulted c f).is_killed ≡ true → kills (action_error.Io f) ≡ true
   faulted_says c fault.WouldBlock live killed = absurd (true≢false (sym killed ∙ live))
   faulted_says c fault.OutOfMemory live killed = absurd (true≢false (sym killed ∙ live))
-  faulted_says c fault.Pipe live killed = refl
-  faulted_says c fault.TooBig live killed = refl
-  faulted_says c fault.Proto live killed = refl
-  faulted_says c fault.InvalidInput live killed = refl
-  faulted_says c (fault.Other n) live killed = refl
+  faulted_says c _ live killed = refl
 
   abbrev pub Says : Gives (Told U) → Type 0
   Says out = says_killed (answered out.stopped out.gave) ≡ true

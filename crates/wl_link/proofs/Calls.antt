@@ -12,5 +12,7 @@ pub mod LaterLaws
 pub mod FoundLaws
 pub mod Growth
 pub mod OneScript
+pub mod HandOnLaws
+pub mod MailboxLinkLaws
 pub mod OneMailbox
 pub mod MailboxLaws

@@ -1,5 +1,6 @@
 -- Levels of words over flags: the way down, a flag that changes, a flag more.
-use Rattle.std.proofs.Common.{nat_lt, is_some, ◌-◌, ◌≡◌, ◌≢◌, ◌+◌, ◌*◌, ◌/◌, ◌%◌, ◌<◌, ◌≤◌, ◌^◌, ◌++◌, ◌&&◌, ◌||◌, ◌⊎◌, take, drop, true≢false, Vec, vec_len, eqb, cond, ℕ, zero, suc, List, [], ◌∷◌, Bool, true, false, not, length, refl, sym, ap, subst, ◌∙◌, arith, inl, inr, get_or, set, Option, None, Some}
+use Rattle.std.proofs.Common.{nat_eq, nat_lt, is_some, ◌-◌, ◌≡◌, ◌≢◌, ◌+◌, ◌*◌, ◌/◌, ◌%◌, ◌<◌, ◌≤◌, ◌^◌, ◌++◌, ◌&&◌, ◌||◌, ◌⊎◌, take, drop, true≢false, Vec, vec_len, eqb, cond, ℕ, zero, suc, List, [], ◌∷◌, Bool, true, false, not, length, refl, sym, ap, subst, ◌∙◌, arith, inl, inr, get_or, set, Option, None, Some}
+use mathlib.Core.Bool.{beq}
 use Rattle.std.proofs.lemmas.Bool.{cases_lt, cases_eq, eq-eqb, ne_eqb, le-ltb, lt-ltb}
 use Rattle.std.proofs.lemmas.List.{get_or_past, get_or-set_other, get_or-append_right, get_or_append_left, length-append, length-set}
 use Rattle.std.proofs.lemmas.Grind.{get_or-set_at, get_or_default_zero}
@@ -163,6 +164,29 @@ pub mark_over : (words : List ℕ) (up : List (List ℕ)) (at new : ℕ) → at 
 mark_over words up at new l more t =
     subst (λ (n : ℕ). IsTree (λ w. is_set (word (set words at new) w)) (flags_above n) up) (sym (length-set words at new))
     (same_flags up _ _ (flags_above (length words)) (marked_above words at new l) t)
+
+-- both are true or neither is
+same_not : (a b : Bool) → not (beq a b) ≡ false → not a ≡ not b
+same_not true true e = refl
+same_not true false e = sym e
+same_not false true e = e
+same_not false false e = refl
+
+-- the levels over one of which a word changed, but not whether it is 0
+pub mark_same : (words : List ℕ) (up : List (List ℕ)) (at before new : ℕ) → at < length words → before ≡ get_or words at before
+    → not (beq (nat_eq before 0) (nat_eq new 0)) ≡ false
+    → IsTree (λ w. is_set (word words w)) (flags_above (length words)) up
+    → IsTree (λ w. is_set (word (set words at new) w)) (flags_above (length (set words at new))) up
+mark_same words up at before new l was e t =
+    subst (λ (n : ℕ). IsTree (λ w. is_set (word (set words at new) w)) (flags_above n) up) (sym (length-set words at new))
+    (same_flags up _ _ (flags_above (length words)) kept t)
+  where
+    kept : (w : ℕ) → is_set (word words w) ≡ is_set (word (set words at new) w)
+    kept w =
+        elim (cases_eq w at) [
+          | inl f ↦ ap (λ (k : ℕ). is_set (word words k)) f ∙ ap is_set (sym (was ∙ get_or_default_zero words at before l)) ∙ same_not _ _ e ∙ ap is_set (sym (get_or-set_at words at w new 0 f l))
+          | inr f ↦ ap is_set (sym (get_or-set_other words at w new 0 f))
+        ]
 
 -- else they have no flags
 pub mark_top : (words : List ℕ) (up : List (List ℕ)) (at new : ℕ) → length words ≤ 1

@@ -9,6 +9,9 @@ pub mod Mailbox
 pub mod MailboxLaws
 pub mod MailboxCalls
 pub mod Link
+pub mod MailboxLink
+pub mod HandOn
+pub mod Relayed
 pub mod Lending
 pub mod Refusals
 -- Laws of a link: that nothing is lost, what is read back, that there is one outcome.

@@ -1,6 +1,6 @@
 //! A buffer of bytes that wait to be read or sent.
 
-ghost use Rattle.std.specs.Prelude.{◌≡◌, ◌≢◌, ◌↔◌, ◌+◌, ◌-◌, ◌<◌, ◌≤◌, ◌^◌, [], length, take, drop, slice_range, Err, IfOk, IsTrue, OnOk, OnErr};
+ghost use Rattle.std.specs.Prelude.{◌≡◌, ◌≢◌, ◌↔◌, ◌+◌, ◌++◌, ◌-◌, ◌<◌, ◌≤◌, ◌^◌, [], length, take, drop, slice_range, Err, IfOk, IsTrue, OnOk, OnErr};
 ghost use Rattle.std.specs.VecDeque.{deque_capacity, deque_len};
 ghost use Rattle.wl_wire.specs.MapIds.{numbered};
 ghost use Rattle.wl_wire.specs.Message.{IsMessage, size, tokens};
@@ -11,7 +11,7 @@ use crate::transport::Transport;
 use std::alloc::Global;
 use std::collections::VecDeque;
 use std::marker::Model;
-use wl_wire::{IoFault, Message, MessageWriteError, Numbering, OutOfMemory, Token};
+use wl_wire::{IoFault, Message, MessageWriteError, Numbering, OutOfMemory, Token, write_once};
 
 /// A byte buffer of a given capacity, with the bytes that wait in it, in order.
 ///
@@ -120,6 +120,26 @@ impl Buffer {
         ensures appended { Appended self.old fds.old (numbered (N.object_number numbers.now) (N.new_number numbers.now) message.now) result self.new fds.new }
         ensures message { OnOk result (IsMessage (numbered (N.object_number numbers.now) (N.new_number numbers.now) message.now)) }
     {
+        // Most messages are written in one pass. If not, what this leaves behind the bytes that wait is not seen.
+        let end = self.end;
+        if let Some(count) = write_once(message, numbers, &mut self.storage[end..]) {
+            self.end = end + count;
+            return Ok(());
+        }
+        self.write_counted(message, numbers, fds)
+    }
+
+    /// As `write`, which calls it for a message that was not written in one pass. Its bytes are counted before any is written.
+    #[inline(never)]
+    fn write_counted<Id, N: Numbering<Id>>(
+        &mut self,
+        message: &Message<Id, Token>,
+        numbers: &N,
+        fds: &mut TokenQueue,
+    ) -> Result<(), MessageWriteError>
+        ensures appended { Appended self.old fds.old (numbered (N.object_number numbers.now) (N.new_number numbers.now) message.now) result self.new fds.new }
+        ensures message { OnOk result (IsMessage (numbered (N.object_number numbers.now) (N.new_number numbers.now) message.now)) }
+    {
         let end = self.end;
         let count = write_after(message, numbers, &mut self.storage, self.start, end, fds)?;
         self.end = end + count;
@@ -153,6 +173,17 @@ impl Buffer {
                 Err(error)
             }
         }
+    }
+
+    /// Appends these bytes to those that wait. The buffer must have room for them.
+    pub fn append(&mut self, bytes: &[u8])
+        requires { length self.old.bytes + length bytes.now ≤ self.old.size }
+        ensures { self.new ≡ waits (self.old.bytes ++ bytes.now) self.old.size }
+    {
+        let (start, end) = (self.start, self.end);
+        self.start = 0;
+        append_at_front(bytes, &mut self.storage, start, end);
+        self.end = end - start + bytes.len();
     }
 
     /// Receives into all of the buffer that is free. The bytes that come are appended to those that wait. Returns how many
@@ -254,6 +285,18 @@ fn write_at_front<Id, N: Numbering<Id>>(
 {
     move_to_front(storage, start, end);
     write_after(message, numbers, storage, 0, end - start, fds)
+}
+
+/// Moves the bytes from `start` to `end` to the front, and copies these bytes after them.
+fn append_at_front(bytes: &[u8], storage: &mut [u8], start: usize, end: usize)
+    requires ordered { start ≤ end }
+    requires within { end ≤ length storage.old }
+    requires room { end - start + length bytes.now ≤ length storage.old }
+    ensures { slice_range storage.new 0 (end - start + length bytes.now) ≡ slice_range storage.old start end ++ bytes.now }
+{
+    move_to_front(storage, start, end);
+    let count = end - start;
+    storage[count..count + bytes.len()].copy_from_slice(bytes);
 }
 
 /// Moves the bytes from `start` to `end` to the front, and receives after them. Returns how many bytes came.

@@ -1,6 +1,6 @@
 //! The link: a transport with buffers.
 
-ghost use Rattle.std.specs.Prelude.{◌≡◌, ◌≢◌, ◌+◌, ◌<◌, ◌≤◌, ◌∷◌, [], length, take, ◌↔◌, nat_le, if◌then◌else◌, IsTrue, Some, Ok, Err, IfOk, IfErr, OnOk, OnErr, MatchOption, MatchResult};
+ghost use Rattle.std.specs.Prelude.{◌≡◌, ◌≢◌, ◌+◌, ◌^◌, ◌<◌, ◌≤◌, ◌∷◌, [], length, take, ◌↔◌, nat_le, if◌then◌else◌, IsTrue, Some, Ok, Err, IfOk, IfErr, OnOk, OnErr, MatchOption, MatchResult};
 ghost use Rattle.std.specs.Borrow.{sem};
 ghost use Rattle.std.specs.VecDeque.{deque_capacity, deque_len};
 ghost use Rattle.wl_wire.specs.Argument.{Matches};
@@ -13,10 +13,13 @@ ghost use Rattle.wl_link.specs.NothingLost.{FlushKeeps, FlushDrains, WriteKeeps}
 ghost use Rattle.wl_link.specs.Sides.{ReadTakes};
 ghost use Rattle.wl_link.specs.Inside.WaitingBytes.{FitsUnder, grown_to, write_answer_of};
 
+mod hand_on;
+
 use crate::buffer::Buffer;
 use crate::limit::{DEFAULT_MAX_BUFFER_SIZE, grown_size, incoming_limit, rounded};
 use crate::token_queue::TokenQueue;
 use crate::transport::{MAX_BYTES_OUT, MAX_FDS_OUT, Transport};
+pub use hand_on::HandOnError;
 use smallvec::SmallVec;
 use std::alloc::{AllocError, Global};
 use std::collections::VecDeque;
@@ -282,7 +285,7 @@ impl<T> BufferedSocket<T> {
     /// Doubles the outgoing buffer until it has room for `more` bytes, as far as the limit allows. If there is no memory,
     /// it stays as it was.
     fn grow_for(&mut self, more: usize) -> Result<(), OutOfMemory>
-        requires { more ≤ 65535 }
+        requires { more < 2 ^ 63 }
         ensures { MatchResult result (λ _. Grown self.old more self.new)
             (λ _. (self.new ≡ self.old) × Wants self.old.limit (needed self.old more) self.old.outgoing_capacity) }
     {
@@ -506,6 +509,7 @@ fn size_with_room(incoming: &Buffer, limit: Option<usize>) -> usize
 fn reserve_tokens(tokens: &mut VecDeque<Token>) -> Result<(), AllocError>
     ensures items { tokens.new.items ≡ tokens.old.items }
     ensures room { OnOk result (deque_len tokens.new + 28 ≤ deque_capacity tokens.new) }
+    ensures full { OnErr result (deque_capacity tokens.old < deque_len tokens.old + 28) }
 {
     if tokens.capacity() - tokens.len() >= MAX_FDS_OUT {
         return Ok(());

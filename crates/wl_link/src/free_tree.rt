@@ -3,7 +3,7 @@
 //! A *place* is the position of a number in its range, counted from 0. A place is free if no object has its number. A
 //! *word* has 64 bits.
 
-ghost use Rattle.std.specs.Prelude.{◌≡◌, ◌≢◌, ◌+◌, ◌<◌, ◌≤◌, ℕ, Bool, true, false, [], ◌∷◌, ◌++◌, length, Vec, vec_len, OnErr, OnOk, IfOk};
+ghost use Rattle.std.specs.Prelude.{◌≡◌, ◌≢◌, ◌+◌, ◌%◌, ◌<◌, ◌≤◌, ℕ, Bool, true, false, [], ◌∷◌, ◌++◌, length, Vec, vec_len, OnErr, OnOk, IfOk};
 ghost use Rattle.std.specs.Int.{bit_at};
 ghost use Rattle.wl_link.specs.Inside.FreeTree.{word, as_bit, has_capacity, is_ready, lowest_bit, with_first, words_of, height, reads_of, IsTree, IsSomeTree, IsWholeTree, ClearsBelow, TakesLeast, HasFlag, HasHeight, IsLeastOf, is_one_word, KeepsFlags, ChangesFlag, AddsFlag, RoomMade};
 
@@ -71,10 +71,26 @@ impl FreeTree {
     /// Adds the next place, which is not free. It allocates nothing.
     pub(crate) fn push(&mut self, at: usize)
         requires tree { (flag : ℕ → Bool) × IsTree flag at (words_of self.old.levels.items) }
-        requires ready { is_ready self.old.levels.items ≡ true }
+        requires ready { at % 64 ≡ 0 → is_ready self.old.levels.items ≡ true }
         ensures tree { AddsFlag at (words_of self.old.levels.items) (words_of self.new.levels.items) }
     {
+        if at % 64 != 0 {
+            return;
+        }
         push(&mut self.levels, at);
+    }
+
+    /// Reserves what `push` needs for this place. Only the first of 64 places begins a word, so others need nothing.
+    pub(crate) fn reserve_for(&mut self, at: usize) -> Result<(), AllocError>
+        ensures tree { KeepsFlags (words_of self.old.levels.items) (words_of self.new.levels.items) }
+        ensures ok { OnOk result (at % 64 ≡ 0 → is_ready self.new.levels.items ≡ true) }
+        ensures err { OnErr result (is_ready self.old.levels.items ≡ false) }
+        ensures kept { is_ready self.old.levels.items ≡ true → is_ready self.new.levels.items ≡ true }
+    {
+        if at % 64 != 0 {
+            return Ok(());
+        }
+        self.reserve()
     }
 
     /// Reserves the capacity for one more place. The error says that there was no memory.
@@ -155,7 +171,7 @@ fn with_bit(word: u64, at: usize, is_set: bool) -> u64
 }
 
 /// Sets or clears a bit of the lowest level. On each level above it does the same with the bit of the word that changed
-/// below.
+/// below, as long as that word became 0 or was 0.
 fn mark(levels: &mut [Vec<u64>], at: usize, is_set: bool)
     requires tree { HasFlag at (words_of levels.old) }
     ensures tree { ChangesFlag at is_set (words_of levels.old) (words_of levels.new) }
@@ -163,10 +179,14 @@ fn mark(levels: &mut [Vec<u64>], at: usize, is_set: bool)
     ensures len { length levels.new ≡ length levels.old }
 {
     if let Some((words, above)) = levels.split_first_mut() {
-        let word = with_bit(words[at / 64], at % 64, is_set);
+        let before = words[at / 64];
+        let word = with_bit(before, at % 64, is_set);
         words[at / 64] = word;
+        // The level above tells which words are not 0.
         if words.len() > 1 {
-            mark(above, at / 64, word != 0);
+            if (before == 0) != (word == 0) {
+                mark(above, at / 64, word != 0);
+            }
         }
     }
 }

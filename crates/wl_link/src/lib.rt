@@ -43,7 +43,7 @@ mod token_queue;
 mod transport;
 
 pub use all_objects::AllObjects;
-pub use buffered_socket::BufferedSocket;
+pub use buffered_socket::{BufferedSocket, HandOnError};
 pub use into_objects::IntoObjects;
 pub use limit::{DEFAULT_MAX_BUFFER_SIZE, INCOMING_LIMIT};
 pub use mailbox::{Ending, Mailbox, MailboxError};

@@ -17,7 +17,7 @@ use std::alloc::Global;
 use std::fmt;
 use std::marker::Model;
 use thiserror::Error;
-use wl_wire::OutOfMemory;
+use wl_wire::{InterfaceId, KnownObjects, OutOfMemory};
 
 /// The first number of the objects that the server makes. The numbers of the client's objects are below it, from 1 on.
 pub const SERVER_ID_LIMIT: u32 = 0xFF00_0000;
@@ -85,7 +85,7 @@ impl<Data> Model for ObjectMap<Data> {
       words_read = m.words_read;
     } };
 
-    ghost invariant = { λ m. Whole m.clients.slots.items m.servers.slots.items m.clients.free.levels.items m.servers.free.levels.items };
+    ghost invariant = { λ m. Whole m.clients.slots m.servers.slots m.clients.free.levels m.servers.free.levels m.clients.is_ready m.servers.is_ready };
 }
 
 /// Where the object with a number is kept.
@@ -313,5 +313,18 @@ impl<Data: Drop> ObjectMap<Data> {
             clients: self.clients.into_objects(1),
             servers: self.servers.into_objects(SERVER_ID_LIMIT),
         }
+    }
+}
+
+/// The objects of the map, as a message's text names them.
+impl<Data: Drop> KnownObjects for ObjectMap<Data> {
+    ghost use Rattle.std.specs.Prelude.{option_map};
+    ghost use Rattle.wl_link.specs.Store.{held};
+
+    ghost interface_of = { λ objects number. option_map (λ o. o.interface) (held objects.store number) };
+
+    fn interface_of_object(&self, number: u32) -> Option<InterfaceId> {
+        let object = self.find(number)?;
+        Some(object.interface)
     }
 }

@@ -4,7 +4,7 @@
 
 ghost use Rattle.std.specs.Prelude.{◌≡◌, ◌+◌, ◌<◌, ◌≤◌, [], length, true, false, None, Some, Err, OnOk, OnErr, IsSome, option_copied};
 ghost use Rattle.std.specs.Fn.{FnOnceReturnsAtMut};
-ghost use Rattle.wl_link.specs.Inside.PlaceList.{place, put_len, has_place_capacity, SetsPlace, PutsAt, PutsNew, LendsAt, IsFirstFree, ShowsFree, WordsReadIn, ReadsFew, entries_from};
+ghost use Rattle.wl_link.specs.Inside.PlaceList.{place, put_len, has_place_capacity, IsKnown, SetsPlace, PutsAt, PutsNew, LendsAt, IsFirstFree, ShowsFree, WordsReadIn, ReadsFew, entries_from};
 ghost use Rattle.wl_link.specs.declared.object_map.InsertError.TheVariants as insert;
 ghost use Rattle.wl_link.specs.declared.object_map.NewError.TheVariants as new;
 
@@ -21,6 +21,8 @@ use wl_wire::OutOfMemory;
 pub(crate) struct Places<Data> {
     slots: Vec<Option<Object<Data>>>,
     free: FreeTree,
+    // Whether there is known to be capacity for one place more.
+    is_ready: bool,
 }
 
 impl<Data: Drop> Places<Data> {
@@ -28,10 +30,12 @@ impl<Data: Drop> Places<Data> {
     pub(crate) fn new(alloc: Global) -> Self
         ensures slots { result.slots.items ≡ [] }
         ensures free { ShowsFree result.slots.items result.free.levels.items }
+        ensures ready { result.is_ready ≡ false }
     {
         Places {
             slots: Vec::new(alloc),
             free: FreeTree::new(alloc),
+            is_ready: false,
         }
     }
 
@@ -69,6 +73,7 @@ impl<Data: Drop> Places<Data> {
         ensures places { SetsPlace self.old.slots.items at None self.new.slots.items }
         ensures len { length self.new.slots.items ≡ length self.old.slots.items }
         ensures room { has_place_capacity self.new.slots self.new.free.levels ≡ has_place_capacity self.old.slots self.old.free.levels }
+        ensures ready { self.new.is_ready ≡ self.old.is_ready }
     {
         if at < self.slots.len() {
             let object = self.slots[at].take();
@@ -90,6 +95,7 @@ impl<Data: Drop> Places<Data> {
         ensures err { OnErr result (self.new.slots.items ≡ self.old.slots.items) }
         ensures grows { OnErr result (at ≡ length self.old.slots.items) }
         ensures full { OnErr result (has_place_capacity self.old.slots self.old.free.levels ≡ false) }
+        ensures known { IsKnown self.old.is_ready self.old.slots self.old.free.levels → IsKnown self.new.is_ready self.new.slots self.new.free.levels }
     {
         if at < self.slots.len() {
             self.slots[at] = Some(object);
@@ -112,8 +118,10 @@ impl<Data: Drop> Places<Data> {
         ensures len { OnOk result (length self.new.slots.items ≡ put_len at (length self.old.slots.items)) }
         ensures err { OnErr result (self.new.slots.items ≡ self.old.slots.items) }
         ensures full { OnErr result (has_place_capacity self.old.slots self.old.free.levels ≡ false) }
+        ensures known { IsKnown self.old.is_ready self.old.slots self.old.free.levels → IsKnown self.new.is_ready self.new.slots self.new.free.levels }
     {
-        self.free.reserve()?;
+        self.is_ready = false;
+        self.free.reserve_for(at)?;
         self.slots.push(Some(object))?;
         self.free.push(at);
         Ok(())
@@ -129,6 +137,7 @@ impl<Data: Drop> Places<Data> {
         ensures places { PutsAt self.old.slots.items at object result self.new.slots.items }
         ensures full { result ≡ Err insert.OutOfMemory → has_place_capacity self.old.slots self.old.free.levels ≡ false }
         ensures kept { OnErr result (has_place_capacity self.old.slots self.old.free.levels ≡ true → has_place_capacity self.new.slots self.new.free.levels ≡ true) }
+        ensures known { IsKnown self.old.is_ready self.old.slots self.old.free.levels → IsKnown self.new.is_ready self.new.slots self.new.free.levels }
     {
         if at > self.slots.len() || self.find(at).is_some() {
             return Err(InsertError::NotFree);
@@ -158,6 +167,7 @@ impl<Data: Drop> Places<Data> {
         ensures full { result ≡ Err new.OutOfMemory → has_place_capacity self.old.slots self.old.free.levels ≡ false }
         ensures kept { OnErr result (has_place_capacity self.old.slots self.old.free.levels ≡ true
             → has_place_capacity self.new.slots self.new.free.levels ≡ true) }
+        ensures known { IsKnown self.old.is_ready self.old.slots self.old.free.levels → IsKnown self.new.is_ready self.new.slots self.new.free.levels }
         ensures words_read { WordsReadIn self.old.slots.items words_read.new }
         ensures few_words { ReadsFew self.old.slots.items words_read.new }
     {
@@ -192,6 +202,7 @@ impl<Data: Drop> Places<Data> {
         ensures called { LendsAt (FnOnceReturnsAtMut F.FnOnce f) self.old.slots.items at result self.new.slots.items }
         ensures len { length self.new.slots.items ≡ length self.old.slots.items }
         ensures room { has_place_capacity self.new.slots self.new.free.levels ≡ has_place_capacity self.old.slots self.old.free.levels }
+        ensures ready { self.new.is_ready ≡ self.old.is_ready }
     {
         if at < self.slots.len() {
             match &mut self.slots[at] {
@@ -203,16 +214,36 @@ impl<Data: Drop> Places<Data> {
         }
     }
 
-    /// Reserves the capacity for one more place.
+    /// Reserves the capacity for one more place. Where there is known to be some, it looks no further.
     pub(crate) fn reserve(&mut self) -> Result<(), OutOfMemory>
-        requires { ShowsFree self.old.slots.items self.old.free.levels.items }
+        requires free { ShowsFree self.old.slots.items self.old.free.levels.items }
+        requires known { IsKnown self.old.is_ready self.old.slots self.old.free.levels }
         ensures free { ShowsFree self.new.slots.items self.new.free.levels.items }
+        ensures known { IsKnown self.new.is_ready self.new.slots self.new.free.levels }
+        ensures items { self.new.slots.items ≡ self.old.slots.items }
+        ensures ok { OnOk result (has_place_capacity self.new.slots self.new.free.levels ≡ true) }
+        ensures err { OnErr result (has_place_capacity self.old.slots self.old.free.levels ≡ false) }
+    {
+        if self.is_ready {
+            return Ok(());
+        }
+        self.reserve_next()
+    }
+
+    /// Reserves the capacity for one more place, which is not known to be there.
+    #[inline(never)]
+    fn reserve_next(&mut self) -> Result<(), OutOfMemory>
+        requires free { ShowsFree self.old.slots.items self.old.free.levels.items }
+        requires ready { self.old.is_ready ≡ false }
+        ensures free { ShowsFree self.new.slots.items self.new.free.levels.items }
+        ensures known { IsKnown self.new.is_ready self.new.slots self.new.free.levels }
         ensures items { self.new.slots.items ≡ self.old.slots.items }
         ensures ok { OnOk result (has_place_capacity self.new.slots self.new.free.levels ≡ true) }
         ensures err { OnErr result (has_place_capacity self.old.slots self.old.free.levels ≡ false) }
     {
         self.free.reserve()?;
         self.slots.reserve(1)?;
+        self.is_ready = true;
         Ok(())
     }
 

@@ -5,8 +5,9 @@ ghost use Rattle.wl_wire.specs.MapIds.{numbered};
 ghost use Rattle.wl_wire.specs.Message.{IsMessage, size, spelling, tokens};
 
 use std::alloc::Global;
+use std::collections::VecDeque;
 use std::marker::Model;
-use wl_wire::{Message, MessageWriteError, Numbering, Token, write_numbered};
+use wl_wire::{Message, MessageWriteError, Numbering, OutOfMemory, Token, write_numbered};
 
 /// A queue of tokens in a vector.
 ///
@@ -70,6 +71,27 @@ impl TokenQueue {
             self.tokens.drain(..start);
             self.start = 0;
         }
+    }
+
+    /// Takes `count` tokens off the front of the other queue, which has them, and appends them to this one. If there is no
+    /// memory for them, nothing is changed.
+    pub fn append_from(
+        &mut self,
+        tokens: &mut VecDeque<Token>,
+        count: usize,
+    ) -> Result<(), OutOfMemory>
+        requires { count ≤ length tokens.old.items }
+        ensures appended { OnOk result (self.new ≡ self.old ++ take count tokens.old.items) }
+        ensures taken { OnOk result (tokens.new.items ≡ drop count tokens.old.items) }
+        ensures unchanged { OnErr result ((self.new ≡ self.old) × (tokens.new.items ≡ tokens.old.items)) }
+    {
+        if count == 0 {
+            return Ok(());
+        }
+        let (first, _) = tokens.make_contiguous().split_at(count);
+        self.tokens.extend_from_slice(first)?;
+        tokens.drain(..count);
+        Ok(())
     }
 
     /// Writes the message at the front of the slice, with the numbers that `numbers` gives its ids, and appends its tokens

@@ -1,5 +1,7 @@
 -- Clients and objects that are made, told of and ended.
 pub mod Creation
+pub mod Setting
+pub mod LendingData
 pub mod Posting
 pub mod Told
 pub mod EventFaults

@@ -11,3 +11,9 @@ pub mod Returning
 pub mod Ends
 pub mod Sending
 pub mod Cleanup
+pub mod Arguments
+pub mod ReadingEnds
+pub mod ReadingNotes
+pub mod Reading
+pub mod Insertion
+pub mod Globals

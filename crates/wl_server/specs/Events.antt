@@ -113,7 +113,7 @@ abbrev pub wire_message : SessionMessage → WireMessage
 wire_message m = record { sender = m.sender.number; opcode = m.opcode; args = map wire_argument m.args }
 
 abbrev pub said : SessionMessage → Said
-said m = record { serial = m.sender.serial; message = wire_message m }
+said m = record { serial = m.sender.serial; message = wire_message m; makes_text = false }
 
 -- the note of a sender that ends asks for memory before the write
 abbrev pub AsksForMemory : {U : Type 0} → Object (Kept U) → Bool → Type 0

@@ -5,19 +5,28 @@ use Rattle.wl_wire.specs.declared.error.IoFault.{IoFault}
 use Rattle.wl_wire.specs.Table.{InterfaceRow}
 use Rattle.wl_link.specs.declared.object.Object.{Object}
 use Rattle.wl_link.specs.Exchange.{Queue, Sending}
+use Rattle.wl_link.specs.Identity.{Id}
 use Rattle.wl_link.specs.Link.{LinkState, FlushedBy}
 use Rattle.wl_link.specs.Puts.{Said, lacks_memory}
 use Rattle.wl_server.specs.declared.objects.Kept.{Kept}
 use Rattle.wl_server.specs.Deeds.{Deed, Noted, Sent, left_if}
 use Rattle.wl_server.specs.Globals.{Shown}
 use Rattle.wl_server.specs.Ids.{ClientParts}
-use Rattle.wl_server.specs.Part.{Part, id_at, id_of, note_of_end, with_link}
-use Rattle.wl_server.specs.Telling.{Tells, core_of, global_message, removal_message, tells}
+use Rattle.wl_server.specs.Part.{Part, id_at, id_of, note_of_end, same_id, with_link}
+use Rattle.wl_server.specs.Telling.{Tells, core_of, global_message, making, removal_message, tells}
+
+abbrev pub is_first : List Id → Id → Bool
+is_first [] r = false
+is_first (first ∷ rest) r = same_id first r
+
+-- what the registries of a client are told of one global; the text is made for the first, and the others get the same
+abbrev pub announcements : List InterfaceRow → List Id → Shown → List Said
+announcements table registries g = map (λ r. making (is_first registries r) (global_message table r g)) registries
 
 module _ {T U C : Type 0} where
   -- what the registries of a client are told of a new global, if the client may see it
   abbrev pub news : List InterfaceRow → Part T U C → Bool → Shown → List Said
-  news table p visible g = if visible then map (λ r. global_message table r g) p.registries else []
+  news table p visible g = if visible then announcements table p.registries g else []
 
   -- what they are told of a global that is no longer announced, whether the client could see it or not
   abbrev pub removals : Part T U C → ℕ → List Said

@@ -10,6 +10,7 @@ pub mod Events
 pub mod Requests
 pub mod Finish
 pub mod Reading
+pub mod ReadingEnds
 pub mod Felt
 pub mod Server
 pub mod Moves
@@ -32,6 +33,7 @@ pub mod NotedOnce
 pub mod NotedEnds
 pub mod Announced
 pub mod Cutting
+pub mod DataInPlace
 pub mod Stretches
 pub mod Room
 pub mod Bounded
@@ -44,5 +46,8 @@ pub mod Reached
 pub mod Dispatch
 -- ---- what callers use
 pub mod Plain
+pub mod PlainReading
+pub mod PlainCalls
+pub mod PlainGlobals
 -- ---- what the functions inside promise each other
 pub mod Inside

@@ -32,7 +32,7 @@ use Rattle.wl_server.specs.Globals.{Globals, global_at, is_visible, shown}
 use Rattle.wl_server.specs.Ids.{ClientParts, GlobalParts}
 use Rattle.wl_server.specs.Part.{Part, display_of, id_at}
 use Rattle.wl_server.specs.Requests.{Outcome, Whole, Wrong, convert, is_valid_new, made_id, start, with_made}
-use Rattle.wl_server.specs.Telling.{Core, Did, Finish, Stops, Told, closed_down, deeds_of, deletions, done_message, global_message, objects_in, part_of, reader_part, tells, with_objects}
+use Rattle.wl_server.specs.Telling.{Core, Did, Finish, Stops, Told, closed_down, deeds_of, deletions, done_message, introductions, objects_in, part_of, reader_part, tells, with_objects}
 
 -- what a reading looks at beside its own client: the table, the client's id, the globals, and what a client may see of them
 pub record Around (G C : Type 0) : Type 0 where
@@ -114,7 +114,7 @@ module _ {U G C : Type 0} (a : Around G C) where
   -- a new registry is told of each global that the client is shown, and from then on of each change
   abbrev pub registers : Core U C → ℕ → Verdict (Core U C) (Told U)
   registers c n =
-      replies (with_registry c n) (map (global_message a.table (new_at c n)) (shown a.views a.globals a.client c.client_data))
+      replies (with_registry c n) (introductions a.table (new_at c n) 0 (shown a.views a.globals a.client c.client_data))
       (Remembered (new_at c n) ∷ [])
 
   -- opcode 0 is `sync`, and 1 is `get_registry`

@@ -2,7 +2,7 @@
 --
 -- The messages of one call are put one after another, up to the first that cannot be put. Then the client is killed, as
 -- one whose connection is closed.
-use Rattle.std.specs.Prelude.{◌≡◌, ℕ, List, [], ◌∷◌, ◌++◌, map, Bool, true, false, if◌then◌else◌, Option, None, Some, Result}
+use Rattle.std.specs.Prelude.{◌≡◌, ℕ, List, [], ◌∷◌, ◌++◌, map, Bool, true, false, if◌then◌else◌, Option, None, Some, Result, nat_lt, length}
 use Rattle.wl_wire.specs.declared.argument.Argument.TheVariants as arg
 use Rattle.wl_wire.specs.declared.error.IoFault.{IoFault}
 use Rattle.wl_wire.specs.Argument.{WireArgument}
@@ -28,10 +28,14 @@ use Rattle.wl_server.specs.Part.{Part}
 
 -- a message of the display, which is object 1 and has the serial 0
 abbrev pub by_display : ℕ → List WireArgument → Said
-by_display opcode args = record { serial = 0; message = record { sender = 1; opcode = opcode; args = args } }
+by_display opcode args = record { serial = 0; message = record { sender = 1; opcode = opcode; args = args }; makes_text = false }
 
 abbrev pub by_object : Id → ℕ → List WireArgument → Said
-by_object id opcode args = record { serial = id.serial; message = record { sender = id.number; opcode = opcode; args = args } }
+by_object id opcode args = record { serial = id.serial; message = record { sender = id.number; opcode = opcode; args = args }; makes_text = false }
+
+-- the same message; a text of it is made when it is put, or is there before
+abbrev pub making : Bool → Said → Said
+making makes m = record m { makes_text = makes }
 
 -- `wl_display.error`: the object that it is about, the code and the text
 abbrev pub error_message : ℕ → ℕ → List ℕ → Said
@@ -49,10 +53,18 @@ deletions n = if is_server_number n then [] else (delete_message n ∷ [])
 abbrev pub done_message : Id → Said
 done_message callback = by_object callback 0 (arg.Uint 0 ∷ [])
 
--- `wl_registry.global`: the name, the interface's name and the version
+-- `wl_registry.global`: the name, the interface's name and the version. The text is made when the message is put.
 abbrev pub global_message : List InterfaceRow → Id → Shown → Said
 global_message table registry g =
-    by_object registry 0 (arg.Uint g.name ∷ arg.Str (Some (name_of table g.interface.0)) ∷ arg.Uint g.version ∷ [])
+    making true (by_object registry 0 (arg.Uint g.name ∷ arg.Str (Some (name_of table g.interface.0)) ∷ arg.Uint g.version ∷ []))
+
+-- `wl_registry.global` of each of these globals, one after another. The text of one is put into the memory of the one
+-- before, which has this many bytes: so memory is asked for only if it is longer.
+abbrev pub introductions : List InterfaceRow → Id → ℕ → List Shown → List Said
+introductions table registry room [] = []
+introductions table registry room (g ∷ gs) =
+    making (nat_lt room (length (name_of table g.interface.0))) (global_message table registry g)
+    ∷ introductions table registry (length (name_of table g.interface.0)) gs
 
 -- `wl_registry.global_remove`
 abbrev pub removal_message : ℕ → Id → Said

@@ -16,7 +16,7 @@
 //! A clause whose name begins with `script` is about steps with their replies, over the transport by script. It says of
 //! them what the other clauses of its function say of calls over every transport.
 
-ghost use Rattle.std.specs.Prelude.{◌≡◌, ◌≢◌, ◌<◌, ◌≤◌, ◌∷◌, ◌++◌, [], ℕ, Bool, false, List, Option, Some, Result, Err};
+ghost use Rattle.std.specs.Prelude.{◌≡◌, ◌≢◌, ◌<◌, ◌≤◌, ◌∷◌, ◌++◌, [], ℕ, Bool, false, List, None, Option, Some, Result, Err};
 ghost use Rattle.wl_wire.specs.Table.{AnswersGrowth, InterfaceRow};
 ghost use Rattle.wl_wire.specs.declared.protocol.TableError.{TableError};
 ghost use Rattle.wl_wire.specs.declared.protocol.TableError.TheVariants as table_error;
@@ -51,12 +51,13 @@ ghost use Rattle.wl_server.specs.NotedEnds.{EachNoteIsOfAnEnd, EndIsNotedAtOnce,
 ghost use Rattle.wl_server.specs.NotedOnce.{CleanupNotesAll, EachIsNoted, FinishNotesAtOnce, HaveNotes};
 ghost use Rattle.wl_server.specs.Part.{Part};
 ghost use Rattle.wl_server.specs.PartStep.{Call, around, over, over_scripts, share_of};
-ghost use Rattle.wl_server.specs.Reading.{Around, reads_on, server};
+ghost use Rattle.wl_server.specs.Reading.{Around, answered, reads_on, server};
+ghost use Rattle.wl_server.specs.ReadingEnds.{ReadingEnds};
 ghost use Rattle.wl_server.specs.Runs.{Alone, AreIsolated, IsIsolated, Leads, Own, Performs, history};
 ghost use Rattle.wl_server.specs.Server.{Seen, ServerState, Stored, new_server};
 ghost use Rattle.wl_server.specs.Steps.{RiseBySlot, Entry, InsertsNext, OneStep, StepOf};
 ghost use Rattle.wl_server.specs.Stretches.{StretchIsServed, IsStretch, IsStretchWithin, SameLeft, handed_out, arrived, beside_exchanges, finished};
-ghost use Rattle.wl_server.specs.Telling.{Core, Finish, Told};
+ghost use Rattle.wl_server.specs.Telling.{Core, Finish, Told, reader_part};
 ghost use Rattle.wl_server.specs.WholeOutcome.{AnswersAlike, PerformancesHaveOneOutcome, RunsHaveOneOutcome, SameServer};
 
 use crate::dispatch::Handler;
@@ -327,6 +328,24 @@ pub fn cutting_does_not_matter_to_a_run<U, G: GlobalHandler<C>, C>()
 /// The value of a constant of this crate: a reading makes at most 64 receives, if the program sets no other number.
 pub fn a_reading_receives_64_times()
     ensures { READ_TURNS ≡ 64 }
+{}
+
+/// A reading of a live client without an open action ends with an action or for a reason.
+///
+/// An action comes of a message that was read. A request has the message's opcode, and its arguments are the message's if
+/// each id is turned back into its number. Each object argument is null, where the table allows it, or the kept object of
+/// its number, of an interface that fits. A fault is what the last receive answered, or one of these four:
+///
+/// - `WouldBlock`: no receive is left, and the message at the front lacks bytes or tokens.
+/// - `OutOfMemory`: memory was refused.
+/// - `Proto`: the client sent bytes that are no message that it may send.
+/// - `Pipe`: the client broke the protocol in another way, or could not be told something.
+///
+/// After `WouldBlock` and `OutOfMemory` the client lives on. After any other fault it was killed in this reading.
+pub fn each_reading_ends_for_a_reason<T: Transport, U, G: GlobalHandler<C>, C>()
+    ensures { (a : Around G C) (left : ℕ) (before : Part T U C) (turns : List Turn) (out : Gives (Told U)) (end : ReaderState T (Core U C)) →
+        before.is_killed ≡ false → before.action ≡ None → Reads T.sends (server a) T.receives left (reader_part before) turns out end →
+        ReadingEnds T.sends a turns (answered out.stopped out.gave) out.refused out.left end }
 {}
 
 /// A call that does not read a client receives nothing from it. `next_action` receives from its client at most 64 times.

@@ -18,25 +18,26 @@
 //! | `transport_mut` | `client::transport` | `Backend`, `Lending` |
 //! | `create_object`, `destroy_object`, `set_object_data` | `objects` | `Objects` |
 //! | `send_event`, `send_event_lent`, `post_error` | `events` | `Events`, `Errors`, `Posted` |
-//! | `next_action`, `next_action_within`, and both `_into` | `reading::next_action` | `Reading`, `Requests`, `Cutting`, `Room` |
+//! | `next_action`, `next_action_within`, and both `_into` | `reading::next_action` | `Reading`, `Requests`, `Cutting`, `Room`, `PlainReading`, `ReadingEnds` |
 //! | `finish_request`, `finish_bind`, and both `_returning` | `reading::finish` | `Finish`, `Cutting`, `Plain` |
 //! | `dispatch_single_client`, `dispatch_all_clients`, [`Handler`] | `dispatch` | `Dispatch`, `Reached` |
 //! | `create_global`, `disable_global`, `remove_global` | `globals::create_global`, `globals::remove_global` | `PartStep`, `Globals`, `Felt` |
 //! | `add_interfaces` | `globals::add_interfaces` | `Steps`, and `Table` of `wl_wire` |
 //! | `cleanup`, `take_notes` | `notes` | `PartStep`, `Felt` |
-//! | look-ups, `next_global_id`, `with_all_clients`, `with_all_objects_for` | `lookups`, `globals::lookups` | `Lookups`, `Next` |
+//! | look-ups, `next_global_id`, `all_clients`, `with_all_clients`, `all_objects_for`, `with_all_objects_for` | `lookups`, `globals::lookups` | `Lookups`, `Next` |
 //! | `replay` | `runs::replay` | `Runs`, `Histories`, `WholeOutcome` |
 //!
-//! The calls that programs use most have a second clause, `plain`. It says what the program finds of the object, the
-//! client or the notes after the call, in the words of the look-ups (`specs/Plain`). It follows from `Calls`.
+//! Most calls have a second clause, `plain`. It says what the program finds of the object, the client, the global or the
+//! notes after the call, in the words of the look-ups (`specs/Plain`, `PlainCalls`, `PlainGlobals`, `PlainReading`). It
+//! follows from `Calls`.
 //!
 //! The laws of runs are the contracts of the functions of [`laws`]. A *run* is a list of calls, one after another. The
 //! words of each law stand in a file of `specs/`: `Runs` (each client is alone), `Identified` (ids), `Logged` (what was
 //! sent), `Announced` (globals), `NotedOnce` (notes), `Killed` (killed clients), `GivenOnce` (ids of clients and globals),
 //! `Accounts` (these seven, of one history), `Named` (what any id names), `NotedEnds` (which objects notes tell of),
 //! `Cutting` and `Stretches` (it does not matter how the bytes are cut into receives), `Outcome` and `WholeOutcome` (there
-//! is one outcome), `Bounded` (how often is received). That a message always has room in the buffer (`Room`) is a clause
-//! of `next_action` itself.
+//! is one outcome), `Bounded` (how often is received), `ReadingEnds` (why a reading ends). That a message always has room
+//! in the buffer (`Room`) is a clause of `next_action` itself.
 #![tactic(auto)]
 
 mod backend;
@@ -63,6 +64,7 @@ pub use globals::handler::{GlobalHandler, ShownToAll};
 pub use ids::client_id::ClientId;
 pub use ids::global_id::{GlobalId, GlobalInfo};
 pub use ids::object_id::ObjectId;
+pub use lookups::walks::{AllClients, AllObjectsFor};
 pub use notes::{DisconnectReason, Note};
 pub use reading::action::{Action, Reading};
 pub use reading::next_action::READ_TURNS;

@@ -7,6 +7,7 @@ ghost use Rattle.wl_server.specs.Lookups.{client_by, client_data_of, object_data
 ghost use Rattle.wl_server.specs.Server.{client_at};
 
 pub mod visits;
+pub mod walks;
 
 use crate::backend::Backend;
 use crate::client::Client;

@@ -2,10 +2,11 @@
 //!
 //! A *note* tells the program what happened to a client or an object (`Note`).
 
-ghost use Rattle.std.specs.Prelude.{◌≡◌, ◌<◌, ◌++◌, true, IfSome, IsSome, Ok, OnErr, OnOk, MatchOption, is_some, map, not, option_copied};
+ghost use Rattle.std.specs.Prelude.{◌≡◌, ◌<◌, ◌++◌, true, IfSome, IsSome, Ok, OnErr, OnOk, MatchOption, if◌then◌else◌, is_some, map, not, option_copied};
 ghost use Rattle.std.specs.List.{filter};
 ghost use Rattle.std.specs.VecDeque.{deque_capacity, deque_len};
 ghost use Rattle.wl_link.specs.Store.{held, removed};
+ghost use Rattle.wl_server.specs.Inside.NoteOrder.{one_waits};
 ghost use Rattle.wl_server.specs.Part.{named, note_of_end, registries_without, same_id, fresh_object as the_object, id_at as the_id};
 
 pub mod create;
@@ -136,8 +137,8 @@ pub fn reserve_note<U>(
     Ok(())
 }
 
-/// Takes the object with the number of the id out. If it had user data, a note of its end waits for the next cleanup.
-/// There is room for that note.
+/// Takes the object with the number of the id out. If it had user data, a note of its end waits for the next cleanup,
+/// and uses up a number. There is room for that note.
 pub fn take_out_noted<U: Drop>(
     objects: &mut ClientObjects<U>,
     waiting: &mut WaitingNotes<U>,
@@ -152,6 +153,8 @@ pub fn take_out_noted<U: Drop>(
     ensures serial { objects.new.last_serial ≡ objects.old.last_serial }
     ensures noted { IfSome (held objects.old.map.store id.now.number)
         (λ x. map (λ w. w.1) waiting.new.queue.items ≡ map (λ w. w.1) waiting.old.queue.items ++ note_of_end id.now.client id.now.number x) }
+    ensures numbers { MatchOption (held objects.old.map.store id.now.number) (numbers.new ≡ numbers.old)
+        (λ x. numbers.new ≡ (if is_some x.value.user_data then one_waits numbers.old else numbers.old)) }
 {
     let number = id.protocol_id();
     let Some(object) = take_out(objects, number) else {

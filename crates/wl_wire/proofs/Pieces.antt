@@ -249,6 +249,30 @@ overwritten-header old head rest head-len le =
     = subst (λ (k : ℕ). overwritten (overwritten old 0 head) k rest ≡ overwritten old 0 (head ++ rest)) (omega arith) (overwritten-append old 0 head rest (omega arith)) in
     whole ∙ overwritten-front old (head ++ rest) ∙ ap (λ (k : ℕ). (head ++ rest) ++ drop k old) whole-len
 
+behind-header : (old rest : List ℕ) → 8 + length rest ≤ length old → drop 8 (overwritten old 8 rest) ≡ rest ++ drop (8 + length rest) old
+unfolding overwritten
+behind-header old rest le =
+    ap (drop 8) (append_assoc (take 8 old) rest (drop (8 + length rest) old))
+    ∙ drop_at (take 8 old) (rest ++ drop (8 + length rest) old) 8 (length-take-le 8 old (omega arith))
+
+-- the header, written after what follows it
+pub overwritten-header-last : (old head rest : List ℕ) → length head ≡ 8 → 8 + length rest ≤ length old → overwritten (overwritten old 8 rest) 0 head ≡ (head ++ rest) ++ drop (8 + length rest) old
+overwritten-header-last old head rest head-len le =
+    overwritten-front (overwritten old 8 rest) head
+    ∙ ap (λ (k : ℕ). head ++ drop k (overwritten old 8 rest)) head-len
+    ∙ ap (λ (p : List ℕ). head ++ p) (behind-header old rest le)
+    ∙ sym (append_assoc head rest (drop (8 + length rest) old))
+
+-- as overwritten-more, where it is not known that all pieces have room
+pub overwritten-next : (old now new : List ℕ) (args : List WireArgument) (i at : ℕ) (a : WireArgument) → i < length args → a ≡ get_or args i a
+    → at + length (piece a) ≤ length old → at ≡ 8 + length (pieces (take i args)) → now ≡ overwritten old 8 (pieces (take i args)) → new ≡ overwritten now at (piece a)
+    → new ≡ overwritten old 8 (pieces (take (i + 1) args))
+overwritten-next old now new args i at a lt is room at-is now-is new-is =
+    new-is ∙ ap (λ (p : List ℕ). overwritten p at (piece a)) now-is
+    ∙ ap (λ (k : ℕ). overwritten (overwritten old 8 (pieces (take i args))) k (piece a)) at-is
+    ∙ overwritten-append old 8 (pieces (take i args)) (piece a) (omega arith)
+    ∙ ap (overwritten old 8) (sym (pieces-more args i a lt is))
+
 pub length-header : (sender size-opcode : ℕ) → length (word sender ++ word size-opcode) ≡ 8
 length-header sender size-opcode = omega (arith, length-append (word sender) (word size-opcode), length-word sender, length-word size-opcode)
 

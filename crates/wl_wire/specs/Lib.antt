@@ -8,6 +8,8 @@ pub mod Stream
 -- The table of interfaces, and what a message asks for.
 pub mod Table
 pub mod MessageRows
+-- The text of a message in a log.
+pub mod LogText
 pub mod Enum
 -- Descriptors and ids that are replaced.
 pub mod MapFd

@@ -8,10 +8,11 @@
 //!
 //! | Calls | Code | Definitions, in `specs/` |
 //! |---|---|---|
-//! | `write_to_buffers`, `write_numbered`, `message_size`, `numbered_size` | `write` | `Message`, `MapIds` |
-//! | `parse_message`, `parse_into`, `message_header`, `message_is_there` | `parse` | `Parse`, `Reading`, `Argument` |
+//! | `write_to_buffers`, `write_numbered`, `write_once`, `message_size`, `numbered_size` | `write` | `Message`, `MapIds` |
+//! | `parse_message`, `parse_into`, `peek_into`, `message_header`, `message_is_there`, `fd_places` | `parse` | `Parse`, `Reading`, `Argument` |
 //! | `Protocol`, `check_for_signature`, `same_interface` | `protocol`, `table_check` | `Table`, `Argument`, `MessageRows` |
 //! | `Message::map_ids`, `Message::map_fd` | `map_ids`, `message` | `MapIds`, `MapFd` |
+//! | `push_message`, `push_argument`, `KnownObjects` | `log_text` | `LogText` |
 //! | `WEnum`, `WaylandEnum` | `enums` | `Enum` |
 //!
 //! The `requires` and `ensures` lines of a function are its *contract*: what the caller has to see to, and what is proved
@@ -31,6 +32,7 @@ mod enums;
 mod error;
 mod interface;
 pub mod laws;
+mod log_text;
 mod map_ids;
 mod message;
 mod numbering;
@@ -49,11 +51,15 @@ pub use interface::{
     ANONYMOUS_INTERFACE, Interface, InterfaceId, MessageDesc, ObjectInfo, WL_CALLBACK_INTERFACE,
     WL_DISPLAY_INTERFACE, WL_REGISTRY_INTERFACE,
 };
+pub use log_text::{KnownObjects, push_argument, push_message};
 pub use message::{INLINE_ARGS, Message};
 pub use numbering::{Numbering, OwnNumbers};
-pub use parse::{MessageHeader, message_header, message_is_there, parse_into, parse_message};
+pub use parse::{
+    MessageHeader, fd_places, message_header, message_is_there, parse_into, parse_message,
+    peek_into,
+};
 pub use protocol::{
     Protocol, TableError, check_for_signature, same_interface, same_interface_or_anonymous,
 };
 pub use text::Text;
-pub use write::{message_size, numbered_size, write_numbered, write_to_buffers};
+pub use write::{message_size, numbered_size, write_numbered, write_once, write_to_buffers};

@@ -265,7 +265,7 @@ fn can_read(signature: &[ArgumentType], payload: &[u8], fds: &[Token]) -> bool
 }
 
 /// How many file descriptors a message with that signature has.
-fn fd_places(signature: &[ArgumentType]) -> usize
+pub fn fd_places(signature: &[ArgumentType]) -> usize
     ensures { result ≡ fd_count signature.now }
 {
     signature
@@ -351,6 +351,36 @@ pub fn message_is_there(raw: &[u8], signature: &[ArgumentType], tokens: usize) -
         return false;
     };
     8 <= header.len && header.len <= raw.len() && fd_places(signature) <= tokens
+}
+
+/// Does the same as `parse_into`, but leaves the message's tokens in the queue.
+///
+/// So a program may look at the message, and hand on its bytes and tokens as they are.
+pub fn peek_into(
+    alloc: Global,
+    raw: &[u8],
+    signature: &[ArgumentType],
+    fds: &mut VecDeque<Token>,
+    message: &mut Message<u32, Token>,
+) -> Result<(), MessageParseError>
+    requires { INLINE_ARGS ≤ message.old.args.capacity }
+    ensures found { OnOk result (ReadsMessage raw.now signature.now fds.old.items (content message.new)) }
+    ensures matches { OnOk result (Matches signature.now message.new.args.items) }
+    ensures refused { IfErr result (RefusesMessage raw.now signature.now fds.old.items) }
+    ensures inline { IsInline signature.now → IfErr result (λ e. e ≢ OutOfMemory) }
+    ensures unchanged { fds.new.items ≡ fds.old.items }
+    ensures capacity { INLINE_ARGS ≤ message.new.args.capacity }
+{
+    let head = read_header(raw)?;
+    let (whole, _rest) = raw.split_at(head.len);
+    let payload = &whole[8..];
+    message.args.clear();
+    let Ok(_taken) = read_arguments(alloc, signature, payload, fds, &mut message.args) else {
+        return Err(refusal(signature, payload, fds.make_contiguous()));
+    };
+    message.sender_id = head.sender_id;
+    message.opcode = head.opcode;
+    Ok(())
 }
 
 /// Takes `count` tokens off the front.

@@ -1,18 +1,18 @@
 //! The table of the interfaces that a session knows.
 
-ghost use Rattle.std.specs.Prelude.{Some, ◌≡◌, ◌≢◌, ◌↔◌, ◌⊎◌, ◌++◌, IsTrue, IfOk, OnErr, length, slice_get, option_map};
+ghost use Rattle.std.specs.Prelude.{ℕ, None, Some, ◌≡◌, ◌≢◌, ◌<◌, ◌↔◌, ◌⊎◌, ◌++◌, IsTrue, IfOk, IfSome, OnErr, length, slice_get, option_map};
 ghost use Rattle.std.specs.Option.{option_copied};
 ghost use Rattle.wl_wire.specs.Argument.{Matches};
-ghost use Rattle.wl_wire.specs.Table.{anonymous_id, anonymous_row, callback_row, display_row, registry_row, AnswersGrowth, IsAcceptedTable, IsFirstFault, IsFirstFaultFrom, grown, interface_row, interface_rows, name_of, table_of};
-ghost use Rattle.wl_wire.specs.MessageRows.{matches};
+ghost use Rattle.wl_wire.specs.Table.{anonymous_id, anonymous_row, callback_row, display_row, registry_row, AnswersGrowth, IsAcceptedTable, IsFirstFault, IsFirstFaultFrom, grown, interface_row, interface_rows, message_row, name_of, table_of};
+ghost use Rattle.wl_wire.specs.MessageRows.{event_row, matches, request_row};
 ghost use Rattle.wl_wire.specs.declared.protocol.TableError.{TableError as Fault};
 ghost use Rattle.wl_wire.specs.declared.protocol.TableError.TheVariants.{OutOfMemory};
 
 use crate::argument::{Argument, ArgumentType};
 use crate::core_interfaces::fixed_interfaces;
 use crate::interface::{
-    ANONYMOUS_INTERFACE, Interface, InterfaceId, WL_CALLBACK_INTERFACE, WL_DISPLAY_INTERFACE,
-    WL_REGISTRY_INTERFACE,
+    ANONYMOUS_INTERFACE, Interface, InterfaceId, MessageDesc, WL_CALLBACK_INTERFACE,
+    WL_DISPLAY_INTERFACE, WL_REGISTRY_INTERFACE,
 };
 use crate::table_check::{check, check_behind};
 use std::alloc::{AllocError, Global};
@@ -163,6 +163,53 @@ impl Protocol {
         ensures accepted { IsAcceptedTable self.now }
     {
         self.interfaces.get(id.0)
+    }
+
+    /// How many interfaces the table has, with the fixed four. Each id below that number is in the table.
+    pub fn len(&self) -> usize
+        ensures count { result ≡ length self.now }
+        ensures accepted { IsAcceptedTable self.now }
+    {
+        self.interfaces.len()
+    }
+
+    /// The id of the interface with that name; `None` if the table has none.
+    pub fn find(&self, name: &str) -> Option<InterfaceId>
+        ensures found { IfSome result (λ id. (id.0 < length self.now) × (name_of self.now id.0 ≡ name.now)) }
+        ensures none { result ≡ None → (n : ℕ) → n < length self.now → name_of self.now n ≢ name.now }
+        ensures accepted { IsAcceptedTable self.now }
+    {
+        self.find_bytes(name.as_bytes())
+    }
+
+    /// Does the same as `find`, for a name as it stands in a message.
+    pub fn find_bytes(&self, name: &[u8]) -> Option<InterfaceId>
+        ensures found { IfSome result (λ id. (id.0 < length self.now) × (name_of self.now id.0 ≡ name.now)) }
+        ensures none { result ≡ None → (n : ℕ) → n < length self.now → name_of self.now n ≢ name.now }
+        ensures accepted { IsAcceptedTable self.now }
+    {
+        for place in 0..self.interfaces.len() {
+            if self.name(InterfaceId(place)).as_bytes() == name {
+                return Some(InterfaceId(place));
+            }
+        }
+        None
+    }
+
+    /// What the table has of the request with that opcode, of the interface with that id; `None` if it has neither.
+    pub fn request(&self, id: InterfaceId, opcode: u16) -> Option<&MessageDesc>
+        ensures request { option_map message_row (option_copied result) ≡ request_row self.now id opcode }
+        ensures accepted { IsAcceptedTable self.now }
+    {
+        self.get(id)?.requests.get(usize::from(opcode))
+    }
+
+    /// What the table has of the event with that opcode, of the interface with that id; `None` if it has neither.
+    pub fn event(&self, id: InterfaceId, opcode: u16) -> Option<&MessageDesc>
+        ensures event { option_map message_row (option_copied result) ≡ event_row self.now id opcode }
+        ensures accepted { IsAcceptedTable self.now }
+    {
+        self.get(id)?.events.get(usize::from(opcode))
     }
 
     /// The name of the interface with that id; `<unknown>` if the id is outside the table.

@@ -3,7 +3,7 @@
 //! A *token* is a number that stands for a file descriptor. A *word* is a number of 32 bits, written as four bytes in
 //! little-endian order.
 
-ghost use Rattle.std.specs.Prelude.{◌≡◌, ◌≢◌, ◌↔◌, ◌+◌, ◌-◌, ◌*◌, ◌<◌, ◌≤◌, ◌^◌, ◌++◌, [], Err, length, drop, map, nat_le, replicate, IfOk, IsTrue, OnOk, OnErr, MatchOption, vec_len, vec_capacity};
+ghost use Rattle.std.specs.Prelude.{◌≡◌, ◌≢◌, ◌↔◌, ◌+◌, ◌-◌, ◌*◌, ◌<◌, ◌≤◌, ◌^◌, ◌++◌, [], Err, length, drop, map, nat_le, replicate, IfOk, IfSome, IsTrue, OnOk, OnErr, MatchOption, vec_len, vec_capacity};
 ghost use Rattle.wl_wire.specs.declared.error.MessageWriteError.TheVariants.{OutOfMemory};
 ghost use Rattle.std.specs.List.{AllByRecursion, sum_by};
 ghost use Rattle.wl_wire.specs.Message.{content, IsArgument, IsMessage, counted, pad_len, piece, pieces, size, spelling, token, tokens, word};
@@ -460,6 +460,121 @@ pub fn write_numbered<Id, N: Numbering<Id>>(
         return write_words(message, numbers, payload);
     }
     write_mixed(message, numbers, payload, fds)
+}
+
+/// Writes counted bytes as `put_counted` does, if their padding ends by the place `end`.
+#[inline(never)]
+fn put_counted_within(
+    payload: &mut [u8],
+    at: usize,
+    end: usize,
+    bytes: &[u8],
+    ending: usize,
+) -> Option<usize>
+    requires at { at ≤ end }
+    requires end { end ≤ length payload.old }
+    requires small { end ≤ 65535 }
+    requires ending { ending ≤ 1 }
+    ensures { IfSome result (λ next. (next ≡ at + counted_len (length bytes.now + ending)) × (next ≤ end) × (payload.new ≡ overwritten payload.old at (counted (bytes.now ++ replicate ending 0)))) }
+{
+    let room = end - at;
+    if room <= bytes.len() {
+        return None;
+    }
+    let len = bytes.len() + ending;
+    if room < len + padding(len) + 4 {
+        return None;
+    }
+    Some(put_counted(payload, at, bytes, ending))
+}
+
+/// Writes the argument's bytes from the place `at` on if they end by the place `end`, and returns the place after them. There
+/// is room for a word. It writes no argument that has a token.
+#[tactic(auto, unfolding(crate::specs::Message::piece))]
+fn put_within<Id, N: Numbering<Id>>(
+    payload: &mut [u8],
+    at: usize,
+    end: usize,
+    arg: &Argument<Id, Token>,
+    numbers: &N,
+) -> Option<usize>
+    requires at { at + 4 ≤ end }
+    requires end { end ≤ length payload.old }
+    requires small { end ≤ 65535 }
+    ensures next { IfSome result (λ next. (next ≡ at + piece_len (with_ids (N.object_number numbers.now) (N.new_number numbers.now) arg.now)) × (next ≤ end)) }
+    ensures bytes { IfSome result (λ _. payload.new ≡ overwritten payload.old at (piece (with_ids (N.object_number numbers.now) (N.new_number numbers.now) arg.now))) }
+    ensures token { IfSome result (λ _. token (with_ids (N.object_number numbers.now) (N.new_number numbers.now) arg.now) ≡ []) }
+    ensures value { IfSome result (λ _. IsArgument (with_ids (N.object_number numbers.now) (N.new_number numbers.now) arg.now)) }
+{
+    match arg {
+        Argument::Int(n) => Some(put_word(payload, at, n.cast_unsigned())),
+        Argument::Uint(n) => Some(put_word(payload, at, *n)),
+        Argument::Fixed(n) => Some(put_word(payload, at, n.cast_unsigned())),
+        Argument::Str(None) => Some(put_word(payload, at, 0)),
+        Argument::Str(Some(text)) => put_counted_within(payload, at, end, text.as_bytes(), 1),
+        Argument::Object(id) => Some(put_word(payload, at, numbers.number_object(id))),
+        Argument::NewId(id) => Some(put_word(payload, at, numbers.number_new(id))),
+        Argument::Array(bytes) => put_counted_within(payload, at, end, bytes.as_slice(), 0),
+        Argument::Fd(_) => None,
+    }
+}
+
+/// Writes the arguments' bytes after the header, which has eight bytes, if they end by the place `end` and have no tokens.
+/// Returns the place after them.
+fn put_each_within<Id, N: Numbering<Id>>(
+    payload: &mut [u8],
+    end: usize,
+    args: &[Argument<Id, Token>],
+    numbers: &N,
+) -> Option<usize>
+    requires header { 8 ≤ end }
+    requires end { end ≤ length payload.old }
+    requires small { end ≤ 65535 }
+    ensures next { IfSome result (λ next. (next ≡ 8 + length (pieces (map (with_ids (N.object_number numbers.now) (N.new_number numbers.now)) args.now))) × (next ≤ end)) }
+    ensures bytes { IfSome result (λ _. payload.new ≡ overwritten payload.old 8 (pieces (map (with_ids (N.object_number numbers.now) (N.new_number numbers.now)) args.now))) }
+    ensures tokens { IfSome result (λ _. tokens (map (with_ids (N.object_number numbers.now) (N.new_number numbers.now)) args.now) ≡ []) }
+    ensures values { IfSome result (λ _. AllByRecursion IsArgument (map (with_ids (N.object_number numbers.now) (N.new_number numbers.now)) args.now)) }
+{
+    if args.len() > MAX_WORDS || end - 8 < 4 * args.len() {
+        return None;
+    }
+    // What strings and arrays may take beyond a word each. So there is always room for a word.
+    let mut room = end - 8 - 4 * args.len();
+    let mut at = 8;
+    for arg in args {
+        let limit = at + 4 + room;
+        at = put_within(payload, at, limit, arg, numbers)?;
+        room = limit - at;
+    }
+    Some(at)
+}
+
+/// Writes the message at the front of `payload` in one pass over its arguments, if it has no tokens, fits into `payload` and
+/// takes no more than 65535 bytes. Returns how many bytes were written; the bytes after them stay as they were.
+///
+/// Otherwise it returns `None`, and what is in `payload` is not said.
+pub fn write_once<Id, N: Numbering<Id>>(
+    message: &Message<Id, Token>,
+    numbers: &N,
+    payload: &mut [u8],
+) -> Option<usize>
+    ensures room { IfSome result (λ n. (n ≤ 65535) × (n ≤ length payload.old)) }
+    ensures written { IfSome result (λ n. (n ≡ size (numbered (N.object_number numbers.now) (N.new_number numbers.now) message.now)) × (payload.new ≡ spelling (numbered (N.object_number numbers.now) (N.new_number numbers.now) message.now) ++ drop n payload.old)) }
+    ensures tokens { IfSome result (λ _. tokens (numbered (N.object_number numbers.now) (N.new_number numbers.now) message.now).args ≡ []) }
+    ensures message { IfSome result (λ _. IsMessage (numbered (N.object_number numbers.now) (N.new_number numbers.now) message.now)) }
+{
+    let end = payload.len().min(MAX_MESSAGE_SIZE);
+    if end < 8 {
+        return None;
+    }
+    let bytes = put_each_within(payload, end, message.args.as_slice(), numbers)?;
+    put_header(
+        payload,
+        numbers.number_object(&message.sender_id),
+        bytes,
+        message.opcode,
+    );
+    Some(bytes)
 }
 
 /// Writes the message at the front of `payload`, and appends its tokens to `fds`.

@@ -44,6 +44,8 @@ pub enum Act {
     Finish(Option<u32>),
     /// Gives an object these data.
     SetData(Object, u32),
+    /// Adds to the data of an object where they stand.
+    AddToData(Object, u32),
     /// Destroys an object.
     Destroy(Object),
     /// Takes the notes.
@@ -253,6 +255,25 @@ fn set_data(client: &mut Client, log: &mut String, object: Object, data: u32) ->
     told(client, written)
 }
 
+/// Adds to the object's data, and tells what they were.
+fn add_to_data(
+    client: &mut Client,
+    log: &mut String,
+    object: Object,
+    more: u32,
+) -> Result<(), Fail> {
+    let answer = client.with_data(&object.id(), |data| {
+        let before = *data;
+        *data = before.wrapping_add(more);
+        before
+    });
+    let written = match answer {
+        Ok(before) => writeln!(log, "lent {before}"),
+        Err(error) => writeln!(log, "{error}"),
+    };
+    told(client, written)
+}
+
 /// Destroys the object.
 fn destroy(client: &mut Client, log: &mut String, object: Object) -> Result<(), Fail> {
     let answer = client.destroy_object(&object.id());
@@ -451,6 +472,7 @@ fn perform(
         Act::Serve => serve(alloc, client, log, way),
         Act::Finish(data) => finish(client, log, data),
         Act::SetData(object, data) => set_data(client, log, object, data),
+        Act::AddToData(object, more) => add_to_data(client, log, object, more),
         Act::Destroy(object) => destroy(client, log, object),
         Act::Notes => notes(client, log),
         Act::Replay(calls) => replay(alloc, client, log, calls),

@@ -11,7 +11,7 @@ const MADE: [u8; 12] = [3, 0, 0, 0, 1, 0, 12, 0, 0, 0, 0, 255];
 const DELETE_3: [u8; 12] = [1, 0, 0, 0, 1, 0, 12, 0, 3, 0, 0, 0];
 
 /// The runs, and what they tell.
-static ROWS: [Row; 8] = [
+static ROWS: [Row; 9] = [
     // An object that the server makes, ended and made again.
     Row {
         name: "run of made objects",
@@ -146,6 +146,25 @@ static ROWS: [Row; 8] = [
             Act::Send(Request::Sync),
         ],
         told: "sent: 2, 1\nsent: 3, 2\nwould block\nversion 3\ndestroyed\ndata 6\nsent: 4, 3\n",
+    },
+    // Data that are lent are changed where they stand, also those of a destroyed object while it is kept. The display has none.
+    Row {
+        name: "data lent",
+        acts: &[
+            Act::Bound,
+            Act::AddToData(Object::Quad, 3),
+            Act::SetData(Object::Quad, 4),
+            Act::AddToData(Object::Quad, 5),
+            Act::Look(Look::Data(Object::Quad)),
+            Act::Destroy(Object::Quad),
+            Act::AddToData(Object::Quad, 1),
+            Act::Look(Look::Data(Object::Quad)),
+            Act::Script(Cue::Arrive(&DELETE_3)),
+            Act::Next,
+            Act::AddToData(Object::Quad, 1),
+            Act::AddToData(Object::Display, 1),
+        ],
+        told: "sent: 2, 1\nsent: 3, 2\nlent 6\ndone\nlent 4\ndata 9\ndestroyed\nlent 9\ndata 10\nwould block\nInvalid ObjectId\nInvalid ObjectId\n",
     },
 ];
 

@@ -32,7 +32,7 @@ const ENDS: &str =
     "client 0, 1\nno action is open\nno action is open, 4 is back\nglobal 1, 1\nglobal 1, 1 bound as 3, 2, 4 of 0\nthe open action is of the other kind\nfinished\nrequest 1 to 3, 2, 4 of 0: new 4, 3, 4 of 0, which makes 4, 3, 4 of 0\nthe open action is of the other kind, 4 is back\nthe new object gets no user data\nfinished\ndata 9\ndata 5\nrequest 2 to 3, 2, 4 of 0, which ends it\nthere is no new object for the user data, 1 is back\nfinished\nInvalid Id\n";
 
 /// The runs, and what they tell.
-static ROWS: [Row; 14] = [
+static ROWS: [Row; 15] = [
     Row {
         name: "events are given",
         acts: &[
@@ -243,6 +243,24 @@ static ROWS: [Row; 14] = [
             Act::Beside(Beside::FinishReturning(FIRST, None)),
         ],
         told: "client 0, 1\ncreated 4278190080, 1, 4 of 0\nrequest 1 to 4278190080, 1, 4 of 0: new 2, 2, 4 of 0, which makes 2, 2, 4 of 0\ndone\nfinished\n",
+    },
+    // Data that are lent are changed where they stand. The display has none, and a client that is not stored has no objects.
+    Row {
+        name: "data lent",
+        acts: &[
+            Act::Do(Call::Insert(true)),
+            Act::Do(Call::Create(FIRST, QUAD, 3, 9)),
+            Act::Beside(Beside::AddToData(MADE, 5)),
+            Act::Look(Look::Data(MADE)),
+            Act::Beside(Beside::AddToData(MADE, 1)),
+            Act::Beside(Beside::AddToData(Thing(FIRST, 1, 0, QUAD), 1)),
+            Act::Beside(Beside::AddToData(Thing(SECOND, 0xFF00_0000, 1, QUAD), 1)),
+            Act::Do(Call::Destroy(MADE)),
+            Act::Beside(Beside::AddToData(MADE, 1)),
+            Act::Do(Call::Cleanup),
+            Act::Do(Call::Notes),
+        ],
+        told: "client 0, 1\ncreated 4278190080, 1, 4 of 0\nlent 9\ndata 14\nlent 14\nInvalid Id\nInvalid Id\ndone\nInvalid Id\nout:\ninitialized 0, 1\ndestroyed 4278190080, 1, 4 of 0 with 15\n",
     },
     // A malformed message leaves the action as it was.
     Row {

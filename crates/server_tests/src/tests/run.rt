@@ -62,6 +62,8 @@ pub enum Beside {
     FinishReturning(Who, Option<u32>),
     /// `finish_bind_returning`.
     FinishBindReturning(Who, u32),
+    /// `with_object_data`, which adds to the data.
+    AddToData(Thing, u32),
 }
 
 /// What is looked at.
@@ -91,6 +93,10 @@ pub enum Look {
     Clients,
     /// The serials of a client's objects, counted from 1: a digit for each call of the closure.
     Objects(Who),
+    /// The ids that the walk over the live clients gives.
+    ClientWalk,
+    /// The ids that the walk over a client's objects gives.
+    ObjectWalk(Who),
 }
 
 /// Makes the steps, for which there is to be memory.
@@ -478,6 +484,31 @@ fn objects(server: &Server, log: &mut String, who: Who) -> Result<(), Fail> {
     Ok(())
 }
 
+/// Tells the ids that the walk over the live clients gives: the slot and the serial of each.
+fn client_walk(server: &Server, log: &mut String) -> Result<(), Fail> {
+    write!(log, "clients:")?;
+    for id in server.all_clients() {
+        write!(log, " {}, {};", id.slot(), id.serial())?;
+    }
+    Ok(writeln!(log)?)
+}
+
+/// Tells the ids that the walk over the client's objects gives: the number and the serial of each, and the slot of its client.
+fn object_walk(server: &Server, log: &mut String, who: Who) -> Result<(), Fail> {
+    match server.all_objects_for(&who.id()) {
+        Ok(walk) => {
+            write!(log, "objects:")?;
+            for id in walk {
+                let slot = id.client().slot();
+                write!(log, " {}, {} of {slot};", id.protocol_id(), id.serial())?;
+            }
+            writeln!(log)?
+        }
+        Err(error) => writeln!(log, "{error}")?,
+    }
+    Ok(())
+}
+
 /// Tells the id that the next global gets.
 fn next_global(server: &Server, log: &mut String) -> Result<(), Fail> {
     match server.next_global_id() {
@@ -573,6 +604,20 @@ fn finish_returning(
     reply(log, &Reply::FinishRequest(answer.map(|_| ())))
 }
 
+/// Adds to the data of the object where they stand, and tells what they were.
+fn add_to_data(server: &mut Server, log: &mut String, of: Thing, more: u32) -> Result<(), Fail> {
+    let answer = server.with_object_data(&of.id(), |data| {
+        let before = *data;
+        *data = before.wrapping_add(more);
+        before
+    });
+    match answer {
+        Ok(before) => writeln!(log, "lent {before}")?,
+        Err(error) => writeln!(log, "{error}")?,
+    }
+    Ok(())
+}
+
 /// The same of a bind.
 fn finish_bind_returning(
     server: &mut Server,
@@ -604,6 +649,7 @@ fn make_beside(
         Beside::FinishBindReturning(who, given) => {
             finish_bind_returning(server, log, who, given)?
         }
+        Beside::AddToData(of, more) => add_to_data(server, log, of, more)?,
     }
     if server.memory_refused() {
         return Err(Fail::new("memory was refused"));
@@ -626,6 +672,8 @@ fn look_at(alloc: Global, server: &Server, log: &mut String, at_what: Look) -> R
         Look::NextClient => next_client(server, log),
         Look::Clients => clients(server, log),
         Look::Objects(who) => objects(server, log, who),
+        Look::ClientWalk => client_walk(server, log),
+        Look::ObjectWalk(who) => object_walk(server, log, who),
     }
 }
 

@@ -45,14 +45,15 @@ use Rattle.wl_client.specs.declared.step.Step.TheVariants as step
 use Rattle.wl_client.specs.ObjectId.{IdParts}
 use Rattle.wl_client.specs.Events.{Converting, Converted, Outcome, Whole, Wrong, object_argument_of, is_destroyed, vacated, is_valid_new, made_object, with_object_argument, with_new_at, with_new_argument, convert_one, going_on, convert, start, DisplayEvent, Fails, Deletes, Unreadable, display_event, after_delete}
 use Rattle.wl_client.specs.Finish.{FinishesEvent, Finishes, FlushEnds, SessionFlushed, after_destructor, data_given, refusal, with_data_for, with_dead}
-use Rattle.wl_client.specs.Handed.{IsHandedIn, ended_notes, event_ids, ids_in, is_over, note_ids, notes_in, request_ids}
+use Rattle.wl_client.specs.Handed.{IsHandedIn, ended_notes, event_ids, ids_by, ids_in, is_over, note_ids, notes_by, notes_in, request_ids}
+use Rattle.wl_client.specs.Histories.{Called, Changed, Deed, Does}
 use Rattle.wl_client.specs.Objects.{DataSet, DestroyedBy, destroyable}
 use Rattle.wl_client.specs.Handling.{Handling, Swallows, HandsOut, event_of, handed, handling, of_converted, of_display, of_event, opened_of, row_in}
 use Rattle.wl_client.specs.Reading.{NextEvent, event_content, handed_by, objects_in as cored}
 use Rattle.wl_client.proofs.OverRuns.ReadingLaws.{SeesObjects, next_event_respects, read_fails, objects_after}
 use Rattle.wl_client.specs.Requests.{Numbered, Requested, error_after, Sent, SentAs, SentWithChild, SessionMessage, Spec, Written, checked_row, checked_sender, ended_by, grant, id_of_new, new_child, number_of_new, request_check, session_content, unless, wire_message, with_born, with_ended}
 use Rattle.wl_client.specs.Session.{Core, SessionState, alive, core_of, id_at, id_of, last_possible_serial, named, noted, null_parts, objects_of, serial_of, with_core, with_flags, with_user_data}
-use Rattle.wl_client.specs.Steps.{StepOf}
+use Rattle.wl_client.specs.Steps.{CallOf, Making, StepOf}
 use Rattle.wl_link.proofs.Ids.HandedIds.{argument_ids_both}
 
 -- ---- options, truth values and results
@@ -359,14 +360,9 @@ module _ {U : Type 0} where
     converts_child c n (Some i) = converts_new c n i (is_valid_new c.objects n) refl
 
     converts_one : (c : Converting U) (a : WireArgument) → One c (convert_one version destroyed c a)
-    converts_one c (arg.Int z) = still (at c.objects)
-    converts_one c (arg.Uint n) = still (at c.objects)
-    converts_one c (arg.Fixed z) = still (at c.objects)
-    converts_one c (arg.Str text) = still (at c.objects)
     converts_one c (arg.Object n) = converts_object c (next_interface c.asked) n (eqb n 0) (held c.objects.store n) refl
     converts_one c (arg.NewId n) = converts_child c n c.child
-    converts_one c (arg.Array bytes) = still (at c.objects)
-    converts_one c (arg.Fd token) = still (at c.objects)
+    converts_one c _ = still (at c.objects)
 
     -- what the arguments came to
     abbrev Came : Objects (Kept U) → Outcome U → Type 0
@@ -703,19 +699,19 @@ module _ {T U : Type 0} where
 
 -- ---- a step
 
-module _ {U : Type 0} where
+module _ {T U : Type 0} where
   -- the changes of a step, which hand out the ids of its reply; the notes that wait, and those of what ends, are those that
   -- are handed out and those that wait after it; and an error stays
-  pub record StepMoves (s : SessionState Script U) (reply : Reply U) (after : SessionState Script U) : Type 0 where
+  pub record StepMoves (s : SessionState T U) (ids : List (HandedId IdParts)) (told : List Note) (after : SessionState T U) : Type 0 where
     pub changes : List (Change (Kept U))
     pub owns : StepEnds serial_of is_over (objects_of s) changes (objects_of after)
-    pub handed : Each (IsHandedIn changes) (ids_in reply)
-    pub notes : s.notes ++ ended_notes changes ≡ notes_in reply ++ after.notes
+    pub handed : Each (IsHandedIn changes) ids
+    pub notes : s.notes ++ ended_notes changes ≡ told ++ after.notes
     pub noted : Each (IsHandedIn changes) (noted_ids changes)
     pub stays : IsSome s.error → IsSome after.error
 
-  module _ (s : SessionState Script U) where
-    by_moves : (reply : Reply U) (ids : List (HandedId IdParts)) (after : SessionState Script U) → ids_in reply ≡ ids → notes_in reply ≡ [] → Moves s ids after → StepMoves s reply after
+  module _ (s : SessionState T U) where
+    by_moves : (reply : Reply U) (ids : List (HandedId IdParts)) (after : SessionState T U) → ids_in reply ≡ ids → notes_in reply ≡ [] → Moves s ids after → StepMoves s (ids_in reply) (notes_in reply) after
     by_moves reply ids after is none (moved, stays) = record {
       changes = moved.changes;
       owns = moved.owns;
@@ -725,39 +721,69 @@ module _ {U : Type 0} where
       stays = stays;
     }
 
-    by_quiet : (reply : Reply U) (after after' : SessionState Script U) → ids_in reply ≡ [] → notes_in reply ≡ [] → after' ≡ after → Moves s [] after → StepMoves s reply after'
+    by_quiet : (reply : Reply U) (after after' : SessionState T U) → ids_in reply ≡ [] → notes_in reply ≡ [] → after' ≡ after → Moves s [] after → StepMoves s (ids_in reply) (notes_in reply) after'
     by_quiet reply after after' is none same moves = by_moves reply [] after' is none (quiet s after after' same moves)
 
-    pub step_moves : (call : Step U) (reply : Reply U) (refused : Bool) (after : SessionState Script U) → StepOf s call reply refused after → StepMoves s reply after
-    step_moves (step.SetData id u) reply refused after (r, is, no_memory, h) = by_moves reply [] after (ap ids_in is) (ap notes_in is) (sets s id u r after h)
-    step_moves (step.DestroyObject id) reply refused after (r, is, no_memory, h) = by_moves reply [] after (ap ids_in is) (ap notes_in is) (destroys s id r after h)
-    step_moves (step.SendRequest m u spec) reply refused after (r, is, no_memory, h) =
-        by_moves reply (request_ids r) after (ap ids_in is) (ap notes_in is) (requested ScriptSends s (session_content m) r after u spec h)
-    step_moves step.Flush reply refused after (r, is, no_memory, h) = by_moves reply [] after (ap ids_in is) (ap notes_in is) (flushes ScriptSends s r after h)
-    step_moves step.NextEvent reply refused after (r, is, h) =
-        by_moves reply (event_ids (event_content r)) after (ap ids_in is) (ap notes_in is) (next_event ScriptSends ScriptReceives s (event_content r) refused after h)
-    step_moves (step.FinishEvent u) reply refused after (r, is, no_memory, h) = by_moves reply [] after (ap ids_in is) (ap notes_in is) (finishes s u r after h)
-    step_moves step.DispatchInnerQueue reply refused after (is, no_memory, same) = by_quiet reply _ after (ap ids_in is) (ap notes_in is) same (idle s)
-    step_moves (step.SetMaxBufferSize limit) reply refused after (is, no_memory, (link, set, same)) =
+    pub call_moves : (sends : T → Queue → Result ℕ IoFault → T → Type 0) (receives : T → ℕ → Result Queue IoFault → T → Type 0) (call : Step U) (reply : Reply U) (refused : Bool) (after : SessionState T U) → CallOf sends receives s call reply refused after → StepMoves s (ids_in reply) (notes_in reply) after
+    call_moves sends receives (step.SetData id u) reply refused after (r, is, no_memory, h) = by_moves reply [] after (ap ids_in is) (ap notes_in is) (sets s id u r after h)
+    call_moves sends receives (step.DestroyObject id) reply refused after (r, is, no_memory, h) = by_moves reply [] after (ap ids_in is) (ap notes_in is) (destroys s id r after h)
+    call_moves sends receives (step.SendRequest m u spec) reply refused after (r, is, no_memory, h) =
+        by_moves reply (request_ids r) after (ap ids_in is) (ap notes_in is) (requested sends s (session_content m) r after u spec h)
+    call_moves sends receives step.Flush reply refused after (r, is, no_memory, h) = by_moves reply [] after (ap ids_in is) (ap notes_in is) (flushes sends s r after h)
+    call_moves sends receives step.NextEvent reply refused after (r, is, h) =
+        by_moves reply (event_ids (event_content r)) after (ap ids_in is) (ap notes_in is) (next_event sends receives s (event_content r) refused after h)
+    call_moves sends receives (step.FinishEvent u) reply refused after (r, is, no_memory, h) = by_moves reply [] after (ap ids_in is) (ap notes_in is) (finishes s u r after h)
+    call_moves sends receives step.DispatchInnerQueue reply refused after (is, no_memory, same) = by_quiet reply _ after (ap ids_in is) (ap notes_in is) same (idle s)
+    call_moves sends receives (step.SetMaxBufferSize limit) reply refused after (is, no_memory, (link, set, same)) =
         by_quiet reply _ after (ap ids_in is) (ap notes_in is) same (idle s)
-    step_moves (step.AddInterfaces more) reply refused after (r, is, no_memory, (answers, same)) =
+    call_moves sends receives (step.AddInterfaces more) reply refused after (r, is, no_memory, (answers, same)) =
         by_quiet reply _ after (ap ids_in is) (ap notes_in is) same (idle s)
-    step_moves step.TakeNotes reply refused after (notes, is, no_memory, taken, same) = record {
+    call_moves sends receives step.TakeNotes reply refused after (notes, is, no_memory, taken, same) = record {
       changes = [];
       owns = ap objects_of same;
       handed = subst (λ i. Each (IsHandedIn {U = U} []) i) (sym (ap ids_in is)) tt;
       notes = append-nil s.notes ∙ sym taken ∙ sym (append-nil notes.items) ∙ ap (λ r. notes_in r ++ []) (sym is)
-          ∙ ap (λ (a : SessionState Script U). notes_in reply ++ a.notes) (sym same);
+          ∙ ap (λ (a : SessionState T U). notes_in reply ++ a.notes) (sym same);
       noted = tt;
-      stays = λ failed. subst (λ (a : SessionState Script U). IsSome a.error) (sym same) failed;
+      stays = λ failed. subst (λ (a : SessionState T U). IsSome a.error) (sym same) failed;
     }
-    step_moves (step.Arrive bytes tokens) reply refused after (Ok u, is, no_memory, h) = by_quiet reply _ after (ap ids_in is) (ap notes_in is) h.1 (idle s)
-    step_moves (step.Arrive bytes tokens) reply refused after (Err arrive.TooManyTokens, is, no_memory, h) = by_quiet reply _ after (ap ids_in is) (ap notes_in is) h.1 (idle s)
-    step_moves (step.Arrive bytes tokens) reply refused after (Err arrive.OutOfMemory, is, no_memory, h) = by_quiet reply _ after (ap ids_in is) (ap notes_in is) h.1 (idle s)
-    step_moves (step.ArriveFault f) reply refused after (Ok u, is, no_memory, same) = by_quiet reply _ after (ap ids_in is) (ap notes_in is) same (idle s)
-    step_moves (step.ArriveFault f) reply refused after (Err e, is, no_memory, same) = by_quiet reply _ after (ap ids_in is) (ap notes_in is) same (idle s)
-    step_moves (step.Accept n) reply refused after (Ok u, is, no_memory, same) = by_quiet reply _ after (ap ids_in is) (ap notes_in is) same (idle s)
-    step_moves (step.Accept n) reply refused after (Err e, is, no_memory, same) = by_quiet reply _ after (ap ids_in is) (ap notes_in is) same (idle s)
-    step_moves (step.AcceptFault f) reply refused after (Ok u, is, no_memory, same) = by_quiet reply _ after (ap ids_in is) (ap notes_in is) same (idle s)
-    step_moves (step.AcceptFault f) reply refused after (Err e, is, no_memory, same) = by_quiet reply _ after (ap ids_in is) (ap notes_in is) same (idle s)
-    step_moves step.TakeSent reply refused after (taken, is, no_memory, h, same) = by_quiet reply _ after (ap ids_in is) (ap notes_in is) same (idle s)
+    call_moves sends receives _ reply refused after h = absurd h
+
+module _ {U : Type 0} (s : SessionState Script U) where
+  pub step_moves : (call : Step U) (reply : Reply U) (refused : Bool) (after : SessionState Script U) → StepOf s call reply refused after → StepMoves s (ids_in reply) (notes_in reply) after
+  step_moves (step.Arrive bytes tokens) reply refused after (Ok u, is, no_memory, h) = by_quiet s reply _ after (ap ids_in is) (ap notes_in is) h.1 (idle s)
+  step_moves (step.Arrive bytes tokens) reply refused after (Err arrive.TooManyTokens, is, no_memory, h) = by_quiet s reply _ after (ap ids_in is) (ap notes_in is) h.1 (idle s)
+  step_moves (step.Arrive bytes tokens) reply refused after (Err arrive.OutOfMemory, is, no_memory, h) = by_quiet s reply _ after (ap ids_in is) (ap notes_in is) h.1 (idle s)
+  step_moves (step.ArriveFault f) reply refused after (Ok u, is, no_memory, same) = by_quiet s reply _ after (ap ids_in is) (ap notes_in is) same (idle s)
+  step_moves (step.ArriveFault f) reply refused after (Err e, is, no_memory, same) = by_quiet s reply _ after (ap ids_in is) (ap notes_in is) same (idle s)
+  step_moves (step.Accept n) reply refused after (Ok u, is, no_memory, same) = by_quiet s reply _ after (ap ids_in is) (ap notes_in is) same (idle s)
+  step_moves (step.Accept n) reply refused after (Err e, is, no_memory, same) = by_quiet s reply _ after (ap ids_in is) (ap notes_in is) same (idle s)
+  step_moves (step.AcceptFault f) reply refused after (Ok u, is, no_memory, same) = by_quiet s reply _ after (ap ids_in is) (ap notes_in is) same (idle s)
+  step_moves (step.AcceptFault f) reply refused after (Err e, is, no_memory, same) = by_quiet s reply _ after (ap ids_in is) (ap notes_in is) same (idle s)
+  step_moves step.TakeSent reply refused after (taken, is, no_memory, h, same) = by_quiet s reply _ after (ap ids_in is) (ap notes_in is) same (idle s)
+  step_moves (step.SetData id u) reply refused after h = call_moves s ScriptSends ScriptReceives (step.SetData id u) reply refused after h
+  step_moves (step.DestroyObject id) reply refused after h = call_moves s ScriptSends ScriptReceives (step.DestroyObject id) reply refused after h
+  step_moves (step.SendRequest m u spec) reply refused after h = call_moves s ScriptSends ScriptReceives (step.SendRequest m u spec) reply refused after h
+  step_moves step.Flush reply refused after h = call_moves s ScriptSends ScriptReceives step.Flush reply refused after h
+  step_moves step.NextEvent reply refused after h = call_moves s ScriptSends ScriptReceives step.NextEvent reply refused after h
+  step_moves (step.FinishEvent u) reply refused after h = call_moves s ScriptSends ScriptReceives (step.FinishEvent u) reply refused after h
+  step_moves step.DispatchInnerQueue reply refused after h = call_moves s ScriptSends ScriptReceives step.DispatchInnerQueue reply refused after h
+  step_moves (step.SetMaxBufferSize limit) reply refused after h = call_moves s ScriptSends ScriptReceives (step.SetMaxBufferSize limit) reply refused after h
+  step_moves (step.AddInterfaces more) reply refused after h = call_moves s ScriptSends ScriptReceives (step.AddInterfaces more) reply refused after h
+  step_moves step.TakeNotes reply refused after h = call_moves s ScriptSends ScriptReceives step.TakeNotes reply refused after h
+
+-- ---- a deed
+
+module _ {T U : Type 0} (makes : Making T U)
+    (moves : (s : SessionState T U) (call : Step U) (reply : Reply U) (refused : Bool) (after : SessionState T U) → makes s call reply refused after → StepMoves s (ids_in reply) (notes_in reply) after) where
+  -- so a deed moves them; a change of the transport moves nothing
+  pub deed_moves : (s : SessionState T U) (d : Deed T U) (after : SessionState T U) → Does makes s d after → StepMoves s (ids_by d) (notes_by d) after
+  deed_moves s (Called e) after by = moves s e.step e.answer e.refused after by
+  deed_moves s (Changed t) after same = record {
+    changes = [];
+    owns = ap objects_of same;
+    handed = tt;
+    notes = append-nil s.notes ∙ ap (λ (a : SessionState T U). a.notes) (sym same);
+    noted = tt;
+    stays = λ failed. subst (λ (a : SessionState T U). IsSome a.error) (sym same) failed;
+  }

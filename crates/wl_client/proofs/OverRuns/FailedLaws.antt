@@ -1,5 +1,5 @@
 -- That a session which has an error keeps one, and answers each reading and each flush by it: step by step, and so over every
--- run.
+-- history.
 use Rattle.std.proofs.Common.{◌≡◌, ℕ, Bool, [], ◌∷◌, List, IsSome, Result, Ok, Err, is_ok, sym, ap, subst, ◌∙◌, true≢false}
 use mathlib.Core.Logic.{inl, inr}
 use Rattle.wl_wire.specs.declared.argument.Token.{Token}
@@ -17,13 +17,15 @@ use Rattle.wl_client.specs.declared.step.Reply.TheVariants as reply
 use Rattle.wl_client.specs.declared.step.Step.{Step}
 use Rattle.wl_client.specs.declared.step.Step.TheVariants as step
 use Rattle.wl_client.specs.ObjectId.{IdParts}
-use Rattle.wl_client.proofs.OverRuns.ChangeLaws.{step_moves}
+use Rattle.wl_client.proofs.OverRuns.ChangeLaws.{StepMoves, call_moves, step_moves}
 use Rattle.wl_client.specs.Failed.{AnswersFailed, StaysFailed}
 use Rattle.wl_client.specs.Finish.{SessionFlushed}
+use Rattle.wl_client.specs.Handed.{ids_in, notes_in}
+use Rattle.wl_client.specs.Histories.{Called, Changed, Deed, History}
 use Rattle.wl_client.specs.Reading.{event_content}
 use Rattle.wl_client.proofs.OverRuns.ReadingLaws.{has_none, read_fails}
 use Rattle.wl_client.specs.Session.{SessionState}
-use Rattle.wl_client.specs.Steps.{Entry, Leads, StepOf}
+use Rattle.wl_client.specs.Steps.{CallOf, Making, StepOf}
 
 flush_fails : {T U : Type 0} (sends : T → Queue → Result ℕ IoFault → T → Type 0) (s : SessionState T U) (answer : Result (Unit {0}) FlushError) (after : SessionState T U)
     → IsSome s.error → SessionFlushed sends s answer after → answer ≡ Err flush.Failed
@@ -41,18 +43,53 @@ told_as (Err f) e told = ap Err told_error
     told_error : f ≡ e
     told_error = cc
 
-module _ {U : Type 0} where
-  answers_failed : (s : SessionState Script U) (call : Step U) (answer : Reply U) (refused : Bool) (after : SessionState Script U)
-      → IsSome s.error → StepOf s call answer refused after → AnswersFailed call answer
-  answers_failed s step.Flush answer refused after failed (r, is, no_memory, h) = is ∙ ap reply.Flush (flush_fails ScriptSends s r after failed h)
-  answers_failed s step.NextEvent answer refused after failed (r, is, h) =
-      is ∙ ap reply.NextEvent (told_as r no_event.Failed (read_fails ScriptSends ScriptReceives s (event_content r) refused after failed h).0)
-  answers_failed s _ answer refused after failed h = tt
+-- a reading and a flush of a session that has an error answer by it
+call_failed : {T U : Type 0} (sends : T → Queue → Result ℕ IoFault → T → Type 0) (receives : T → ℕ → Result Queue IoFault → T → Type 0)
+    (s : SessionState T U) (call : Step U) (answer : Reply U) (refused : Bool) (after : SessionState T U)
+    → IsSome s.error → CallOf sends receives s call answer refused after → AnswersFailed call answer
+call_failed sends receives s step.Flush answer refused after failed (r, is, no_memory, h) = is ∙ ap reply.Flush (flush_fails sends s r after failed h)
+call_failed sends receives s step.NextEvent answer refused after failed (r, is, h) =
+    is ∙ ap reply.NextEvent (told_as r no_event.Failed (read_fails sends receives s (event_content r) refused after failed h).0)
+call_failed sends receives s _ answer refused after failed h = tt
 
-  -- over every run, a session that has an error keeps one
-  pub stays_failed : (before after : SessionState Script U) (run : List (Entry U)) → IsSome before.error → Leads before run after → StaysFailed run after
-  stays_failed before after [] failed same = (tt, subst (λ (s : SessionState Script U). IsSome s.error) (sym same) failed)
-  stays_failed before after (e ∷ run) failed (mid, by, leads) =
-      let first = answers_failed before e.step e.answer e.refused mid failed by in
-      let rest = stays_failed mid after run ((step_moves before e.step e.answer e.refused mid by).stays failed) leads in
+step_failed : {U : Type 0} (s : SessionState Script U) (call : Step U) (answer : Reply U) (refused : Bool) (after : SessionState Script U)
+    → IsSome s.error → StepOf s call answer refused after → AnswersFailed call answer
+step_failed s step.Flush answer refused after failed h = call_failed ScriptSends ScriptReceives s step.Flush answer refused after failed h
+step_failed s step.NextEvent answer refused after failed h = call_failed ScriptSends ScriptReceives s step.NextEvent answer refused after failed h
+step_failed s _ answer refused after failed h = tt
+
+-- ---- what the laws of histories ask of the steps
+
+-- each step changes the objects and the notes as it says, and answers by the error that the session has
+pub record IsKept {T U : Type 0} (makes : Making T U) : Type 0 where
+  pub moves : (s : SessionState T U) (call : Step U) (answer : Reply U) (refused : Bool) (after : SessionState T U)
+      → makes s call answer refused after → StepMoves s (ids_in answer) (notes_in answer) after
+  pub fails : (s : SessionState T U) (call : Step U) (answer : Reply U) (refused : Bool) (after : SessionState T U)
+      → IsSome s.error → makes s call answer refused after → AnswersFailed call answer
+
+-- so do the calls over any transport, and the steps over the transport by script
+pub calls_kept : {T U : Type 0} (sends : T → Queue → Result ℕ IoFault → T → Type 0) (receives : T → ℕ → Result Queue IoFault → T → Type 0)
+    → IsKept {U = U} (CallOf sends receives)
+calls_kept sends receives = record {
+  moves = λ s call answer refused after h. call_moves s sends receives call answer refused after h;
+  fails = λ s call answer refused after failed h. call_failed sends receives s call answer refused after failed h;
+}
+
+pub steps_kept : {U : Type 0} → IsKept {U = U} StepOf
+steps_kept = record {
+  moves = λ s call answer refused after h. step_moves s call answer refused after h;
+  fails = λ s call answer refused after failed h. step_failed s call answer refused after failed h;
+}
+
+-- ---- a history
+
+module _ {T U : Type 0} (makes : Making T U) (kept : IsKept makes) where
+  -- over every history, a session that has an error keeps one
+  pub stays_failed : (before after : SessionState T U) (deeds : List (Deed T U)) → IsSome before.error → History makes before deeds after → StaysFailed deeds after
+  stays_failed before after [] failed same = (tt, subst (λ (s : SessionState T U). IsSome s.error) (sym same) failed)
+  stays_failed before after (Called e ∷ deeds) failed (mid, by, leads) =
+      let first = kept.fails before e.step e.answer e.refused mid failed by in
+      let rest = stays_failed mid after deeds ((kept.moves before e.step e.answer e.refused mid by).stays failed) leads in
       ((first, rest.0), rest.1)
+  stays_failed before after (Changed t ∷ deeds) failed (mid, same, leads) =
+      stays_failed mid after deeds (subst (λ (s : SessionState T U). IsSome s.error) (sym same) failed) leads

@@ -1,4 +1,4 @@
--- What holds of the ids and the notes of every run: laws over the changes of its steps.
+-- What holds of the ids and the notes of every history: laws over the changes of its steps.
 use Rattle.std.proofs.Common.{◌≡◌, ◌≢◌, ℕ, Bool, List, [], ◌∷◌, ◌++◌, Option, None, Some, is_some, IsSome, AllPairs, refl, sym, ap, subst, ◌∙◌, append-nil, append_assoc, cond, map}
 use Rattle.wl_wire.specs.Table.{InterfaceRow}
 use Rattle.wl_link.specs.declared.object.Object.{Object}
@@ -6,20 +6,19 @@ use Rattle.wl_link.proofs.Ids.EndsLaw.{ends_once_law, run_keeps_joins, run_leads
 use Rattle.wl_link.specs.Identity.{Change, Born, Gone, Wrote, Ended, Made, Id, OwnsExactly, RunEnds, first_objects, counted_id, ended_in, ended_over}
 use Rattle.wl_link.proofs.Ids.IdentityLaw.{identity_law}
 use Rattle.wl_link.proofs.Ids.NamedLaw.{named_law, none_again_law}
-use Rattle.wl_link.proofs.OverRuns.RunLaws.{joins, stopped_leads}
-use Rattle.wl_link.specs.Script.{Script}
 use Rattle.wl_client.specs.declared.objects.Kept.{Kept}
 use Rattle.wl_client.specs.declared.objects.Note.{Note}
-use Rattle.wl_client.specs.declared.step.Reply.{Reply}
-use Rattle.wl_client.specs.declared.step.Step.{Step}
 use Rattle.wl_client.specs.ObjectId.{IdParts}
-use Rattle.wl_client.proofs.OverRuns.ChangeLaws.{each_all, note_ids_both, step_moves}
-use Rattle.wl_client.specs.Handed.{Follows, HasOwnIds, ended_notes, is_over, note_ids, notes_in}
+use Rattle.wl_client.proofs.OverRuns.ChangeLaws.{deed_moves, each_all, note_ids_both}
+use Rattle.wl_client.proofs.OverRuns.FailedLaws.{IsKept, stays_failed}
+use Rattle.wl_client.specs.Accounts.{IsAccountedFor, IsPoint}
+use Rattle.wl_client.specs.Handed.{Follows, HasOwnIds, ended_notes, is_over, note_ids, notes_by}
+use Rattle.wl_client.specs.Histories.{Deed, Does, History}
 use Rattle.wl_client.specs.Objects.{info_in, info_of}
 use Rattle.wl_client.specs.Named.{KeepsNaming}
-use Rattle.wl_client.specs.Noted.{AccountsForStopped, NotesWhatEnded, all_ended_notes, notes_of}
+use Rattle.wl_client.specs.Noted.{NotesWhatEnded, all_ended_notes, notes_of}
 use Rattle.wl_client.specs.Session.{IsConnected, SessionState, alive, display_object, id_at, id_of, named, noted, objects_of, serial_of}
-use Rattle.wl_client.specs.Steps.{Entry, Leads, StepOf, StopsAt, entries}
+use Rattle.wl_client.specs.Steps.{Making}
 
 -- ---- the numbers and serials of notes
 
@@ -33,20 +32,20 @@ ids_both notes others = ap (map id_of) (note_ids_both notes others) ∙ map_both
     map_both [] others = refl
     map_both (id ∷ ids) others = ap (λ is. id_of id ∷ is) (map_both ids others)
 
--- ---- the changes of a run
+-- ---- the changes of a history
 
-module _ {U : Type 0} where
-  -- the changes of a run
-  record RunMoves (s : SessionState Script U) (run : List (Entry U)) (after : SessionState Script U) : Type 0 where
+module _ {T U : Type 0} (makes : Making T U) (kept : IsKept makes) where
+  -- the changes of a history
+  record RunMoves (s : SessionState T U) (deeds : List (Deed T U)) (after : SessionState T U) : Type 0 where
     changes : List (List (Change (Kept U)))
     owns : RunEnds serial_of is_over (objects_of s) changes (objects_of after)
-    follows : Follows s run changes after
+    follows : Follows makes s deeds changes after
 
-  run_moves : (s : SessionState Script U) (run : List (Entry U)) (after : SessionState Script U) → Leads s run after → RunMoves s run after
+  run_moves : (s : SessionState T U) (deeds : List (Deed T U)) (after : SessionState T U) → History makes s deeds after → RunMoves s deeds after
   run_moves s [] after same = record { changes = []; owns = ap objects_of same; follows = same }
-  run_moves s (e ∷ run) after (mid, by, leads) =
-      let first = step_moves s e.step e.answer e.refused mid by in
-      let rest = run_moves mid run after leads in
+  run_moves s (d ∷ deeds) after (mid, by, leads) =
+      let first = deed_moves makes kept.moves s d mid by in
+      let rest = run_moves mid deeds after leads in
       record {
         changes = first.changes ∷ rest.changes;
         owns = (objects_of mid, first.owns, rest.owns);
@@ -54,25 +53,25 @@ module _ {U : Type 0} where
       }
 
   -- from the connecting on, the objects begin as the display alone
-  from_display : (table : List InterfaceRow) (transport : Script) (before after : SessionState Script U) → IsConnected table transport before
+  from_display : (table : List InterfaceRow) (transport : T) (before after : SessionState T U) → IsConnected table transport before
       → (changes : List (List (Change (Kept U)))) → RunEnds serial_of is_over (objects_of before) changes (objects_of after)
       → RunEnds serial_of is_over (first_objects display_object) changes (objects_of after)
   from_display table transport before after (link, fresh, same) changes owns =
       subst (λ o. RunEnds serial_of is_over o changes (objects_of after)) (ap objects_of same) owns
 
   -- where something is known of an id, it names an object
-  known_named : (s : SessionState Script U) (id : IdParts) → IsSome (info_of s id) → IsSome (named s.store id)
+  known_named : (s : SessionState T U) (id : IdParts) → IsSome (info_of s id) → IsSome (named s.store id)
   known_named s id known = go (named s.store id) known
     where
       go : (o : Option (Object (Kept U))) → IsSome (info_in id.number (alive o)) → IsSome o
       go None known = known
       go (Some x) known = refl
 
-  -- changes of a run from the connecting on make its ids its own
-  own_by : (table : List InterfaceRow) (transport : Script) (before after : SessionState Script U) (run : List (Entry U)) → IsConnected table transport before
-      → (changes : List (List (Change (Kept U)))) → RunEnds serial_of is_over (objects_of before) changes (objects_of after) → Follows before run changes after
-      → HasOwnIds before run after
-  own_by table transport before after run connected changes ends follows =
+  -- changes of a history from the connecting on make its ids its own
+  own_by : (table : List InterfaceRow) (transport : T) (before after : SessionState T U) (deeds : List (Deed T U)) → IsConnected table transport before
+      → (changes : List (List (Change (Kept U)))) → RunEnds serial_of is_over (objects_of before) changes (objects_of after) → Follows makes before deeds changes after
+      → HasOwnIds makes before deeds after
+  own_by table transport before after deeds connected changes ends follows =
       let owns = from_display table transport before after connected changes ends in
       let identity = identity_law serial_of display_object refl changes (objects_of after)
       (run_leads serial_of (OwnsExactly is_over) (first_objects display_object) (objects_of after) changes owns) in
@@ -84,26 +83,26 @@ module _ {U : Type 0} where
         info = λ id birth made known. (identity.own (id_of id) birth made).0 (known_named after id known);
       }
 
-  -- every run from the connecting on has ids of its own
-  pub own_ids : (table : List InterfaceRow) (transport : Script) (before after : SessionState Script U) (run : List (Entry U))
-      → IsConnected table transport before → Leads before run after → HasOwnIds before run after
-  own_ids table transport before after run connected leads =
-      let moves = run_moves before run after leads in
-      own_by table transport before after run connected moves.changes moves.owns moves.follows
+  -- every history from the connecting on has ids of its own
+  pub own_ids : (table : List InterfaceRow) (transport : T) (before after : SessionState T U) (deeds : List (Deed T U))
+      → IsConnected table transport before → History makes before deeds after → HasOwnIds makes before deeds after
+  own_ids table transport before after deeds connected leads =
+      let moves = run_moves before deeds after leads in
+      own_by table transport before after deeds connected moves.changes moves.owns moves.follows
 
-  -- ---- from a point of a run on
+  -- ---- from a point of a history on
 
-  follows_joins : (s mid after : SessionState Script U) (run others : List (Entry U)) (changes rest : List (List (Change (Kept U))))
-      → Follows s run changes mid → Follows mid others rest after → Follows s (run ++ others) (changes ++ rest) after
-  follows_joins s mid after [] others [] rest same behind = subst (λ (x : SessionState Script U). Follows x others rest after) same behind
+  follows_joins : (s mid after : SessionState T U) (deeds others : List (Deed T U)) (changes rest : List (List (Change (Kept U))))
+      → Follows makes s deeds changes mid → Follows makes mid others rest after → Follows makes s (deeds ++ others) (changes ++ rest) after
+  follows_joins s mid after [] others [] rest same behind = subst (λ (x : SessionState T U). Follows makes x others rest after) same behind
   follows_joins s mid after [] others (changes ∷ more) rest follows behind = absurd follows
-  follows_joins s mid after (e ∷ run) others [] rest follows behind = absurd follows
-  follows_joins s mid after (e ∷ run) others (changes ∷ more) rest (next, by, owns, handed, notes, noted, follows) behind =
-      (next, by, owns, handed, notes, noted, follows_joins next mid after run others more rest follows behind)
+  follows_joins s mid after (d ∷ deeds) others [] rest follows behind = absurd follows
+  follows_joins s mid after (d ∷ deeds) others (changes ∷ more) rest (next, by, owns, handed, notes, noted, follows) behind =
+      (next, by, owns, handed, notes, noted, follows_joins next mid after deeds others more rest follows behind)
 
-  -- each id that names an object at a point of a run names that object from there on
-  pub keeps_naming : (table : List InterfaceRow) (transport : Script) (begun point after : SessionState Script U) (done later : List (Entry U))
-      → IsConnected table transport begun → Leads begun done point → Leads point later after → KeepsNaming begun done point later after
+  -- each id that names an object at a point of a history names that object from there on
+  pub keeps_naming : (table : List InterfaceRow) (transport : T) (begun point after : SessionState T U) (done later : List (Deed T U))
+      → IsConnected table transport begun → History makes begun done point → History makes point later after → KeepsNaming makes begun done point later after
   unfolding own_by
   keeps_naming table transport begun point after done later connected first others =
       let moves = run_moves begun done point first in
@@ -124,8 +123,8 @@ module _ {U : Type 0} where
       }
 
   -- and where it names none, it names none ever after
-  pub names_none_again : (table : List InterfaceRow) (transport : Script) (begun point mid after : SessionState Script U) (done between later : List (Entry U))
-      → IsConnected table transport begun → Leads begun done point → Leads point between mid → Leads mid later after
+  pub names_none_again : (table : List InterfaceRow) (transport : T) (begun point mid after : SessionState T U) (done between later : List (Deed T U))
+      → IsConnected table transport begun → History makes begun done point → History makes point between mid → History makes mid later after
       → (id : IdParts) → IsSome (named point.store id) → ¬ IsSome (named mid.store id) → ¬ IsSome (named after.store id)
   names_none_again table transport begun point mid after done between later connected first second third id =
       let moves = run_moves begun done point first in
@@ -140,15 +139,15 @@ module _ {U : Type 0} where
   -- ---- notes
 
   -- the notes that are handed out, and those that wait, are those that waited and those of what ended
-  notes_follow : (s : SessionState Script U) (run : List (Entry U)) (changes : List (List (Change (Kept U)))) (after : SessionState Script U)
-      → Follows s run changes after → notes_of run ++ after.notes ≡ s.notes ++ all_ended_notes changes
-  notes_follow s [] [] after same = ap (λ (a : SessionState Script U). a.notes) same ∙ sym (append-nil s.notes)
+  notes_follow : (s : SessionState T U) (deeds : List (Deed T U)) (changes : List (List (Change (Kept U)))) (after : SessionState T U)
+      → Follows makes s deeds changes after → notes_of deeds ++ after.notes ≡ s.notes ++ all_ended_notes changes
+  notes_follow s [] [] after same = ap (λ (a : SessionState T U). a.notes) same ∙ sym (append-nil s.notes)
   notes_follow s [] (changes ∷ rest) after follows = absurd follows
-  notes_follow s (e ∷ run) [] after follows = absurd follows
-  notes_follow s (e ∷ run) (changes ∷ rest) after (mid, by, owns, handed, notes, noted, follows) =
-      append_assoc (notes_in e.answer) (notes_of run) after.notes
-      ∙ ap (λ ns. notes_in e.answer ++ ns) (notes_follow mid run rest after follows)
-      ∙ sym (append_assoc (notes_in e.answer) mid.notes (all_ended_notes rest))
+  notes_follow s (d ∷ deeds) [] after follows = absurd follows
+  notes_follow s (d ∷ deeds) (changes ∷ rest) after (mid, by, owns, handed, notes, noted, follows) =
+      append_assoc (notes_by d) (notes_of deeds) after.notes
+      ∙ ap (λ ns. notes_by d ++ ns) (notes_follow mid deeds rest after follows)
+      ∙ sym (append_assoc (notes_by d) mid.notes (all_ended_notes rest))
       ∙ ap (λ ns. ns ++ all_ended_notes rest) (sym notes)
       ∙ append_assoc s.notes (ended_notes changes) (all_ended_notes rest)
 
@@ -174,21 +173,21 @@ module _ {U : Type 0} where
       ∙ ap (λ ids. ids ++ ids_of (ended_notes rest)) (counted n x)
       ∙ ap (λ ids. counted_id serial_of has_data n x ++ ids) (ids_ended rest)
 
-  ids_ended_over : (run : List (List (Change (Kept U)))) → ids_of (all_ended_notes run) ≡ ended_over serial_of has_data run
+  ids_ended_over : (steps : List (List (Change (Kept U)))) → ids_of (all_ended_notes steps) ≡ ended_over serial_of has_data steps
   ids_ended_over [] = refl
   ids_ended_over (changes ∷ rest) =
       ids_both (ended_notes changes) (all_ended_notes rest)
       ∙ ap (λ ids. ids ++ ids_of (all_ended_notes rest)) (ids_ended changes)
       ∙ ap (λ ids. ended_in serial_of has_data changes ++ ids) (ids_ended_over rest)
 
-  -- every run from the connecting on notes what ended
-  pub notes_ended : (table : List InterfaceRow) (transport : Script) (before after : SessionState Script U) (run : List (Entry U))
-      → IsConnected table transport before → Leads before run after → NotesWhatEnded before run after
-  notes_ended table transport before after run (link, fresh, same) leads =
-      let ids = own_ids table transport before after run (link, fresh, same) leads in
-      let none : before.notes ≡ [] = ap (λ (s : SessionState Script U). s.notes) same in
-      let exact : notes_of run ++ after.notes ≡ all_ended_notes ids.changes =
-      notes_follow before run ids.changes after ids.follows ∙ ap (λ ns. ns ++ all_ended_notes ids.changes) none in
+  -- every history from the connecting on notes what ended
+  pub notes_ended : (table : List InterfaceRow) (transport : T) (before after : SessionState T U) (deeds : List (Deed T U))
+      → IsConnected table transport before → History makes before deeds after → NotesWhatEnded makes before deeds after
+  notes_ended table transport before after deeds (link, fresh, same) leads =
+      let ids = own_ids table transport before after deeds (link, fresh, same) leads in
+      let none : before.notes ≡ [] = ap (λ (s : SessionState T U). s.notes) same in
+      let exact : notes_of deeds ++ after.notes ≡ all_ended_notes ids.changes =
+      notes_follow before deeds ids.changes after ids.follows ∙ ap (λ ns. ns ++ all_ended_notes ids.changes) none in
       record {
         ids = ids;
         exact = exact;
@@ -197,17 +196,74 @@ module _ {U : Type 0} where
             (run_owns serial_of is_over (first_objects display_object) (objects_of after) ids.changes ids.ends_so));
       }
 
-  -- ---- a run that stopped
+  -- ---- the points of a history
 
-  -- it has both, with the step that met a want of memory
-  pub stopped_accounts : (s after : SessionState Script U) (steps : List (Step U)) (n : ℕ) (replies : List (Reply U)) → StopsAt s steps n replies after
-      → (table : List InterfaceRow) (transport : Script) (begun : SessionState Script U) (run : List (Entry U)) → IsConnected table transport begun → Leads begun run s
-      → AccountsForStopped begun run steps replies after
-  stopped_accounts s after steps n replies stops table transport begun run connected before =
-      let (last, one, leads) = stopped_leads StepOf s after steps n replies stops in
-      let whole = joins StepOf begun s after run (entries steps replies ++ last) before leads in (
-        last,
-        one,
-        whole,
-        notes_ended table transport begun after (run ++ (entries steps replies ++ last)) connected whole,
-      )
+  follows_ends : (s : SessionState T U) (deeds : List (Deed T U)) (changes : List (List (Change (Kept U)))) (after : SessionState T U)
+      → Follows makes s deeds changes after → RunEnds serial_of is_over (objects_of s) changes (objects_of after)
+  follows_ends s [] [] after same = ap objects_of same
+  follows_ends s [] (changes ∷ rest) after follows = absurd follows
+  follows_ends s (d ∷ deeds) [] after follows = absurd follows
+  follows_ends s (d ∷ deeds) (changes ∷ rest) after (mid, by, owns, handed, notes, noted, follows) =
+      (objects_of mid, owns, follows_ends mid deeds rest after follows)
+
+  follows_leads : (s : SessionState T U) (deeds : List (Deed T U)) (changes : List (List (Change (Kept U)))) (after : SessionState T U)
+      → Follows makes s deeds changes after → History makes s deeds after
+  follows_leads s [] [] after same = same
+  follows_leads s [] (changes ∷ rest) after follows = absurd follows
+  follows_leads s (d ∷ deeds) [] after follows = absurd follows
+  follows_leads s (d ∷ deeds) (changes ∷ rest) after (mid, by, owns, handed, notes, noted, follows) =
+      (mid, by, follows_leads mid deeds rest after follows)
+
+  -- the changes of a history that is divided, and the point between
+  record Divided (s : SessionState T U) (done later : List (Deed T U)) (changes : List (List (Change (Kept U)))) (after : SessionState T U) : Type 0 where
+    point : SessionState T U
+    first : List (List (Change (Kept U)))
+    rest : List (List (Change (Kept U)))
+    split : changes ≡ first ++ rest
+    before : Follows makes s done first point
+    after_point : Follows makes point later rest after
+
+  divided : (s : SessionState T U) (done later : List (Deed T U)) (changes : List (List (Change (Kept U)))) (after : SessionState T U)
+      → Follows makes s (done ++ later) changes after → Divided s done later changes after
+  divided s [] later changes after follows = record { point = s; first = []; rest = changes; split = refl; before = refl; after_point = follows }
+  divided s (d ∷ done) later [] after follows = absurd follows
+  divided s (d ∷ done) later (changes ∷ more) after (mid, by, owns, handed, notes, noted, follows) =
+      let r = divided mid done later more after follows in
+      record {
+        point = r.point;
+        first = changes ∷ r.first;
+        rest = r.rest;
+        split = ap (λ (steps : List (List (Change (Kept U)))). changes ∷ steps) r.split;
+        before = (mid, by, owns, handed, notes, noted, r.before);
+        after_point = r.after_point;
+      }
+
+  is_point : (table : List InterfaceRow) (transport : T) (begun after : SessionState T U) (done later : List (Deed T U)) (changes : List (List (Change (Kept U))))
+      → IsConnected table transport begun → Follows makes begun (done ++ later) changes after → IsPoint makes begun done later changes after
+  is_point table transport begun after done later changes connected follows =
+      let r = divided begun done later changes after follows in
+      let ends = from_display table transport begun r.point connected r.first (follows_ends begun done r.first r.point r.before) in
+      let more = follows_ends r.point later r.rest after r.after_point in
+      record {
+        point = r.point;
+        first = r.first;
+        rest = r.rest;
+        split = r.split;
+        before = r.before;
+        after_point = r.after_point;
+        stays = λ id named. named_law serial_of display_object refl r.first r.rest (objects_of r.point) (objects_of after)
+            (run_leads serial_of (OwnsExactly is_over) (first_objects display_object) (objects_of r.point) r.first ends)
+            (run_leads serial_of (OwnsExactly is_over) (objects_of r.point) (objects_of after) r.rest more) (id_of id) named;
+        failed = λ failed. stays_failed makes kept r.point after later failed (follows_leads r.point later r.rest after r.after_point);
+      }
+
+  -- every history from the connecting on is accounted for
+  pub accounted : (table : List InterfaceRow) (transport : T) (begun after : SessionState T U) (deeds : List (Deed T U))
+      → IsConnected table transport begun → History makes begun deeds after → IsAccountedFor makes begun deeds after
+  accounted table transport begun after deeds connected leads =
+      let notes = notes_ended table transport begun after deeds connected leads in
+      record {
+        notes = notes;
+        points = λ done later split. is_point table transport begun after done later notes.ids.changes connected
+            (subst (λ (all : List (Deed T U)). Follows makes begun all notes.ids.changes after) split notes.ids.follows);
+      }

@@ -10,7 +10,7 @@ use Rattle.wl_wire.specs.Table.{InterfaceRow, grown, interface_rows, refused_gro
 use Rattle.wl_wire.proofs.Growth.{AnswersGrowth-unique}
 use Rattle.wl_link.specs.declared.memory.ArriveError.{ArriveError}
 use Rattle.wl_link.specs.declared.memory.ArriveError.TheVariants as arrive
-use Rattle.wl_link.specs.Exchange.{Queue, IsFunction}
+use Rattle.wl_link.specs.Exchange.{Queue, IsFunction, IsReceiveFunction}
 use Rattle.wl_link.specs.Link.{LinkState}
 use Rattle.wl_link.proofs.Calls.NumberLaws.{full_not_absent, least_absent_one, limit_set_one}
 use Rattle.wl_link.proofs.Calls.OneLaws.{one_flush_lem, one_write_lem}
@@ -37,7 +37,7 @@ use Rattle.wl_client.proofs.OverRuns.ReadingLaws.{SameEnd, next_event_one, same_
 use Rattle.wl_client.specs.Replies.{SameReply, SameReplies}
 use Rattle.wl_client.specs.Requests.{Numbered, Requested, Sent, SentAs, SentWithChild, SessionMessage, Spec, Written, ended_by, error_after, id_of_new, new_child, number_of_new, request_check, session_content, wire_message, with_born, with_ended}
 use Rattle.wl_client.specs.Session.{SessionState, last_possible_serial, named}
-use Rattle.wl_client.specs.Steps.{ArrivesWith, Scripts, InterfacesAdded, StepOf, Leads, entries, refused_arrive, refused_destroy, refused_finish, refused_flush, refused_request, refused_script}
+use Rattle.wl_client.specs.Steps.{ArrivesWith, CallOf, Scripts, InterfacesAdded, StepOf, Leads, entries, refused_arrive, refused_destroy, refused_finish, refused_flush, refused_request, refused_script}
 
 -- an answer by which memory was not refused is not one by which it was
 not_refused : (b : Bool) → false ≡ b → b ≡ true → ⊥
@@ -138,8 +138,7 @@ module _ {T U : Type 0} where
       → FlushEnds s r a x → FlushEnds s r b y → SameEnd a b x y
   flush_ends_one s (Ok _) a b x y h g = same_end h.0 g.0 h.1 g.1
   flush_ends_one s (Err fault.WouldBlock) a b x y h g = same_end h.0 g.0 h.1 g.1
-  flush_ends_one s (Err fault.OutOfMemory) a b x y h g = same_end h.0 g.0 h.1 g.1
-  flush_ends_one s (Err other) a b x y h g = same_end h.0 g.0 h.1 g.1
+  flush_ends_one s _ a b x y h g = same_end h.0 g.0 h.1 g.1
 
   flushes_one : (sends : T → Queue → Result ℕ IoFault → T → Type 0) → IsFunction sends → (s : SessionState T U) (a b : Result (Unit {0}) FlushError)
       (x y : SessionState T U) → false ≡ refused_flush a → false ≡ refused_flush b → SessionFlushed sends s a x → SessionFlushed sends s b y → SameEnd a b x y
@@ -194,8 +193,8 @@ module _ {U : Type 0} where
 
 -- ---- interfaces that are added
 
-module _ {U : Type 0} (s : SessionState Script U) (rows : List InterfaceRow) where
-  growth_one : (a b : Result (Unit {0}) TableError) (x y : SessionState Script U) → false ≡ refused_growth a → false ≡ refused_growth b
+module _ {T U : Type 0} (s : SessionState T U) (rows : List InterfaceRow) where
+  growth_one : (a b : Result (Unit {0}) TableError) (x y : SessionState T U) → false ≡ refused_growth a → false ≡ refused_growth b
       → InterfacesAdded s rows a x → InterfacesAdded s rows b y → (a ≡ b) × (x ≡ y)
   growth_one a b x y unasked unasked' (answers, same) (answers', same') =
       let one = AnswersGrowth-unique s.table rows a b (λ e. not_refused _ unasked (ap refused_growth e)) (λ e. not_refused _ unasked' (ap refused_growth e)) answers answers' in
@@ -208,38 +207,45 @@ module _ {U : Type 0} where
   same_reply : (p q p' q' : Reply U) → p ≡ p' → q ≡ q' → SameReply p' q' → SameReply p q
   same_reply p q p' q' is is' same = subst (λ r. SameReply r q) (sym is) (subst (λ r. SameReply p' r) (sym is') same)
 
-  -- each step has one outcome
-  pub step_one : (s x y : SessionState Script U) (call : Step U) (p q : Reply U) → StepOf s call p false x → StepOf s call q false y → SameReply p q × (x ≡ y)
-  step_one s x y (step.SetData id u) p q (a, is, unasked, h) (b, is', unasked', g) =
+module _ {T U : Type 0} (sends : T → Queue → Result ℕ IoFault → T → Type 0) (receives : T → ℕ → Result Queue IoFault → T → Type 0)
+    (function : IsFunction sends) (receiving : IsReceiveFunction receives) where
+  -- each call has one outcome, if the transport has
+  pub call_one : (s x y : SessionState T U) (call : Step U) (p q : Reply U) → CallOf sends receives s call p false x → CallOf sends receives s call q false y → SameReply p q × (x ≡ y)
+  call_one s x y (step.SetData id u) p q (a, is, unasked, h) (b, is', unasked', g) =
       let one = sets_one s id u a b x y h g in
       (same_reply p q _ _ is is' (ap reply.SetData one.answer), one.after)
-  step_one s x y (step.DestroyObject id) p q (a, is, unasked, h) (b, is', unasked', g) =
+  call_one s x y (step.DestroyObject id) p q (a, is, unasked, h) (b, is', unasked', g) =
       let one = destroys_one s id a b x y unasked unasked' h g in
       (same_reply p q _ _ is is' (ap reply.DestroyObject one.answer), one.after)
-  step_one s x y (step.SendRequest m u spec) p q (a, is, unasked, h) (b, is', unasked', g) =
-      let one = requested_one ScriptSends script_sends_function s (session_content m) a b x y
+  call_one s x y (step.SendRequest m u spec) p q (a, is, unasked, h) (b, is', unasked', g) =
+      let one = requested_one sends function s (session_content m) a b x y
       (λ e. not_refused _ unasked (ap refused_request e)) (λ e. not_refused _ unasked' (ap refused_request e)) u spec h g in
       (same_reply p q _ _ is is' (ap reply.SendRequest one.answer), one.after)
-  step_one s x y step.Flush p q (a, is, unasked, h) (b, is', unasked', g) =
-      let one = flushes_one ScriptSends script_sends_function s a b x y unasked unasked' h g in
+  call_one s x y step.Flush p q (a, is, unasked, h) (b, is', unasked', g) =
+      let one = flushes_one sends function s a b x y unasked unasked' h g in
       (same_reply p q _ _ is is' (ap reply.Flush one.answer), one.after)
-  step_one s x y step.NextEvent p q (a, is, h) (b, is', g) =
-      let one = next_event_one ScriptSends ScriptReceives script_sends_function script_receives_function (event_content a) (event_content b) x y s h g in
+  call_one s x y step.NextEvent p q (a, is, h) (b, is', g) =
+      let one = next_event_one sends receives function receiving (event_content a) (event_content b) x y s h g in
       (same_reply p q (reply.NextEvent a) (reply.NextEvent b) is is' one.answer, one.after)
-  step_one s x y (step.FinishEvent u) p q (a, is, unasked, h) (b, is', unasked', g) =
+  call_one s x y (step.FinishEvent u) p q (a, is, unasked, h) (b, is', unasked', g) =
       let one = finishes_one s u a b x y unasked unasked' h g in
       (same_reply p q _ _ is is' (ap reply.FinishEvent one.answer), one.after)
-  step_one s x y step.DispatchInnerQueue p q (is, unasked, same) (is', unasked', same') =
+  call_one s x y step.DispatchInnerQueue p q (is, unasked, same) (is', unasked', same') =
       (same_reply p q (reply.DispatchInnerQueue (Ok 0)) (reply.DispatchInnerQueue (Ok 0)) is is' refl, same ∙ sym same')
-  step_one s x y (step.SetMaxBufferSize limit) p q (is, unasked, (link, set, same)) (is', unasked', (link', set', same')) = (
+  call_one s x y (step.SetMaxBufferSize limit) p q (is, unasked, (link, set, same)) (is', unasked', (link', set', same')) = (
     same_reply p q reply.SetMaxBufferSize reply.SetMaxBufferSize is is' refl,
-    same ∙ ap (λ (l : LinkState Script). record s { link = l }) (limit_set_one s.link limit link link' set set') ∙ sym same',
+    same ∙ ap (λ (l : LinkState T). record s { link = l }) (limit_set_one s.link limit link link' set set') ∙ sym same',
   )
-  step_one s x y (step.AddInterfaces more) p q (a, is, unasked, h) (b, is', unasked', g) =
+  call_one s x y (step.AddInterfaces more) p q (a, is, unasked, h) (b, is', unasked', g) =
       let one = growth_one s (interface_rows more.items) a b x y unasked unasked' h g in
       (same_reply p q _ _ is is' (ap reply.AddInterfaces one.0), one.1)
-  step_one s x y step.TakeNotes p q (notes, is, unasked, items, same) (notes', is', unasked', items', same') =
+  call_one s x y step.TakeNotes p q (notes, is, unasked, items, same) (notes', is', unasked', items', same') =
       (same_reply p q (reply.TakeNotes notes) (reply.TakeNotes notes') is is' (items ∙ sym items'), same ∙ sym same')
+  call_one s x y _ p q h g = absurd h
+
+module _ {U : Type 0} where
+  -- each step has one outcome
+  pub step_one : (s x y : SessionState Script U) (call : Step U) (p q : Reply U) → StepOf s call p false x → StepOf s call q false y → SameReply p q × (x ≡ y)
   step_one s x y (step.Arrive bytes tokens) p q (a, is, unasked, h) (b, is', unasked', g) =
       let one = arrives_one s _ a b x y unasked unasked' h g in
       (same_reply p q _ _ is is' (ap reply.Arrive one.answer), one.after)
@@ -254,6 +260,16 @@ module _ {U : Type 0} where
       (same_reply p q _ _ is is' (ap reply.AcceptFault one.answer), one.after)
   step_one s x y step.TakeSent p q (sent, is, unasked, parcels, same) (sent', is', unasked', parcels', same') =
       (same_reply p q (reply.TakeSent sent) (reply.TakeSent sent') is is' (parcels ∙ sym parcels'), same ∙ sym same')
+  step_one s x y (step.SetData id u) p q h g = call_one ScriptSends ScriptReceives script_sends_function script_receives_function s x y (step.SetData id u) p q h g
+  step_one s x y (step.DestroyObject id) p q h g = call_one ScriptSends ScriptReceives script_sends_function script_receives_function s x y (step.DestroyObject id) p q h g
+  step_one s x y (step.SendRequest m u spec) p q h g = call_one ScriptSends ScriptReceives script_sends_function script_receives_function s x y (step.SendRequest m u spec) p q h g
+  step_one s x y step.Flush p q h g = call_one ScriptSends ScriptReceives script_sends_function script_receives_function s x y step.Flush p q h g
+  step_one s x y step.NextEvent p q h g = call_one ScriptSends ScriptReceives script_sends_function script_receives_function s x y step.NextEvent p q h g
+  step_one s x y (step.FinishEvent u) p q h g = call_one ScriptSends ScriptReceives script_sends_function script_receives_function s x y (step.FinishEvent u) p q h g
+  step_one s x y step.DispatchInnerQueue p q h g = call_one ScriptSends ScriptReceives script_sends_function script_receives_function s x y step.DispatchInnerQueue p q h g
+  step_one s x y (step.SetMaxBufferSize limit) p q h g = call_one ScriptSends ScriptReceives script_sends_function script_receives_function s x y (step.SetMaxBufferSize limit) p q h g
+  step_one s x y (step.AddInterfaces more) p q h g = call_one ScriptSends ScriptReceives script_sends_function script_receives_function s x y (step.AddInterfaces more) p q h g
+  step_one s x y step.TakeNotes p q h g = call_one ScriptSends ScriptReceives script_sends_function script_receives_function s x y step.TakeNotes p q h g
 
   -- ---- a run
 

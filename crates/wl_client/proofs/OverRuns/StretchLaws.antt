@@ -39,6 +39,7 @@ use Rattle.wl_client.proofs.OverRuns.ReadingLaws.{finish_as, finish_ends, keeps}
 use Rattle.wl_client.specs.Requests.{SessionMessage}
 use Rattle.wl_client.proofs.OverRuns.RoomLaws.{NotEndedByPipe, finish_keeps, end_keeps, fed_keeps}
 use Rattle.wl_client.specs.Session.{Core, SessionState, core_of}
+use Rattle.wl_client.specs.Histories.{Deed}
 use Rattle.wl_client.specs.Steps.{Entry, Leads, StepOf}
 use Rattle.wl_client.specs.Stretches.{AllHeard, EachPartIsCut, EndsWaiting, IsHeard, IsRunServed, IsStretch, IsStretchWithin, SameLeft, arrived, arrived_by, events_by, events_of, finished, finished_by, if_accepted, left_in}
 
@@ -58,7 +59,6 @@ memory_not_blocks same = cc
 
 -- a reading answers so only where it was stopped so
 stopped_blocks : (stopped : Option IoFault) (gave : List (Given SessionMessage)) → answered stopped gave ≡ Err no_event.WouldBlock → stopped ≡ Some fault.WouldBlock
-stopped_blocks None [] is = absurd (failed_not_blocks is)
 stopped_blocks None (HandedOut m ∷ gave) is = absurd (event_not_blocks m is)
 stopped_blocks None (Queued m ∷ gave) is = absurd (none_blocks (stopped_blocks None gave is))
   where
@@ -66,11 +66,7 @@ stopped_blocks None (Queued m ∷ gave) is = absurd (none_blocks (stopped_blocks
     none_blocks same = true≢false (ap is_none same)
 stopped_blocks (Some fault.WouldBlock) gave is = refl
 stopped_blocks (Some fault.OutOfMemory) gave is = absurd (memory_not_blocks is)
-stopped_blocks (Some fault.Pipe) gave is = absurd (failed_not_blocks is)
-stopped_blocks (Some fault.TooBig) gave is = absurd (failed_not_blocks is)
-stopped_blocks (Some fault.Proto) gave is = absurd (failed_not_blocks is)
-stopped_blocks (Some fault.InvalidInput) gave is = absurd (failed_not_blocks is)
-stopped_blocks (Some (fault.Other n)) gave is = absurd (failed_not_blocks is)
+stopped_blocks _ _ is = absurd (failed_not_blocks is)
 
 both_none : {A B : Type 0} (o : Option A) (p : Option B) → is_none o && is_none p ≡ true → (o ≡ None) × (p ≡ None)
 both_none None None both = (refl, refl)
@@ -342,6 +338,6 @@ module _ {U : Type 0} where
       (act_stretch before other others stretch' q) (r.came_in ∙ came ∙ sym q.came_in) (r.ended_with ∙ ended ∙ sym q.ended_with) in
       (sym r.handed_out ∙ same.0 ∙ q.handed_out, same.1)
 
-  -- so each part of a run is cut
-  pub parts_cut : (begun : SessionState Script U) (run : List (Entry U)) → EachPartIsCut begun run
-  parts_cut begun run earlier middle later first last split before part = (stretch_served first last middle part, within_stretch first last middle part)
+  -- so each part of a history that is a run is cut
+  pub parts_cut : (begun : SessionState Script U) (deeds : List (Deed Script U)) → EachPartIsCut begun deeds
+  parts_cut begun deeds earlier later run first last split before part = (stretch_served first last run part, within_stretch first last run part)

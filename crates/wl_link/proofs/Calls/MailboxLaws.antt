@@ -48,7 +48,7 @@ receive_sends_nothing : (m : MailboxState) (room : ℕ) → (mailbox_after_recei
 receive_sends_nothing m zero = refl
 receive_sends_nothing m (suc n) = refl
 
-receive_keeps : (before after : MailboxState) (room : ℕ) (answer : Result Queue IoFault) → MailboxReceives before room answer after
+pub receive_keeps : (before after : MailboxState) (room : ℕ) (answer : Result Queue IoFault) → MailboxReceives before room answer after
     → (joined (received_by (Received room answer)) after.arrived ≡ joined before.arrived nothing) × (after.waiting ≡ before.waiting)
 receive_keeps before after room answer (inl r) = (
   ap (λ (a : Result Queue IoFault). joined (received_by (Received room a)) after.arrived) r.1
@@ -66,7 +66,7 @@ kept_is_accepted : (answer : Result ℕ IoFault) (waiting offer : Queue) → joi
 kept_is_accepted (Ok n) waiting offer = refl
 kept_is_accepted (Err fault) waiting offer = stays waiting waiting refl
 
-send_keeps : (before after : MailboxState) (offer : Queue) (answer : Result ℕ IoFault) → MailboxSends before offer answer after
+pub send_keeps : (before after : MailboxState) (offer : Queue) (answer : Result ℕ IoFault) → MailboxSends before offer answer after
     → (after.arrived ≡ before.arrived) × (joined nothing after.waiting ≡ joined before.waiting (accepted_by (Sent offer answer)))
 send_keeps before after offer answer (inl s) = (
   ap (λ (m : MailboxState). m.arrived) s.1,

@@ -239,8 +239,8 @@ module _ {S : Type 0} (sends : S → Queue → Result ℕ IoFault → S → Type
     put_more : (l : LinkState S) (m : Said) (ms : List Said) (w : Written l m.message) → ((k : LinkState S) → 0 < k.outgoing_capacity → PutAll k ms) → PutAll l (m ∷ ms)
     put_more l m ms w on = at w.answer refl
       where
-        by : (r : Result (Unit {0}) IoFault) → w.answer ≡ r → PutBy sends l m.message w.wrote.0 r w.after
-        by r is = subst (λ (x : Result (Unit {0}) IoFault). PutBy sends l m.message w.wrote.0 x w.after) is (inl w.wrote.1)
+        by : (r : Result (Unit {0}) IoFault) → w.answer ≡ r → PutBy sends l m w.wrote.0 r w.after
+        by r is = subst (λ (x : Result (Unit {0}) IoFault). PutBy sends l m w.wrote.0 x w.after) is (inl w.wrote.1)
 
         at : (r : Result (Unit {0}) IoFault) → w.answer ≡ r → PutAll l (m ∷ ms)
         at (Ok u) is =

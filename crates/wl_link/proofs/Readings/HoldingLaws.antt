@@ -55,18 +55,18 @@ module _ {T : Type 0} (sends : T → Queue → Result ℕ IoFault → T → Type
         | inr (none, is, same) ↦ holds_as before.outgoing_capacity after.outgoing_capacity (ap storage_of same) holds
       ]
 
-  put_by_holds : (m : WireMessage) (before after : LinkState T) (es : List Sending) (answer : Result (Unit {0}) IoFault) → PutBy sends before m es answer after
+  put_by_holds : (m : Said) (before after : LinkState T) (es : List Sending) (answer : Result (Unit {0}) IoFault) → PutBy sends before m es answer after
       → 0 < before.outgoing_capacity → 0 < after.outgoing_capacity
-  put_by_holds m before after es answer (inl wrote) holds = wrote_holds m before after es answer wrote holds
+  put_by_holds m before after es answer (inl wrote) holds = wrote_holds m.message before after es answer wrote holds
   put_by_holds m before after es answer (inr (none, is, same, text)) holds = holds_as before.outgoing_capacity after.outgoing_capacity (ap storage_of same) holds
 
   pub puts_hold : (ms : List Said) (before after : LinkState T) (es : List Sending) (put : List Said) (answer : Result (Unit {0}) IoFault)
       → PutsOut sends before ms es put answer after → 0 < before.outgoing_capacity → 0 < after.outgoing_capacity
   puts_hold [] before after es put answer (none, nothing', is, same) holds = holds_as before.outgoing_capacity after.outgoing_capacity (ap storage_of same) holds
   puts_hold (m ∷ ms) before after es put answer (first, Ok u, mid, one, (next, rest, split, is, puts)) holds =
-      puts_hold ms mid after next rest answer puts (put_by_holds m.message before mid first (Ok u) one holds)
+      puts_hold ms mid after next rest answer puts (put_by_holds m before mid first (Ok u) one holds)
   puts_hold (m ∷ ms) before after es put answer (first, Err f, mid, one, (split, none, is, same)) holds =
-      holds_as mid.outgoing_capacity after.outgoing_capacity (ap storage_of same) (put_by_holds m.message before mid first (Err f) one holds)
+      holds_as mid.outgoing_capacity after.outgoing_capacity (ap storage_of same) (put_by_holds m before mid first (Err f) one holds)
 
 -- a read leaves it as it is
 pub read_stays : {T : Type 0} (looks_up : ℕ → ℕ → Option (List ArgumentType) → Type 0) (before after : LinkState T) (m : WireMessage) → ReadOne looks_up before (Ok m) after

@@ -69,11 +69,11 @@ queued_put [] events = queued_handed events
 queued_put (m ∷ put) events = ap (λ (ms : List Said). m ∷ ms) (queued_put put events)
 
 module _ {T : Type 0} (sends : T → Queue → Result ℕ IoFault → T → Type 0) (within : IsWithinOffer sends) where
-  pub put_by_kept : (m : WireMessage) (before after : LinkState T) (es : List Sending) (answer : Result (Unit {0}) IoFault) → PutBy sends before m es answer after
-      → LosesNothing es before.outgoing (queued_by answer m) after.outgoing
-  put_by_kept m before after es answer (inl wrote) = write_kept sends within m after answer before es wrote
+  pub put_by_kept : (m : Said) (before after : LinkState T) (es : List Sending) (answer : Result (Unit {0}) IoFault) → PutBy sends before m es answer after
+      → LosesNothing es before.outgoing (queued_by answer m.message) after.outgoing
+  put_by_kept m before after es answer (inl wrote) = write_kept sends within m.message after answer before es wrote
   put_by_kept m before after es answer (inr (none, is, same, text)) =
-      subst (λ (a : Result (Unit {0}) IoFault). LosesNothing es before.outgoing (queued_by a m) after.outgoing) (sym is)
+      subst (λ (a : Result (Unit {0}) IoFault). LosesNothing es before.outgoing (queued_by a m.message) after.outgoing) (sym is)
       (kept_still es before.outgoing after.outgoing none (ap (λ (l : LinkState T). l.outgoing) same))
 
   pub puts_kept : (ms : List Said) (before after : LinkState T) (es : List Sending) (put : List Said) (answer : Result (Unit {0}) IoFault)
@@ -83,11 +83,11 @@ module _ {T : Type 0} (sends : T → Queue → Result ℕ IoFault → T → Type
       (kept_still es before.outgoing after.outgoing none (ap (λ (l : LinkState T). l.outgoing) same))
   puts_kept (m ∷ ms) before after es put answer (first, Ok u, mid, one, (next, rest, split, is, puts)) =
       let both = kept_then first next before.outgoing mid.outgoing after.outgoing (spelled m.message) (spelled_all (messages_of rest))
-      (put_by_kept m.message before mid first (Ok u) one) (puts_kept ms mid after next rest answer puts) in
+      (put_by_kept m before mid first (Ok u) one) (puts_kept ms mid after next rest answer puts) in
       let sent = subst (λ (fs : List Sending). LosesNothing fs before.outgoing (spelled_all (messages_of (m ∷ rest))) after.outgoing) (sym split) both in
       subst (λ (ns : List Said). LosesNothing es before.outgoing (spelled_all (messages_of ns)) after.outgoing) (sym is) sent
   puts_kept (m ∷ ms) before after es put answer (first, Err f, mid, one, (split, none, is, same)) =
-      let here = put_by_kept m.message before mid first (Err f) one in
+      let here = put_by_kept m before mid first (Err f) one in
       let sent = subst (λ (fs : List Sending). LosesNothing fs before.outgoing nothing mid.outgoing) (sym split) here in
       let end = subst (λ (l : LinkState T). LosesNothing es before.outgoing nothing l.outgoing) (sym same) sent in
       subst (λ (ns : List Said). LosesNothing es before.outgoing (spelled_all (messages_of ns)) after.outgoing) (sym none) end

@@ -63,21 +63,22 @@ module _ {T S : Type 0} (sends : T → Queue → Result ℕ IoFault → T → Ty
         (λ large. (large.0, large.1, stays es before after t u chain large.0 large.2))
         h
 
-    -- so does a put
-    pub put_by_there : (before : LinkState T) → PutBy sends before m es answer after → PutBy others (link_as before more t) m es answer (link_as after more u)
-    put_by_there before (inl wrote) = inl (wrote_there before wrote)
-    put_by_there before (inr (none, is, same, text)) = inr (none, is, stays es before after t u chain none same, text)
+  -- so does a put
+  pub put_by_there : (m : Said) (es : List Sending) (answer : Result (Unit {0}) IoFault) (after : LinkState T) (t u : S) → Chain others t es u
+      → (before : LinkState T) → PutBy sends before m es answer after → PutBy others (link_as before more t) m es answer (link_as after more u)
+  put_by_there m es answer after t u chain before (inl wrote) = inl (wrote_there m.message es answer after t u chain before wrote)
+  put_by_there m es answer after t u chain before (inr (none, is, same, text)) = inr (none, is, stays es before after t u chain none same, text)
 
   pub puts_there : (ms : List Said) (before after : LinkState T) (es : List Sending) (put : List Said) (answer : Result (Unit {0}) IoFault) (t u : S)
       → Chain others t es u → PutsOut sends before ms es put answer after → PutsOut others (link_as before more t) ms es put answer (link_as after more u)
   puts_there [] before after es put answer t u chain (none, nothing', is, same) = (none, nothing', is, stays es before after t u chain none same)
   puts_there (m ∷ ms) before after es put answer t u chain (first, Ok _, mid, one, (next, rest, split, is, puts)) =
       let parts = chain_parts others first next t u (subst (λ (fs : List Sending). Chain others t fs u) split chain) in
-      let here = put_by_there m.message first (Ok tt) mid t parts.0 parts.1 before one in
+      let here = put_by_there m first (Ok tt) mid t parts.0 parts.1 before one in
       (first, Ok tt, link_as mid more parts.0, here, (next, rest, split, is, puts_there ms mid after next rest answer parts.0 u parts.2 puts))
   puts_there (m ∷ ms) before after es put answer t u chain (first, Err f, mid, one, (split, none, is, same)) =
       let chain' = subst (λ (fs : List Sending). Chain others t fs u) split chain in
-      let here = put_by_there m.message first (Err f) mid t u chain' before one in
+      let here = put_by_there m first (Err f) mid t u chain' before one in
       (first, Err f, link_as mid more u, here, (split, none, is, ap (λ (l : LinkState T). link_as l more u) same))
 
   pub flushes_there : (flushes lacked : Bool) (before after : LinkState T) (es : List Sending) (t u : S) → Chain others t es u
@@ -91,10 +92,10 @@ pub not_lacked : (r : Result (Unit {0}) IoFault) → lacks_memory r ≡ false �
 not_lacked r none is = true≢false (sym (ap lacks_memory is) ∙ none)
 
 module _ {S : Type 0} (sends : S → Queue → Result ℕ IoFault → S → Type 0) (function : IsFunction sends) where
-  pub put_by_one : (m : WireMessage) (before x y : LinkState S) (es fs : List Sending) (a b : Result (Unit {0}) IoFault) → PutBy sends before m es a x → PutBy sends before m fs b y
+  pub put_by_one : (m : Said) (before x y : LinkState S) (es fs : List Sending) (a b : Result (Unit {0}) IoFault) → PutBy sends before m es a x → PutBy sends before m fs b y
       → a ≢ Err fault.OutOfMemory → b ≢ Err fault.OutOfMemory → (a ≡ b) × (x ≡ y)
   put_by_one m before x y es fs a b (inl wrote) (inl wrote') ok ok' =
-      let one = one_write_lem sends function m x y es fs a b ok ok' before wrote wrote' in (one.answer, one.after)
+      let one = one_write_lem sends function m.message x y es fs a b ok ok' before wrote wrote' in (one.answer, one.after)
   put_by_one m before x y es fs a b (inr (none, is, same, text)) other ok ok' = absurd (ok is)
   put_by_one m before x y es fs a b (inl wrote) (inr (none, is, same, text)) ok ok' = absurd (ok' is)
 
@@ -115,7 +116,7 @@ module _ {S : Type 0} (sends : S → Queue → Result ℕ IoFault → S → Type
   puts_one [] before x y es fs p q a b ok ok' (none, put, is, same) (none', put', is', same') =
       record { put = put ∙ sym put'; answer = is ∙ sym is'; after = same ∙ sym same' }
   puts_one (m ∷ ms) before x y es fs p q a b ok ok' (first, o, mid, wrote, end) (first', o', mid', wrote', end') =
-      let one = put_by_one m.message before mid mid' first first' o o' wrote wrote' (put_allowed m ms first es p a x mid o ok end) (put_allowed m ms first' fs q b y mid' o' ok' end') in
+      let one = put_by_one m before mid mid' first first' o o' wrote wrote' (put_allowed m ms first es p a x mid o ok end) (put_allowed m ms first' fs q b y mid' o' ok' end') in
       let answered = subst (λ (r : Result (Unit {0}) IoFault). PutThen m ms first' fs q b y mid' r) (sym one.0) end' in
       let linked = subst (λ (l : LinkState S). PutThen m ms first' fs q b y l o) (sym one.1) answered in
       elim (both_result o end linked) [

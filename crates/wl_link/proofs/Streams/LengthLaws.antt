@@ -72,17 +72,17 @@ module _ {T : Type 0} (sends : T → Queue → Result ℕ IoFault → T → Type
         | inr (none, is, same) ↦ stays_same before after same
       ]
 
-  put_by_stays : (before after : LinkState T) (m : WireMessage) (es : List Sending) (answer : Result (Unit {0}) IoFault) → PutBy sends before m es answer after → Stays before after
-  put_by_stays before after m es answer (inl wrote) = write_stays before after m es answer wrote
+  put_by_stays : (before after : LinkState T) (m : Said) (es : List Sending) (answer : Result (Unit {0}) IoFault) → PutBy sends before m es answer after → Stays before after
+  put_by_stays before after m es answer (inl wrote) = write_stays before after m.message es answer wrote
   put_by_stays before after m es answer (inr (none, is, same, text)) = stays_same before after same
 
   puts_stay : (ms : List Said) (before after : LinkState T) (es : List Sending) (put : List Said) (answer : Result (Unit {0}) IoFault)
       → PutsOut sends before ms es put answer after → Stays before after
   puts_stay [] before after es put answer (none, nothing', is, same) = stays_same before after same
   puts_stay (m ∷ ms) before after es put answer (first, Ok u, mid, one, (others, rest, split, is, puts)) =
-      stays_both before mid after (put_by_stays before mid m.message first (Ok u) one) (puts_stay ms mid after others rest answer puts)
+      stays_both before mid after (put_by_stays before mid m first (Ok u) one) (puts_stay ms mid after others rest answer puts)
   puts_stay (m ∷ ms) before after es put answer (first, Err f, mid, one, (split, none, is, same)) =
-      stays_both before mid after (put_by_stays before mid m.message first (Err f) one) (stays_same mid after same)
+      stays_both before mid after (put_by_stays before mid m first (Err f) one) (stays_same mid after same)
 
   flushes_stay : (flushes lacked : Bool) (before after : LinkState T) (es : List Sending) → FlushesOut sends flushes before es lacked after → Stays before after
   flushes_stay flushes lacked before after es h =

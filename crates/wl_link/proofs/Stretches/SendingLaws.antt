@@ -90,17 +90,17 @@ sends_both before mid after es fs all is one two = record {
       (chain_joins ScriptSends (sending_side before.transport) (sending_side mid.transport) (sending_side after.transport) es fs one.chain two.chain);
 }
 
-put_by_sends : (before after : LinkState Script) (m : WireMessage) (es : List Sending) (answer : Result (Unit {0}) IoFault) → PutBy ScriptSends before m es answer after → Sends before es after
-put_by_sends before after m es answer (inl wrote) = write_sends before after m es answer wrote
+put_by_sends : (before after : LinkState Script) (m : Said) (es : List Sending) (answer : Result (Unit {0}) IoFault) → PutBy ScriptSends before m es answer after → Sends before es after
+put_by_sends before after m es answer (inl wrote) = write_sends before after m.message es answer wrote
 put_by_sends before after m es answer (inr (none, is, same, text)) = sends_none before after es none (ap (λ (l : LinkState Script). l.transport) same)
 
 puts_send : (ms : List Said) (before after : LinkState Script) (es : List Sending) (put : List Said) (answer : Result (Unit {0}) IoFault)
     → PutsOut ScriptSends before ms es put answer after → Sends before es after
 puts_send [] before after es put answer (none, nothing', is, same) = sends_none before after es none (ap (λ (l : LinkState Script). l.transport) same)
 puts_send (m ∷ ms) before after es put answer (first, Ok u, mid, one, (others, rest, split, is, puts)) =
-    sends_both before mid after first others es split (put_by_sends before mid m.message first (Ok u) one) (puts_send ms mid after others rest answer puts)
+    sends_both before mid after first others es split (put_by_sends before mid m first (Ok u) one) (puts_send ms mid after others rest answer puts)
 puts_send (m ∷ ms) before after es put answer (first, Err f, mid, one, (split, none, is, same)) =
-    let sent = sends_to before mid after first (put_by_sends before mid m.message first (Err f) one) (ap (λ (l : LinkState Script). l.transport) same) in
+    let sent = sends_to before mid after first (put_by_sends before mid m first (Err f) one) (ap (λ (l : LinkState Script). l.transport) same) in
     subst (λ (fs : List Sending). Sends before fs after) (sym split) sent
 
 flushes_send : (flushes lacked : Bool) (before after : LinkState Script) (es : List Sending) → FlushesOut ScriptSends flushes before es lacked after → Sends before es after

@@ -89,6 +89,10 @@ module _ {A : Type 0} where
 abbrev pub has_place_capacity : {A Y Z X : Type 0} → Vec A Y → Vec (Vec ℕ Z) X → Bool
 has_place_capacity slots levels = has_capacity slots && is_ready levels.items
 
+-- if the flag is set, there is capacity for one place more
+abbrev pub IsKnown : {A Y Z X : Type 0} → Bool → Vec A Y → Vec (Vec ℕ Z) X → Type 0
+IsKnown flag slots levels = flag ≡ true → has_place_capacity slots levels ≡ true
+
 -- ---- both ranges
 
 -- the place of a number in its range
@@ -111,8 +115,11 @@ module _ {D : Type 0} where
     pub clients_fit : client_range.first + length clients ≤ client_range.end
     pub servers_fit : server_range.first + length servers ≤ server_range.end
 
-  -- what holds of a map: over the places of each range stands the tree of those that are free
-  pub record Whole {Y Z : Type 0} (clients servers : List (Option (Object D))) (client_levels : List (Vec ℕ Y)) (server_levels : List (Vec ℕ Z)) : Type 0 where
-    pub within : Within clients servers
-    pub client_tree : ShowsFree clients client_levels
-    pub server_tree : ShowsFree servers server_levels
+  -- what holds of a map: over the places of each range stands the tree of those that are free, and each flag says what it should
+  pub record Whole {P Q X Y Z W : Type 0} (clients : Vec (Option (Object D)) P) (servers : Vec (Option (Object D)) Q)
+      (client_levels : Vec (Vec ℕ X) Y) (server_levels : Vec (Vec ℕ Z) W) (clients_ready servers_ready : Bool) : Type 0 where
+    pub within : Within clients.items servers.items
+    pub client_tree : ShowsFree clients.items client_levels.items
+    pub server_tree : ShowsFree servers.items server_levels.items
+    pub clients_known : IsKnown clients_ready clients client_levels
+    pub servers_known : IsKnown servers_ready servers server_levels

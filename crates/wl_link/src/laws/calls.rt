@@ -11,8 +11,10 @@ ghost use Rattle.wl_link.specs.Exchange.{Queue, Sending, IsFunction, IsReceiveFu
 ghost use Rattle.wl_link.specs.Script.{ScriptSends, ScriptReceives};
 ghost use Rattle.wl_link.specs.Mailbox.{MailboxState, MailboxSends, MailboxReceives};
 ghost use Rattle.wl_link.specs.MailboxCalls.{DoesAll, MailboxCall, MailboxKeeps, StaysWithinRoom};
-ghost use Rattle.wl_link.specs.Link.{LinkState, Flushed, FlushedBy, Wrote, WroteBy, FilledBy, ReadOne};
+ghost use Rattle.wl_link.specs.MailboxLink.{KeepsWhatCame, KeepsWhatGoes};
+ghost use Rattle.wl_link.specs.Link.{LinkState, Filled, Flushed, FlushedBy, Wrote, WroteBy, FilledBy, ReadOne};
 ghost use Rattle.wl_link.specs.NothingLost.{FlushKeeps, FlushDrains, LosesNothing, WriteKeeps, queued_by};
+ghost use Rattle.wl_link.specs.Relayed.{RelayLaw};
 ghost use Rattle.wl_link.specs.Outcome.{SameCall, SameFill, SameRead};
 ghost use Rattle.wl_link.specs.Sides.{StreamLaw, AllReadLaw, CuttingLaw, ReadTakes, RoomLaw};
 
@@ -94,6 +96,15 @@ pub fn mailbox_loses_nothing()
         MailboxSends before offer answer after → StaysWithinRoom before offer after }
 {}
 
+/// A link over a mailbox loses nothing between itself and its mailbox. A receive moves what came from the mailbox to the link, and
+/// a flush moves what is to be sent the other way: the same bytes and tokens, in the same order.
+pub fn link_over_mailbox_loses_nothing()
+    ensures received { (before after : LinkState MailboxState) (answer : _) →
+        Filled MailboxReceives before answer after → KeepsWhatCame before after }
+    ensures sent { (before after : LinkState MailboxState) (answer : _) →
+        Flushed MailboxSends before answer after → KeepsWhatGoes before after }
+{}
+
 /// The messages that were written are read back: the same messages in the same order. The bytes and tokens must be carried
 /// completely and in order, but they may be cut anywhere.
 ///
@@ -111,6 +122,15 @@ pub fn messages_come_back<S: Transport, R: Transport>()
 /// leave, even if a read between them finds no message.
 pub fn cutting_does_not_matter<T: Transport>()
     ensures { CuttingLaw T.receives }
+{}
+
+/// What a program hands on from one link to another leaves as it came: the same bytes and the same tokens, in the same order,
+/// and no others. It does not matter how they were cut into receives, and how they are cut into sends.
+///
+/// What the second link's transport took, and then what waits there to be sent, and then what was received on the first link and
+/// not handed on yet, is what waited at first and then what came.
+pub fn what_came_in_leaves<R: Transport, S: Transport>()
+    ensures { RelayLaw R.receives S.sends }
 {}
 
 /// The values of the constants of this crate. A send is offered at most 4096 bytes and 28 tokens. The buffers of a new link

@@ -51,32 +51,12 @@ module _ {U G C : Type 0} (views : G → ClientParts → C → GlobalParts → B
 
     part_step : (s : Step Script U G C) (answer : Reply Script U) (before : Seen Script U C) (lacked : Bool) (did : List (Deed U)) (after : Seen Script U C)
         → PartStep (by_script views) id offer s answer before lacked did after → PartStep (over_scripts views) id offer s answer before lacked did after
-    part_step (step.InsertClient transport client_data) answer before lacked did after h = h
-    part_step (step.SetObjectData o u) answer before lacked did after h = h
-    part_step (step.CreateObject target i version u) answer before lacked did after h = h
-    part_step (step.DestroyObject o) answer before lacked did after h = h
-    part_step (step.SendEvent m) answer before lacked did after h = h
-    part_step (step.PostError o code text) answer before lacked did after h = h
-    part_step (step.KillClient target reason) answer before lacked did after h = h
-    part_step (step.CreateGlobal i version handler) answer before lacked did after h = h
-    part_step (step.DisableGlobal g) answer before lacked did after h = h
-    part_step (step.RemoveGlobal g) answer before lacked did after h = h
-    part_step (step.Flush None) answer before lacked did after h = h
-    part_step (step.Flush (Some target)) answer before lacked did after h = h
-    part_step (step.SetDefaultMaxBufferSize limit) answer before lacked did after h = h
-    part_step (step.AddInterfaces interfaces) answer before lacked did after h = h
-    part_step (step.SetClientMaxBufferSize target limit) answer before lacked did after h = h
-    part_step (step.NextAction target) answer before lacked did after h = h
-    part_step (step.NextActionWithin target reading) answer before lacked did after h = h
-    part_step (step.FinishRequest target u) answer before lacked did after h = h
-    part_step (step.FinishBind target u) answer before lacked did after h = h
-    part_step step.Cleanup answer before lacked did after h = h
-    part_step step.TakeNotes answer before lacked did after h = h
     part_step (step.Arrive target bytes tokens) answer before lacked did after (r, is, h) = (r, is, moved target (Arrive (record { bytes = bytes.items; tokens = tokens.items })) _ before lacked did after h)
     part_step (step.ArriveFault target f) answer before lacked did after (r, is, h) = (r, is, moved target (ArriveFault f) _ before lacked did after h)
     part_step (step.Accept target n) answer before lacked did after (r, is, h) = (r, is, moved target (Accept n) _ before lacked did after h)
     part_step (step.AcceptFault target f) answer before lacked did after (r, is, h) = (r, is, moved target (AcceptFault f) _ before lacked did after h)
     part_step (step.TakeSent target) answer before lacked did after (r, is, h) = (r, is, moved target TakeSent _ before lacked did after h)
+    part_step s answer before lacked did after h = h
 
     part_call : (call : Call Script U G C) (before : Seen Script U C) (lacked : Bool) (did : List (Deed U)) (after : Seen Script U C)
         → PartCall (by_script views) id offer call before lacked did after → PartCall (over_scripts views) id offer call before lacked did after

@@ -48,7 +48,7 @@ map_set f [] k x y here same = refl
 map_set f (z ∷ xs) zero x y here same = ap (λ b. b ∷ map f xs) (same ∙ ap f (sym (same_Some z x here)))
 map_set f (z ∷ xs) (suc k) x y here same = ap (λ l. f z ∷ l) (map_set f xs k x y here same)
 
-set_itself : {A : Type 0} (xs : List A) (k : ℕ) (x : A) → slice_get xs k ≡ Some x → slice_set xs k x ≡ xs
+pub set_itself : {A : Type 0} (xs : List A) (k : ℕ) (x : A) → slice_get xs k ≡ Some x → slice_set xs k x ≡ xs
 set_itself [] k x here = refl
 set_itself (z ∷ xs) zero x here = ap (λ y. y ∷ xs) (sym (same_Some z x here))
 set_itself (z ∷ xs) (suc k) x here = ap (λ l. z ∷ l) (set_itself xs k x here)

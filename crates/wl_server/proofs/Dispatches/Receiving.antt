@@ -27,7 +27,7 @@ use Rattle.wl_server.specs.Dispatch.{Answering, Answers, EndsDispatch, Handles, 
 use Rattle.wl_server.specs.Globals.{Offer}
 use Rattle.wl_server.specs.Ids.{ClientParts, same_client}
 use Rattle.wl_server.specs.Part.{Part}
-use Rattle.wl_server.specs.PartStep.{Asked, Call, Changed, InsertedAs, OfClient, PartCall, ReadsFor, Unfelt, World, around}
+use Rattle.wl_server.specs.PartStep.{Asked, Call, InsertedAs, OfClient, PartCall, ReadsFor, Unfelt, World, around}
 use Rattle.wl_server.specs.Reached.{AllSpare}
 use Rattle.wl_server.specs.Reading.{Around, NextAction, action_content, new_reading, server}
 use Rattle.wl_server.specs.Runs.{IsNotInserted, Leads, concerns}
@@ -113,31 +113,9 @@ module _ {T U G C : Type 0} (w : World T G C) (id : ClientParts) (offer : Offer 
 
   pub call_quiet : (call : Call T U G C) → reads_of id call ≡ false → PartCall w id offer call before lacked did after → Quiet
   call_quiet (Asked (step.InsertClient transport client_data) answer) other (r, is, h) = inserted_quiet transport client_data r h
-  call_quiet (Asked (step.SetObjectData o u) answer) other h = felt (Asked (step.SetObjectData o u) answer) refl h h
-  call_quiet (Asked (step.CreateObject target i version u) answer) other h = felt (Asked (step.CreateObject target i version u) answer) refl h h
-  call_quiet (Asked (step.DestroyObject o) answer) other h = felt (Asked (step.DestroyObject o) answer) refl h h
-  call_quiet (Asked (step.SendEvent m) answer) other h = felt (Asked (step.SendEvent m) answer) refl h h
-  call_quiet (Asked (step.PostError o code text) answer) other h = felt (Asked (step.PostError o code text) answer) refl h h
-  call_quiet (Asked (step.KillClient target reason) answer) other h = felt (Asked (step.KillClient target reason) answer) refl h h
-  call_quiet (Asked (step.CreateGlobal i version handler) answer) other h = felt (Asked (step.CreateGlobal i version handler) answer) refl h h
-  call_quiet (Asked (step.DisableGlobal g) answer) other h = felt (Asked (step.DisableGlobal g) answer) refl h h
-  call_quiet (Asked (step.RemoveGlobal g) answer) other h = felt (Asked (step.RemoveGlobal g) answer) refl h h
-  call_quiet (Asked (step.Flush target) answer) other h = felt (Asked (step.Flush target) answer) refl h h
-  call_quiet (Asked (step.SetDefaultMaxBufferSize limit) answer) other h = felt (Asked (step.SetDefaultMaxBufferSize limit) answer) refl h h
-  call_quiet (Asked (step.AddInterfaces interfaces) answer) other h = felt (Asked (step.AddInterfaces interfaces) answer) refl h h
-  call_quiet (Asked (step.SetClientMaxBufferSize target limit) answer) other h = felt (Asked (step.SetClientMaxBufferSize target limit) answer) refl h h
   call_quiet (Asked (step.NextAction target) answer) other (r, left, is, h) = unfelt_quiet (at_other _ _ (same_client target id) other h)
   call_quiet (Asked (step.NextActionWithin target reading) answer) other (r, left, is, h) = unfelt_quiet (at_other _ _ (same_client target id) other h)
-  call_quiet (Asked (step.FinishRequest target u) answer) other h = felt (Asked (step.FinishRequest target u) answer) refl h h
-  call_quiet (Asked (step.FinishBind target u) answer) other h = felt (Asked (step.FinishBind target u) answer) refl h h
-  call_quiet (Asked step.Cleanup answer) other h = felt (Asked step.Cleanup answer) refl h h
-  call_quiet (Asked step.TakeNotes answer) other h = felt (Asked step.TakeNotes answer) refl h h
-  call_quiet (Asked (step.Arrive target bytes tokens) answer) other h = felt (Asked (step.Arrive target bytes tokens) answer) refl h h
-  call_quiet (Asked (step.ArriveFault target f) answer) other h = felt (Asked (step.ArriveFault target f) answer) refl h h
-  call_quiet (Asked (step.Accept target n) answer) other h = felt (Asked (step.Accept target n) answer) refl h h
-  call_quiet (Asked (step.AcceptFault target f) answer) other h = felt (Asked (step.AcceptFault target f) answer) refl h h
-  call_quiet (Asked (step.TakeSent target) answer) other h = felt (Asked (step.TakeSent target) answer) refl h h
-  call_quiet (Changed target t) other h = felt (Changed target t) refl h h
+  call_quiet call other h = felt call refl h h
 
 -- ---- a reading
 
@@ -219,30 +197,7 @@ module _ {T U G C : Type 0} (w : World T G C) (id : ClientParts) (offer : Offer 
   keeps_to (Asked (step.NextAction target) answer) (r, left, is, h) =
       at_most_new (same_client target id) (receives_in did) left.turns_left (reads_bounded target new_reading (action_content r) left h)
   keeps_to (Asked (step.NextActionWithin target reading) answer) (r, left, is, h) = of_reply target reading left r answer is (reads_bounded target reading (action_content r) left h)
-  keeps_to (Asked (step.InsertClient transport client_data) answer) h = nothing (Asked (step.InsertClient transport client_data) answer) refl h
-  keeps_to (Asked (step.SetObjectData o u) answer) h = nothing (Asked (step.SetObjectData o u) answer) refl h
-  keeps_to (Asked (step.CreateObject target i version u) answer) h = nothing (Asked (step.CreateObject target i version u) answer) refl h
-  keeps_to (Asked (step.DestroyObject o) answer) h = nothing (Asked (step.DestroyObject o) answer) refl h
-  keeps_to (Asked (step.SendEvent m) answer) h = nothing (Asked (step.SendEvent m) answer) refl h
-  keeps_to (Asked (step.PostError o code text) answer) h = nothing (Asked (step.PostError o code text) answer) refl h
-  keeps_to (Asked (step.KillClient target reason) answer) h = nothing (Asked (step.KillClient target reason) answer) refl h
-  keeps_to (Asked (step.CreateGlobal i version handler) answer) h = nothing (Asked (step.CreateGlobal i version handler) answer) refl h
-  keeps_to (Asked (step.DisableGlobal g) answer) h = nothing (Asked (step.DisableGlobal g) answer) refl h
-  keeps_to (Asked (step.RemoveGlobal g) answer) h = nothing (Asked (step.RemoveGlobal g) answer) refl h
-  keeps_to (Asked (step.Flush target) answer) h = nothing (Asked (step.Flush target) answer) refl h
-  keeps_to (Asked (step.SetDefaultMaxBufferSize limit) answer) h = nothing (Asked (step.SetDefaultMaxBufferSize limit) answer) refl h
-  keeps_to (Asked (step.AddInterfaces interfaces) answer) h = nothing (Asked (step.AddInterfaces interfaces) answer) refl h
-  keeps_to (Asked (step.SetClientMaxBufferSize target limit) answer) h = nothing (Asked (step.SetClientMaxBufferSize target limit) answer) refl h
-  keeps_to (Asked (step.FinishRequest target u) answer) h = nothing (Asked (step.FinishRequest target u) answer) refl h
-  keeps_to (Asked (step.FinishBind target u) answer) h = nothing (Asked (step.FinishBind target u) answer) refl h
-  keeps_to (Asked step.Cleanup answer) h = nothing (Asked step.Cleanup answer) refl h
-  keeps_to (Asked step.TakeNotes answer) h = nothing (Asked step.TakeNotes answer) refl h
-  keeps_to (Asked (step.Arrive target bytes tokens) answer) h = nothing (Asked (step.Arrive target bytes tokens) answer) refl h
-  keeps_to (Asked (step.ArriveFault target f) answer) h = nothing (Asked (step.ArriveFault target f) answer) refl h
-  keeps_to (Asked (step.Accept target n) answer) h = nothing (Asked (step.Accept target n) answer) refl h
-  keeps_to (Asked (step.AcceptFault target f) answer) h = nothing (Asked (step.AcceptFault target f) answer) refl h
-  keeps_to (Asked (step.TakeSent target) answer) h = nothing (Asked (step.TakeSent target) answer) refl h
-  keeps_to (Changed target t) h = nothing (Changed target t) refl h
+  keeps_to call h = nothing call refl h
 
 -- so each call does of each client
 pub each_bounded : {T U G C : Type 0} (w : World T G C) (before after : ServerState T U G C) (e : Entry T U G C) → OneStep w before e after → EachIsBounded e

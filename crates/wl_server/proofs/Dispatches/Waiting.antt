@@ -54,7 +54,7 @@ use Rattle.wl_server.specs.Finish.{FinishesBind, FinishesOpen, FinishesOpenBind,
 use Rattle.wl_server.specs.Globals.{Offer, global_of, is_enabled}
 use Rattle.wl_server.specs.Ids.{ClientParts, GlobalParts, IdParts, same_client}
 use Rattle.wl_server.specs.Inside.Dispatching.{Fewer, waiting_of, waits}
-use Rattle.wl_server.specs.Moves.{Accept, AcceptFault, Arrive, ArriveFault, Move, Moved, TakeSent, nothing_taken, taken}
+use Rattle.wl_server.specs.Moves.{Move, Moved}
 use Rattle.wl_server.specs.Objects.{Creates, CreatesAt, DataSet, Destroys, destroyable, destroys}
 use Rattle.wl_server.specs.Part.{Part, last_possible_serial, named}
 use Rattle.wl_server.specs.PartStep.{Asked, Call, Changed, CleanedAs, FeelsGlobal, FeelsLoss, FlushedFor, InsertedAs, MovedFor, NotesTaken, OfClient, OnPart, PartCall, ReadsFor, Unfelt, World, around}
@@ -161,12 +161,7 @@ module _ {T U C : Type 0} where
         → q.link.incoming ≡ link.incoming
     sent_keeps client p q m x ends (Ok u) link answer lacked did (rest, told, is, did_so) = tells_keep (ends_sender client (core_of p) m x ends) link lacked rest q told
     sent_keeps client p q m x ends (Err fault.OutOfMemory) link answer lacked did (is, lacks, none, same) = ap (λ (x : Part T U C). x.link.incoming) same
-    sent_keeps client p q m x ends (Err fault.WouldBlock) link answer lacked did (told, is) = tells_keep (ends_closed client (core_of p) m x ends) link lacked did q told
-    sent_keeps client p q m x ends (Err fault.Pipe) link answer lacked did (told, is) = tells_keep (ends_closed client (core_of p) m x ends) link lacked did q told
-    sent_keeps client p q m x ends (Err fault.TooBig) link answer lacked did (told, is) = tells_keep (ends_closed client (core_of p) m x ends) link lacked did q told
-    sent_keeps client p q m x ends (Err fault.Proto) link answer lacked did (told, is) = tells_keep (ends_closed client (core_of p) m x ends) link lacked did q told
-    sent_keeps client p q m x ends (Err fault.InvalidInput) link answer lacked did (told, is) = tells_keep (ends_closed client (core_of p) m x ends) link lacked did q told
-    sent_keeps client p q m x ends (Err (fault.Other n)) link answer lacked did (told, is) = tells_keep (ends_closed client (core_of p) m x ends) link lacked did q told
+    sent_keeps client p q m x ends _ link answer lacked did h = tells_keep (ends_closed client (core_of p) m x ends) link lacked did q h.0
 
     granted_keeps : (client : ClientParts) (p q : Part T U C) (m : SessionMessage) (x : Object (Kept U)) (ends : Bool) (answer : Result (Unit {0}) EventError) (lacked : Bool)
         (did : List (Deed U)) → SendsGranted sends client p m x ends answer lacked did q → Keeps p q
@@ -356,14 +351,9 @@ module _ {T U G C : Type 0} (w : World T G C) (id : ClientParts) (offer : Offer 
       of_client before after lacked did _ _ _ (λ p q by. finish_bind_keeps p q u r lacked did by) h
   adds_nothing (Asked step.Cleanup answer) other (r, is, h) = cleaned r h
   adds_nothing (Asked step.TakeNotes answer) other (r, is, h) = notes_taken r h
-  adds_nothing (Asked (step.Arrive target bytes tokens) answer) other (r, is, h) =
-      moved target (Arrive (record { bytes = bytes.items; tokens = tokens.items })) (nothing_taken r) h
-  adds_nothing (Asked (step.ArriveFault target f) answer) other (r, is, h) = moved target (ArriveFault f) (nothing_taken r) h
-  adds_nothing (Asked (step.Accept target n) answer) other (r, is, h) = moved target (Accept n) (nothing_taken r) h
-  adds_nothing (Asked (step.AcceptFault target f) answer) other (r, is, h) = moved target (AcceptFault f) (nothing_taken r) h
-  adds_nothing (Asked (step.TakeSent target) answer) other (r, is, h) = moved target TakeSent (taken r) h
   adds_nothing (Changed target t) other h =
       of_client before after lacked did _ _ _ (λ p q (unlacked, none, (t', becomes, same)). ap (λ (x : Part T U C). x.link.incoming) same) h
+  adds_nothing (Asked _ answer) other h = moved _ _ _ h.2
 
 module _ {T U G C : Type 0} (w : World T G C) (id : ClientParts) where
   one_adds_nothing : (before after : ServerState T U G C) (e : Entry T U G C) → reads_of id e.call ≡ false → OneStep w before e after

@@ -8,7 +8,7 @@ use Rattle.wl_wire.specs.Argument.{WireArgument}
 use Rattle.wl_link.specs.Exchange.{Queue}
 use Rattle.wl_link.specs.Identity.{Id}
 use Rattle.wl_link.specs.Link.{LinkState, Wrote}
-use Rattle.wl_link.specs.Puts.{Said, has_text}
+use Rattle.wl_link.specs.Puts.{Said}
 use Rattle.wl_server.specs.Inside.Puts.{Puts}
 use Rattle.wl_server.specs.Telling.{by_object}
 use Rattle.wl_server.proofs.GlobalCalls.Putting.{puts_failed, puts_more, puts_none, puts_one}
@@ -55,8 +55,8 @@ module _ {T A : Type 0} (sends : T → Queue → Result ℕ IoFault → T → Ty
   each_of_none link [] none = puts_none sends link
   each_of_none link (x ∷ xs) none = absurd (omega (arith, none))
 
-  pub each_starved : (link : LinkState T) (xs : List A) → length xs ≢ 0 → ((x : A) → has_text (say x).message ≡ true)
+  pub each_starved : (link : LinkState T) (xs : List A) → length xs ≢ 0 → ((x : A) (rest : List A) → xs ≡ x ∷ rest → (say x).makes_text ≡ true)
       → Puts sends link (map say xs) (Err fault.OutOfMemory) link
   each_starved link [] some texts = absurd (some refl)
   each_starved link (x ∷ xs) some texts =
-      ([], [], ([], Err fault.OutOfMemory, link, inr (refl, refl, refl, texts x), (refl, refl, refl, refl)))
+      ([], [], ([], Err fault.OutOfMemory, link, inr (refl, refl, refl, texts x xs refl), (refl, refl, refl, refl)))

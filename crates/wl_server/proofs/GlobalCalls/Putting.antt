@@ -14,7 +14,7 @@ module _ {T : Type 0} (sends : T → Queue → Result ℕ IoFault → T → Type
   puts_none link = ([], [], (refl, refl, refl, refl))
 
   -- one message, by whatever put it
-  pub puts_by : (before after : LinkState T) (m : Said) (es : List Sending) (answer : Result (Unit {0}) IoFault) → PutBy sends before m.message es answer after
+  pub puts_by : (before after : LinkState T) (m : Said) (es : List Sending) (answer : Result (Unit {0}) IoFault) → PutBy sends before m es answer after
       → Puts sends before (m ∷ []) answer after
   puts_by before after m es (Ok u) put = (es, m ∷ [], (es, Ok u, after, put, ([], [], sym (append-nil es), refl, (refl, refl, refl, refl))))
   puts_by before after m es (Err f) put = (es, [], (es, Err f, after, put, (refl, refl, refl, refl)))

@@ -35,12 +35,7 @@ module _ {U C : Type 0} where
       → came_to speaker (telling c puts events) told ≡ closing c told
   came_closing c puts events (Ok u) = refl
   came_closing c puts events (Err fault.WouldBlock) = refl
-  came_closing c puts events (Err fault.Pipe) = refl
-  came_closing c puts events (Err fault.TooBig) = refl
-  came_closing c puts events (Err fault.Proto) = refl
-  came_closing c puts events (Err fault.InvalidInput) = refl
-  came_closing c puts events (Err fault.OutOfMemory) = refl
-  came_closing c puts events (Err (fault.Other n)) = refl
+  came_closing c puts events _ = refl
 
 module _ {T U C : Type 0} where
   -- a client of that core and link, with these notes made

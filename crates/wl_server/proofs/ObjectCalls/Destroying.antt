@@ -128,14 +128,8 @@ module _ {T U C : Type 0} (sends : T → Queue → Result ℕ IoFault → T → 
       where
         at : (wrote : Result (Unit {0}) IoFault) → lacks_memory wrote ≡ true → Puts sends s.part.link (deletions id.number) wrote link
             → Puts sends s.part.link (deletions id.number) (Err fault.OutOfMemory) link
-        at (Ok u) lacked puts = absurd (false≢true lacked)
-        at (Err fault.WouldBlock) lacked puts = absurd (false≢true lacked)
-        at (Err fault.Pipe) lacked puts = absurd (false≢true lacked)
-        at (Err fault.TooBig) lacked puts = absurd (false≢true lacked)
-        at (Err fault.Proto) lacked puts = absurd (false≢true lacked)
-        at (Err fault.InvalidInput) lacked puts = absurd (false≢true lacked)
         at (Err fault.OutOfMemory) lacked puts = puts
-        at (Err (fault.Other n)) lacked puts = absurd (false≢true lacked)
+        at _ lacked puts = absurd (false≢true lacked)
 
     -- it is gone, and this is the link
     abbrev pub gone : LinkState T → Stored T U C
@@ -154,13 +148,8 @@ module _ {T U C : Type 0} (sends : T → Queue → Result ℕ IoFault → T → 
         → MatchResult wrote (λ _. after ≡ gone link) (λ _. Does (gone link) (λ p did q. Kills p ConnectionClosed did q) after)
         → after ≡ arrived s (came_to speaker verdict wrote) link
     gone_to link (Ok u) after lacked told = told ∙ ap (with_notes (gone link)) (sym (append-nil s.made))
-    gone_to link (Err fault.WouldBlock) after lacked told = kills_is (gone link) after ConnectionClosed told
-    gone_to link (Err fault.Pipe) after lacked told = kills_is (gone link) after ConnectionClosed told
-    gone_to link (Err fault.TooBig) after lacked told = kills_is (gone link) after ConnectionClosed told
-    gone_to link (Err fault.Proto) after lacked told = kills_is (gone link) after ConnectionClosed told
-    gone_to link (Err fault.InvalidInput) after lacked told = kills_is (gone link) after ConnectionClosed told
     gone_to link (Err fault.OutOfMemory) after lacked told = absurd (false≢true (sym lacked))
-    gone_to link (Err (fault.Other n)) after lacked told = kills_is (gone link) after ConnectionClosed told
+    gone_to link _ after lacked told = kills_is (gone link) after ConnectionClosed told
 
     -- it is gone, and the client was told, or closed down where it could not be
     told_destroyed : (link : LinkState T) (n : ℕ) (wrote : Result (Unit {0}) IoFault) (after a : Stored T U C) → n ≡ id.number → a ≡ gone link

@@ -72,12 +72,7 @@ module _ {T U C : Type 0} where
       ≡ arrived s (came_to speaker (posts table (core_of s.part) id code text) wrote) link
   spoken_is table s link id code text (Ok u) = refl
   spoken_is table s link id code text (Err fault.WouldBlock) = refl
-  spoken_is table s link id code text (Err fault.Pipe) = refl
-  spoken_is table s link id code text (Err fault.TooBig) = refl
-  spoken_is table s link id code text (Err fault.Proto) = refl
-  spoken_is table s link id code text (Err fault.InvalidInput) = refl
-  spoken_is table s link id code text (Err fault.OutOfMemory) = refl
-  spoken_is table s link id code text (Err (fault.Other n)) = refl
+  spoken_is table s link id code text _ = refl
 
   -- a client that was killed
   still : (s : Stored T U C) (link : LinkState T) (table : List InterfaceRow) (id : IdParts) (code : ℕ) (text : List ℕ) → s.part.is_killed ≡ true

@@ -40,13 +40,7 @@ use Rattle.wl_server.proofs.GlobalCalls.Putting.{puts_none}
 
 argument_numbered : (a : Argument IdParts Token) → with_ids (λ id. id.number) (λ id. id.number) a ≡ wire_argument a
 argument_numbered (arg.Int z) = refl
-argument_numbered (arg.Uint u) = refl
-argument_numbered (arg.Fixed z) = refl
-argument_numbered (arg.Str text) = refl
-argument_numbered (arg.Object id) = refl
-argument_numbered (arg.NewId id) = refl
-argument_numbered (arg.Array bytes) = refl
-argument_numbered (arg.Fd token) = refl
+argument_numbered _ = refl
 
 arguments_numbered : (args : List (Argument IdParts Token)) → map (with_ids (λ id. id.number) (λ id. id.number)) args ≡ map wire_argument args
 arguments_numbered [] = refl
@@ -114,13 +108,8 @@ module _ {T U C : Type 0} (client : ClientParts) (m : SessionMessage) (sender : 
     sent_failed : (before after : Part T U C) (ends : Bool) (f : IoFault) (mid : LinkState T) (did : List (Deed U)) → lacks_memory (Err f) ≡ false
         → Tells sends (ends_closed client (core_of before) m sender ends) mid false did after
         → SentAs sends client before m sender ends (Err f) mid (Ok tt) false did after
-    sent_failed before after ends fault.WouldBlock mid did other tells = (tells, refl)
-    sent_failed before after ends fault.Pipe mid did other tells = (tells, refl)
-    sent_failed before after ends fault.TooBig mid did other tells = (tells, refl)
-    sent_failed before after ends fault.Proto mid did other tells = (tells, refl)
-    sent_failed before after ends fault.InvalidInput mid did other tells = (tells, refl)
     sent_failed before after ends fault.OutOfMemory mid did other tells = absurd (false≢true (sym other))
-    sent_failed before after ends (fault.Other n) mid did other tells = (tells, refl)
+    sent_failed before after ends _ mid did other tells = (tells, refl)
 
     -- the event was written, or its write failed and not for want of memory
     pub sent : (s s1 s2 : Stored T U C) (ends : Bool) (n : ℕ) (mid : LinkState T) (written : Result (Unit {0}) IoFault) (lacked : Bool)
@@ -200,14 +189,8 @@ module _ {T U C : Type 0} (client : ClientParts) (m : SessionMessage) (sender : 
       where
         refused_as : (written : Result (Unit {0}) IoFault) → lacks_memory written ≡ true
             → SentAs sends client s.part m sender ends written mid (Err refused.OutOfMemory) true [] (with_link s.part mid)
-        refused_as (Ok u) lacked = absurd (false≢true lacked)
-        refused_as (Err fault.WouldBlock) lacked = absurd (false≢true lacked)
-        refused_as (Err fault.Pipe) lacked = absurd (false≢true lacked)
-        refused_as (Err fault.TooBig) lacked = absurd (false≢true lacked)
-        refused_as (Err fault.Proto) lacked = absurd (false≢true lacked)
-        refused_as (Err fault.InvalidInput) lacked = absurd (false≢true lacked)
         refused_as (Err fault.OutOfMemory) lacked = (refl, refl, refl, refl)
-        refused_as (Err (fault.Other n)) lacked = absurd (false≢true lacked)
+        refused_as _ lacked = absurd (false≢true lacked)
 
 -- ---- an event, refused or not
 

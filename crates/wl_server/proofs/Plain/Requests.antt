@@ -159,25 +159,18 @@ module _ {T U C : Type 0} where
 
       at : (created : Option IdParts) (u : Option U) (killed : Bool) → p.action ≡ Some (opened.Request sender is_destructor created) → p.is_killed ≡ killed
           → refusal killed created u ≡ Some e → Why p u e
-      at None None true is_open killed is = absurd cc
-      at None None false is_open killed is = absurd cc
       at None (Some u) true is_open killed is =
           subst (λ (e : FinishError). Why p (Some u) e) (inside finish.UnexpectedData e is) (sender, is_destructor, is_open, refl)
       at None (Some u) false is_open killed is =
           subst (λ (e : FinishError). Why p (Some u) e) (inside finish.UnexpectedData e is) (sender, is_destructor, is_open, refl)
-      at (Some made) None true is_open killed is = absurd cc
       at (Some made) None false is_open killed is =
           subst (λ (e : FinishError). Why p None e) (inside finish.MissingObjectData e is) (sender, is_destructor, made, is_open, refl, killed)
-      at (Some made) (Some u) true is_open killed is = absurd cc
-      at (Some made) (Some u) false is_open killed is = absurd cc
+      at _ _ _ is_open killed is = absurd cc
 
   why_calm : (p : Part T U C) (u : Option U) (e : FinishError) → Why p u e → is_out_of_memory e ≡ false
   why_calm p u finish.InvalidId why = absurd why
-  why_calm p u finish.NoOpenAction why = refl
-  why_calm p u finish.WrongKind why = refl
-  why_calm p u finish.MissingObjectData why = refl
-  why_calm p u finish.UnexpectedData why = refl
   why_calm p u finish.OutOfMemory why = absurd why
+  why_calm p u _ why = refl
 
 module _ {T U C : Type 0} (sends : T → Queue → Result ℕ IoFault → T → Type 0) (client : ClientParts) (u : Option U) where
   abbrev Does : Answer U → Bool → List (Deed U) → Part T U C → Part T U C → Type 0

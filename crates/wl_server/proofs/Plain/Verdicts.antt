@@ -74,13 +74,7 @@ told_starved {T} {U} {C} sends v none link lacked did q starved (es, gave, end, 
 
     came : (wrote : Result (Unit {0}) IoFault) (b : Bool) → b ≡ false → (lacks_memory wrote || b) ≡ true → came_to speaker v wrote ≡ v.starved
     came (Err fault.OutOfMemory) b calm lacks = refl
-    came (Ok u) b calm lacks = absurd (true≢false (sym lacks ∙ calm))
-    came (Err fault.WouldBlock) b calm lacks = absurd (true≢false (sym lacks ∙ calm))
-    came (Err fault.Pipe) b calm lacks = absurd (true≢false (sym lacks ∙ calm))
-    came (Err fault.TooBig) b calm lacks = absurd (true≢false (sym lacks ∙ calm))
-    came (Err fault.Proto) b calm lacks = absurd (true≢false (sym lacks ∙ calm))
-    came (Err fault.InvalidInput) b calm lacks = absurd (true≢false (sym lacks ∙ calm))
-    came (Err (fault.Other n)) b calm lacks = absurd (true≢false (sym lacks ∙ calm))
+    came _ b calm lacks = absurd (true≢false (sym lacks ∙ calm))
 
     of_core : (es : List Sending) (put : List Said) → end.core ≡ v.starved → did ≡ deeds es put v.starved → IsStarved v did q
     of_core es put is all = record {

@@ -145,14 +145,8 @@ module _ {U : Type 0} where
 -- ---- a write's answer
 
 wanted_memory : (wrote : Result (Unit {0}) IoFault) → lacks_memory wrote ≡ true → wrote ≡ Err fault.OutOfMemory
-wanted_memory (Ok u) is = absurd (false≢true is)
-wanted_memory (Err fault.WouldBlock) is = absurd (false≢true is)
-wanted_memory (Err fault.Pipe) is = absurd (false≢true is)
-wanted_memory (Err fault.TooBig) is = absurd (false≢true is)
-wanted_memory (Err fault.Proto) is = absurd (false≢true is)
-wanted_memory (Err fault.InvalidInput) is = absurd (false≢true is)
 wanted_memory (Err fault.OutOfMemory) is = refl
-wanted_memory (Err (fault.Other n)) is = absurd (false≢true is)
+wanted_memory _ is = absurd (false≢true is)
 
 module _ {U C : Type 0} where
   -- the core where all was put, and where a write failed
@@ -163,14 +157,8 @@ module _ {U C : Type 0} where
   module _ (client : ClientParts) (c : Core U C) (id : IdParts) (x : Object (Kept U)) (created : Option IdParts) (u : Option U) where
     came_closing : (wrote : Result (Unit {0}) IoFault) → lacks_memory wrote ≡ false
         → closing (core_finished (without c id.number x) created u) wrote ≡ came_to speaker (ends client c id (Some x) created u) wrote
-    came_closing (Ok v) is = refl
-    came_closing (Err fault.WouldBlock) is = refl
-    came_closing (Err fault.Pipe) is = refl
-    came_closing (Err fault.TooBig) is = refl
-    came_closing (Err fault.Proto) is = refl
-    came_closing (Err fault.InvalidInput) is = refl
     came_closing (Err fault.OutOfMemory) is = absurd (false≢true (sym is))
-    came_closing (Err (fault.Other n)) is = refl
+    came_closing _ is = refl
 
     closing_store : (wrote : Result (Unit {0}) IoFault)
         → (closing (core_finished (without c id.number x) created u) wrote).store ≡ store_with_data (removed c.store id.number) created u

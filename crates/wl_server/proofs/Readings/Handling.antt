@@ -113,12 +113,7 @@ module _ {T U C : Type 0} (sends : T → Queue → Result ℕ IoFault → T → 
       → (came_to speaker (posts a.table (core_of s.part) (display_of a.client) code text) wrote).is_killed ≡ true
   came_killed a s code text (Ok u) = refl
   came_killed a s code text (Err fault.WouldBlock) = refl
-  came_killed a s code text (Err fault.Pipe) = refl
-  came_killed a s code text (Err fault.TooBig) = refl
-  came_killed a s code text (Err fault.Proto) = refl
-  came_killed a s code text (Err fault.InvalidInput) = refl
-  came_killed a s code text (Err fault.OutOfMemory) = refl
-  came_killed a s code text (Err (fault.Other n)) = refl
+  came_killed a s code text _ = refl
 
   pub broke : {G : Type 0} (a : Around G C) (s after : Stored T U C) (code : ℕ) (text : List ℕ) (refused : Bool)
       → IsCarried sends (posts a.table (core_of s.part) (display_of a.client) code text) s refused after
@@ -163,12 +158,7 @@ module _ {T U C : Type 0} (sends : T → Queue → Result ℕ IoFault → T → 
 
   came_closed : (c : Core U C) (puts : List Said) (did : List (Deed U)) (f : IoFault) → came_to speaker (replies c puts did) (Err f) ≡ closed_down c
   came_closed c puts did fault.WouldBlock = refl
-  came_closed c puts did fault.Pipe = refl
-  came_closed c puts did fault.TooBig = refl
-  came_closed c puts did fault.Proto = refl
-  came_closed c puts did fault.InvalidInput = refl
-  came_closed c puts did fault.OutOfMemory = refl
-  came_closed c puts did (fault.Other n) = refl
+  came_closed c puts did _ = refl
 
   live_stops : (c : Core U C) → c.is_killed ≡ false → stops_if c ≡ []
   live_stops c live = ap (λ (b : Bool). if b then (Stops fault.Pipe ∷ []) else []) live

@@ -1,5 +1,5 @@
 -- What it comes to that a live client was told messages.
-use Rattle.std.proofs.Common.{◌≡◌, ◌∙◌, ℕ, Bool, true, false, ◌||◌, List, [], ◌++◌, Result, Ok, Err, refl, sym, ap, append-nil, subst, map}
+use Rattle.std.proofs.Common.{◌≡◌, ◌∙◌, ℕ, Bool, true, false, ◌||◌, List, [], ◌++◌, Result, Ok, Err, refl, sym, ap, append-nil, subst}
 use Rattle.std.specs.Prelude.{MatchResult}
 use Rattle.wl_wire.specs.declared.error.IoFault.{IoFault}
 use Rattle.wl_wire.specs.declared.error.IoFault.TheVariants as fault
@@ -13,12 +13,12 @@ use Rattle.wl_server.specs.declared.notes.DisconnectReason.TheVariants.{Connecti
 use Rattle.wl_server.specs.declared.notes.Happening.{Happening}
 use Rattle.wl_server.specs.Inside.Client.{Does}
 use Rattle.wl_server.specs.Deeds.{Deed, notes_in}
-use Rattle.wl_server.specs.Felt.{Hears, news}
+use Rattle.wl_server.specs.Felt.{Hears, announcements, news}
 use Rattle.wl_server.specs.Globals.{Shown}
 use Rattle.wl_server.specs.Part.{Part, with_link}
 use Rattle.wl_server.specs.Inside.Puts.{Puts}
 use Rattle.wl_server.specs.Server.{Stored}
-use Rattle.wl_server.specs.Telling.{Core, Kills, Tells, closed_down, core_of, end_deeds, global_message, part_of, speaker, tells}
+use Rattle.wl_server.specs.Telling.{Core, Kills, Tells, closed_down, core_of, end_deeds, part_of, speaker, tells}
 use Rattle.wl_server.proofs.Readings.Flushing.{does_nothing}
 use Rattle.wl_server.proofs.Readings.Notes.{tells_put}
 use Rattle.wl_server.proofs.GlobalCalls.Putting.{puts_none}
@@ -85,7 +85,7 @@ module _ {T U C : Type 0} (sends : T → Queue → Result ℕ IoFault → T → 
       subst (λ (b : Bool). HearsNew table b g s false s) (sym unseen) (live_hears s s [] (Ok tt) s.part.link false live (puts_none sends s.part.link) refl refl)
 
   pub seen_hears : (table : List InterfaceRow) (visible : Bool) (g : Shown) (s after : Stored T U C) (wrote : Result (Unit {0}) IoFault) (link : LinkState T) (lacked : Bool)
-      → s.part.is_killed ≡ false → visible ≡ true → Puts sends s.part.link (map (λ r. global_message table r g) s.part.registries) wrote link → lacked ≡ lacks_memory wrote
+      → s.part.is_killed ≡ false → visible ≡ true → Puts sends s.part.link (announcements table s.part.registries g) wrote link → lacked ≡ lacks_memory wrote
       → MatchResult wrote (λ _. after ≡ over_link s link) (λ _. Does (over_link s link) (λ p did q. Kills p ConnectionClosed did q) after)
       → HearsNew table visible g s lacked after
   seen_hears table visible g s after wrote link lacked live seen puts is told =

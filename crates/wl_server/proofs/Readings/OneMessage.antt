@@ -524,9 +524,5 @@ fault_fills receives s after link f blocks memory filled finds kills =
     closes : (f : IoFault) → f ≢ fault.WouldBlock → f ≢ fault.OutOfMemory
         → stored_as s (record { core = faulted (core_of s.part) fault.Pipe; link = link }) ≡ stored_as s (record { core = faulted (core_of s.part) f; link = link })
     closes fault.WouldBlock blocks memory = absurd (blocks refl)
-    closes fault.Pipe blocks memory = refl
-    closes fault.TooBig blocks memory = refl
-    closes fault.Proto blocks memory = refl
-    closes fault.InvalidInput blocks memory = refl
     closes fault.OutOfMemory blocks memory = absurd (memory refl)
-    closes (fault.Other n) blocks memory = refl
+    closes _ blocks memory = refl

@@ -15,16 +15,8 @@ abbrev pub asks_new : List WireArgument → Bool
 asks_new args = list_any (λ x. is_new_id (type_of x)) args
 
 pub one_new : (args : List WireArgument) (n : ℕ) → only_new_id args ≡ Some n → asks_new args ≡ true
-one_new [] n is = cc
 one_new (arg.NewId m ∷ []) n is = refl
-one_new (arg.NewId m ∷ b ∷ args) n is = cc
-one_new (arg.Int z ∷ args) n is = cc
-one_new (arg.Uint z ∷ args) n is = cc
-one_new (arg.Fixed z ∷ args) n is = cc
-one_new (arg.Str z ∷ args) n is = cc
-one_new (arg.Object z ∷ args) n is = cc
-one_new (arg.Array z ∷ args) n is = cc
-one_new (arg.Fd z ∷ args) n is = cc
+one_new _ n is = cc
 
 module _ {U G C : Type 0} (a : Around G C) (c : Core U C) where
   abbrev pub by_new_id : ℕ → Option ℕ → Verdict (Core U C) (Told U)
@@ -32,16 +24,8 @@ module _ {U G C : Type 0} (a : Around G C) (c : Core U C) where
   by_new_id opcode (Some n) = made_at a c n (if opcode == 0 then syncs a c n else registers a c n)
 
   pub display_is : (opcode : ℕ) (args : List WireArgument) → display_request a c opcode args ≡ by_new_id opcode (only_new_id args)
-  display_is opcode [] = refl
   display_is opcode (arg.NewId m ∷ []) = refl
-  display_is opcode (arg.NewId m ∷ b ∷ args) = refl
-  display_is opcode (arg.Int z ∷ args) = refl
-  display_is opcode (arg.Uint z ∷ args) = refl
-  display_is opcode (arg.Fixed z ∷ args) = refl
-  display_is opcode (arg.Str z ∷ args) = refl
-  display_is opcode (arg.Object z ∷ args) = refl
-  display_is opcode (arg.Array z ∷ args) = refl
-  display_is opcode (arg.Fd z ∷ args) = refl
+  display_is opcode _ = refl
 
   pub display_sync : (opcode : ℕ) (args : List WireArgument) (n : ℕ) (v : Verdict (Core U C) (Told U)) → only_new_id args ≡ Some n → opcode ≡ 0
       → made_at a c n (syncs a c n) ≡ v → display_request a c opcode args ≡ v
@@ -59,40 +43,8 @@ module _ {U G C : Type 0} (a : Around G C) (c : Core U C) where
   by_parts (Some (g, (name, (version, n)))) = binds_to a c g name version n (held a.globals.store g)
 
   pub registry_is : (args : List WireArgument) → registry_request a c args ≡ by_parts (bind_parts args)
-  registry_is [] = refl
-  registry_is (arg.Int a ∷ args) = refl
-  registry_is (arg.Fixed a ∷ args) = refl
-  registry_is (arg.Str a ∷ args) = refl
-  registry_is (arg.Object a ∷ args) = refl
-  registry_is (arg.NewId a ∷ args) = refl
-  registry_is (arg.Array a ∷ args) = refl
-  registry_is (arg.Fd a ∷ args) = refl
-  registry_is (arg.Uint a ∷ []) = refl
-  registry_is (arg.Uint a ∷ arg.Int b ∷ args) = refl
-  registry_is (arg.Uint a ∷ arg.Uint b ∷ args) = refl
-  registry_is (arg.Uint a ∷ arg.Fixed b ∷ args) = refl
-  registry_is (arg.Uint a ∷ arg.Object b ∷ args) = refl
-  registry_is (arg.Uint a ∷ arg.NewId b ∷ args) = refl
-  registry_is (arg.Uint a ∷ arg.Array b ∷ args) = refl
-  registry_is (arg.Uint a ∷ arg.Fd b ∷ args) = refl
-  registry_is (arg.Uint a ∷ arg.Str b ∷ []) = refl
-  registry_is (arg.Uint a ∷ arg.Str b ∷ arg.Int c ∷ args) = refl
-  registry_is (arg.Uint a ∷ arg.Str b ∷ arg.Fixed c ∷ args) = refl
-  registry_is (arg.Uint a ∷ arg.Str b ∷ arg.Str c ∷ args) = refl
-  registry_is (arg.Uint a ∷ arg.Str b ∷ arg.Object c ∷ args) = refl
-  registry_is (arg.Uint a ∷ arg.Str b ∷ arg.NewId c ∷ args) = refl
-  registry_is (arg.Uint a ∷ arg.Str b ∷ arg.Array c ∷ args) = refl
-  registry_is (arg.Uint a ∷ arg.Str b ∷ arg.Fd c ∷ args) = refl
-  registry_is (arg.Uint a ∷ arg.Str b ∷ arg.Uint c ∷ []) = refl
-  registry_is (arg.Uint a ∷ arg.Str b ∷ arg.Uint c ∷ arg.Int d ∷ args) = refl
-  registry_is (arg.Uint a ∷ arg.Str b ∷ arg.Uint c ∷ arg.Uint d ∷ args) = refl
-  registry_is (arg.Uint a ∷ arg.Str b ∷ arg.Uint c ∷ arg.Fixed d ∷ args) = refl
-  registry_is (arg.Uint a ∷ arg.Str b ∷ arg.Uint c ∷ arg.Str d ∷ args) = refl
-  registry_is (arg.Uint a ∷ arg.Str b ∷ arg.Uint c ∷ arg.Object d ∷ args) = refl
-  registry_is (arg.Uint a ∷ arg.Str b ∷ arg.Uint c ∷ arg.Array d ∷ args) = refl
-  registry_is (arg.Uint a ∷ arg.Str b ∷ arg.Uint c ∷ arg.Fd d ∷ args) = refl
   registry_is (arg.Uint a ∷ arg.Str b ∷ arg.Uint c ∷ arg.NewId d ∷ []) = refl
-  registry_is (arg.Uint a ∷ arg.Str b ∷ arg.Uint c ∷ arg.NewId d ∷ y ∷ args) = refl
+  registry_is _ = refl
 
   pub registry_bound : (args : List WireArgument) (parts : Option (ℕ × (Option (List ℕ) × (ℕ × ℕ)))) (v : Verdict (Core U C) (Told U))
       → parts ≡ bind_parts args → by_parts parts ≡ v → registry_request a c args ≡ v

@@ -35,7 +35,7 @@ use Rattle.wl_server.specs.Objects.{Destroys}
 use Rattle.wl_server.specs.Part.{Part, display_object, display_of, fresh_object, registries_without}
 use Rattle.wl_server.specs.Reading.{Around, NextAction, new_reading, read_on}
 use Rattle.wl_server.specs.Requests.{Wrong, convert, object_argument, object_found, start}
-use Rattle.wl_server.specs.Telling.{Kills, global_message, removal_message}
+use Rattle.wl_server.specs.Telling.{Kills, global_message, making, removal_message}
 use Rattle.wl_server.proofs.Worked.Messages.{at, client, id_in, link_row, make_row, one, other, quad_id, says, table}
 use Rattle.wl_link.specs.Identity.{Objects}
 
@@ -177,7 +177,7 @@ module _ (sends : ℕ → Queue → Result ℕ IoFault → ℕ → Type 0) (p : 
   abbrev told : Part ℕ ℕ Bool
   told = record p { registries = at 2 1 ∷ at 4 3 ∷ [] }
 
-  two_registries : (news table told true one ≡ global_message table (at 2 1) one ∷ global_message table (at 4 3) one ∷ []) × (news table told false one ≡ [])
+  two_registries : (news table told true one ≡ global_message table (at 2 1) one ∷ making false (global_message table (at 4 3) one) ∷ []) × (news table told false one ≡ [])
       × (removals told 1 ≡ removal_message 1 (at 2 1) ∷ removal_message 1 (at 4 3) ∷ [])
   two_registries = (refl, refl, refl)
 

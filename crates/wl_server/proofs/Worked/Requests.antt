@@ -1,6 +1,6 @@
 -- Worked requests of a client, computed from the definitions: they say what was meant.
 use Rattle.std.proofs.Common.{◌≡◌, ℕ, ◌+◌, Bool, List, [], ◌∷◌, ◌++◌, Option, Some, None, true, false, refl}
-use Rattle.std.specs.Prelude.{codes, map}
+use Rattle.std.specs.Prelude.{codes}
 use Rattle.wl_wire.specs.declared.argument.Argument.TheVariants as arg
 use Rattle.wl_wire.specs.declared.error.IoFault.TheVariants as fault
 use Rattle.wl_wire.specs.Argument.{WireArgument}
@@ -19,7 +19,7 @@ use Rattle.wl_server.specs.Globals.{Globals, shown}
 use Rattle.wl_server.specs.Part.{display_of, fresh_object}
 use Rattle.wl_server.specs.Reading.{Around, binds_to, breaks, display_request, garbled, hands_out, may_bind, other_request, registry_request, replies, request, request_to}
 use Rattle.wl_server.specs.Requests.{is_valid_new}
-use Rattle.wl_server.specs.Telling.{Core, Stops, closed_down, delete_message, done_message, global_message, killed, objects_in}
+use Rattle.wl_server.specs.Telling.{Core, Stops, closed_down, delete_message, done_message, introductions, killed, objects_in}
 use Rattle.wl_server.proofs.Worked.Messages.{at, client, destroy_row, id_in, link_row, make_row, quad_global, quad_id, says, table}
 
 abbrev quad : Object (Kept ℕ)
@@ -54,7 +54,7 @@ module _ (globals : Globals ℕ) (c : Core ℕ Bool) where
         store = stored c.store 2 (fresh_object registry_id 1 (c.last_serial + 1) None);
         last_serial = c.last_serial + 1;
         registries = c.registries ++ at 2 (c.last_serial + 1) ∷ [];
-      }) (map (global_message table (at 2 (c.last_serial + 1))) (shown says globals client c.client_data)) (Remembered (at 2 (c.last_serial + 1)) ∷ [])
+      }) (introductions table (at 2 (c.last_serial + 1)) 0 (shown says globals client c.client_data)) (Remembered (at 2 (c.last_serial + 1)) ∷ [])
   a_registry valid = rw valid refl
 
   -- a new id of the server's range is not free to the client

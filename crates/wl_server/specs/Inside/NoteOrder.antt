@@ -4,6 +4,7 @@ use Rattle.std.specs.List.{AllAdjacentBelow, sum_by}
 use Rattle.wl_server.specs.declared.notes.Happening.{Happening}
 use Rattle.wl_server.specs.declared.notes.Note.{Note}
 use Rattle.wl_server.specs.declared.notes.Note.TheVariants.{Initialized, Disconnected, Destroyed}
+use Rattle.wl_server.specs.declared.notes.queues.NoteNumbers.{NoteNumbers}
 use Rattle.wl_server.specs.declared.notes.queues.NotePlace.{NotePlace}
 use Rattle.wl_server.specs.Inside.Gathering.{to_gather}
 use Rattle.wl_server.specs.Server.{Stored, stored_at}
@@ -11,6 +12,14 @@ use Rattle.wl_server.specs.Server.{Stored, stored_at}
 -- the number after this one; after the greatest, that one again
 abbrev pub number_after : ℕ → ℕ
 number_after n = min (n + 1) (2 ^ 128 - 1)
+
+-- the numbers after a note was made under the next of them
+abbrev pub one_made : NoteNumbers → NoteNumbers
+one_made numbers = record numbers { made = number_after numbers.made }
+
+-- the numbers after a note that waits got the next of them
+abbrev pub one_waits : NoteNumbers → NoteNumbers
+one_waits numbers = record numbers { waiting = number_after numbers.waiting }
 
 -- the place of a note with its number, at a slot; the note waits for a cleanup or not
 abbrev pub place_of : {U : Type 0} → Bool → ℕ → ℕ × Happening U → NotePlace

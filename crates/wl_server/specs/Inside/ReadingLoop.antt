@@ -16,11 +16,13 @@ use Rattle.wl_link.specs.Puts.{lacks_memory}
 use Rattle.wl_link.specs.Reader.{CarriesOut, Given, Gives, Lacks, Reads, Turn, Verdict, given_first, handled_in}
 use Rattle.wl_link.specs.Reader.{ReaderState}
 use Rattle.wl_link.specs.Store.{Store, held}
+use Rattle.wl_link.specs.declared.object.Object.{Object}
 use Rattle.wl_server.specs.declared.reading.action.Reading.{Reading}
 use Rattle.wl_server.specs.declared.error.ActionError.{ActionError}
 use Rattle.wl_server.specs.declared.error.ActionError.TheVariants.{Io}
 use Rattle.wl_server.specs.declared.objects.Kept.{Kept}
 use Rattle.wl_server.specs.declared.reading.Surroundings.{Surroundings}
+use Rattle.wl_server.specs.declared.reading.request.Sender.{Sender}
 use Rattle.wl_server.specs.declared.reading.action.Found.{Found}
 use Rattle.wl_server.specs.declared.reading.action.Found.TheVariants as found
 use Rattle.wl_server.specs.declared.reading.action.NoAction.{NoAction}
@@ -50,6 +52,10 @@ IsHeader link header =
 -- ---- a message is taken
 
 module _ {U : Type 0} where
+  -- these are the serial, the interface and the version of the object
+  abbrev pub IsSenderOf : Sender → Object (Kept U) → Type 0
+  IsSenderOf sender x = (x.value.serial ≡ sender.serial) × (x.interface ≡ sender.interface) × (x.version ≡ sender.version)
+
   -- what the read of the message at the front answers under the signatures of a client's objects
   abbrev pub ReadsIn : {T : Type 0} → List InterfaceRow → Store (Kept U) → LinkState T → Result WireMessage MessageParseError → LinkState T → Type 0
   ReadsIn table store before answer after =
@@ -67,8 +73,8 @@ module _ {U : Type 0} where
 
   -- the message at the front was taken, with what the table says of it; or it was not, and the link is as before
   abbrev pub TookWith : {T : Type 0} → List InterfaceRow → Store (Kept U) → LinkState T
-      → Result (Bor MessageDesc) MessageParseError → WireMessage → LinkState T → Type 0
-  TookWith table store before (Ok desc) m after =
+      → Result (Bor MessageDesc × Sender) MessageParseError → WireMessage → LinkState T → Type 0
+  TookWith table store before (Ok (desc, sender)) m after =
       ReadsIn table store before (Ok m) after
       × (row_in table (held store m.sender) m.opcode ≡ Some (message_row desc.now))
   TookWith table store before (Err e) m after = (after ≡ before) × NotTaken table store before e

@@ -31,7 +31,7 @@ use Rattle.wl_server.specs.Globals.{is_visible, shown}
 use Rattle.wl_server.specs.Ids.{IdParts}
 use Rattle.wl_server.specs.Part.{id_of}
 use Rattle.wl_server.specs.Reading.{Around, breaks, garbled, hands_out, replies, request_to, row_in}
-use Rattle.wl_server.specs.Telling.{Core, Told, deletions, done_message, global_message}
+use Rattle.wl_server.specs.Telling.{Core, Told, deletions, done_message, introductions}
 use Rattle.wl_server.specs.Inside.ReadingLoop.{NotTaken, ReadsIn, found_with}
 
 -- the number of the new id, if that is the only argument
@@ -86,7 +86,7 @@ module _ {U G C : Type 0} (a : Around G C) where
   response_to c (response.Breaks b) f args = breaks a c (code_of b) (text_of a.table b)
   response_to c (response.Syncs id) f args = replies c (done_message (id_of id) ∷ deletions id.number) []
   response_to c (response.Registers id) f args =
-      replies c (map (global_message a.table (id_of id)) (shown a.views a.globals a.client c.client_data)) (Remembered (id_of id) ∷ [])
+      replies c (introductions a.table (id_of id) 0 (shown a.views a.globals a.client c.client_data)) (Remembered (id_of id) ∷ [])
   response_to c response.HandsOut f args = hands_out c (opened_of f) (found_with f args)
 
 module _ {U C : Type 0} where

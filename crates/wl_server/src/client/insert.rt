@@ -3,16 +3,18 @@
 //! The *slot* of a client is its index in the server's list of clients. A *note* tells the program what happened to a
 //! client or an object (`Note`).
 
-ghost use Rattle.std.specs.Prelude.{◌≡◌, ℕ, ◌<◌, ◌≤◌, None, Some, IfOk, OnErr, OnOk, IsSome, ◌∷◌, [], map, MatchOption, length, vec_capacity, vec_len};
+ghost use Rattle.std.specs.Prelude.{◌≡◌, ℕ, ◌<◌, ◌≤◌, None, Some, IfOk, OnErr, OnOk, IsSome, ◌∷◌, [], map, MatchOption, MatchResult, length, vec_capacity, vec_len};
 ghost use Rattle.std.specs.VecDeque.{deque_capacity, deque_len};
 ghost use Rattle.wl_link.specs.Link.{IsFresh};
 ghost use Rattle.wl_link.specs.Store.{empty_store, stored};
 ghost use Rattle.wl_server.specs.Backend.{Calls};
 ghost use Rattle.wl_server.specs.Inside.Client.{IsInserted};
+ghost use Rattle.wl_server.specs.Inside.NoteOrder.{one_made};
 ghost use Rattle.wl_server.specs.Inside.Inserting.{AreTaken, IsPut};
 ghost use Rattle.wl_server.specs.Next.{NextClient, NextClientIsGiven};
 ghost use Rattle.wl_server.specs.Part.{display_object};
 ghost use Rattle.wl_server.specs.PartStep.{over};
+ghost use Rattle.wl_server.specs.PlainCalls.{InsertsClient};
 ghost use Rattle.wl_server.specs.Server.{Stored, stored_at};
 ghost use Rattle.wl_server.specs.Steps.{IsLeastFree};
 ghost use Rattle.wl_server.specs.declared.notes.Happening.TheVariants.{Initialized};
@@ -41,6 +43,7 @@ fn first_lists<U: Drop>(
     ensures objects { IfOk result (λ lists. lists.0.store ≡ stored empty_store 1 display_object) }
     ensures notes { IfOk result (λ lists. map (λ m. m.1) lists.1.queue.items ≡ Initialized ∷ []) }
     ensures room { IfOk result (λ lists. deque_len lists.1.queue < deque_capacity lists.1.queue) }
+    ensures numbers { MatchResult result (λ lists. numbers.new ≡ one_made numbers.old) (λ e. numbers.new ≡ numbers.old) }
 {
     let mut objects = ObjectMap::new(alloc);
     let display = fresh_object(WL_DISPLAY_INTERFACE, 1, 0, None);
@@ -63,6 +66,7 @@ fn first_parts<T: Drop, U: Drop>(
     ensures objects { IfOk result (λ parts. parts.1.store ≡ stored empty_store 1 display_object) }
     ensures notes { IfOk result (λ parts. map (λ m. m.1) parts.2.queue.items ≡ Initialized ∷ []) }
     ensures room { IfOk result (λ parts. deque_len parts.2.queue < deque_capacity parts.2.queue) }
+    ensures numbers { MatchResult result (λ parts. numbers.new ≡ one_made numbers.old) (λ e. numbers.new ≡ numbers.old) }
 {
     let socket = BufferedSocket::new(alloc, transport, Some(max_buffer_size))?;
     // This is last because it uses up the number of a note, and an error must not use up one.
@@ -80,7 +84,8 @@ impl<T: Drop, U: Drop, C: Drop> Client<T, U, C> {
         client_data: C,
         numbers: &mut NoteNumbers,
     ) -> Result<Self, OutOfMemory>
-        ensures { IfOk result (IsInserted serial transport (Some max_buffer_size) client_data) }
+        ensures inserted { IfOk result (IsInserted serial transport (Some max_buffer_size) client_data) }
+        ensures numbers { MatchResult result (λ client. numbers.new ≡ one_made numbers.old) (λ e. numbers.new ≡ numbers.old) }
     {
         let (socket, map, made) = first_parts(alloc, transport, max_buffer_size, numbers)?;
         Ok(Client {
@@ -175,6 +180,7 @@ fn put_new<T: Drop, U: Drop, C: Drop>(
         × IsPut clients.old.items id.now.slot s clients.new.items) }
     ensures unchanged { OnErr result (clients.new.items ≡ clients.old.items) }
     ensures slots { vec_len clients.old ≤ 0x100000000 → vec_len clients.new ≤ 0x100000000 }
+    ensures numbers { MatchResult result (λ _. numbers.new ≡ one_made numbers.old) (λ e. numbers.new ≡ numbers.old) }
 {
     let slot = id.slot() as usize;
     reserve_slot(clients, slot)?;
@@ -227,7 +233,8 @@ impl<T: Transport + Drop, U: Drop, G: GlobalHandler<C> + Drop, C: Drop> Backend<
         transport: T,
         client_data: C,
     ) -> Result<ClientId, InsertClientError>
-        ensures { Calls (over T.sends T.receives G.views) self.old (step.InsertClient transport client_data) (reply.InsertClient result) self.new }
+        ensures call { Calls (over T.sends T.receives G.views) self.old (step.InsertClient transport client_data) (reply.InsertClient result) self.new }
+        ensures plain { InsertsClient self.old transport client_data result self.new }
     {
         let alloc = self.alloc();
         self.refused = false;

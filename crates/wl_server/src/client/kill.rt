@@ -3,10 +3,11 @@
 //! A client is *stored* from its insertion until `Backend::cleanup` takes it out. A *note* tells the program what
 //! happened to a client or an object (`Note`).
 
-ghost use Rattle.std.specs.Prelude.{◌≡◌, MatchResult};
+ghost use Rattle.std.specs.Prelude.{◌≡◌, if◌then◌else◌, MatchResult};
 ghost use Rattle.wl_link.specs.Puts.{lacks_memory};
 ghost use Rattle.wl_server.specs.Backend.{Calls};
 ghost use Rattle.wl_server.specs.Inside.Client.{Does};
+ghost use Rattle.wl_server.specs.Inside.NoteOrder.{one_made};
 ghost use Rattle.wl_server.specs.PartStep.{over};
 ghost use Rattle.wl_server.specs.Plain.{KillsClient};
 ghost use Rattle.wl_server.specs.Telling.{Kills};
@@ -25,10 +26,11 @@ use wl_link::Transport;
 use wl_wire::IoFault;
 
 impl<T: Drop, U: Drop, C: Drop> Client<T, U, C> {
-    /// Kills the client, and makes a note of that with the reason. A killed client stays as it is. It allocates no
-    /// memory.
+    /// Kills the client, and makes a note of that with the reason. The note uses up a number. A killed client stays as
+    /// it is. It allocates no memory.
     pub fn kill(&mut self, numbers: &mut NoteNumbers, reason: DisconnectReason)
-        ensures { Does self.old (λ p did q. Kills p reason did q) self.new }
+        ensures killed { Does self.old (λ p did q. Kills p reason did q) self.new }
+        ensures numbers { numbers.new ≡ (if self.old.part.is_killed then numbers.old else one_made numbers.old) }
     {
         if self.is_killed {
             return;
@@ -46,6 +48,8 @@ impl<T: Drop, U: Drop, C: Drop> Client<T, U, C> {
     ) -> bool
         ensures refused { result ≡ lacks_memory answer }
         ensures closed { MatchResult answer (λ _. self.new ≡ self.old) (λ _. Does self.old (λ p did q. Kills p ConnectionClosed did q) self.new) }
+        ensures numbers { MatchResult answer (λ _. numbers.new ≡ numbers.old)
+            (λ _. numbers.new ≡ (if self.old.part.is_killed then numbers.old else one_made numbers.old)) }
     {
         let Err(fault) = answer else {
             return false;

@@ -5,6 +5,7 @@
 ghost use Rattle.std.specs.Prelude.{Some, false};
 ghost use Rattle.wl_server.specs.Backend.{Calls};
 ghost use Rattle.wl_server.specs.PartStep.{over};
+ghost use Rattle.wl_server.specs.PlainCalls.{SetsDefaultLimit, SetsLimit};
 ghost use Rattle.wl_server.specs.declared.runs.step.Reply.TheVariants as reply;
 ghost use Rattle.wl_server.specs.declared.runs.step.Step.TheVariants as step;
 
@@ -18,7 +19,8 @@ impl<T: Transport + Drop, U: Drop, G: GlobalHandler<C> + Drop, C: Drop> Backend<
     /// Sets how far the buffers of each client that is inserted from now on may grow, in bytes.
     /// `set_client_max_buffer_size` says how the number is rounded and which buffers there are.
     pub fn set_default_max_buffer_size(&mut self, max_buffer_size: usize)
-        ensures { Calls (over T.sends T.receives G.views) self.old (step.SetDefaultMaxBufferSize max_buffer_size) reply.SetDefaultMaxBufferSize self.new }
+        ensures call { Calls (over T.sends T.receives G.views) self.old (step.SetDefaultMaxBufferSize max_buffer_size) reply.SetDefaultMaxBufferSize self.new }
+        ensures plain { SetsDefaultLimit self.old max_buffer_size self.new }
     {
         self.refused = false;
         self.default_limit = max_buffer_size;
@@ -30,7 +32,8 @@ impl<T: Transport + Drop, U: Drop, G: GlobalHandler<C> + Drop, C: Drop> Backend<
     /// The limit is in bytes, and is rounded up to a power of two of at least 4096. The buffer of what was received never
     /// grows beyond 65536 bytes. If the client is not stored, nothing happens.
     pub fn set_client_max_buffer_size(&mut self, client: &ClientId, max_buffer_size: usize)
-        ensures { Calls (over T.sends T.receives G.views) self.old (step.SetClientMaxBufferSize client.now max_buffer_size) reply.SetClientMaxBufferSize self.new }
+        ensures call { Calls (over T.sends T.receives G.views) self.old (step.SetClientMaxBufferSize client.now max_buffer_size) reply.SetClientMaxBufferSize self.new }
+        ensures plain { SetsLimit self.old client.now max_buffer_size self.new }
     {
         self.refused = false;
         let Some(stored) = stored_mut(&mut self.clients, client) else {

@@ -1,12 +1,13 @@
 //! What the registries of a client are told.
 
-ghost use Rattle.std.specs.Prelude.{◌≡◌, ◌∷◌, [], IfOk, Some, length, map};
+ghost use Rattle.std.specs.Prelude.{◌≡◌, ◌∷◌, ◌<◌, [], IfOk, OnErr, Some, length, map};
 ghost use Rattle.wl_wire.specs.declared.argument.Argument.TheVariants as arg;
 ghost use Rattle.wl_wire.specs.Table.{name_of};
+ghost use Rattle.wl_server.specs.Felt.{announcements, is_first};
 ghost use Rattle.wl_server.specs.Globals.{shown_as};
-ghost use Rattle.wl_server.specs.Inside.News.{IsNews};
+ghost use Rattle.wl_server.specs.Inside.News.{IsNews, room_in};
 ghost use Rattle.wl_server.specs.Inside.Puts.{Puts};
-ghost use Rattle.wl_server.specs.Telling.{by_object, global_message};
+ghost use Rattle.wl_server.specs.Telling.{by_object, making};
 
 use crate::globals::KeptGlobal;
 use crate::objects::Registry;
@@ -28,7 +29,8 @@ fn interface_name(
     interface: InterfaceId,
     mut bytes: Vec<u8>,
 ) -> Result<CString, OutOfMemory>
-    ensures { IfOk result (λ name. name ≡ name_of protocol.now interface.0) }
+    ensures name { IfOk result (λ name. name ≡ name_of protocol.now interface.0) }
+    ensures full { OnErr result (length bytes.items < length (name_of protocol.now interface.0)) }
 {
     bytes.clear();
     bytes.extend_from_slice(protocol.name(interface).as_bytes())?;
@@ -40,6 +42,7 @@ pub fn blank_global_message(alloc: Global, sender_id: u32) -> Message<u32, Token
     ensures sender { result.sender_id ≡ sender_id }
     ensures opcode { result.opcode ≡ 0 }
     ensures args { length result.args.items ≡ 3 }
+    ensures room { room_in result.args.items ≡ 0 }
 {
     let mut args = SmallVec::new(alloc);
     args.push_reserved(Argument::Uint(0));
@@ -53,7 +56,8 @@ pub fn blank_global_message(alloc: Global, sender_id: u32) -> Message<u32, Token
 }
 
 /// Sets the arguments of a message `wl_registry.global`: the global's name, interface and version. The message has three
-/// arguments. The error says that there was no memory for the interface's name.
+/// arguments. The error says that there was no memory for the interface's name, which is longer than the text that the
+/// message had.
 pub fn set_global_args(
     alloc: Global,
     protocol: &Protocol,
@@ -64,6 +68,7 @@ pub fn set_global_args(
 ) -> Result<(), OutOfMemory>
     requires { length message.old.args.items ≡ 3 }
     ensures news { IfOk result (λ _. message.new.args.items ≡ arg.Uint name ∷ arg.Str (Some (name_of protocol.now interface.0)) ∷ arg.Uint version ∷ []) }
+    ensures full { OnErr result (room_in message.old.args.items < length (name_of protocol.now interface.0)) }
     ensures args { length message.new.args.items ≡ 3 }
     ensures opcode { message.new.opcode ≡ message.old.opcode }
     ensures sender { message.new.sender_id ≡ message.old.sender_id }
@@ -88,6 +93,7 @@ pub fn put_to_each<T: Transport>(
     message: &mut Message<u32, Token>,
 ) -> Result<(), IoFault>
     ensures puts { Puts T.sends socket.old (map (λ r. by_object r message.old.opcode message.old.args.items) registries.now) result socket.new }
+    ensures news { Puts T.sends socket.old (map (λ r. making (is_first registries.now r) (by_object r message.old.opcode message.old.args.items)) registries.now) result socket.new }
     ensures opcode { message.new.opcode ≡ message.old.opcode }
     ensures args { message.new.args.items ≡ message.old.args.items }
 {
@@ -163,7 +169,7 @@ impl<'a> Announcement<'a> {
         socket: &mut BufferedSocket<T>,
         registries: &[Registry],
     ) -> Result<(), IoFault>
-        ensures puts { Puts T.sends socket.old (map (λ r. global_message self.old.table r self.old.global) registries.now) result socket.new }
+        ensures puts { Puts T.sends socket.old (announcements self.old.table registries.now self.old.global) result socket.new }
         ensures same { self.new ≡ self.old }
     {
         if registries.is_empty() {

@@ -9,6 +9,7 @@ ghost use Rattle.wl_server.specs.Backend.{Calls};
 ghost use Rattle.wl_server.specs.Globals.{global_serial, shown_as};
 ghost use Rattle.wl_server.specs.Inside.News.{HearsNew};
 ghost use Rattle.wl_server.specs.PartStep.{over};
+ghost use Rattle.wl_server.specs.PlainGlobals.{OffersGlobal};
 ghost use Rattle.wl_server.specs.Inside.Places.{AllFeel, PlaceFeels};
 ghost use Rattle.wl_server.specs.declared.runs.step.Reply.TheVariants as reply;
 ghost use Rattle.wl_server.specs.declared.runs.step.Step.TheVariants as step;
@@ -118,7 +119,8 @@ impl<T: Transport + Drop, U: Drop, G: GlobalHandler<C> + Drop, C: Drop> Backend<
         version: u32,
         handler: G,
     ) -> Result<GlobalId, GlobalError>
-        ensures { Calls (over T.sends T.receives G.views) self.old (step.CreateGlobal interface version handler) (reply.CreateGlobal result) self.new }
+        ensures call { Calls (over T.sends T.receives G.views) self.old (step.CreateGlobal interface version handler) (reply.CreateGlobal result) self.new }
+        ensures plain { OffersGlobal self.old interface version handler result self.new }
     {
         let created = create(
             &self.protocol,

@@ -1,10 +1,12 @@
 //! The globals that a new registry is told of.
 
-ghost use Rattle.std.specs.Prelude.{◌≡◌, ◌∷◌, ℕ, [], length, map};
+ghost use Rattle.std.specs.Prelude.{◌≡◌, ◌∷◌, ℕ, [], OnOk, length, nat_lt};
+ghost use Rattle.wl_wire.specs.Table.{name_of};
 ghost use Rattle.wl_server.specs.Globals.{is_shown as global_is_shown, shown, shown_as};
 ghost use Rattle.wl_server.specs.Part.{id_of};
+ghost use Rattle.wl_server.specs.Inside.News.{room_in};
 ghost use Rattle.wl_server.specs.Inside.Puts.{Puts};
-ghost use Rattle.wl_server.specs.Telling.{global_message};
+ghost use Rattle.wl_server.specs.Telling.{global_message, introductions, making};
 ghost use Rattle.wl_server.specs.Inside.ReadingLoop.{around_of};
 
 use crate::globals::KeptGlobal;
@@ -48,7 +50,8 @@ fn put_global<T: Transport, G>(
 ) -> Result<(), IoFault>
     requires opcode { message.old.opcode ≡ 0 }
     requires args { length message.old.args.items ≡ 3 }
-    ensures puts { (serial : ℕ) → Puts T.sends socket.old (global_message protocol.now (record { number = message.old.sender_id; serial = serial }) (shown_as (name, global.now)) ∷ []) result socket.new }
+    ensures puts { (serial : ℕ) → Puts T.sends socket.old (making (nat_lt (room_in message.old.args.items) (length (name_of protocol.now global.now.interface.0))) (global_message protocol.now (record { number = message.old.sender_id; serial = serial }) (shown_as (name, global.now))) ∷ []) result socket.new }
+    ensures room { OnOk result (room_in message.new.args.items ≡ length (name_of protocol.now global.now.interface.0)) }
     ensures opcode { message.new.opcode ≡ 0 }
     ensures args { length message.new.args.items ≡ 3 }
     ensures sender { message.new.sender_id ≡ message.old.sender_id }
@@ -69,7 +72,7 @@ pub fn put_globals<T: Transport, G: GlobalHandler<C> + Drop, C>(
     registry: &ObjectId,
 ) -> Result<(), IoFault>
     ensures { Puts T.sends socket.old
-        (map (global_message around.now.protocol.now (id_of registry.now)) (shown G.views (around_of G.views around.now).globals around.now.client client_data.now)) result socket.new }
+        (introductions around.now.protocol.now (id_of registry.now) 0 (shown G.views (around_of G.views around.now).globals around.now.client client_data.now)) result socket.new }
 {
     let mut message = blank_global_message(alloc, registry.protocol_id());
     let mut globals = around.globals.all_objects();

@@ -9,6 +9,7 @@ ghost use Rattle.wl_server.specs.Backend.{Calls};
 ghost use Rattle.wl_server.specs.Felt.{Hears, removals};
 ghost use Rattle.wl_server.specs.Globals.{global_serial, is_enabled as global_is_enabled};
 ghost use Rattle.wl_server.specs.PartStep.{over};
+ghost use Rattle.wl_server.specs.PlainGlobals.{DisablesGlobal, RemovesGlobal};
 ghost use Rattle.wl_server.specs.Inside.Places.{AllFeel, PlaceFeels};
 ghost use Rattle.wl_server.specs.declared.runs.step.Reply.TheVariants as reply;
 ghost use Rattle.wl_server.specs.declared.runs.step.Step.TheVariants as step;
@@ -82,7 +83,8 @@ impl<T: Transport + Drop, U: Drop, G: GlobalHandler<C> + Drop, C: Drop> Backend<
     ///
     /// If a client cannot be told, for lack of memory or for another reason, it is killed.
     pub fn disable_global(&mut self, id: &GlobalId)
-        ensures { Calls (over T.sends T.receives G.views) self.old (step.DisableGlobal id.now) reply.DisableGlobal self.new }
+        ensures call { Calls (over T.sends T.receives G.views) self.old (step.DisableGlobal id.now) reply.DisableGlobal self.new }
+        ensures plain { DisablesGlobal self.old id.now self.new }
     {
         self.refused = false;
         let was_enabled = is_enabled(&self.globals, id);
@@ -100,7 +102,8 @@ impl<T: Transport + Drop, U: Drop, G: GlobalHandler<C> + Drop, C: Drop> Backend<
     ///
     /// If a client cannot be told, for lack of memory or for another reason, it is killed.
     pub fn remove_global(&mut self, id: &GlobalId)
-        ensures { Calls (over T.sends T.receives G.views) self.old (step.RemoveGlobal id.now) reply.RemoveGlobal self.new }
+        ensures call { Calls (over T.sends T.receives G.views) self.old (step.RemoveGlobal id.now) reply.RemoveGlobal self.new }
+        ensures plain { RemovesGlobal self.old id.now self.new }
     {
         self.refused = false;
         let was_enabled = is_enabled(&self.globals, id);

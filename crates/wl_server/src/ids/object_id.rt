@@ -7,6 +7,7 @@ ghost use Rattle.wl_wire.specs.Table.{anonymous_id, name_of};
 
 use crate::ids::client_id::ClientId;
 use std::alloc::Global;
+use std::fmt;
 use std::hash::{Hash, Hasher};
 use std::marker::Model;
 use wl_wire::{ANONYMOUS_INTERFACE, InterfaceId, OutOfMemory, Protocol};
@@ -16,11 +17,13 @@ use wl_wire::{ANONYMOUS_INTERFACE, InterfaceId, OutOfMemory, Protocol};
 /// It stands for `wayland_backend::server::ObjectId`. The serial tells the object from others of the same client that
 /// have the number at another time. Two ids are equal if all parts are equal. The hash leaves the interface out. An id
 /// with number 0 is null, whatever its other parts are.
-#[derive(Clone, Copy, Debug, PartialEq, Eq)]
+#[derive(Clone, Copy, PartialEq, Eq)]
 pub struct ObjectId {
     serial: u64,
-    client: ClientId,
+    // The client's serial and slot stand apart, so that an id has 32 bytes: a `ClientId` would be filled up to 16.
+    client_serial: u64,
     interface: InterfaceId,
+    client_slot: u32,
     number: u32,
 }
 
@@ -29,9 +32,9 @@ impl Model for ObjectId {
 
     ghost Value = { IdParts };
 
-    ghost view = { λ id. record { number = id.number; serial = id.serial; client = id.client; interface = id.interface } };
+    ghost view = { λ id. record { number = id.number; serial = id.serial; client = record { slot = id.client_slot; serial = id.client_serial }; interface = id.interface } };
 
-    ghost inverse = { λ id. record { serial = id.serial; client = id.client; interface = id.interface; number = id.number } };
+    ghost inverse = { λ id. record { serial = id.serial; client_serial = id.client.serial; interface = id.interface; client_slot = id.client.slot; number = id.number } };
 }
 
 impl Hash for ObjectId {
@@ -47,8 +50,19 @@ impl Hash for ObjectId {
     fn hash<H: Hasher>(&self, state: &mut H) {
         state.write_u32(self.number);
         state.write_u64(self.serial);
-        state.write_u32(self.client.slot());
-        state.write_u64(self.client.serial());
+        state.write_u32(self.client_slot);
+        state.write_u64(self.client_serial);
+    }
+}
+
+impl fmt::Debug for ObjectId {
+    fn fmt<W: fmt::Write>(&self, f: &mut fmt::Formatter<W>) -> fmt::Result {
+        f.debug_struct("ObjectId")
+            .field("serial", &self.serial)
+            .field("client", &self.client())
+            .field("interface", &self.interface)
+            .field("number", &self.number)
+            .finish()
     }
 }
 
@@ -60,8 +74,9 @@ impl ObjectId {
     {
         ObjectId {
             serial: 0,
-            client: ClientId::from_parts(0, 0),
+            client_serial: 0,
             interface: ANONYMOUS_INTERFACE,
+            client_slot: 0,
             number: 0,
         }
     }
@@ -72,8 +87,9 @@ impl ObjectId {
     {
         ObjectId {
             serial,
-            client,
+            client_serial: client.serial(),
             interface,
+            client_slot: client.slot(),
             number,
         }
     }
@@ -89,14 +105,14 @@ impl ObjectId {
     pub fn client(&self) -> ClientId
         ensures { result ≡ self.now.client }
     {
-        self.client
+        ClientId::from_parts(self.client_slot, self.client_serial)
     }
 
     /// Whether both ids are of the same client.
     pub fn same_client_as(&self, other: &ObjectId) -> bool
         ensures { IsTrue result ↔ (self.now.client ≡ other.now.client) }
     {
-        self.client == other.client
+        self.client() == other.client()
     }
 
     /// The interface of the object.
@@ -129,7 +145,7 @@ impl ObjectId {
     {
         let name = protocol.name(self.interface);
         let number = self.number;
-        let slot = self.client.slot();
+        let slot = self.client_slot;
         Ok(format!(in alloc; "{name}@{number}[{slot}]")?)
     }
 }

@@ -17,7 +17,7 @@ use crate::objects::{Kept, id_at};
 use wl_link::ObjectMap;
 
 /// The id of the client of a slot, if it has one that is live.
-fn live_at<T, U, C>(slot: u32, place: &Option<Client<T, U, C>>) -> Option<ClientId>
+pub(crate) fn live_at<T, U, C>(slot: u32, place: &Option<Client<T, U, C>>) -> Option<ClientId>
     ensures { option_to_list result ≡ id_if_stored slot place.now }
 {
     match place {

@@ -199,7 +199,7 @@ fn gather_all<T, U, C>(
     ensures numbers { numbers.new ≡ record numbers.old { waiting = 0 } }
 {
     gather(clients, true, order, notes);
-    numbers.begin_waiting_anew();
+    numbers.begin_waiting_anew(clients);
 }
 
 /// Flushes the killed clients, gathers all notes, and takes the killed clients out. If no client was killed, it only

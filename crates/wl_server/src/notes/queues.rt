@@ -8,8 +8,10 @@
 
 ghost use Rattle.std.specs.Prelude.{◌≡◌, ◌+◌, ◌++◌, ◌∷◌, ◌<◌, ◌≤◌, [], false, true, length, map, IfOk, MatchOption, OnOk};
 ghost use Rattle.std.specs.VecDeque.{deque_capacity, deque_len};
+ghost use Rattle.wl_server.specs.Inside.Gathering.{AllLeft};
 ghost use Rattle.wl_server.specs.Inside.NoteOrder.{number_after, place_of};
 
+use crate::client::Client;
 use crate::notes::Happening;
 use std::alloc::Global;
 use std::collections::VecDeque;
@@ -46,10 +48,12 @@ impl NoteNumbers {
         }
     }
 
-    /// Says that no note waits any more: the numbers of those that wait begin at 0 again.
-    pub fn begin_waiting_anew(&mut self)
+    /// The numbers of the notes that wait begin at 0 again. No note of these clients waits any more.
+    pub fn begin_waiting_anew<T, U, C>(&mut self, clients: &[Option<Client<T, U, C>>])
+        requires { AllLeft true clients.now }
         ensures { self.new ≡ record self.old { waiting = 0 } }
     {
+        let _ = clients;
         self.waiting = 0;
     }
 }

@@ -3,7 +3,7 @@
 //! A client is *stored* from its insertion until `Backend::cleanup` takes it out. A *note* tells the program what
 //! happened to a client or an object (`Note`).
 
-ghost use Rattle.std.specs.Prelude.{◌≡◌, ◌+◌, ◌<◌, ◌≤◌, ◌++◌, IsSome, IfOk, Ok, Some, OnErr, OnOk, false, is_some, true, map, option_copied};
+ghost use Rattle.std.specs.Prelude.{◌≡◌, ◌+◌, ◌<◌, ◌≤◌, ◌++◌, if◌then◌else◌, IsSome, MatchOption, IfOk, Ok, Some, OnErr, OnOk, false, is_some, true, map, option_copied};
 ghost use Rattle.std.specs.Result.{result_and};
 ghost use Rattle.std.specs.VecDeque.{deque_capacity, deque_len};
 ghost use Rattle.wl_link.specs.Store.{held, removed};
@@ -14,6 +14,7 @@ ghost use Rattle.wl_server.specs.Inside.Client.{Does};
 ghost use Rattle.wl_server.specs.Cutting.{CallIsCut};
 ghost use Rattle.wl_server.specs.Finish.{ended_by, FinishesBind, FinishesOpen, FinishesRequest, refusal};
 ghost use Rattle.wl_server.specs.Inside.Finishing.{BindLeaves, DataHeld, EndsSender, RequestLeaves, lacks_finish, part_finished};
+ghost use Rattle.wl_server.specs.Inside.NoteOrder.{one_made};
 ghost use Rattle.wl_server.specs.Part.{note_of_end, registries_without};
 ghost use Rattle.wl_server.specs.PartStep.{Asked, over};
 ghost use Rattle.wl_server.specs.Plain.{EndsBind, EndsOpenRequest, ReturnsBindData, ReturnsRequestData};
@@ -85,7 +86,8 @@ fn reserve_end<U: Drop>(
     Ok(())
 }
 
-/// Takes the object of this number out, and makes a note of that if it had user data. There is room for the note.
+/// Takes the object of this number out, and makes a note of that if it had user data, which uses up a number of a note.
+/// There is room for the note.
 fn take_out_made<U: Drop>(
     objects: &mut ClientObjects<U>,
     made: &mut MadeNotes<U>,
@@ -99,6 +101,8 @@ fn take_out_made<U: Drop>(
     ensures left { (x : Object (Kept U)) → held objects.old.map.store number ≡ Some x
         → (objects.new.registries.items ≡ registries_without objects.old.registries.items number x)
         × (map (λ m. m.1) made.new.queue.items ≡ map (λ m. m.1) made.old.queue.items ++ note_of_end client.now number x) }
+    ensures numbers { MatchOption (held objects.old.map.store number) (numbers.new ≡ numbers.old)
+        (λ x. numbers.new ≡ (if is_some x.value.user_data then one_made numbers.old else numbers.old)) }
     ensures room { deque_len made.old.queue < deque_capacity made.old.queue → deque_len made.new.queue < deque_capacity made.new.queue }
 {
     let Some(object) = take_out(objects, number) else {

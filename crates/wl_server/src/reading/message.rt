@@ -1,6 +1,6 @@
 //! Takes the message at the front of the incoming buffer, and handles it.
 
-ghost use Rattle.std.specs.Prelude.{◌≡◌, ◌≤◌, ◌<◌, List, [], true, false, Some, Ok, Err, length, vec_len, vec_capacity, IfOk, IfSome, OnErr, OnOk, option_copied, option_map};
+ghost use Rattle.std.specs.Prelude.{◌≡◌, ◌≤◌, ◌<◌, List, [], true, false, Some, Ok, Err, length, vec_len, vec_capacity, IfOk, IfSome, MatchOption, None, OnErr, OnOk};
 ghost use Rattle.smallvec.specs.SmallVec.{HasRoomFor};
 ghost use Rattle.wl_wire.specs.Argument.{Matches};
 ghost use Rattle.wl_wire.specs.MessageRows.{creates};
@@ -8,6 +8,8 @@ ghost use Rattle.wl_wire.specs.Message.{content};
 ghost use Rattle.wl_wire.specs.Parse.{IsThere};
 ghost use Rattle.wl_wire.specs.Table.{IsAcceptedTable, holds_zero, message_row};
 ghost use Rattle.wl_link.specs.Store.{held};
+ghost use Rattle.wl_link.specs.declared.object.Object.{Object as ObjectOf};
+ghost use Rattle.wl_server.specs.declared.objects.Kept.{Kept as KeptOf};
 ghost use Rattle.wl_server.specs.Reading.{row_asks, row_in};
 ghost use Rattle.wl_wire.specs.declared.argument.Argument.{Argument as Arg};
 ghost use Rattle.wl_wire.specs.declared.argument.Token.{Token as TokenParts};
@@ -15,7 +17,7 @@ ghost use Rattle.wl_server.specs.declared.reading.action.Found.{Found as FoundOf
 ghost use Rattle.wl_server.specs.declared.reading.action.Reading.{Reading as ReadingOf};
 ghost use Rattle.wl_server.specs.Ids.{IdParts};
 ghost use Rattle.wl_server.specs.Inside.Responses.{HasNames, TookRequest};
-ghost use Rattle.wl_server.specs.Inside.ReadingLoop.{IsHeader, Live, NotTaken, TookWith, HandlesMessage, around_of, message_result};
+ghost use Rattle.wl_server.specs.Inside.ReadingLoop.{IsHeader, IsSenderOf, Live, NotTaken, TookWith, HandlesMessage, around_of, message_result};
 
 use crate::client::Client;
 use crate::globals::handler::GlobalHandler;
@@ -24,7 +26,7 @@ use crate::notes::queues::NoteNumbers;
 use crate::objects::{ClientObjects, Kept};
 use crate::reading::Surroundings;
 use crate::reading::action::{Found, MessageEnd, NoAction, Reading};
-use crate::reading::request::request;
+use crate::reading::request::{Sender, request};
 use crate::reading::respond::open_action;
 use crate::reading::response::Response;
 use smallvec::SmallVec;
@@ -34,19 +36,27 @@ use wl_wire::{
     Token,
 };
 
-/// The request with this opcode of the object that has the number.
+/// The request with this opcode of the object that has the number, and what the object is.
 fn request_desc<'p, U: Drop>(
     protocol: &'p Protocol,
     objects: &ObjectMap<Kept<U>>,
     sender: u32,
     opcode: u16,
-) -> Option<&'p MessageDesc>
-    ensures row { option_map message_row (option_copied result) ≡ row_in protocol.now (held objects.now.store sender) opcode }
+) -> Option<(&'p MessageDesc, Sender)>
+    ensures row { MatchOption result (row_in protocol.now (held objects.now.store sender) opcode ≡ None)
+        (λ asked. Some (message_row asked.0.now) ≡ row_in protocol.now (held objects.now.store sender) opcode) }
+    ensures sender { IfSome result (λ asked. (x : ObjectOf (KeptOf U)) → held objects.now.store sender ≡ Some x → IsSenderOf asked.1 x) }
     ensures accepted { IfSome result (λ _. IsAcceptedTable protocol.now) }
 {
     let object = objects.find(sender)?;
     let interface = protocol.get(object.interface)?;
-    interface.requests.get(opcode as usize)
+    let desc = interface.requests.get(opcode as usize)?;
+    let sender = Sender {
+        serial: object.value.serial,
+        interface: object.interface,
+        version: object.version,
+    };
+    Some((desc, sender))
 }
 
 /// Makes room for what becomes of the message at the front, if that is there whole: for its arguments, and for the object
@@ -87,7 +97,7 @@ fn make_room<T: Drop, U: Drop>(
 }
 
 /// Takes the message at the front off the incoming buffer. Its sender and its opcode are those of the header. Returns the
-/// description of the request in the table.
+/// description of the request in the table, and what its sender is.
 ///
 /// There is room then for what becomes of it: for its arguments in `converted`, which is emptied, and for the object that
 /// it may make in the map and among the registries.
@@ -98,13 +108,14 @@ fn take<'p, T: Drop, U: Drop>(
     header: (u32, u16),
     message: &mut Message<u32, Token>,
     converted: &mut SmallVec<Argument<ObjectId, Token>, INLINE_ARGS>,
-) -> Result<&'p MessageDesc, MessageParseError>
+) -> Result<(&'p MessageDesc, Sender), MessageParseError>
     requires header { IsHeader socket.old header }
     requires inline { INLINE_ARGS ≤ converted.old.capacity }
     requires place { INLINE_ARGS ≤ message.old.args.capacity }
     ensures took { TookWith protocol.now objects.old.map.store socket.old result (content message.new) socket.new }
-    ensures matches { IfOk result (λ desc. Matches desc.now.signature.items message.new.args.items) }
-    ensures name { IfOk result (λ desc. holds_zero (message_row desc.now).name ≡ false) }
+    ensures sender { IfOk result (λ asked. (x : ObjectOf (KeptOf U)) → held objects.new.map.store message.new.sender_id ≡ Some x → IsSenderOf asked.1 x) }
+    ensures matches { IfOk result (λ asked. Matches asked.0.now.signature.items message.new.args.items) }
+    ensures name { IfOk result (λ asked. holds_zero (message_row asked.0.now).name ≡ false) }
     ensures fewer { OnOk result (length socket.new.incoming.bytes < length socket.old.incoming.bytes) }
     ensures store { objects.new.map.store ≡ objects.old.map.store }
     ensures registries { objects.new.registries.items ≡ objects.old.registries.items }
@@ -112,20 +123,21 @@ fn take<'p, T: Drop, U: Drop>(
     ensures room { OnOk result (HasRoomFor converted.new (length message.new.args.items)) }
     ensures inline { INLINE_ARGS ≤ converted.new.capacity }
     ensures empty { converted.new.items ≡ [] }
-    ensures can_make { IfOk result (λ desc. creates (message_row desc.now) ≡ true → objects.new.map.reserved ≡ true) }
-    ensures can_register { IfOk result (λ desc. creates (message_row desc.now) ≡ true → vec_len objects.new.registries < vec_capacity objects.new.registries) }
+    ensures can_make { IfOk result (λ asked. creates (message_row asked.0.now) ≡ true → objects.new.map.reserved ≡ true) }
+    ensures can_register { IfOk result (λ asked. creates (message_row asked.0.now) ≡ true → vec_len objects.new.registries < vec_capacity objects.new.registries) }
 {
     converted.clear();
     let (sender, opcode) = header;
-    let Some(desc) = request_desc(protocol, &objects.map, sender, opcode) else {
+    let Some(asked) = request_desc(protocol, &objects.map, sender, opcode) else {
         return Err(MessageParseError::Malformed);
     };
+    let desc = asked.0;
     let signature = desc.signature.as_slice();
     let Ok(()) = make_room(objects, converted, socket, desc) else {
         return Err(MessageParseError::OutOfMemory);
     };
     socket.read_with_signature(signature, message)?;
-    Ok(desc)
+    Ok(asked)
 }
 
 /// Takes the message at the front off the incoming buffer, and handles it. Its sender and its opcode are those of the
@@ -154,11 +166,20 @@ fn take_request<'m, T: Drop, U: Drop, G: GlobalHandler<C> + Drop, C>(
     ensures inline { INLINE_ARGS ≤ args.new.capacity }
 {
     let taken = take(protocol, objects, socket, header, message, args);
-    let desc = match taken {
-        Ok(desc) => desc,
+    let asked = match taken {
+        Ok(asked) => asked,
         Err(error) => return Err(error),
     };
-    Ok(request(around, client_data, objects, desc, message, found, args))
+    Ok(request(
+        around,
+        client_data,
+        objects,
+        asked.0,
+        asked.1,
+        message,
+        found,
+        args,
+    ))
 }
 
 impl<T: Transport + Drop, U: Drop, C: Drop> Client<T, U, C> {

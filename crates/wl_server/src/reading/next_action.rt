@@ -12,6 +12,7 @@ ghost use Rattle.wl_server.specs.Backend.{Calls};
 ghost use Rattle.wl_server.specs.Inside.Client.{Does};
 ghost use Rattle.wl_server.specs.Cutting.{CallIsCut};
 ghost use Rattle.wl_server.specs.PartStep.{Asked, over};
+ghost use Rattle.wl_server.specs.PlainReading.{ReadsClient};
 ghost use Rattle.wl_server.specs.Reading.{NextAction, action_content, new_reading};
 ghost use Rattle.wl_server.specs.Room.{HasRoom};
 ghost use Rattle.wl_server.specs.Inside.ReadingLoop.{EndsAs, Fills, Live, Waited, action_of, around_of};
@@ -205,6 +206,7 @@ impl<T: Transport + Drop, U: Drop, G: GlobalHandler<C> + Drop, C: Drop> Backend<
         ensures read { Calls (over T.sends T.receives G.views) self.old (step.NextAction id.now) (reply.NextAction result) self.new }
         ensures room { HasRoom (over T.sends T.receives G.views) self.old.server (Asked (step.NextAction id.now) (reply.NextAction result)) self.new.server }
         ensures cutting { CallIsCut (over T.sends T.receives G.views) self.old.server (Asked (step.NextAction id.now) (reply.NextAction result)) self.new.refused self.new.server }
+        ensures plain { ReadsClient self.old id.now result self.new }
     {
         let mut reading = Reading::new();
         let mut found = Found::none();
@@ -225,6 +227,7 @@ impl<T: Transport + Drop, U: Drop, G: GlobalHandler<C> + Drop, C: Drop> Backend<
         ensures read { Calls (over T.sends T.receives G.views) self.old (step.NextActionWithin id.now reading.old) (reply.NextActionWithin result reading.new) self.new }
         ensures room { HasRoom (over T.sends T.receives G.views) self.old.server (Asked (step.NextActionWithin id.now reading.old) (reply.NextActionWithin result reading.new)) self.new.server }
         ensures cutting { CallIsCut (over T.sends T.receives G.views) self.old.server (Asked (step.NextActionWithin id.now reading.old) (reply.NextActionWithin result reading.new)) self.new.refused self.new.server }
+        ensures plain { ReadsClient self.old id.now result self.new }
     {
         let mut found = Found::none();
         let mut args = SmallVec::new(self.alloc());
@@ -244,6 +247,7 @@ impl<T: Transport + Drop, U: Drop, G: GlobalHandler<C> + Drop, C: Drop> Backend<
         ensures read { Calls (over T.sends T.receives G.views) self.old (step.NextAction id.now) (reply.NextAction (result_and result (Ok action.new))) self.new }
         ensures room { HasRoom (over T.sends T.receives G.views) self.old.server (Asked (step.NextAction id.now) (reply.NextAction (result_and result (Ok action.new)))) self.new.server }
         ensures cutting { CallIsCut (over T.sends T.receives G.views) self.old.server (Asked (step.NextAction id.now) (reply.NextAction (result_and result (Ok action.new)))) self.new.refused self.new.server }
+        ensures plain { ReadsClient self.old id.now (result_and result (Ok action.new)) self.new }
         ensures kept { OnErr result (action.new ≡ action.old) }
     {
         match self.next_action(id) {
@@ -267,6 +271,7 @@ impl<T: Transport + Drop, U: Drop, G: GlobalHandler<C> + Drop, C: Drop> Backend<
         ensures read { Calls (over T.sends T.receives G.views) self.old (step.NextActionWithin id.now reading.old) (reply.NextActionWithin (result_and result (Ok action.new)) reading.new) self.new }
         ensures room { HasRoom (over T.sends T.receives G.views) self.old.server (Asked (step.NextActionWithin id.now reading.old) (reply.NextActionWithin (result_and result (Ok action.new)) reading.new)) self.new.server }
         ensures cutting { CallIsCut (over T.sends T.receives G.views) self.old.server (Asked (step.NextActionWithin id.now reading.old) (reply.NextActionWithin (result_and result (Ok action.new)) reading.new)) self.new.refused self.new.server }
+        ensures plain { ReadsClient self.old id.now (result_and result (Ok action.new)) self.new }
         ensures kept { OnErr result (action.new ≡ action.old) }
     {
         match self.next_action_within(id, reading) {

@@ -14,15 +14,16 @@ ghost use Rattle.wl_server.specs.Reading.{other_request as request_verdict};
 ghost use Rattle.wl_server.specs.Requests.{Wrong, convert as outcome_of, start};
 ghost use Rattle.wl_server.specs.Inside.Responses.{HasNames, core_with, response_to};
 ghost use Rattle.wl_server.specs.Telling.{Core};
-ghost use Rattle.wl_server.specs.Inside.ReadingLoop.{around_of};
+ghost use Rattle.wl_server.specs.Inside.ReadingLoop.{IsSenderOf, around_of};
 
 use crate::globals::handler::GlobalHandler;
 use crate::ids::client_id::ClientId;
 use crate::ids::object_id::ObjectId;
-use crate::objects::{ClientObjects, id_at};
+use crate::objects::ClientObjects;
 use crate::reading::Surroundings;
 use crate::reading::action::Found;
 use crate::reading::arguments::{Progress, convert};
+use crate::reading::request::Sender;
 use crate::reading::response::{Breach, RequestFault, Response};
 use smallvec::SmallVec;
 use wl_wire::{Argument, INLINE_ARGS, Message, MessageDesc, Token};
@@ -76,6 +77,7 @@ pub fn other_request<'m, U: Drop, G: GlobalHandler<C>, C>(
     client_data: &C,
     objects: &mut ClientObjects<U>,
     desc: &'m MessageDesc,
+    sender: Sender,
     message: &mut Message<u32, Token>,
     found: &mut Found,
     args: &mut SmallVec<Argument<ObjectId, Token>, INLINE_ARGS>,
@@ -84,6 +86,7 @@ pub fn other_request<'m, U: Drop, G: GlobalHandler<C>, C>(
     requires kinds { Matches desc.now.signature.items message.old.args.items }
     requires empty { args.old.items ≡ [] }
     requires room { HasRoomFor args.old (length message.old.args.items) }
+    requires sender { (x : ObjectOf (KeptOf U)) → held objects.old.map.store message.old.sender_id ≡ Some x → IsSenderOf sender x }
     requires name { holds_zero (message_row desc.now).name ≡ false }
     ensures capacity { args.new.capacity ≡ args.old.capacity }
     ensures names { HasNames result }
@@ -93,12 +96,9 @@ pub fn other_request<'m, U: Drop, G: GlobalHandler<C>, C>(
 {
     let number = message.sender_id;
     let opcode = message.opcode;
-    let Some(object) = objects.map.find(number) else {
-        return Response::Garbled;
-    };
-    let sender = id_at(&around.client, number, object);
-    let interface = object.interface;
-    let version = object.version;
+    let interface = sender.interface;
+    let version = sender.version;
+    let sender = ObjectId::from_parts(number, sender.serial, around.client, interface);
     if version < desc.since {
         return Response::Breaks(Breach::SinceLater(opcode, version, desc.since, interface, number));
     }

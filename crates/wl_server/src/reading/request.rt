@@ -12,7 +12,7 @@ ghost use Rattle.wl_server.specs.declared.objects.Kept.{Kept as KeptOf};
 ghost use Rattle.wl_server.specs.Reading.{request_to};
 ghost use Rattle.wl_server.specs.Inside.Responses.{HasNames, core_with, response_to};
 ghost use Rattle.wl_server.specs.Telling.{Core};
-ghost use Rattle.wl_server.specs.Inside.ReadingLoop.{around_of};
+ghost use Rattle.wl_server.specs.Inside.ReadingLoop.{IsSenderOf, around_of};
 
 use crate::globals::handler::GlobalHandler;
 use crate::ids::object_id::ObjectId;
@@ -25,8 +25,20 @@ use crate::reading::registry::registry_request;
 use crate::reading::response::Response;
 use smallvec::SmallVec;
 use wl_wire::{
-    Argument, INLINE_ARGS, Message, MessageDesc, Token, WL_DISPLAY_INTERFACE, WL_REGISTRY_INTERFACE,
+    Argument, INLINE_ARGS, InterfaceId, Message, MessageDesc, Token, WL_DISPLAY_INTERFACE,
+    WL_REGISTRY_INTERFACE,
 };
+
+/// What the sender of a request is. It is looked up once, before the request is read.
+#[derive(Clone, Copy)]
+pub struct Sender {
+    /// The serial of the object.
+    pub serial: u64,
+    /// Its interface.
+    pub interface: InterfaceId,
+    /// Its version.
+    pub version: u32,
+}
 
 /// Handles a request, by the kind of its object, and returns what is still to be done for it. If it is handed out, it is
 /// in `found` then. Its arguments are taken out of the message, and they are in `args` then, converted.
@@ -35,6 +47,7 @@ pub fn request<'m, U: Drop, G: GlobalHandler<C> + Drop, C>(
     client_data: &C,
     objects: &mut ClientObjects<U>,
     desc: &'m MessageDesc,
+    sender: Sender,
     message: &'m mut Message<u32, Token>,
     found: &mut Found,
     args: &mut SmallVec<Argument<ObjectId, Token>, INLINE_ARGS>,
@@ -42,6 +55,7 @@ pub fn request<'m, U: Drop, G: GlobalHandler<C> + Drop, C>(
     requires can_make { row_creates (message_row desc.now) ≡ true → objects.old.map.reserved ≡ true }
     requires can_register { row_creates (message_row desc.now) ≡ true → vec_len objects.old.registries < vec_capacity objects.old.registries }
     requires kinds { Matches desc.now.signature.items message.old.args.items }
+    requires sender { (x : ObjectOf (KeptOf U)) → held objects.old.map.store message.old.sender_id ≡ Some x → IsSenderOf sender x }
     requires empty { args.old.items ≡ [] }
     requires room { HasRoomFor args.old (length message.old.args.items) }
     requires name { holds_zero (message_row desc.now).name ≡ false }
@@ -51,15 +65,21 @@ pub fn request<'m, U: Drop, G: GlobalHandler<C> + Drop, C>(
         → request_to (around_of G.views around.now) (core_with c client_data.now objects.old) (content message.old) x (message_row desc.now)
         ≡ response_to (around_of G.views around.now) (core_with c client_data.now objects.new) result found.new args.new.items }
 {
-    let Some(object) = objects.map.find(message.sender_id) else {
-        return Response::Garbled;
-    };
-    let interface = object.interface;
+    let interface = sender.interface;
     if interface == WL_DISPLAY_INTERFACE {
         return display_request(around, client_data, objects, message);
     }
     if interface == WL_REGISTRY_INTERFACE {
         return registry_request(around, client_data, objects, message, found);
     }
-    other_request(around, client_data, objects, desc, message, found, args)
+    other_request(
+        around,
+        client_data,
+        objects,
+        desc,
+        sender,
+        message,
+        found,
+        args,
+    )
 }

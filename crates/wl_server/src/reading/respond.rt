@@ -3,7 +3,7 @@
 //!
 //! A client is *live* as long as it is stored and not killed.
 
-ghost use Rattle.std.specs.Prelude.{◌≡◌, ◌∷◌, map, List, [], false, Err, IfOk, MatchResult};
+ghost use Rattle.std.specs.Prelude.{◌≡◌, ◌∷◌, List, [], false, Err, IfOk, MatchResult};
 ghost use Rattle.wl_wire.specs.declared.argument.Argument.{Argument as Arg};
 ghost use Rattle.wl_wire.specs.declared.argument.Token.{Token as TokenParts};
 ghost use Rattle.wl_wire.specs.declared.error.IoFault.TheVariants as io;
@@ -18,7 +18,7 @@ ghost use Rattle.wl_server.specs.Ids.{IdParts};
 ghost use Rattle.wl_server.specs.Part.{id_of};
 ghost use Rattle.wl_server.specs.Reading.{breaks, garbled, replies};
 ghost use Rattle.wl_server.specs.Inside.Responses.{HasName, code_of, opened_of, text_of};
-ghost use Rattle.wl_server.specs.Telling.{Kills, core_of, deletions, done_message, global_message};
+ghost use Rattle.wl_server.specs.Telling.{Kills, core_of, deletions, done_message, introductions};
 ghost use Rattle.wl_server.specs.Inside.ReadingLoop.{Ended, IsHandled, Live, around_of, message_result};
 
 use crate::client::Client;
@@ -152,7 +152,7 @@ impl<T: Transport + Drop, U: Drop, C: Drop> Client<T, U, C> {
     ) -> MessageEnd
         requires { Live self.old.part }
         ensures { (f : FoundOf) (args : List (Arg IdParts TokenParts)) → IsHandled T.sends
-            (replies (core_of self.old.part) (map (global_message around.now.protocol.now (id_of registry.now)) (shown G.views (around_of G.views around.now).globals around.now.client self.old.part.client_data))
+            (replies (core_of self.old.part) (introductions around.now.protocol.now (id_of registry.now) 0 (shown G.views (around_of G.views around.now).globals around.now.client self.old.part.client_data))
             (Remembered (id_of registry.now) ∷ [])) self.old (message_result result f args) self.new }
     {
         let alloc = self.alloc();

@@ -1,5 +1,8 @@
-use Rattle.wl_client.proofs.OverRuns.OutcomeLaws.{run_one, step_one}
+use Rattle.wl_client.proofs.OverRuns.OutcomeLaws.{call_one, run_one, step_one}
 use Rattle.wl_client.proofs.laws.each_run_has_one_outcome.Goals as goal
+
+pub returns-clause-call : goal.returns-clause-call
+returns-clause-call g c function receiving = call_one g.T.Transport.sends g.T.Transport.receives function receiving
 
 pub returns-clause-step : goal.returns-clause-step
 returns-clause-step g c = step_one

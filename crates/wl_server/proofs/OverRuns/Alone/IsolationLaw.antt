@@ -84,34 +84,23 @@ module _ {T U G C : Type 0} (w : World T G C) (id : ClientParts) (offer : Offer 
       → IsNotInserted id (Asked s answer) → PartStep w id offer s answer nothing_seen lacked did after → Unfelt nothing_seen lacked did after
   nothing_step (step.InsertClient transport client_data) answer lacked did after other (r, is, h) =
       inserted_other transport client_data r nothing_seen lacked did after (inserts_other transport client_data answer r is other) h
-  nothing_step (step.SetObjectData o u) answer lacked did after other (r, is, h) = own_nothing _ _ lacked did after h
-  nothing_step (step.CreateObject target i version u) answer lacked did after other (r, is, h) = own_nothing _ _ lacked did after h
-  nothing_step (step.DestroyObject o) answer lacked did after other (r, is, h) = own_nothing _ _ lacked did after h
-  nothing_step (step.SendEvent m) answer lacked did after other (r, is, h) = own_nothing _ _ lacked did after h
-  nothing_step (step.PostError o code text) answer lacked did after other (is, h) = own_nothing _ _ lacked did after h
-  nothing_step (step.KillClient target reason) answer lacked did after other (is, h) = own_nothing _ _ lacked did after h
   nothing_step (step.CreateGlobal i version handler) answer lacked did after other (Ok g, is, h) = h.1
   nothing_step (step.CreateGlobal i version handler) answer lacked did after other (Err e, is, h) = h
-  nothing_step (step.DisableGlobal g) answer lacked did after other (is, h) = own_nothing _ _ lacked did after h
-  nothing_step (step.RemoveGlobal g) answer lacked did after other (is, h) = own_nothing _ _ lacked did after h
   nothing_step (step.Flush None) answer lacked did after other (r, is, h) = h.1.1
-  nothing_step (step.Flush (Some target)) answer lacked did after other (r, is, h) = own_nothing _ _ lacked did after h
-  nothing_step (step.SetDefaultMaxBufferSize limit) answer lacked did after other (is, h) = h
   nothing_step (step.AddInterfaces interfaces) answer lacked did after other (r, is, h) = h
-  nothing_step (step.SetClientMaxBufferSize target limit) answer lacked did after other (is, h) = own_nothing _ _ lacked did after h
-  nothing_step (step.NextAction target) answer lacked did after other (r, left, is, h) = own_nothing _ _ lacked did after h
-  nothing_step (step.NextActionWithin target reading) answer lacked did after other (r, left, is, h) = own_nothing _ _ lacked did after h
-  nothing_step (step.FinishRequest target u) answer lacked did after other (r, is, h) = own_nothing _ _ lacked did after h
-  nothing_step (step.FinishBind target u) answer lacked did after other (r, is, h) = own_nothing _ _ lacked did after h
   nothing_step step.Cleanup answer lacked did after other (Ok out, is, h) = h.1
   nothing_step step.Cleanup answer lacked did after other (Err e, is, h) = h
   nothing_step step.TakeNotes answer lacked did after other (Ok out, is, h) = (h.1, h.2, h.3)
   nothing_step step.TakeNotes answer lacked did after other (Err e, is, h) = h
-  nothing_step (step.Arrive target bytes tokens) answer lacked did after other (r, is, h) = own_nothing _ _ lacked did after h
-  nothing_step (step.ArriveFault target f) answer lacked did after other (r, is, h) = own_nothing _ _ lacked did after h
-  nothing_step (step.Accept target n) answer lacked did after other (r, is, h) = own_nothing _ _ lacked did after h
-  nothing_step (step.AcceptFault target f) answer lacked did after other (r, is, h) = own_nothing _ _ lacked did after h
-  nothing_step (step.TakeSent target) answer lacked did after other (r, is, h) = own_nothing _ _ lacked did after h
+  nothing_step (step.SetDefaultMaxBufferSize limit) answer lacked did after other h = h.1
+  nothing_step (step.DisableGlobal g) answer lacked did after other h = own_nothing _ _ lacked did after h.1
+  nothing_step (step.RemoveGlobal g) answer lacked did after other h = own_nothing _ _ lacked did after h.1
+  nothing_step (step.PostError o code text) answer lacked did after other h = own_nothing _ _ lacked did after h.1
+  nothing_step (step.KillClient target reason) answer lacked did after other h = own_nothing _ _ lacked did after h.1
+  nothing_step (step.SetClientMaxBufferSize target limit) answer lacked did after other h = own_nothing _ _ lacked did after h.1
+  nothing_step (step.NextAction target) answer lacked did after other h = own_nothing _ _ lacked did after h.3
+  nothing_step (step.NextActionWithin target reading) answer lacked did after other h = own_nothing _ _ lacked did after h.3
+  nothing_step s answer lacked did after other h = own_nothing _ _ lacked did after h.2
 
   nothing_call : (call : Call T U G C) (lacked : Bool) (did : List (Deed U)) (after : Seen T U C)
       → IsNotInserted id call → PartCall w id offer call nothing_seen lacked did after → Unfelt nothing_seen lacked did after
@@ -123,31 +112,20 @@ module _ {T U G C : Type 0} (w : World T G C) (id : ClientParts) (offer : Offer 
       → IsNotInserted id (Asked s answer) → is_about id s ≡ false → PartStep w id offer s answer before lacked did after → Unfelt before lacked did after
   other_step (step.InsertClient transport client_data) answer before lacked did after other far (r, is, h) =
       inserted_other transport client_data r before lacked did after (inserts_other transport client_data answer r is other) h
-  other_step (step.SetObjectData o u) answer before lacked did after other far (r, is, h) = own_other _ before _ _ lacked did after far h
-  other_step (step.CreateObject target i version u) answer before lacked did after other far (r, is, h) = own_other _ before _ _ lacked did after far h
-  other_step (step.DestroyObject o) answer before lacked did after other far (r, is, h) = own_other _ before _ _ lacked did after far h
-  other_step (step.SendEvent m) answer before lacked did after other far (r, is, h) = own_other _ before _ _ lacked did after far h
-  other_step (step.PostError o code text) answer before lacked did after other far (is, h) = own_other _ before _ _ lacked did after far h
-  other_step (step.KillClient target reason) answer before lacked did after other far (is, h) = own_other _ before _ _ lacked did after far h
   other_step (step.CreateGlobal i version handler) answer before lacked did after other far h = absurd (true≢false far)
   other_step (step.DisableGlobal g) answer before lacked did after other far h = absurd (true≢false far)
   other_step (step.RemoveGlobal g) answer before lacked did after other far h = absurd (true≢false far)
   other_step (step.Flush None) answer before lacked did after other far h = absurd (true≢false far)
-  other_step (step.Flush (Some target)) answer before lacked did after other far (r, is, h) = own_other _ before _ _ lacked did after far h
   other_step (step.SetDefaultMaxBufferSize limit) answer before lacked did after other far h = absurd (true≢false far)
   other_step (step.AddInterfaces interfaces) answer before lacked did after other far h = absurd (true≢false far)
-  other_step (step.SetClientMaxBufferSize target limit) answer before lacked did after other far (is, h) = own_other _ before _ _ lacked did after far h
-  other_step (step.NextAction target) answer before lacked did after other far (r, left, is, h) = own_other _ before _ _ lacked did after far h
-  other_step (step.NextActionWithin target reading) answer before lacked did after other far (r, left, is, h) = own_other _ before _ _ lacked did after far h
-  other_step (step.FinishRequest target u) answer before lacked did after other far (r, is, h) = own_other _ before _ _ lacked did after far h
-  other_step (step.FinishBind target u) answer before lacked did after other far (r, is, h) = own_other _ before _ _ lacked did after far h
   other_step step.Cleanup answer before lacked did after other far h = absurd (true≢false far)
   other_step step.TakeNotes answer before lacked did after other far h = absurd (true≢false far)
-  other_step (step.Arrive target bytes tokens) answer before lacked did after other far (r, is, h) = own_other _ before _ _ lacked did after far h
-  other_step (step.ArriveFault target f) answer before lacked did after other far (r, is, h) = own_other _ before _ _ lacked did after far h
-  other_step (step.Accept target n) answer before lacked did after other far (r, is, h) = own_other _ before _ _ lacked did after far h
-  other_step (step.AcceptFault target f) answer before lacked did after other far (r, is, h) = own_other _ before _ _ lacked did after far h
-  other_step (step.TakeSent target) answer before lacked did after other far (r, is, h) = own_other _ before _ _ lacked did after far h
+  other_step (step.PostError o code text) answer before lacked did after other far h = own_other _ before _ _ lacked did after far h.1
+  other_step (step.KillClient target reason) answer before lacked did after other far h = own_other _ before _ _ lacked did after far h.1
+  other_step (step.SetClientMaxBufferSize target limit) answer before lacked did after other far h = own_other _ before _ _ lacked did after far h.1
+  other_step (step.NextAction target) answer before lacked did after other far h = own_other _ before _ _ lacked did after far h.3
+  other_step (step.NextActionWithin target reading) answer before lacked did after other far h = own_other _ before _ _ lacked did after far h.3
+  other_step s answer before lacked did after other far h = own_other _ before _ _ lacked did after far h.2
 
   pub other_call : (call : Call T U G C) (before : Seen T U C) (lacked : Bool) (did : List (Deed U)) (after : Seen T U C)
       → IsNotInserted id call → concerns id call ≡ false → PartCall w id offer call before lacked did after → Unfelt before lacked did after
@@ -168,26 +146,7 @@ module _ {T U G C : Type 0} where
   other_offer id offer (step.RemoveGlobal g) answer far = absurd (true≢false far)
   other_offer id offer (step.SetDefaultMaxBufferSize limit) answer far = absurd (true≢false far)
   other_offer id offer (step.AddInterfaces interfaces) answer far = absurd (true≢false far)
-  other_offer id offer (step.InsertClient transport client_data) answer far = refl
-  other_offer id offer (step.SetObjectData o u) answer far = refl
-  other_offer id offer (step.CreateObject target i version u) answer far = refl
-  other_offer id offer (step.DestroyObject o) answer far = refl
-  other_offer id offer (step.SendEvent m) answer far = refl
-  other_offer id offer (step.PostError o code text) answer far = refl
-  other_offer id offer (step.KillClient target reason) answer far = refl
-  other_offer id offer (step.Flush target) answer far = refl
-  other_offer id offer (step.SetClientMaxBufferSize target limit) answer far = refl
-  other_offer id offer (step.NextAction target) answer far = refl
-  other_offer id offer (step.NextActionWithin target reading) answer far = refl
-  other_offer id offer (step.FinishRequest target u) answer far = refl
-  other_offer id offer (step.FinishBind target u) answer far = refl
-  other_offer id offer step.Cleanup answer far = refl
-  other_offer id offer step.TakeNotes answer far = refl
-  other_offer id offer (step.Arrive target bytes tokens) answer far = refl
-  other_offer id offer (step.ArriveFault target f) answer far = refl
-  other_offer id offer (step.Accept target n) answer far = refl
-  other_offer id offer (step.AcceptFault target f) answer far = refl
-  other_offer id offer (step.TakeSent target) answer far = refl
+  other_offer id offer s answer far = refl
 
   pub offer_of_other : (id : ClientParts) (offer : Offer G) (call : Call T U G C) → concerns id call ≡ false → offer_after offer call ≡ offer
   offer_of_other id offer (Asked s answer) far = other_offer id offer s answer far

@@ -348,11 +348,7 @@ module _ {T U G C : Type 0} (w : World T G C) (id : ClientParts) (r : Id) where
       of_client offer (same_client target id) s _ _ lacked did t (λ p q f. finishes_bind_lives w.views id r offer p u a lacked did q f) h
   step_follows offer known step.Cleanup answer s lacked did t about numbered alone (a, is, h) = cleanup_follows offer a s lacked did t h
   step_follows offer known step.TakeNotes answer s lacked did t about numbered alone (a, is, h) = taken_follows offer a s lacked did t h
-  step_follows offer known (step.Arrive target bytes tokens) answer s lacked did t about numbered alone (a, is, h) = moved_follows offer target _ _ s lacked did t h
-  step_follows offer known (step.ArriveFault target f) answer s lacked did t about numbered alone (a, is, h) = moved_follows offer target _ _ s lacked did t h
-  step_follows offer known (step.Accept target n) answer s lacked did t about numbered alone (a, is, h) = moved_follows offer target _ _ s lacked did t h
-  step_follows offer known (step.AcceptFault target f) answer s lacked did t about numbered alone (a, is, h) = moved_follows offer target _ _ s lacked did t h
-  step_follows offer known (step.TakeSent target) answer s lacked did t about numbered alone (a, is, h) = moved_follows offer target _ _ s lacked did t h
+  step_follows offer known _ answer s lacked did t about numbered alone h = moved_follows offer _ _ _ s lacked did t h.2
 
   call_follows : (offer : Offer G) → HasInterfaces offer → (call : Call T U G C) (s : Seen T U C) (lacked : Bool) (did : List (Deed U)) (t : Seen T U C) → concerns id call ≡ true
       → AnswersShared offer call → IsLeftAlone r call → PartCall w id offer call s lacked did t → Follows offer (offer_after offer call) s did t

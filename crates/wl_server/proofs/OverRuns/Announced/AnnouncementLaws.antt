@@ -1,8 +1,8 @@
 -- What an object's messages announce, one list behind another.
-use Rattle.std.proofs.Common.{◌≡◌, ◌≢◌, ◌⊎◌, ℕ, Bool, true, false, not, ◌&&◌, cond, eqb, List, [], ◌∷◌, ◌++◌, map, refl, sym, ap, subst, ◌∙◌, true≢false, append-nil, append_assoc}
+use Rattle.std.proofs.Common.{◌≡◌, ◌≢◌, ◌⊎◌, ℕ, Bool, true, false, not, ◌&&◌, cond, eqb, List, [], ◌∷◌, ◌++◌, length, map, refl, sym, ap, subst, ◌∙◌, true≢false, append-nil, append_assoc}
 use mathlib.Core.Logic.{inl, inr}
 use Rattle.std.proofs.lemmas.Bool.{eqb-true, eq-eqb, ne_eqb}
-use Rattle.wl_wire.specs.Table.{InterfaceRow}
+use Rattle.wl_wire.specs.Table.{InterfaceRow, name_of}
 use Rattle.wl_link.specs.Identity.{Id}
 use Rattle.wl_link.specs.Puts.{Said}
 use Rattle.wl_server.proofs.OverRuns.Ids.AmongLaws.{among_both, among_filter, among_first, among_later, filter_among}
@@ -10,7 +10,7 @@ use Rattle.wl_server.specs.Announced.{Announced, announced_after, announced_as, 
 use Rattle.wl_server.specs.Deeds.{IsAmong}
 use Rattle.wl_server.specs.Globals.{Shown}
 use Rattle.wl_server.specs.Part.{same_id}
-use Rattle.wl_server.specs.Telling.{global_message, removal_message}
+use Rattle.wl_server.specs.Telling.{global_message, introductions, making, removal_message}
 
 -- ---- ids
 
@@ -66,26 +66,27 @@ say_then r a b first second = record {
 -- ---- a registry is told of globals one after another
 
 module _ (table : List InterfaceRow) where
-  pub greeted : (r : Id) (told : List Announced) (gs : List Shown)
-      → announced_over r told (map (global_message table r) gs) ≡ told ++ map (announced_as table) gs
-  greeted r told [] = sym (append-nil told)
-  greeted r told (g ∷ gs) =
-      ap (λ b. announced_over r (cond b (told ++ announced_as table g ∷ []) told) (map (global_message table r) gs)) (same_id_self r)
-      ∙ greeted r (told ++ announced_as table g ∷ []) gs ∙ append_assoc told (announced_as table g ∷ []) (map (announced_as table) gs)
+  pub greeted : (r : Id) (told : List Announced) (room : ℕ) (gs : List Shown)
+      → announced_over r told (introductions table r room gs) ≡ told ++ map (announced_as table) gs
+  greeted r told room [] = sym (append-nil told)
+  greeted r told room (g ∷ gs) =
+      let next = length (name_of table g.interface.0) in
+      ap (λ b. announced_over r (cond b (told ++ announced_as table g ∷ []) told) (introductions table r next gs)) (same_id_self r)
+      ∙ greeted r (told ++ announced_as table g ∷ []) next gs ∙ append_assoc told (announced_as table g ∷ []) (map (announced_as table) gs)
 
   -- what one registry is told is of others to another
-  pub greeted_other : (r y : Id) (gs : List Shown) → y ≢ r → AreOfOthers r (map (global_message table y) gs)
-  greeted_other r y [] other = tt
-  greeted_other r y (g ∷ gs) other = (other, greeted_other r y gs other)
+  pub greeted_other : (r y : Id) (room : ℕ) (gs : List Shown) → y ≢ r → AreOfOthers r (introductions table y room gs)
+  greeted_other r y room [] other = tt
+  greeted_other r y room (g ∷ gs) other = (other, greeted_other r y (length (name_of table g.interface.0)) gs other)
 
   -- ---- all registries are told of a new global
 
-  module _ (g : Shown) (r : Id) where
+  module _ (g : Shown) (makes : Id → Bool) (r : Id) where
     abbrev after_adding : List Announced → List Id → List Announced
-    after_adding told rs = announced_over r told (map (λ y. global_message table y g) rs)
+    after_adding told rs = announced_over r told (map (λ y. making (makes y) (global_message table y g)) rs)
 
     pub adding_keeps : (told : List Announced) (rs : List Id) (x : Announced) → IsAmong told x
-        → IsAmong (announced_over r told (map (λ y. global_message table y g) rs)) x
+        → IsAmong (announced_over r told (map (λ y. making (makes y) (global_message table y g)) rs)) x
     adding_keeps told [] x among = among
     adding_keeps told (y ∷ rs) x among = go (same_id y r) (λ t k. adding_keeps t rs x k)
       where
@@ -95,7 +96,7 @@ module _ (table : List InterfaceRow) where
         go false more = more told among
 
     pub adding_adds : (told : List Announced) (rs : List Id) → IsAmong rs r
-        → IsAmong (announced_over r told (map (λ y. global_message table y g) rs)) (announced_as table g)
+        → IsAmong (announced_over r told (map (λ y. making (makes y) (global_message table y g)) rs)) (announced_as table g)
     adding_adds told [] among = absurd among
     adding_adds told (y ∷ rs) (inl e) =
         subst (λ b. IsAmong (after_adding (cond b (told ++ announced_as table g ∷ []) told) rs) (announced_as table g)) (sym (ap (λ z. same_id z r) e ∙ same_id_self r))
@@ -103,7 +104,7 @@ module _ (table : List InterfaceRow) where
     adding_adds told (y ∷ rs) (inr among) = adding_adds (cond (same_id y r) (told ++ announced_as table g ∷ []) told) rs among
 
     pub adding_only : (told : List Announced) (rs : List Id) (x : Announced)
-        → IsAmong (announced_over r told (map (λ y. global_message table y g) rs)) x → IsAmong told x ⊎ (announced_as table g ≡ x)
+        → IsAmong (announced_over r told (map (λ y. making (makes y) (global_message table y g)) rs)) x → IsAmong told x ⊎ (announced_as table g ≡ x)
     adding_only told [] x among = inl among
     adding_only told (y ∷ rs) x among = go (same_id y r) (λ t k. adding_only t rs x k) among
       where

@@ -33,15 +33,7 @@ module _ {U G C : Type 0} (a : Around G C) (c : Core U C) (P : Verdict (Core U C
         go : (b : Bool) → is_valid_new (objects_in c) n ≡ true → P (cond b (syncs a c n) (registers a c n))
         go true valid = syncs' n valid
         go false valid = registers' n valid
-    display_case opcode [] = garbled'
-    display_case opcode (arg.Int z ∷ args) = garbled'
-    display_case opcode (arg.Uint k ∷ args) = garbled'
-    display_case opcode (arg.Fixed z ∷ args) = garbled'
-    display_case opcode (arg.Str text ∷ args) = garbled'
-    display_case opcode (arg.Object k ∷ args) = garbled'
-    display_case opcode (arg.Array bytes ∷ args) = garbled'
-    display_case opcode (arg.Fd token ∷ args) = garbled'
-    display_case opcode (arg.NewId n ∷ b ∷ args) = garbled'
+    display_case opcode _ = garbled'
 
   module _ (binds' : (g version n : ℕ) (x : Object (KeptGlobal G)) → is_valid_new (objects_in c) n ≡ true → P (binds a c g version n x)) where
     binds_to_case : (g : ℕ) (name : Option (List ℕ)) (version n : ℕ) (x : Option (Object (KeptGlobal G))) → P (binds_to a c g name version n x)
@@ -54,39 +46,7 @@ module _ {U G C : Type 0} (a : Around G C) (c : Core U C) (P : Verdict (Core U C
 
     pub registry_case : (args : List WireArgument) → P (registry_request a c args)
     registry_case (arg.Uint g ∷ arg.Str name ∷ arg.Uint version ∷ arg.NewId n ∷ []) = binds_to_case g name version n (held a.globals.store g)
-    registry_case [] = garbled'
-    registry_case (arg.Int z ∷ args) = garbled'
-    registry_case (arg.Fixed z ∷ args) = garbled'
-    registry_case (arg.Str text ∷ args) = garbled'
-    registry_case (arg.Object k ∷ args) = garbled'
-    registry_case (arg.NewId k ∷ args) = garbled'
-    registry_case (arg.Array bytes ∷ args) = garbled'
-    registry_case (arg.Fd token ∷ args) = garbled'
-    registry_case (arg.Uint g ∷ []) = garbled'
-    registry_case (arg.Uint g ∷ arg.Int z ∷ args) = garbled'
-    registry_case (arg.Uint g ∷ arg.Uint k ∷ args) = garbled'
-    registry_case (arg.Uint g ∷ arg.Fixed z ∷ args) = garbled'
-    registry_case (arg.Uint g ∷ arg.Object k ∷ args) = garbled'
-    registry_case (arg.Uint g ∷ arg.NewId k ∷ args) = garbled'
-    registry_case (arg.Uint g ∷ arg.Array bytes ∷ args) = garbled'
-    registry_case (arg.Uint g ∷ arg.Fd token ∷ args) = garbled'
-    registry_case (arg.Uint g ∷ arg.Str name ∷ []) = garbled'
-    registry_case (arg.Uint g ∷ arg.Str name ∷ arg.Int z ∷ args) = garbled'
-    registry_case (arg.Uint g ∷ arg.Str name ∷ arg.Fixed z ∷ args) = garbled'
-    registry_case (arg.Uint g ∷ arg.Str name ∷ arg.Str text ∷ args) = garbled'
-    registry_case (arg.Uint g ∷ arg.Str name ∷ arg.Object k ∷ args) = garbled'
-    registry_case (arg.Uint g ∷ arg.Str name ∷ arg.NewId k ∷ args) = garbled'
-    registry_case (arg.Uint g ∷ arg.Str name ∷ arg.Array bytes ∷ args) = garbled'
-    registry_case (arg.Uint g ∷ arg.Str name ∷ arg.Fd token ∷ args) = garbled'
-    registry_case (arg.Uint g ∷ arg.Str name ∷ arg.Uint version ∷ []) = garbled'
-    registry_case (arg.Uint g ∷ arg.Str name ∷ arg.Uint version ∷ arg.Int z ∷ args) = garbled'
-    registry_case (arg.Uint g ∷ arg.Str name ∷ arg.Uint version ∷ arg.Uint k ∷ args) = garbled'
-    registry_case (arg.Uint g ∷ arg.Str name ∷ arg.Uint version ∷ arg.Fixed z ∷ args) = garbled'
-    registry_case (arg.Uint g ∷ arg.Str name ∷ arg.Uint version ∷ arg.Str text ∷ args) = garbled'
-    registry_case (arg.Uint g ∷ arg.Str name ∷ arg.Uint version ∷ arg.Object k ∷ args) = garbled'
-    registry_case (arg.Uint g ∷ arg.Str name ∷ arg.Uint version ∷ arg.Array bytes ∷ args) = garbled'
-    registry_case (arg.Uint g ∷ arg.Str name ∷ arg.Uint version ∷ arg.Fd token ∷ args) = garbled'
-    registry_case (arg.Uint g ∷ arg.Str name ∷ arg.Uint version ∷ arg.NewId n ∷ b ∷ args) = garbled'
+    registry_case _ = garbled'
 
   -- a message, of whatever kind
   pub request_case : ((n : ℕ) → is_valid_new (objects_in c) n ≡ true → P (syncs a c n)) → ((n : ℕ) → is_valid_new (objects_in c) n ≡ true → P (registers a c n))

@@ -276,12 +276,7 @@ module _ {G C : Type 0} (views : G → ClientParts → C → GlobalParts → Boo
           after_sends (subst (λ (e : Part T U C). Lives views client r offer p.is_killed e.is_killed (part_scene p) (log_of rest) (registries_in rest) (part_scene e)) (sym same)
           (lives_so views client r offer p.is_killed p.is_killed (part_scene p) (part_scene p) [] (log_of rest) [] (registries_in rest) (ap log_of none) (ap registries_in none)
           (lives_same views client r offer p.is_killed (part_scene p))))
-      sent_lives (Err fault.WouldBlock) (tells', is_ok) = broken_lives tells'
-      sent_lives (Err fault.Pipe) (tells', is_ok) = broken_lives tells'
-      sent_lives (Err fault.TooBig) (tells', is_ok) = broken_lives tells'
-      sent_lives (Err fault.Proto) (tells', is_ok) = broken_lives tells'
-      sent_lives (Err fault.InvalidInput) (tells', is_ok) = broken_lives tells'
-      sent_lives (Err (fault.Other n)) (tells', is_ok) = broken_lives tells'
+      sent_lives _ h = broken_lives h.0
 
     granted_lives : (p : Part T U C) (b : Bool) (answer : Result (Unit {0}) EventError) (lacked : Bool) (did : List (Deed U)) (q : Part T U C)
         → named p.store m.sender ≡ Some sender → (id_of m.sender ≡ r → answer ≢ Ok tt) → SendsGranted sends client p m sender b answer lacked did q → Run p did q

@@ -16,13 +16,13 @@ use Rattle.wl_server.specs.Announced.{Announced, announced, announced_as, announ
 use Rattle.wl_server.proofs.OverRuns.Announced.AnnouncementLaws.{adding_adds, adding_keeps, adding_only, announced-append, removing_keeps, removing_only, removing_removes}
 use Rattle.wl_server.specs.Deeds.{IsAmong}
 use Rattle.wl_server.specs.Deeds.{Deed, log_of, registries_in}
-use Rattle.wl_server.specs.Felt.{Hears}
+use Rattle.wl_server.specs.Felt.{Hears, announcements, is_first}
 use Rattle.wl_server.specs.Globals.{Globals, Offer, Shown, global_of, is_enabled, new_global, shown_as, with_created, with_globals, with_table}
 use Rattle.wl_server.specs.Ids.{ClientParts, GlobalParts}
 use Rattle.wl_server.specs.Part.{Part}
 use Rattle.wl_server.proofs.OverRuns.Announced.InterfaceLaws.{HasInterfaces, keeps_name}
 use Rattle.wl_server.proofs.OverRuns.Announced.ShownLaws.{Hides, IsShown, StaysShown, created_new, created_old, created_only, hidden_old, hidden_only}
-use Rattle.wl_server.specs.Telling.{Core, Tells, Told, core_of, deeds_in, global_message, removal_message, speaker, tells}
+use Rattle.wl_server.specs.Telling.{Core, Tells, Told, core_of, deeds_in, global_message, making, removal_message, speaker, tells}
 use Rattle.wl_server.proofs.OverRuns.Announced.WatchedVerdicts.{CameTo, carried_to, exchanged}
 use Rattle.wl_server.proofs.OverRuns.Announced.Watching.{Scene, TellsShown, Watch, part_scene, scene_of, told_all, told_none}
 
@@ -75,30 +75,33 @@ module _ {G C : Type 0} (views : G → ClientParts → C → GlobalParts → Boo
     abbrev new : Shown
     new = record { name = g.name; interface = i; version = version }
 
+    abbrev first : Id → Bool
+    first y = is_first s.registries y
+
     abbrev x : Object (KeptGlobal G)
     x = new_global i version g.serial handler
 
     global_told : (log : List Said) → IsAmong s.registries r → views handler client s.client_data g ≡ true → TellsShown views client r offer s.client_data log
-        → TellsShown views client r created s.client_data (log ++ map (λ y. global_message offer.table y new) s.registries)
+        → TellsShown views client r created s.client_data (log ++ announcements offer.table s.registries new)
     global_told log among visible w = record {
       told = λ a there.
-          elim (adding_only offer.table new r (announced log r) s.registries a (subst (λ (l : List Announced). IsAmong l a) whole there)) [
+          elim (adding_only offer.table new first r (announced log r) s.registries a (subst (λ (l : List Announced). IsAmong l a) whole there)) [
             | inl old ↦ created_old views client s.client_data offer g.name x g.serial free a (w.told a old)
             | inr is ↦
                 subst (λ (z : Announced). IsShown views client s.client_data created z) is (created_new views client s.client_data offer g.name x g.serial free visible)
           ];
       tells = λ a shown'. subst (λ (l : List Announced). IsAmong l a) (sym whole)
           (elim (created_only views client s.client_data offer g.name x g.serial free a shown') [
-            | inl old ↦ adding_keeps offer.table new r (announced log r) s.registries a (w.tells a old)
+            | inl old ↦ adding_keeps offer.table new first r (announced log r) s.registries a (w.tells a old)
             | inr (passes, is) ↦
-                subst (λ (z : Announced). IsAmong (announced_over r (announced log r) (map (λ y. global_message offer.table y new) s.registries)) z) is
-                (adding_adds offer.table new r (announced log r) s.registries among)
+                subst (λ (z : Announced). IsAmong (announced_over r (announced log r) (announcements offer.table s.registries new)) z) is
+                (adding_adds offer.table new first r (announced log r) s.registries among)
           ]);
     }
       where
-        whole : announced (log ++ map (λ y. global_message offer.table y new) s.registries) r
-            ≡ announced_over r (announced log r) (map (λ y. global_message offer.table y new) s.registries)
-        whole = announced-append r [] log (map (λ y. global_message offer.table y new) s.registries)
+        whole : announced (log ++ announcements offer.table s.registries new) r
+            ≡ announced_over r (announced log r) (announcements offer.table s.registries new)
+        whole = announced-append r [] log (announcements offer.table s.registries new)
 
     global_hidden : (log : List Said) → views handler client s.client_data g ≡ false → TellsShown views client r offer s.client_data log → TellsShown views client r created s.client_data log
     global_hidden log unseen w = record {
@@ -112,13 +115,13 @@ module _ {G C : Type 0} (views : G → ClientParts → C → GlobalParts → Boo
 
     pub global_watch : (log : List Said) (made : List Id) → Watched offer s log made
         → Watched (with_globals offer (with_created offer.globals i version handler (Ok g))) s
-        (log ++ (if views handler client s.client_data g then map (λ y. global_message offer.table y (record { name = g.name; interface = i; version = version })) s.registries else [])) made
+        (log ++ (if views handler client s.client_data g then announcements offer.table s.registries (record { name = g.name; interface = i; version = version }) else [])) made
     global_watch log made w = go (views handler client s.client_data g) refl
       where
         go : (b : Bool) → views handler client s.client_data g ≡ b
-            → Watched created s (log ++ cond b (map (λ y. global_message offer.table y new) s.registries) []) made
+            → Watched created s (log ++ cond b (announcements offer.table s.registries new) []) made
         go true visible =
-            told_all views client r offer created s (λ y. global_message offer.table y new) (λ y. refl) log made (λ among tells'. global_told log among visible tells') w
+            told_all views client r offer created s (λ y. making (first y) (global_message offer.table y new)) (λ y. refl) log made (λ among tells'. global_told log among visible tells') w
         go false unseen =
             subst (λ (l : List Said). Watched created s l made) (sym (append-nil log))
             (told_none views client r offer created s log made (λ tells'. global_hidden log unseen tells') w)

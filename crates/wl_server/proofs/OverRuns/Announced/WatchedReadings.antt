@@ -205,14 +205,9 @@ module _ {G C : Type 0} (views : G → ClientParts → C → GlobalParts → Boo
         go false valid = tt
 
     converts_one : (d : Converting U) (x : WireArgument) → One d (convert_one client version d x)
-    converts_one d (arg.Int z) = still d.objects
-    converts_one d (arg.Uint n) = still d.objects
-    converts_one d (arg.Fixed z) = still d.objects
-    converts_one d (arg.Str text) = still d.objects
     converts_one d (arg.Object n) = converts_object d (allows_null d.kinds) (next_interface d.asked) n (eqb n 0)
     converts_one d (arg.NewId n) = converts_new d n d.child
-    converts_one d (arg.Array bytes) = still d.objects
-    converts_one d (arg.Fd token) = still d.objects
+    converts_one d _ = still d.objects
 
     abbrev Came : Objects (Kept U) → Outcome U → Type 0
     Came o (Whole d args) = Over o d.objects
@@ -292,11 +287,7 @@ module _ {G C : Type 0} (views : G → ClientParts → C → GlobalParts → Boo
     faulted_lives : (c : Core U C) (f : IoFault) → Gave c [] (faulted c f)
     faulted_lives c fault.WouldBlock = none_gave c [] refl
     faulted_lives c fault.OutOfMemory = none_gave c [] refl
-    faulted_lives c fault.Pipe = lives_not views client r offer c.is_killed true (scene_of c) [] [] (scene_of c) refl
-    faulted_lives c fault.TooBig = lives_not views client r offer c.is_killed true (scene_of c) [] [] (scene_of c) refl
-    faulted_lives c fault.Proto = lives_not views client r offer c.is_killed true (scene_of c) [] [] (scene_of c) refl
-    faulted_lives c fault.InvalidInput = lives_not views client r offer c.is_killed true (scene_of c) [] [] (scene_of c) refl
-    faulted_lives c (fault.Other n) = lives_not views client r offer c.is_killed true (scene_of c) [] [] (scene_of c) refl
+    faulted_lives c _ = lives_not views client r offer c.is_killed true (scene_of c) [] [] (scene_of c) refl
 
     reads_lives : (left : ℕ) (before : ReaderState T (Core U C)) (turns : List Turn) (out : Gives (Told U)) (after : ReaderState T (Core U C))
         → Reads sends (server (around_of views client offer)) receives left before turns out after → Gave before.core out.gave after.core

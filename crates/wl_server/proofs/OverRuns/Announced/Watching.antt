@@ -21,7 +21,7 @@ use Rattle.wl_server.specs.Globals.{Offer, shown}
 use Rattle.wl_server.specs.Ids.{ClientParts, GlobalParts, IdParts}
 use Rattle.wl_server.specs.Part.{Part, id_of, registries_without, same_id, with_user_data}
 use Rattle.wl_server.proofs.OverRuns.Announced.ShownLaws.{IsShown, among_shown, shown_among}
-use Rattle.wl_server.specs.Telling.{Core, global_message}
+use Rattle.wl_server.specs.Telling.{Core, introductions}
 
 none_some : {A : Type 0} {x : A} → None ≡ Some x → ⊥
 none_some e = true≢false (sym (ap is_some e))
@@ -354,7 +354,7 @@ module _ {G C : Type 0} (views : G → ClientParts → C → GlobalParts → Boo
       new_id = record { number = n; serial = s.last_serial + 1 }
 
       abbrev greeting : List Said
-      greeting = map (global_message offer.table new_id) (shown views offer.globals client s.client_data)
+      greeting = introductions offer.table new_id 0 (shown views offer.globals client s.client_data)
 
       abbrev after : Scene U C
       after = record s { store = stored s.store n x; last_serial = s.last_serial + 1; registries = s.registries ++ new_id ∷ [] }
@@ -364,7 +364,7 @@ module _ {G C : Type 0} (views : G → ClientParts → C → GlobalParts → Boo
       registers_other other = record {
         watch = λ log made w.
             let born = (born_goes s n x free serial).watch log made w in
-            let others = greeted_other offer.table r new_id (shown views offer.globals client s.client_data) other in
+            let others = greeted_other offer.table r new_id 0 (shown views offer.globals client s.client_data) other in
             let old : IsAmong (made ++ new_id ∷ []) r → IsAmong made r = λ among. earlier (among_both made (new_id ∷ []) r among) in
             record {
               bounded = born.bounded;
@@ -412,7 +412,7 @@ module _ {G C : Type 0} (views : G → ClientParts → C → GlobalParts → Boo
             let fresh : announced (log ++ greeting) r ≡ shown_as_announced =
             announced-append r [] log greeting
             ∙ ap (λ (t : List Announced). announced_over r t greeting) ((w.silent later).same [])
-            ∙ subst (λ (i : Id). announced_over i [] greeting ≡ shown_as_announced) this (greeted offer.table new_id [] (shown views offer.globals client s.client_data)) in
+            ∙ subst (λ (i : Id). announced_over i [] greeting ≡ shown_as_announced) this (greeted offer.table new_id [] 0 (shown views offer.globals client s.client_data)) in
             record {
               bounded = born.bounded;
               listed = λ y among. most w.listed y (among_both s.registries (new_id ∷ []) y among);
@@ -446,7 +446,7 @@ module _ {G C : Type 0} (views : G → ClientParts → C → GlobalParts → Boo
           most old y (inr (inl same)) = let so : s.last_serial + 1 ≡ y.serial = ap (λ (i : Id). i.serial) same in omega (arith, so)
           most old y (inr (inr none)) = absurd none
 
-      pub registers_goes : Goes s (map (global_message offer.table (record { number = n; serial = s.last_serial + 1 })) (shown views offer.globals client s.client_data))
+      pub registers_goes : Goes s (introductions offer.table (record { number = n; serial = s.last_serial + 1 }) 0 (shown views offer.globals client s.client_data))
           (record { number = n; serial = s.last_serial + 1 } ∷ [])
           (record s { store = stored s.store n x; last_serial = s.last_serial + 1; registries = s.registries ++ record { number = n; serial = s.last_serial + 1 } ∷ [] })
       registers_goes = go (same_id new_id r) refl

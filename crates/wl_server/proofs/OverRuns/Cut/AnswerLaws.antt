@@ -321,12 +321,7 @@ module _ {U G C : Type 0} (a : Around G C) where
 
   came_broken : (v : Verdict (Core U C) (Told U)) (f : IoFault) → lacks_memory (Err f) ≡ false → came_to (server a) v (Err f) ≡ v.last (closed_down v.core)
   came_broken v fault.OutOfMemory ample = absurd (true≢false ample)
-  came_broken v fault.WouldBlock ample = refl
-  came_broken v fault.Pipe ample = refl
-  came_broken v fault.TooBig ample = refl
-  came_broken v fault.Proto ample = refl
-  came_broken v fault.InvalidInput ample = refl
-  came_broken v (fault.Other n) ample = refl
+  came_broken v _ ample = refl
 
   module _ {T : Type 0} (sends : T → Queue → Result ℕ IoFault → T → Type 0) where
     came_says : (v : Verdict (Core U C) (Told U)) → Speaks v → (before mid : LinkState T) (es : List Sending) (put : List Said) (wrote : Result (Unit {0}) IoFault)
@@ -381,11 +376,7 @@ module _ {U C : Type 0} where
   faulted_sound : (c : Core U C) (f : IoFault) → IsReady c → IsSound (faulted c f)
   faulted_sound c fault.WouldBlock r = inl (r.live, r.none)
   faulted_sound c fault.OutOfMemory r = inl (r.live, r.none)
-  faulted_sound c fault.Pipe r = sound_killed c _ (inl (r.live, r.none)) r.unopened
-  faulted_sound c fault.TooBig r = sound_killed c _ (inl (r.live, r.none)) r.unopened
-  faulted_sound c fault.Proto r = sound_killed c _ (inl (r.live, r.none)) r.unopened
-  faulted_sound c fault.InvalidInput r = sound_killed c _ (inl (r.live, r.none)) r.unopened
-  faulted_sound c (fault.Other n) r = sound_killed c _ (inl (r.live, r.none)) r.unopened
+  faulted_sound c _ r = sound_killed c _ (inl (r.live, r.none)) r.unopened
 
   -- what a verdict said, and then the rest
   joins_so : (c mid e : Core U C) (first : List (Given (Told U))) (lacked : Bool) (rest out : Gives (Told U)) → out ≡ given_first first lacked rest → Says first mid

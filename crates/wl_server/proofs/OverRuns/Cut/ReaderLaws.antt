@@ -27,12 +27,7 @@ module _ {U G C : Type 0} (a : Around G C) where
   came_alike : (v : Verdict (Core U C) (Told U)) (wrote : Result (Unit {0}) IoFault) → came_to speaker v wrote ≡ came_to (server a) v wrote
   came_alike v (Ok _) = refl
   came_alike v (Err fault.WouldBlock) = refl
-  came_alike v (Err fault.Pipe) = refl
-  came_alike v (Err fault.TooBig) = refl
-  came_alike v (Err fault.Proto) = refl
-  came_alike v (Err fault.InvalidInput) = refl
-  came_alike v (Err fault.OutOfMemory) = refl
-  came_alike v (Err (fault.Other n)) = refl
+  came_alike v _ = refl
 
 module _ {T U G C : Type 0} (sends : T → Queue → Result ℕ IoFault → T → Type 0) (a : Around G C) where
   pub carried_alike : (v : Verdict (Core U C) (Told U)) (link : LinkState T) (es : List Sending) (gave : List (Given (Told U))) (refused : Bool)

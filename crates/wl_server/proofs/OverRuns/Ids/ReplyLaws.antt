@@ -114,28 +114,7 @@ module _ {T U G C : Type 0} (w : World T G C) (id : ClientParts) (offer : Offer 
   covers_step (step.NextActionWithin target reading) answer s lacked did t about (r, left, is, h) =
       subst (λ (a : Reply T U). Covers (Asked (step.NextActionWithin target reading) a) did) (sym is)
       (λ i among. reads_ids target reading (action_content r) left s lacked did t about h i among)
-  covers_step (step.SetObjectData o u) answer s lacked did t about h = λ x among. absurd among
-  covers_step (step.DestroyObject o) answer s lacked did t about h = λ x among. absurd among
-  covers_step (step.SendEvent m) answer s lacked did t about h = λ x among. absurd among
-  covers_step (step.PostError o code text) answer s lacked did t about h = λ x among. absurd among
-  covers_step (step.KillClient target reason) answer s lacked did t about h = λ x among. absurd among
-  covers_step (step.CreateGlobal interface version handler) answer s lacked did t about h = λ x among. absurd among
-  covers_step (step.DisableGlobal g) answer s lacked did t about h = λ x among. absurd among
-  covers_step (step.RemoveGlobal g) answer s lacked did t about h = λ x among. absurd among
-  covers_step (step.Flush target) answer s lacked did t about h = λ x among. absurd among
-  covers_step (step.SetDefaultMaxBufferSize limit) answer s lacked did t about h = λ x among. absurd among
-  covers_step (step.AddInterfaces interfaces) answer s lacked did t about h = λ x among. absurd among
-  covers_step (step.SetClientMaxBufferSize target limit) answer s lacked did t about h = λ x among. absurd among
-  covers_step (step.FinishRequest target u) answer s lacked did t about h = λ x among. absurd among
-  covers_step (step.FinishBind target u) answer s lacked did t about h = λ x among. absurd among
-  covers_step step.Cleanup answer s lacked did t about h = λ x among. absurd among
-  covers_step step.TakeNotes answer s lacked did t about h = λ x among. absurd among
-  covers_step (step.Arrive target bytes tokens) answer s lacked did t about h = λ x among. absurd among
-  covers_step (step.ArriveFault target f) answer s lacked did t about h = λ x among. absurd among
-  covers_step (step.Accept target n) answer s lacked did t about h = λ x among. absurd among
-  covers_step (step.AcceptFault target f) answer s lacked did t about h = λ x among. absurd among
-  covers_step (step.TakeSent target) answer s lacked did t about h = λ x among. absurd among
-  covers_step (step.InsertClient transport client_data) answer s lacked did t about h = λ x among. absurd among
+  covers_step call answer s lacked did t about h = λ x among. absurd among
 
   pub covers : (call : Call T U G C) (s : Seen T U C) (lacked : Bool) (did : List (Deed U)) (t : Seen T U C) → concerns id call ≡ true
       → PartCall w id offer call s lacked did t → Covers call did

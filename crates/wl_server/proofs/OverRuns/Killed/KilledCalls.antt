@@ -227,11 +227,7 @@ module _ {T U G C : Type 0} (w : World T G C) (id : ClientParts) (offer : Offer 
       inl (of_dead (same_client target id) _ _ h (λ q by. finish_bind_remains p killed q u r lacked did by))
   step_dead step.Cleanup answer other (r, is, h) = cleanup_dead answer r is h
   step_dead step.TakeNotes answer other (r, is, h) = inl (taken_dead r h)
-  step_dead (step.Arrive target bytes tokens) answer other (r, is, h) = inl (moved_dead target _ _ h)
-  step_dead (step.ArriveFault target f) answer other (r, is, h) = inl (moved_dead target _ _ h)
-  step_dead (step.Accept target n) answer other (r, is, h) = inl (moved_dead target _ _ h)
-  step_dead (step.AcceptFault target f) answer other (r, is, h) = inl (moved_dead target _ _ h)
-  step_dead (step.TakeSent target) answer other (r, is, h) = inl (moved_dead target _ _ h)
+  step_dead _ answer other h = inl (moved_dead _ _ _ h.2)
 
   -- a killed client stays killed, or the call is the cleanup that takes it out
   pub dead_or_out : (call : Call T U G C) → IsNotInserted id call → PartCall w id offer call before lacked did after → DeadOrOut call

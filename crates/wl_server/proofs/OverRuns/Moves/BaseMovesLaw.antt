@@ -324,11 +324,7 @@ module _ {T U G C : Type 0} (w : World T G C) (id : ClientParts) (offer : Offer 
       of_client w.sends w.receives id (same_client target id) s _ _ lacked did t (λ p q f. finishes_bind_moves w.sends w.receives id p u r lacked did q f) h
   step_goes step.Cleanup answer s lacked did t about (r, is, h) = cleanup_goes r s lacked did t h
   step_goes step.TakeNotes answer s lacked did t about (r, is, h) = taken_goes r s lacked did t h
-  step_goes (step.Arrive target bytes tokens) answer s lacked did t about (r, is, h) = moved_goes target _ _ s lacked did t h
-  step_goes (step.ArriveFault target f) answer s lacked did t about (r, is, h) = moved_goes target _ _ s lacked did t h
-  step_goes (step.Accept target n) answer s lacked did t about (r, is, h) = moved_goes target _ _ s lacked did t h
-  step_goes (step.AcceptFault target f) answer s lacked did t about (r, is, h) = moved_goes target _ _ s lacked did t h
-  step_goes (step.TakeSent target) answer s lacked did t about (r, is, h) = moved_goes target _ _ s lacked did t h
+  step_goes _ answer s lacked did t about h = moved_goes _ _ _ s lacked did t h.2
 
   -- Over a call that is about a client, or about none, what is held of the client goes over base moves, which make the
   -- deeds of the call and hand out its ids.

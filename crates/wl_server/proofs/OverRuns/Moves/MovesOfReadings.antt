@@ -98,11 +98,7 @@ module _ {T U G C : Type 0} (sends : T → Queue → Result ℕ IoFault → T �
   faulted_ends : (c : Core U C) (f : IoFault) → Calm c → Ends sends receives a.client c (faulted c f)
   faulted_ends c fault.WouldBlock calm = ends_not sends receives a.client c calm
   faulted_ends c fault.OutOfMemory calm = ends_not sends receives a.client c calm
-  faulted_ends c fault.Pipe calm = ends_killed sends receives a.client c ConnectionClosed calm
-  faulted_ends c fault.TooBig calm = ends_killed sends receives a.client c ConnectionClosed calm
-  faulted_ends c fault.Proto calm = ends_killed sends receives a.client c ConnectionClosed calm
-  faulted_ends c fault.InvalidInput calm = ends_killed sends receives a.client c ConnectionClosed calm
-  faulted_ends c (fault.Other n) calm = ends_killed sends receives a.client c ConnectionClosed calm
+  faulted_ends c _ calm = ends_killed sends receives a.client c ConnectionClosed calm
 
   pub gave_none : (left : ℕ) (mid : ReaderState T (Core U C)) (rest : Gives (Told U)) → Stops sends (server a) left mid rest → rest.gave ≡ []
   gave_none left mid rest ends =

@@ -140,14 +140,9 @@ module _ {T U G C : Type 0} (sends : T → Queue → Result ℕ IoFault → T �
         go false valid = tt
 
     converts_one : (d : Converting U) (x : WireArgument) → One d (convert_one a.client version d x)
-    converts_one d (arg.Int z) = (still d.objects, λ id among. inl among)
-    converts_one d (arg.Uint n) = (still d.objects, λ id among. inl among)
-    converts_one d (arg.Fixed z) = (still d.objects, λ id among. inl among)
-    converts_one d (arg.Str text) = (still d.objects, λ id among. inl among)
     converts_one d (arg.Object n) = converts_object d (allows_null d.kinds) (next_interface d.asked) n (eqb n 0)
     converts_one d (arg.NewId n) = converts_new d n d.child
-    converts_one d (arg.Array bytes) = (still d.objects, λ id among. inl among)
-    converts_one d (arg.Fd token) = (still d.objects, λ id among. inl among)
+    converts_one d _ = (still d.objects, λ id among. inl among)
 
     -- what the arguments came to so far, and what they came to
     abbrev SoFar : Objects (Kept U) → Converting U → List (Argument IdParts Token) → Type 0

@@ -29,9 +29,9 @@ failed_allowed P Q (Err f) answer ok tells h is = ok (tells f h ∙ is)
 module _ {T : Type 0} (sends : T → Queue → Result ℕ IoFault → T → Type 0) (function : IsFunction sends) where
   -- ---- messages that are put
 
-  put_same : (m : WireMessage) (before x y : LinkState T) (es fs : List Sending) (a b : Result (Unit {0}) IoFault) → PutBy sends before m es a x → PutBy sends before m fs b y
+  put_same : (m : Said) (before x y : LinkState T) (es fs : List Sending) (a b : Result (Unit {0}) IoFault) → PutBy sends before m es a x → PutBy sends before m fs b y
       → a ≢ Err fault.OutOfMemory → b ≢ Err fault.OutOfMemory → SameCall es fs a b x y
-  put_same m before x y es fs a b (inl wrote) (inl wrote') ok ok' = one_write_lem sends function m x y es fs a b ok ok' before wrote wrote'
+  put_same m before x y es fs a b (inl wrote) (inl wrote') ok ok' = one_write_lem sends function m.message x y es fs a b ok ok' before wrote wrote'
   put_same m before x y es fs a b (inr (none, is, same, text)) other ok ok' = absurd (ok is)
   put_same m before x y es fs a b (inl wrote) (inr (none, is, same, text)) ok ok' = absurd (ok' is)
 
@@ -51,7 +51,7 @@ module _ {T : Type 0} (sends : T → Queue → Result ℕ IoFault → T → Type
       → a ≢ Err fault.OutOfMemory → b ≢ Err fault.OutOfMemory → PutsOut sends before ms es p a x → PutsOut sends before ms fs q b y → es ≡ fs
   puts_sends [] before x y es fs p q a b ok ok' (none, put, is, same) (none', put', is', same') = none ∙ sym none'
   puts_sends (m ∷ ms) before x y es fs p q a b ok ok' (first, o, mid, wrote, end) (first', o', mid', wrote', end') =
-      let one = put_same m.message before mid mid' first first' o o' wrote wrote'
+      let one = put_same m before mid mid' first first' o o' wrote wrote'
       (failed_allowed (λ u. Goes m ms first es p a x mid u) (λ f. Fails first es p a x mid f) o a ok (λ f h. h.2) end)
       (failed_allowed (λ u. Goes m ms first' fs q b y mid' u) (λ f. Fails first' fs q b y mid' f) o' b ok' (λ f h. h.2) end') in
       let answered = subst (λ (r : Result (Unit {0}) IoFault). PutThen m ms first' fs q b y mid' r) (sym one.answer) end' in

@@ -17,6 +17,7 @@ use Rattle.wl_server.specs.declared.runs.step.Reply.TheVariants as reply
 use Rattle.wl_server.specs.declared.runs.step.Step.TheVariants as step
 use Rattle.wl_server.proofs.CallSteps.Feeling.{IsFelt, felt_call, unfelt_call}
 use Rattle.wl_server.proofs.CleanupSteps.Taken.{slots_felt}
+use Rattle.wl_server.proofs.Plain.Globals.{offers_global}
 use Rattle.wl_server.proofs.backend.Backend.create_global.Goals as goal
 use Rattle.wl_server.proofs.backend.Backend.create_global.Goals.{in-OutOfMemory, in_default}
 
@@ -37,8 +38,8 @@ growth : (T U G C : Type 0) (i : InterfaceId) (version : ℕ) (handler : G) (e :
 growth T U G C i version handler refused.OutOfMemory = refl
 growth T U G C i version handler e = refl
 
-pub returns-after-matches : goal.returns-after-matches
-returns-after-matches g c = rw (← c.self.view_is)
+pub returns-after-matches-clause-call : goal.returns-after-matches-clause-call
+returns-after-matches-clause-call g c = rw (← c.self.view_is)
     (unfelt_call _ _ _ _ (felt _ _ _ _) c.match-matches.self _ (ap (λ (gs : Globals _). let o : Offer _ = record { table = c.self.inside.protocol; globals = gs; default_limit = c.self.inside.default_limit } in o) c.in-Err.ensures.globals)
     c.in-Err.ensures.answer
     (growth g.row.T.Denot g.row.U.Denot g.row.G.Denot g.row.C.Denot c.args.interface c.args.version c.args.handler c.in-Err.error
@@ -48,8 +49,8 @@ returns-after-matches g c = rw (← c.self.view_is)
     ])
     (λ id b. (_, refl, (refl, refl, refl))))
 
-pub returns-in-Ok : goal.returns-in-Ok
-returns-in-Ok g c =
+pub returns-in-Ok-clause-call : goal.returns-in-Ok-clause-call
+returns-in-Ok-clause-call g c =
     let new = new_global c.args.interface c.args.version c.in-Ok.id.serial c.args.handler in
     let all =
     subst (λ (xs : List (Option (Stored _ _ _))). AllFeel (HearsNew g.T.Transport.sends g.G.GlobalHandler.views c.self.inside.protocol c.in-Ok.id new)
@@ -73,3 +74,9 @@ invariant_of-self g c =
     c.tell_named-self-inside.result (length c.deref_mut.result.now) c.deref_mut.result.now c.tell_named-self-inside.new.clients)) c.in-Ok.ensures.kept c.tell_named-self-inside.ensures) in
     let len : length c.tell_named-self-inside.new.clients ≡ vec_len c.self.inside.clients = all.len ∙ sym c.self.inside.clients.ok.0 in
     rw (with_items_is c.self.inside.clients c.tell_named-self-inside.new.clients len) (slots_felt _ _ _ _ _ _ all c.self.invariant)
+
+pub returns-after-matches-clause-plain : goal.returns-after-matches-clause-plain
+returns-after-matches-clause-plain g c = offers_global _ _ _ _ (returns-after-matches-clause-call g c)
+
+pub returns-in-Ok-clause-plain : goal.returns-in-Ok-clause-plain
+returns-in-Ok-clause-plain g c = offers_global _ _ _ _ (returns-in-Ok-clause-call g c)

@@ -12,13 +12,14 @@ use Rattle.wl_server.specs.declared.runs.step.Reply.TheVariants as reply
 use Rattle.wl_server.specs.declared.runs.step.Step.TheVariants as step
 use Rattle.wl_server.proofs.CallSteps.Feeling.{IsFelt, felt_call, unfelt_call}
 use Rattle.wl_server.proofs.CleanupSteps.Taken.{slots_felt}
+use Rattle.wl_server.proofs.Plain.Globals.{disables_global}
 use Rattle.wl_server.proofs.backend.Backend.disable_global.Goals as goal
 
 felt : {T U G C : Type 0} (id : GlobalParts) → IsFelt {T = T} {U = U} {G = G} {C = C} (Asked (step.DisableGlobal id) reply.DisableGlobal)
 felt id = record { last = refl; client = λ b. tt; order = tt; room = λ b. tt }
 
-pub returns-then-was_enabled : goal.returns-then-was_enabled
-returns-then-was_enabled g c =
+pub returns-then-was_enabled-clause-call : goal.returns-then-was_enabled-clause-call
+returns-then-was_enabled-clause-call g c =
     let len : length c.tell_loss-self-inside.new.clients ≡ vec_len c.self.inside.clients = c.tell_loss-self-inside.ensures.len ∙ c.deref_mut.ensures.len in
     let all = subst (λ (xs : List (Option (Stored _ _ _))). AllFeel (λ id p lacked did q. Hears g.T.Transport.sends p (removals p c.name.result) lacked did q)
     c.tell_loss-self-inside.result (length xs) xs c.tell_loss-self-inside.new.clients) c.deref_mut.ensures.value c.tell_loss-self-inside.ensures in
@@ -28,8 +29,8 @@ returns-then-was_enabled g c =
     (ap (λ (gs : Globals _). let o : Offer _ = record { table = c.self.inside.protocol; globals = gs; default_limit = c.self.inside.default_limit } in o) (c.disable.ensures c.self.inside.last_global))
     tt refl (λ i l d b a h. (refl, at_true _ _ (sym c.is_enabled-was_enabled.ensures ∙ c.if-was_enabled.true) h)) (rw (← c.name.ensures) all))
 
-pub returns-else-was_enabled : goal.returns-else-was_enabled
-returns-else-was_enabled g c = rw (← c.self.view_is)
+pub returns-else-was_enabled-clause-call : goal.returns-else-was_enabled-clause-call
+returns-else-was_enabled-clause-call g c = rw (← c.self.view_is)
     (unfelt_call _ _ _ _ (felt _) _ _
     (ap (λ (gs : Globals _). let o : Offer _ = record { table = c.self.inside.protocol; globals = gs; default_limit = c.self.inside.default_limit } in o) (c.disable.ensures c.self.inside.last_global))
     tt refl (λ i b. (refl, at_false _ _ (sym c.is_enabled-was_enabled.ensures ∙ c.if-was_enabled.false) (refl, refl, refl))))
@@ -40,3 +41,9 @@ invariant_of-self g c =
     let all = subst (λ (xs : List (Option (Stored _ _ _))). AllFeel (λ id p lacked did q. Hears g.T.Transport.sends p (removals p c.name.result) lacked did q)
     c.tell_loss-self-inside.result (length xs) xs c.tell_loss-self-inside.new.clients) c.deref_mut.ensures.value c.tell_loss-self-inside.ensures in
     rw (with_items_is c.self.inside.clients c.tell_loss-self-inside.new.clients len) (slots_felt _ _ _ _ _ _ all c.self.invariant)
+
+pub returns-then-was_enabled-clause-plain : goal.returns-then-was_enabled-clause-plain
+returns-then-was_enabled-clause-plain g c = disables_global _ (returns-then-was_enabled-clause-call g c)
+
+pub returns-else-was_enabled-clause-plain : goal.returns-else-was_enabled-clause-plain
+returns-else-was_enabled-clause-plain g c = disables_global _ (returns-else-was_enabled-clause-call g c)

@@ -30,7 +30,7 @@ returns-in_default-clause-call g c = rw (← c.self.view_is)
 pub returns-clause-call : goal.returns-clause-call
 returns-clause-call g c = rw (← c.self.view_is)
     (done_to _ _ _ _ (own _ _) c.args.id.now (kills c.args.reason) (Unit {0}) (λ i l d b a h. (refl, h))
-    _ c.in-Some.client.now c.kill.new.self false refl c.in-Some.ensures.value (kill_does _ _ _ c.kill.ensures))
+    _ c.in-Some.client.now c.kill.new.self false refl c.in-Some.ensures.value (kill_does _ _ _ c.kill.ensures.killed))
 
 pub invariant_of-self-2 : goal.invariant_of-self-2
 invariant_of-self-2 g c = slots_set _ _ _ _ _ c.self.invariant

@@ -2,6 +2,7 @@ use Rattle.std.proofs.Common.{Ok, refl, ap}
 use Rattle.std.proofs.lemmas.Result.{err_from_is_err_and}
 use Rattle.wl_server.proofs.OverRuns.Cut.CuttingLaws.{histories_cut}
 use Rattle.wl_server.proofs.OverRuns.Cut.RoomLaws.{within_has_room}
+use Rattle.wl_server.proofs.Plain.Reading.{next_action_within_reads}
 use Rattle.wl_server.proofs.backend.Backend.next_action_within.Goals as goal
 
 pub returns-in_err-read_client-clause-read : goal.returns-in_err-read_client-clause-read
@@ -25,3 +26,9 @@ returns-clause-room g c = within_has_room _ _ _ _ _ _
 
 pub returns-clause-cutting : goal.returns-clause-cutting
 returns-clause-cutting g c = ((c.in_ok-read_client.ensures.within _ (ap Ok c.with_args.ensures)).step, histories_cut _ _ _ _)
+
+pub returns-in_err-read_client-clause-plain : goal.returns-in_err-read_client-clause-plain
+returns-in_err-read_client-clause-plain g c = next_action_within_reads _ _ _ _ _ _ _ (returns-in_err-read_client-clause-read g c)
+
+pub returns-clause-plain : goal.returns-clause-plain
+returns-clause-plain g c = next_action_within_reads _ _ _ _ _ _ _ (returns-clause-read g c)

@@ -12,6 +12,7 @@ use Rattle.wl_server.proofs.CallSteps.OneClient.{IsOwn, done_to, none_stored}
 use Rattle.wl_server.proofs.CallSteps.Doing.{does_quietly}
 use Rattle.wl_server.proofs.CallSteps.Slots.{Kind}
 use Rattle.wl_server.proofs.CleanupSteps.Taken.{slots_set}
+use Rattle.wl_server.proofs.Plain.Insertion.{sets_limit}
 use Rattle.wl_server.proofs.backend.Backend.set_client_max_buffer_size.Goals as goal
 
 abbrev limits : {T U C : Type 0} → ℕ → Kind T U C
@@ -30,16 +31,22 @@ limit_set {T} {U} {C} s limit before link is set =
     sets : Part T U C → List (Deed U) → Part T U C → Type 0
     sets p did q = Quietly false did ((link : LinkState T) × LimitSet p.link (Some limit) link × (q ≡ with_link p link))
 
-pub returns-in_default : goal.returns-in_default
-returns-in_default g c = rw (← c.self.view_is)
+pub returns-in_default-clause-call : goal.returns-in_default-clause-call
+returns-in_default-clause-call g c = rw (← c.self.view_is)
     (none_stored _ _ _ _ (own _ _) c.args.client.now (limits c.args.max_buffer_size) (Unit {0}) (λ i l d b a h. (refl, h))
     _ refl c.in_default.ensures.value tt)
 
-pub returns : goal.returns
-returns g c = rw (← c.self.view_is)
+pub returns-clause-call : goal.returns-clause-call
+returns-clause-call g c = rw (← c.self.view_is)
     (done_to _ _ _ _ (own _ _) c.args.client.now (limits c.args.max_buffer_size) (Unit {0}) (λ i l d b a h. (refl, h))
     _ c.in-Some.stored.now _ false refl c.in-Some.ensures.value
     (rw (← c.stored.view_is) (limit_set _ c.args.max_buffer_size c.stored.inside.socket c.set_max_buffer_size.new.self refl c.set_max_buffer_size.ensures)))
 
 pub invariant_of-self-2 : goal.invariant_of-self-2
 invariant_of-self-2 g c = slots_set _ _ _ _ _ c.self.invariant
+
+pub returns-in_default-clause-plain : goal.returns-in_default-clause-plain
+returns-in_default-clause-plain g c = sets_limit _ _ (returns-in_default-clause-call g c)
+
+pub returns-clause-plain : goal.returns-clause-plain
+returns-clause-plain g c = sets_limit _ _ (returns-clause-call g c)

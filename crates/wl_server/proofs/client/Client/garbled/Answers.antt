@@ -2,4 +2,4 @@ use Rattle.wl_server.proofs.Readings.Handling.{garbled_handled}
 use Rattle.wl_server.proofs.client.Client.garbled.Goals as goal
 
 pub returns : goal.returns
-returns g c = garbled_handled g.T.Transport.sends _ _ c.kill.ensures
+returns g c = garbled_handled g.T.Transport.sends _ _ c.kill.ensures.killed

@@ -9,11 +9,11 @@ with_made : {T U C : Type 0} (p : Part T U C) (serial : _) (made made' : List (H
     → ◌≡◌ {A = Stored T U C} (record { serial = serial; part = p; made = made }) (record { serial = serial; part = p; made = made' })
 with_made p serial made made' same = ap (λ (m : List (Happening _)). let s : Stored _ _ _ = record { serial = serial; part = p; made = m } in s) same
 
-pub returns-then-self : goal.returns-then-self
-returns-then-self g c =
+pub returns-then-self-clause-killed : goal.returns-then-self-clause-killed
+returns-then-self-clause-killed g c =
     rw (← c.self.view_is, c.if-self.true) ([], _, (refl, refl), with_made _ _ _ _ (sym (append-nil _)))
 
-pub returns : goal.returns
-returns g c =
+pub returns-clause-killed : goal.returns-clause-killed
+returns-clause-killed g c =
     rw (← c.self.view_is, c.if-self.false)
     (_, _, (refl, refl), with_made _ _ _ _ (ap (map (λ m. m.1)) c.push.ensures.items ∙ map-append _ _ _))

@@ -1,8 +1,8 @@
 use Rattle.std.proofs.Common.{None, false, map}
 use Rattle.wl_server.proofs.client.Client.new.Goals as goal
 
-pub returns : goal.returns
-returns g c = (
+pub returns-clause-inserted : goal.returns-clause-inserted
+returns-clause-inserted g c = (
   c.in_ok-socket.socket,
   c.in_ok-socket.ensures.link,
   λ i. record {

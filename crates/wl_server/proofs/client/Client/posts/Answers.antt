@@ -16,7 +16,7 @@ returns-then-refused-clause-carried g c =
     (posted_live g.T.Transport.sends c.args.protocol.now c.args.self.now c.args.id.now c.args.code c.args.text
     c.put_posted-wrote.new.self c.flush_dropped-lacked.new.self c.kill_unless_written-refused.new.self c.kill.new.self c.in-Ok.error c.put_posted-wrote.result
     c.flush_dropped-lacked.ensures.flushed.0 true c.flush_dropped-lacked.result c.in-Ok.ensures c.put_posted-wrote.ensures.put c.put_posted-wrote.ensures.rest
-    c.flush_dropped-lacked.ensures.flushed.1 c.flush_dropped-lacked.ensures.rest c.if-refused.ensures.refused c.kill_unless_written-refused.ensures.closed c.kill.ensures)
+    c.flush_dropped-lacked.ensures.flushed.1 c.flush_dropped-lacked.ensures.rest c.if-refused.ensures.refused c.kill_unless_written-refused.ensures.closed c.kill.ensures.killed)
 
 pub returns-else-refused-clause-carried : goal.returns-else-refused-clause-carried
 returns-else-refused-clause-carried g c =
@@ -24,7 +24,7 @@ returns-else-refused-clause-carried g c =
     (posted_live g.T.Transport.sends c.args.protocol.now c.args.self.now c.args.id.now c.args.code c.args.text
     c.put_posted-wrote.new.self c.flush_dropped-lacked.new.self c.kill_unless_written-refused.new.self c.kill.new.self c.in-Ok.error c.put_posted-wrote.result
     c.flush_dropped-lacked.ensures.flushed.0 false c.flush_dropped-lacked.result c.in-Ok.ensures c.put_posted-wrote.ensures.put c.put_posted-wrote.ensures.rest
-    c.flush_dropped-lacked.ensures.flushed.1 c.flush_dropped-lacked.ensures.rest c.if-refused.ensures.refused c.kill_unless_written-refused.ensures.closed c.kill.ensures)
+    c.flush_dropped-lacked.ensures.flushed.1 c.flush_dropped-lacked.ensures.rest c.if-refused.ensures.refused c.kill_unless_written-refused.ensures.closed c.kill.ensures.killed)
 
 pub returns-in-Err-clause-carried : goal.returns-in-Err-clause-carried
 returns-in-Err-clause-carried g c =
@@ -42,13 +42,13 @@ returns-then-refused-clause-exactly g c = λ live kept.
     rw c.if-refused.true
     (told_exactly g.T.Transport.sends c.args.self.now.part.link c.put_posted-wrote.new.self c.flush_dropped-lacked.new.self c.kill_unless_written-refused.new.self c.kill.new.self
     _ c.args.id.now.number c.args.code c.args.text c.put_posted-wrote.result c.flush_dropped-lacked.ensures.flushed.0 true c.flush_dropped-lacked.result
-    (c.put_posted-wrote.ensures.wrote kept) c.flush_dropped-lacked.ensures.flushed.1 c.if-refused.ensures.refused c.kill_unless_written-refused.ensures.closed c.kill.ensures)
+    (c.put_posted-wrote.ensures.wrote kept) c.flush_dropped-lacked.ensures.flushed.1 c.if-refused.ensures.refused c.kill_unless_written-refused.ensures.closed c.kill.ensures.killed)
 
 pub returns-else-refused-clause-exactly : goal.returns-else-refused-clause-exactly
 returns-else-refused-clause-exactly g c = λ live kept.
     told_exactly g.T.Transport.sends c.args.self.now.part.link c.put_posted-wrote.new.self c.flush_dropped-lacked.new.self c.kill_unless_written-refused.new.self c.kill.new.self
     _ c.args.id.now.number c.args.code c.args.text c.put_posted-wrote.result c.flush_dropped-lacked.ensures.flushed.0 false c.flush_dropped-lacked.result
-    (c.put_posted-wrote.ensures.wrote kept) c.flush_dropped-lacked.ensures.flushed.1 c.if-refused.ensures.refused c.kill_unless_written-refused.ensures.closed c.kill.ensures
+    (c.put_posted-wrote.ensures.wrote kept) c.flush_dropped-lacked.ensures.flushed.1 c.if-refused.ensures.refused c.kill_unless_written-refused.ensures.closed c.kill.ensures.killed
 
 pub returns-in-Err-clause-exactly : goal.returns-in-Err-clause-exactly
 returns-in-Err-clause-exactly g c = λ live kept.

@@ -19,4 +19,4 @@ returns-in-OutOfMemory g c =
 pub returns-in_default-fault : goal.returns-in_default-fault
 returns-in_default-fault g c =
     rw (← c.self.view_is)
-    (fault_fills g.T.Transport.receives _ c.kill.new.self c.fill_incoming_buffers.new.self c.in-Err.fault c.in_default-fault.not-WouldBlock c.in_default-fault.not-OutOfMemory c.in-Err.ensures.filled c.fill_incoming_buffers.ensures.doubled c.kill.ensures)
+    (fault_fills g.T.Transport.receives _ c.kill.new.self c.fill_incoming_buffers.new.self c.in-Err.fault c.in_default-fault.not-WouldBlock c.in_default-fault.not-OutOfMemory c.in-Err.ensures.filled c.fill_incoming_buffers.ensures.doubled c.kill.ensures.killed)

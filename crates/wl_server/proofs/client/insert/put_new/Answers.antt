@@ -11,7 +11,7 @@ moved xs ys after n m s lists slots put =
 pub returns-clause-put : goal.returns-clause-put
 returns-clause-put g c = (
   c.in_ok-client.client,
-  subst (λ n. IsInserted n c.args.transport (Some c.args.max_buffer_size) c.args.client_data c.in_ok-client.client) c.serial-serial.ensures c.in_ok-client.ensures,
+  subst (λ n. IsInserted n c.args.transport (Some c.args.max_buffer_size) c.args.client_data c.in_ok-client.client) c.serial-serial.ensures c.in_ok-client.ensures.inserted,
   moved _ _ _ _ _ _ c.in_ok-reserve_slot.ensures.items c.slot-slot.ensures c.put_at.ensures.put,
 )
 

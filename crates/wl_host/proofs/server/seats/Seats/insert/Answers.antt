@@ -6,7 +6,7 @@ use Rattle.wl_host.proofs.server.seats.Seats.insert.Goals as goal
 
 pub invariant_of-self-in-Some-put_ledger : goal.invariant_of-self-in-Some-put_ledger
 invariant_of-self-in-Some-put_ledger c =
-    let told = as_told _ _ _ _ c.in_ok-id.id c.in-Some.next c.in_ok-id.ensures c.in-Some.ensures.given in
+    let told = as_told _ _ _ _ c.in_ok-id.id c.in-Some.next c.in_ok-id.ensures.call c.in-Some.ensures.given in
     let at = ap (λ (l : Ledger). l.id.slot) c.new-ledger.ensures ∙ (ap (λ (i : ClientParts). i.slot) told ∙ sym c.slot-slot.ensures) in
     let below : c.slot-slot.result < 2 ^ 32 = search rules in
     let m = c.make_room.ensures in
@@ -21,7 +21,7 @@ invariant_of-self-in-Some-put_ledger c =
 
 pub invariant_of-self-in_default-put_ledger : goal.invariant_of-self-in_default-put_ledger
 invariant_of-self-in_default-put_ledger c =
-    let told = as_told _ _ _ _ c.in_ok-id.id c.in-Some.next c.in_ok-id.ensures c.in-Some.ensures.given in
+    let told = as_told _ _ _ _ c.in_ok-id.id c.in-Some.next c.in_ok-id.ensures.call c.in-Some.ensures.given in
     let at = ap (λ (l : Ledger). l.id.slot) c.new-ledger.ensures ∙ (ap (λ (i : ClientParts). i.slot) told ∙ sym c.slot-slot.ensures) in
     let below : c.slot-slot.result < 2 ^ 32 = search rules in
     let m = c.make_room.ensures in

@@ -1,11 +1,51 @@
-use Rattle.std.proofs.Common.{◌∙◌, refl, sym}
+use Rattle.std.proofs.Common.{◌≡◌, ◌∙◌, ◌∷◌, [], ℕ, List, Option, Result, Some, map, subst, sym, true}
+use Rattle.std.specs.Prelude.{IfSome}
+use Rattle.wl_wire.specs.declared.argument.Argument.TheVariants as arg
+use Rattle.wl_wire.specs.declared.argument.Token.{Token}
+use Rattle.wl_wire.specs.declared.error.IoFault.{IoFault}
+use Rattle.wl_wire.specs.declared.message.Message.{Message}
+use Rattle.wl_wire.specs.Argument.{WireArgument}
+use Rattle.wl_wire.specs.Table.{InterfaceRow, name_of}
+use Rattle.wl_link.specs.Exchange.{Queue}
+use Rattle.wl_link.specs.Link.{LinkState}
+use Rattle.wl_server.specs.Globals.{Shown}
+use Rattle.wl_server.specs.Inside.News.{IsNews}
+use Rattle.wl_server.specs.Inside.Puts.{Puts}
+use Rattle.wl_server.specs.Telling.{by_object, making}
 use Rattle.std.proofs.lemmas.Bool.{eqb-true}
+use Rattle.wl_link.specs.Identity.{Id}
+use Rattle.wl_server.specs.Felt.{announcements, is_first}
 use Rattle.wl_server.proofs.GlobalCalls.PutEach.{each_of_none, each_starved}
 use Rattle.wl_server.proofs.CallSteps.Slots.{other_of}
+use Rattle.wl_server.proofs.OverRuns.Announced.AnnouncementLaws.{same_id_self}
 use Rattle.wl_server.proofs.globals.announce.Announcement.tell.Goals as goal
 
 pub returns-then-is_empty-clause-puts : goal.returns-then-is_empty-clause-puts
 returns-then-is_empty-clause-puts g c = each_of_none _ _ _ _ (eqb-true _ _ (sym c.is_empty.ensures ∙ c.if-is_empty.true))
 
 pub returns-in_default-new_message-clause-puts : goal.returns-in_default-new_message-clause-puts
-returns-in_default-new_message-clause-puts g c = each_starved _ _ _ _ (other_of _ _ (sym c.is_empty.ensures ∙ c.if-is_empty.false)) (λ r. refl)
+returns-in_default-new_message-clause-puts g c =
+    each_starved _ _ _ _ (other_of _ _ (sym c.is_empty.ensures ∙ c.if-is_empty.false))
+    (λ r rest is. subst (λ (rs : List Id). is_first rs r ≡ true) (sym is) (same_id_self r))
+
+told_each : {T : Type 0} (sends : T → Queue → Result ℕ IoFault → T → Type 0) (before after : LinkState T) (table : List InterfaceRow) (g : Shown) (rs : List Id) (opcode : ℕ)
+    (args : List WireArgument) (answer : Result (Unit {0}) IoFault) → opcode ≡ 0 → args ≡ arg.Uint g.name ∷ arg.Str (Some (name_of table g.interface.0)) ∷ arg.Uint g.version ∷ []
+    → Puts sends before (map (λ r. making (is_first rs r) (by_object r opcode args)) rs) answer after → Puts sends before (announcements table rs g) answer after
+told_each sends before after table g rs opcode args answer same_opcode same_args puts =
+    subst (λ (o : ℕ). Puts sends before (map (λ r. making (is_first rs r) (by_object r o (arg.Uint g.name ∷ arg.Str (Some (name_of table g.interface.0)) ∷ arg.Uint g.version ∷ []))) rs) answer after)
+    same_opcode (subst (λ (l : List WireArgument). Puts sends before (map (λ r. making (is_first rs r) (by_object r opcode l)) rs) answer after) same_args puts)
+
+pub returns-in-Some-clause-puts : goal.returns-in-Some-clause-puts
+returns-in-Some-clause-puts g c =
+    let a = c.self.inside in
+    let told : Shown = record { name = a.name; interface = a.interface; version = a.version } in
+    let news = subst (λ (m : Option (Message ℕ Token)). IfSome m (IsNews a.protocol.now told)) c.in-Some.is c.self.invariant in
+    rw (← c.self.view_is)
+    (told_each g.T.Transport.sends c.args.socket.now c.put_to_each.new.socket a.protocol.now told c.args.registries.now _ _ c.put_to_each.result news.0 news.1 c.put_to_each.ensures.news)
+
+pub returns-clause-puts : goal.returns-clause-puts
+returns-clause-puts g c =
+    let a = c.self.inside in
+    let told : Shown = record { name = a.name; interface = a.interface; version = a.version } in
+    rw (← c.self.view_is)
+    (told_each g.T.Transport.sends c.args.socket.now c.put_to_each-wrote.new.socket a.protocol.now told c.args.registries.now _ _ c.put_to_each-wrote.result c.in-Ok.ensures.0 c.in-Ok.ensures.1 c.put_to_each-wrote.ensures.news)

@@ -2,13 +2,13 @@ use Rattle.wl_server.proofs.CallSteps.OverScripts.{over_script}
 use Rattle.wl_server.proofs.runs.replay.Backend+Memory+U+G+C.perform_shared.Goals as goal
 
 pub returns-in-InsertClient : goal.returns-in-InsertClient
-returns-in-InsertClient g c = rw c.in-InsertClient.is (over_script g.G.GlobalHandler.views _ _ _ _ c.insert_client.ensures)
+returns-in-InsertClient g c = rw c.in-InsertClient.is (over_script g.G.GlobalHandler.views _ _ _ _ c.insert_client.ensures.call)
 
 pub returns-in-Flush : goal.returns-in-Flush
 returns-in-Flush g c = rw c.in-Flush.is (over_script g.G.GlobalHandler.views _ _ _ _ c.flush.ensures.call)
 
 pub returns-in-SetDefaultMaxBufferSize : goal.returns-in-SetDefaultMaxBufferSize
-returns-in-SetDefaultMaxBufferSize g c = rw c.in-SetDefaultMaxBufferSize.is (over_script g.G.GlobalHandler.views _ _ _ _ c.set_default_max_buffer_size.ensures)
+returns-in-SetDefaultMaxBufferSize g c = rw c.in-SetDefaultMaxBufferSize.is (over_script g.G.GlobalHandler.views _ _ _ _ c.set_default_max_buffer_size.ensures.call)
 
 pub returns-in-AddInterfaces : goal.returns-in-AddInterfaces
 returns-in-AddInterfaces g c = rw c.in-AddInterfaces.is (over_script g.G.GlobalHandler.views _ _ _ _ c.add_interfaces.ensures.call)

@@ -23,9 +23,7 @@ scripts x answer id p lacked did q = (lacked ≡ lacks_move (nothing_taken answe
 own : {T U G C : Type 0} (id : ClientParts) (x : ScriptCall) (answer : Result (Unit {0}) ScriptError)
     → IsOwn {T = T} {U = U} {G = G} {C = C} (Asked (step_of id x) (reply_to x answer))
 own id (call.Arrive bytes tokens) answer = record { offer = λ o. refl; last = refl; client = λ b. tt; global = λ o. tt; order = tt; room = λ b. tt; growth = refl }
-own id (call.ArriveFault f) answer = record { offer = λ o. refl; last = refl; client = λ b. tt; global = λ o. tt; order = tt; room = λ b. tt; growth = refl }
-own id (call.Accept n) answer = record { offer = λ o. refl; last = refl; client = λ b. tt; global = λ o. tt; order = tt; room = λ b. tt; growth = refl }
-own id (call.AcceptFault f) answer = record { offer = λ o. refl; last = refl; client = λ b. tt; global = λ o. tt; order = tt; room = λ b. tt; growth = refl }
+own id _ answer = record { offer = λ o. refl; last = refl; client = λ b. tt; global = λ o. tt; order = tt; room = λ b. tt; growth = refl }
 
 -- the step is that of its script's call, whichever it is
 to : {U G C : Type 0} (views : _) (before : ServerState Script U G C) (target : ClientParts) (x : ScriptCall) (answer : Result (Unit {0}) ScriptError) (id : ClientParts) (lacked : Bool)
@@ -33,9 +31,7 @@ to : {U G C : Type 0} (views : _) (before : ServerState Script U G C) (target : 
     → OfClient (same_client target id) b (λ p q. scripts x answer id p lacked did q) (nothing_taken answer ≡ Err refused.InvalidId) lacked did a
     → PartStep (over_scripts views) id before.offer (step_of target x) (reply_to x answer) b lacked did a
 to views before target (call.Arrive bytes tokens) answer id lacked did b a h = (answer, refl, h)
-to views before target (call.ArriveFault f) answer id lacked did b a h = (answer, refl, h)
-to views before target (call.Accept n) answer id lacked did b a h = (answer, refl, h)
-to views before target (call.AcceptFault f) answer id lacked did b a h = (answer, refl, h)
+to views before target _ answer id lacked did b a h = (answer, refl, h)
 
 does : {U C : Type 0} (id : ClientParts) (x : ScriptCall) (before after : Stored Script U C) (answer : Result (Unit {0}) ScriptError)
     → Does before (λ p did q. (did ≡ []) × Scripts p (move_of x) (nothing_taken answer) q) after → Does before (λ p did q. scripts x answer id p (lacks_move (nothing_taken answer)) did q) after

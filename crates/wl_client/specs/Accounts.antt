@@ -1,0 +1,66 @@
+-- What holds of a client over its history: ids, names, notes and errors, of one and the same list of changes.
+use Rattle.std.specs.Prelude.{◌≡◌, List, [], ◌∷◌, ◌++◌, IsSome, length}
+use Rattle.wl_wire.specs.Table.{InterfaceRow}
+use Rattle.wl_link.specs.Identity.{Change}
+use Rattle.wl_link.specs.Named.{StaysNamed}
+use Rattle.wl_link.specs.Runs.{IsWhereItStops}
+use Rattle.wl_link.specs.Script.{Script}
+use Rattle.wl_client.specs.declared.objects.Kept.{Kept}
+use Rattle.wl_client.specs.declared.step.Reply.{Reply}
+use Rattle.wl_client.specs.declared.step.Step.{Step}
+use Rattle.wl_client.specs.Failed.{StaysFailed}
+use Rattle.wl_client.specs.Handed.{Follows, HasOwnIds}
+use Rattle.wl_client.specs.Histories.{Called, Changed, Deed, Does, History, called}
+use Rattle.wl_client.specs.Noted.{NotesWhatEnded}
+use Rattle.wl_client.specs.ObjectId.{IdParts}
+use Rattle.wl_client.specs.Session.{ClientState, IsConnected, SessionState, id_of, named, objects_of, over_transport, serial_of}
+use Rattle.wl_client.specs.Steps.{Entry, Making, StepOf, entries}
+use Rattle.wl_client.specs.Stretches.{EachPartIsCut}
+
+module _ {T U : Type 0} (makes : Making T U) where
+  -- A point of a history, between these first deeds and the later ones. The changes of the first deeds lead there, and the
+  -- others on from there. Each id that names an object at the point names that very object after the history exactly if it
+  -- is still kept, and else none. If the session has an error at the point, it keeps one.
+  pub record IsPoint (begins : SessionState T U) (done later : List (Deed T U)) (changes : List (List (Change (Kept U)))) (ends : SessionState T U) : Type 0 where
+    pub point : SessionState T U
+    pub first : List (List (Change (Kept U)))
+    pub rest : List (List (Change (Kept U)))
+    pub split : changes ≡ first ++ rest
+    pub before : Follows makes begins done first point
+    pub after_point : Follows makes point later rest ends
+    pub stays : (id : IdParts) → IsSome (named point.store id) → StaysNamed serial_of first rest (objects_of ends) (id_of id)
+    pub failed : IsSome point.error → StaysFailed later ends
+
+  -- Of a history from the connecting on: ids name their own objects (`Handed`), and what ended is noted (`Noted`). And
+  -- wherever it is divided, each id keeps what it names there, and an error that the session has there stays. All of this
+  -- is said of the same changes.
+  pub record IsAccountedFor (begins : SessionState T U) (deeds : List (Deed T U)) (ends : SessionState T U) : Type 0 where
+    pub notes : NotesWhatEnded makes begins deeds ends
+    pub points : (done later : List (Deed T U)) → deeds ≡ done ++ later → IsPoint begins done later notes.ids.changes ends
+
+  -- each history from the connecting on that led to `before` leads, with this deed after it, to `after`, and is accounted for
+  abbrev pub StaysAccountedFor : SessionState T U → Deed T U → SessionState T U → Type 0
+  StaysAccountedFor before d after =
+      (table : List InterfaceRow) (transport : T) (begun : SessionState T U) (deeds : List (Deed T U))
+      → IsConnected table transport begun → History makes begun deeds before
+      → History makes begun (deeds ++ d ∷ []) after × IsAccountedFor begun (deeds ++ d ∷ []) after
+
+  -- What a public call does: it is a step with this reply, and it stays accounted for.
+  pub record Calls (before : ClientState T U) (call : Step U) (answer : Reply U) (after : ClientState T U) : Type 0 where
+    pub step : makes before.session call answer after.refused after.session
+    pub accounted : StaysAccountedFor before.session (Called (record { step = call; answer = answer; refused = after.refused })) after.session
+
+  -- the same for a change of the transport, which counts as a call
+  pub record IsChange (before : SessionState T U) (t : T) (after : SessionState T U) : Type 0 where
+    pub change : Does makes before (Changed t) after
+    pub accounted : StaysAccountedFor before (Changed t) after
+
+module _ {U : Type 0} where
+  -- A history, and then steps that stopped because memory was refused in one of them; those before it have these replies.
+  -- They lead, with that step if it was begun, to what is left. All is accounted for, and each part is cut.
+  abbrev pub AccountsForStopped : SessionState Script U → List (Deed Script U) → List (Step U) → List (Reply U) → SessionState Script U → Type 0
+  AccountsForStopped begun deeds steps replies ends =
+      (last : List (Entry U)) × IsWhereItStops steps (length replies) last
+      × History StepOf begun (deeds ++ called (entries steps replies ++ last)) ends
+      × IsAccountedFor StepOf begun (deeds ++ called (entries steps replies ++ last)) ends
+      × EachPartIsCut begun (deeds ++ called (entries steps replies ++ last))

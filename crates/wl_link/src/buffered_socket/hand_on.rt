@@ -1,0 +1,187 @@
+//! What a program needs that stands between two links: to look at the first message without taking it, and to hand it on as
+//! it is.
+
+ghost use Rattle.std.specs.Prelude.{◌≡◌, ◌≢◌, ◌+◌, ◌<◌, ◌≤◌, ◌++◌, [], length, take, drop, OnOk, OnErr, IfOk, IfErr, MatchOption};
+ghost use Rattle.wl_wire.specs.Argument.{Matches};
+ghost use Rattle.wl_wire.specs.Message.{content};
+ghost use Rattle.wl_wire.specs.declared.error.MessageParseError.TheVariants as parse;
+ghost use Rattle.wl_wire.specs.Parse.{IsInline, IsWhole, ReadsMessage, RefusesMessage, fd_count, length_of};
+ghost use Rattle.wl_link.specs.Exchange.{joined, nothing};
+ghost use Rattle.wl_link.specs.HandOn.{Carries, HandsOn, HandsOnRest, LeavesOtherWay};
+ghost use Rattle.wl_link.specs.Link.{has_room, with_incoming, with_outgoing};
+ghost use Rattle.wl_link.specs.Inside.WaitingBytes.{beside};
+
+use crate::buffered_socket::BufferedSocket;
+use std::collections::VecDeque;
+use thiserror::Error;
+use wl_wire::{
+    ArgumentType, INLINE_ARGS, Message, MessageParseError, OutOfMemory, Token, fd_places,
+    message_header, peek_into,
+};
+
+/// Why a message was not handed on.
+#[derive(Clone, Copy, Debug, PartialEq, Eq, Error)]
+pub enum HandOnError {
+    /// A part of the message is missing.
+    #[error("a part of the message is missing")]
+    MissingData,
+    /// The header says a length below its own.
+    #[error("the message is malformed")]
+    Malformed,
+    /// A descriptor of the message is missing.
+    #[error("a descriptor of the message is missing")]
+    MissingFD,
+    /// The buffer of what waits to be sent may not grow as far as the message needs.
+    #[error("too much waits to be sent")]
+    NoRoom,
+    /// There was no memory.
+    #[error("out of memory")]
+    OutOfMemory,
+}
+
+impl<T> BufferedSocket<T> {
+    /// The bytes that were received and not read yet.
+    pub fn received(&self) -> &[u8]
+        ensures { result.now ≡ self.now.incoming.bytes }
+    {
+        self.incoming.bytes()
+    }
+
+    /// The bytes of the first message that was received, if it is there to its end.
+    pub fn front(&self) -> Option<&[u8]>
+        ensures { MatchOption result (¬ (IsWhole self.now.incoming.bytes))
+            (λ front. IsWhole self.now.incoming.bytes × (front.now ≡ take (length_of self.now.incoming.bytes) self.now.incoming.bytes)) }
+    {
+        let bytes = self.incoming.bytes();
+        let header = message_header(bytes)?;
+        if header.len < 8 || bytes.len() < header.len {
+            return None;
+        }
+        Some(&bytes[..header.len])
+    }
+
+    /// Reads the first message that was received under the signature, and leaves it where it is.
+    pub fn peek(
+        &mut self,
+        signature: &[ArgumentType],
+        message: &mut Message<u32, Token>,
+    ) -> Result<(), MessageParseError>
+        requires { INLINE_ARGS ≤ message.old.args.capacity }
+        ensures found { OnOk result (ReadsMessage self.old.incoming.bytes signature.now self.old.incoming.tokens (content message.new)) }
+        ensures matches { OnOk result (Matches signature.now message.new.args.items) }
+        ensures refused { IfErr result (RefusesMessage self.old.incoming.bytes signature.now self.old.incoming.tokens) }
+        ensures small { IsInline signature.now → IfErr result (λ e. e ≢ parse.OutOfMemory) }
+        ensures unchanged { self.new ≡ self.old }
+        ensures capacity { INLINE_ARGS ≤ message.new.args.capacity }
+    {
+        let alloc = *self.fds_in.allocator();
+        let bytes = self.incoming.bytes();
+        peek_into(alloc, bytes, signature, &mut self.fds_in, message)
+    }
+
+    /// Takes out all that was received and not read yet: the bytes and the tokens. If there is no memory for the bytes, nothing
+    /// is changed.
+    pub fn take_received(&mut self) -> Result<(Vec<u8>, VecDeque<Token>), OutOfMemory>
+        ensures taken { IfOk result (λ x. (x.0.items ≡ self.old.incoming.bytes) × (x.1.items ≡ self.old.incoming.tokens)) }
+        ensures left { OnOk result (self.new ≡ with_incoming self.old self.old.transport nothing) }
+        ensures unchanged { OnErr result (self.new ≡ self.old) }
+    {
+        let alloc = *self.fds_in.allocator();
+        let bytes = Vec::from_slice(alloc, self.incoming.bytes())?;
+        self.incoming.consume(bytes.len());
+        let tokens = std::mem::replace(&mut self.fds_in, VecDeque::new(alloc));
+        Ok((bytes, tokens))
+    }
+
+    /// Takes the first message off what was received, and appends it to what waits to be sent on the other link: its bytes as
+    /// they are, and as many tokens as the signature has file descriptors.
+    ///
+    /// The message is not read, and nothing is sent. The buffer of the other link is doubled if need be, as its limit allows.
+    /// The errors are decided in this order, and after each both links have what they had:
+    ///
+    /// - `MissingData` if a part of the message is missing;
+    /// - `Malformed` if its header says a length below 8;
+    /// - `MissingFD` if fewer tokens wait than the signature has file descriptors;
+    /// - `OutOfMemory` if there is no memory to double the buffer;
+    /// - `NoRoom` if the buffer has too little room;
+    /// - `OutOfMemory` if there is no memory for the tokens.
+    pub fn hand_on<S>(
+        &mut self,
+        signature: &[ArgumentType],
+        to: &mut BufferedSocket<S>,
+    ) -> Result<(), HandOnError>
+        ensures handed { HandsOn signature.now self.old to.old result self.new to.new }
+        ensures carried { Carries self.old to.old self.new to.new }
+        ensures other_way { LeavesOtherWay self.old to.old self.new to.new }
+    {
+        let bytes = self.incoming.bytes();
+        let Some(header) = message_header(bytes) else {
+            return Err(HandOnError::MissingData);
+        };
+        if header.len < 8 {
+            return Err(HandOnError::Malformed);
+        }
+        if bytes.len() < header.len {
+            return Err(HandOnError::MissingData);
+        }
+        let count = fd_places(signature);
+        if self.fds_in.len() < count {
+            return Err(HandOnError::MissingFD);
+        }
+        let Ok(()) = to.grow_for(header.len) else {
+            return Err(HandOnError::OutOfMemory);
+        };
+        if !to.has_room(header.len) {
+            return Err(HandOnError::NoRoom);
+        }
+        let Ok(()) = to.put_raw(&bytes[..header.len], &mut self.fds_in, count) else {
+            return Err(HandOnError::OutOfMemory);
+        };
+        self.incoming.consume(header.len);
+        Ok(())
+    }
+
+    /// Takes all that was received and not read, and appends it to what waits to be sent on the other link, whether it is whole
+    /// messages or not.
+    ///
+    /// Nothing is sent. The buffer of the other link is doubled if need be, as its limit allows. The error is `NoRoom` if the
+    /// buffer has too little room, and `OutOfMemory` if there is no memory to double it, or for the tokens. After an error both
+    /// links have what they had.
+    pub fn hand_on_rest<S>(&mut self, to: &mut BufferedSocket<S>) -> Result<(), HandOnError>
+        ensures handed { HandsOnRest self.old to.old result self.new to.new }
+        ensures carried { Carries self.old to.old self.new to.new }
+        ensures other_way { LeavesOtherWay self.old to.old self.new to.new }
+    {
+        let (bytes, count) = (self.incoming.bytes(), self.fds_in.len());
+        let len = bytes.len();
+        let Ok(()) = to.grow_for(len) else {
+            return Err(HandOnError::OutOfMemory);
+        };
+        if !to.has_room(len) {
+            return Err(HandOnError::NoRoom);
+        }
+        let Ok(()) = to.put_raw(bytes, &mut self.fds_in, count) else {
+            return Err(HandOnError::OutOfMemory);
+        };
+        self.incoming.consume(len);
+        Ok(())
+    }
+
+    /// Appends these bytes to what waits to be sent, and as many tokens of the queue, which has them.
+    fn put_raw(
+        &mut self,
+        bytes: &[u8],
+        tokens: &mut VecDeque<Token>,
+        count: usize,
+    ) -> Result<(), OutOfMemory>
+        requires room { length self.old.outgoing.bytes + length bytes.now ≤ self.old.outgoing_capacity }
+        requires tokens { count ≤ length tokens.old.items }
+        ensures put { OnOk result (self.new ≡ with_outgoing self.old self.old.transport (joined self.old.outgoing (beside bytes.now (take count tokens.old.items)))) }
+        ensures taken { OnOk result (tokens.new.items ≡ drop count tokens.old.items) }
+        ensures unchanged { OnErr result ((self.new ≡ self.old) × (tokens.new.items ≡ tokens.old.items)) }
+    {
+        self.fds_out.append_from(tokens, count)?;
+        self.outgoing.append(bytes);
+        Ok(())
+    }
+}

@@ -1,0 +1,86 @@
+-- An object's data are lent to a closure, and set to what it leaves.
+use Rattle.std.proofs.Common.{◌≡◌, Bool, false, List, Option, None, Some, Result, Ok, Err, MatchOption, refl, sym, ap, ◌∙◌}
+use Rattle.std.specs.Prelude.{option_map, slice_set}
+use Rattle.wl_link.specs.declared.object.Object.{Object}
+use Rattle.wl_link.specs.Store.{Store, rewritten}
+use Rattle.wl_server.specs.declared.error.InvalidId.{InvalidId}
+use Rattle.wl_server.specs.declared.objects.Kept.{Kept}
+use Rattle.wl_server.specs.declared.runs.step.Reply.TheVariants as reply
+use Rattle.wl_server.specs.declared.runs.step.Step.TheVariants as step
+use Rattle.wl_server.specs.Backend.{BackendState, Calls}
+use Rattle.wl_server.specs.DataInPlace.{LendsDataIn, LendsObjectData}
+use Rattle.wl_server.specs.Ids.{ClientParts, IdParts}
+use Rattle.wl_server.specs.Lookups.{and_then, object_data_of}
+use Rattle.wl_server.specs.Part.{named, with_user_data}
+use Rattle.wl_server.specs.PartStep.{World}
+use Rattle.wl_server.specs.Plain.{SetsObjectData}
+use Rattle.wl_server.specs.Server.{ServerState, Stored, client_at}
+use Rattle.wl_server.proofs.CallSteps.OneClient.{done_to}
+use Rattle.wl_server.proofs.CallSteps.Slots.{slot_of_client}
+use Rattle.wl_server.proofs.CleanupSteps.Gathering.{set_itself}
+use Rattle.wl_server.proofs.Plain.Data.{sets_object_data}
+use Rattle.wl_server.proofs.ObjectCalls.Setting.{own, set_does, sets}
+
+abbrev data_in : {U : Type 0} → Option (Object (Kept U)) → Option U
+data_in found = and_then found (λ x. x.value.user_data)
+
+module _ {T U G C R : Type 0} (call : U → R → U → Type 0) (w : World T G C) (before : ServerState T U G C) (was : Bool) (o : IdParts) (answer : Result R InvalidId) where
+  -- what is looked up at the client that is stored
+  looked_up : (read : ClientParts) (stored : Option (Stored T U C)) → read ≡ o.client → stored ≡ client_at read before.clients
+      → object_data_of before o ≡ data_in (and_then (option_map (λ s. s.part) stored) (λ p. named p.store o))
+  looked_up read stored same is =
+      ap (λ (x : Option (Stored T U C)). data_in (and_then (option_map (λ s. s.part) x) (λ p. named p.store o)))
+      (sym (is ∙ ap (λ (id : ClientParts). client_at id before.clients) same))
+
+  pub lends_none : (read : ClientParts) → read ≡ o.client → None ≡ client_at read before.clients → answer ≡ Err _
+      → LendsObjectData call w (record { server = before; refused = was }) o answer (record { server = before; refused = false })
+  lends_none read same none is = rw (looked_up read None same none) (is, refl)
+
+  module _ (read : ClientParts) (s : Stored T U C) (same : read ≡ o.client) (there : Some s ≡ client_at read before.clients) where
+    abbrev at_slot : Stored T U C → BackendState T U G C
+    at_slot c = record { server = record before { clients = slice_set before.clients read.slot (Some c) }; refused = false }
+
+    abbrev having : Store (Kept U) → Stored T U C
+    having store = record { serial = s.serial; part = record s.part { store = store }; made = s.made }
+
+    -- nothing was written
+    kept : (store : Store (Kept U)) → store ≡ s.part.store → at_slot (having store) ≡ record { server = before; refused = false }
+    kept store is =
+        let has = slot_of_client before.clients read s there in
+        ap (λ (x : Store (Kept U)). at_slot (having x)) is
+        ∙ ap (λ (clients : List (Option (Stored T U C))). let b : BackendState T U G C = record { server = record before { clients = clients }; refused = false } in b)
+        (set_itself before.clients read.slot (Some s) has.0)
+
+    abbrev Lent : Option (Object (Kept U)) → Store (Kept U) → Type 0
+    Lent found store =
+        MatchOption (data_in found) ((answer ≡ Err _) × (at_slot (having store) ≡ record { server = before; refused = false }))
+        (λ u. (r : R) × (left : U) × call u r left × (answer ≡ Ok r)
+        × Calls w (record { server = before; refused = was }) (step.SetObjectData o left) (reply.SetObjectData (Ok tt)) (at_slot (having store))
+        × SetsObjectData (record { server = before; refused = was }) o left (Ok tt) (at_slot (having store)))
+
+    set_to : (x : Object (Kept U)) (left : U) (store : Store (Kept U)) → named s.part.store o ≡ Some x → store ≡ rewritten s.part.store o.number (with_user_data left x)
+        → Calls w (record { server = before; refused = was }) (step.SetObjectData o left) (reply.SetObjectData (Ok tt)) (at_slot (having store))
+    set_to x left store found written =
+        done_to _ _ _ _ (own o left (Ok tt)) o.client (sets o left (Ok tt)) (◌≡◌ {A = Result (Unit {0}) InvalidId} (Ok tt) (Err _))
+        (λ i l d b a h. (_, refl, h)) read s (having store) false same there
+        (set_does s o left (Ok tt) store (rw found refl) (rw found written))
+
+    lent_with : (x : Object (Kept U)) (kept_data : Option U) → named s.part.store o ≡ Some x → x.value.user_data ≡ kept_data → (store : Store (Kept U))
+        → MatchOption kept_data ((answer ≡ Err _) × (store ≡ s.part.store))
+        (λ u. (r : R) × (left : U) × call u r left × (answer ≡ Ok r) × (store ≡ rewritten s.part.store o.number (with_user_data left x)))
+        → Lent (Some x) store
+    lent_with x None found is store (err, none) = rw is (err, kept store none)
+    lent_with x (Some u) found is store (r, left, called, ok, written) =
+        let set = set_to x left store found written in rw is (r, left, called, ok, set, sets_object_data o left (Ok tt) set)
+
+    lent_at : (found : Option (Object (Kept U))) → named s.part.store o ≡ found → (store : Store (Kept U))
+        → MatchOption found ((answer ≡ Err _) × (store ≡ s.part.store))
+        (λ x. MatchOption x.value.user_data ((answer ≡ Err _) × (store ≡ s.part.store))
+        (λ u. (r : R) × (left : U) × call u r left × (answer ≡ Ok r) × (store ≡ rewritten s.part.store o.number (with_user_data left x))))
+        → Lent found store
+    lent_at None found store (err, none) = (err, kept store none)
+    lent_at (Some x) found store h = lent_with x x.value.user_data found refl store h
+
+    pub lends_stored : (store : Store (Kept U)) → LendsDataIn call s.part.store o answer store
+        → LendsObjectData call w (record { server = before; refused = was }) o answer (at_slot (having store))
+    lends_stored store h = rw (looked_up read (Some s) same there) (lent_at (named s.part.store o) refl store h)

@@ -1,0 +1,45 @@
+-- An object's data are set at a client that is stored.
+use Rattle.std.proofs.Common.{◌≡◌, false, Option, None, Some, Result, Ok, Err, MatchOption, refl, ap}
+use Rattle.wl_link.specs.declared.object.Object.{Object}
+use Rattle.wl_link.specs.Store.{Store}
+use Rattle.wl_server.specs.declared.error.InvalidId.{InvalidId}
+use Rattle.wl_server.specs.declared.objects.Kept.{Kept}
+use Rattle.wl_server.specs.Inside.Client.{Does}
+use Rattle.wl_server.specs.Finish.{data_given}
+use Rattle.wl_server.specs.Ids.{IdParts}
+use Rattle.wl_server.specs.Objects.{DataSet}
+use Rattle.wl_server.specs.Part.{Part, named}
+use Rattle.wl_server.specs.PartStep.{Asked, Quietly}
+use Rattle.wl_server.specs.Server.{Stored}
+use Rattle.wl_server.specs.declared.runs.step.Reply.TheVariants as reply
+use Rattle.wl_server.specs.declared.runs.step.Step.TheVariants as step
+use Rattle.wl_server.proofs.CallSteps.OneClient.{IsOwn}
+use Rattle.wl_server.proofs.CallSteps.Doing.{does_quietly}
+use Rattle.wl_server.proofs.CallSteps.Slots.{Kind}
+
+abbrev pub sets : {T U C : Type 0} → IdParts → U → Result (Unit {0}) InvalidId → Kind T U C
+sets o u answer id p lacked did q = Quietly lacked did (DataSet p o u answer q)
+
+pub own : {T U G C : Type 0} (o : IdParts) (u : U) (answer : Result (Unit {0}) InvalidId)
+    → IsOwn {T = T} {U = U} {G = G} {C = C} (Asked (step.SetObjectData o u) (reply.SetObjectData answer))
+own o u answer = record { offer = λ o. refl; last = refl; client = λ b. tt; global = λ o. tt; order = tt; room = λ b. tt; growth = refl }
+
+-- a store is given data: so a part is
+data_set : {T U C : Type 0} (p : Part T U C) (id : IdParts) (u : U) (answer : Result (Unit {0}) InvalidId) (store : Store (Kept U))
+    → MatchOption (named p.store id) (answer ≡ Err _) (λ _. answer ≡ Ok tt) → store ≡ data_given p.store id.number (named p.store id) u
+    → DataSet p id u answer (record p { store = store })
+data_set {T} {U} {C} p id u answer store = at (named p.store id)
+  where
+    over : Store (Kept U) → Part T U C
+    over s = record p { store = s }
+
+    at : (o : Option (Object (Kept U))) → MatchOption o (answer ≡ Err _) (λ _. answer ≡ Ok tt) → store ≡ data_given p.store id.number o u
+        → MatchOption o ((answer ≡ Err _) × (over store ≡ p)) (λ x. (answer ≡ Ok tt) × (over store ≡ over (data_given p.store id.number (Some x) u)))
+    at None is same = (is, ap over same)
+    at (Some x) is same = (is, ap over same)
+
+pub set_does : {T U C : Type 0} (s : Stored T U C) (id : IdParts) (u : U) (answer : Result (Unit {0}) InvalidId) (store : Store (Kept U))
+    → MatchOption (named s.part.store id) (answer ≡ Err _) (λ _. answer ≡ Ok tt) → store ≡ data_given s.part.store id.number (named s.part.store id) u
+    → Does s (λ p did q. Quietly false did (DataSet p id u answer q)) (record { serial = s.serial; part = record s.part { store = store }; made = s.made })
+set_does s id u answer store answered given =
+    does_quietly s (λ p did q. Quietly false did (DataSet p id u answer q)) _ (refl, refl, data_set s.part id u answer store answered given)

@@ -1,0 +1,292 @@
+-- Globals that are created, disabled and removed.
+use Rattle.std.proofs.Common.{◌≡◌, ◌⊎◌, ℕ, Bool, true, false, cond, List, [], ◌∷◌, ◌++◌, append-nil, Option, None, Some, Result, Ok, Err, MatchOption, refl, ap, subst, ◌∙◌, arith}
+use mathlib.Core.Logic.{inl, inr}
+use Rattle.std.specs.Prelude.{◌==◌, MatchBool, nat_le, option_map, slice_get}
+use Rattle.std.proofs.lemmas.Bool.{eq-eqb, ne_eqb}
+use Rattle.wl_wire.specs.declared.interface.InterfaceId.{InterfaceId}
+use Rattle.wl_wire.specs.Table.{InterfaceRow}
+use Rattle.wl_link.proofs.Calls.Branches.{either_bool, either_option}
+use Rattle.wl_link.proofs.Ids.StoreLaws.{removed_here, rewritten_here, stored_here}
+use Rattle.wl_link.specs.declared.object.Object.{Object}
+use Rattle.wl_link.specs.Exchange.{Queue}
+use Rattle.wl_link.specs.Identity.{Id, named_in}
+use Rattle.wl_link.specs.Link.{LinkState}
+use Rattle.wl_link.specs.Puts.{Said}
+use Rattle.wl_link.specs.Store.{Store, held, rewritten, stored}
+use Rattle.wl_wire.specs.declared.error.IoFault.{IoFault}
+use Rattle.wl_server.specs.declared.error.GlobalError.{GlobalError}
+use Rattle.wl_server.specs.declared.error.GlobalError.TheVariants as refused
+use Rattle.wl_server.specs.declared.globals.KeptGlobal.{KeptGlobal}
+use Rattle.wl_server.specs.declared.notes.DisconnectReason.TheVariants.{ConnectionClosed}
+use Rattle.wl_server.specs.declared.notes.Happening.{Happening}
+use Rattle.wl_server.specs.declared.notes.Happening.TheVariants.{Disconnected}
+use Rattle.wl_server.specs.declared.runs.step.Reply.{Reply}
+use Rattle.wl_server.specs.declared.runs.step.Reply.TheVariants as reply
+use Rattle.wl_server.specs.declared.runs.step.Step.{Step}
+use Rattle.wl_server.specs.declared.runs.step.Step.TheVariants as step
+use Rattle.wl_server.specs.Backend.{BackendState, Calls}
+use Rattle.wl_server.specs.Deeds.{Deed, notes_in}
+use Rattle.wl_server.specs.Felt.{Hears, news, removals}
+use Rattle.wl_server.specs.Globals.{CreatesGlobal, Globals, IsNextGlobal, Offer, as_disabled, disabled_at, freed_at, global_of, global_serial, is_enabled, new_global}
+use Rattle.wl_server.specs.Ids.{ClientParts, GlobalParts, IdParts}
+use Rattle.wl_server.specs.Lookups.{and_then}
+use Rattle.wl_server.specs.Part.{Part, named, with_link}
+use Rattle.wl_server.specs.PartStep.{Asked, Call, Feels, FeelsGlobal, FeelsLoss, Unfelt, World}
+use Rattle.wl_server.specs.Plain.{as_killed}
+use Rattle.wl_server.specs.PlainGlobals.{CreatedAs, DisablesGlobal, IsToldOrKilled, OffersGlobal, RemovesGlobal, TellsClients}
+use Rattle.wl_server.specs.Server.{Seen, seen}
+use Rattle.wl_server.specs.Steps.{AnswersShared}
+use Rattle.wl_server.specs.Telling.{Core, core_of, end_deeds, part_of, tells}
+use Rattle.wl_server.proofs.Plain.Base.{keeps, of_each}
+use Rattle.wl_server.proofs.Plain.Insertion.{offer_of}
+use Rattle.wl_server.proofs.Plain.Verdicts.{told, told_ended, told_starved}
+
+-- ---- a client that is told
+
+abbrev seen_with : {T U C : Type 0} → Part T U C → List (Happening U) → Seen T U C
+seen_with q made = record { part = Some q; made = made }
+
+split : {P Q : Type 0} (b : Bool) → MatchBool b P Q → ((b ≡ true) × P) ⊎ ((b ≡ false) × Q)
+split true p = inl (refl, p)
+split false q = inr (refl, q)
+
+which : (b : Bool) → (b ≡ true) ⊎ (b ≡ false)
+which true = inl refl
+which false = inr refl
+
+module _ {T U C : Type 0} (sends : T → Queue → Result ℕ IoFault → T → Type 0) (messages : List Said) (lacked : Bool) (did : List (Deed U)) where
+  hears_store : (p q : Part T U C) → Hears sends p messages lacked did q → q.store ≡ p.store
+  hears_store p q h =
+      elim (either_bool p.is_killed h) [
+        | inl (calm, none, same) ↦ ap (λ (x : Part T U C). x.store) same
+        | inr tells' ↦
+            told sends (λ c. c.store) (λ q. q.store) (λ e. refl) (tells (core_of p) messages) refl (λ c. refl) (λ c. refl) p.link lacked did q tells' ∙ either lacked
+      ]
+    where
+      either : (b : Bool) → cond b p.store p.store ≡ p.store
+      either true = refl
+      either false = refl
+
+  -- told, or killed
+  hears_as : (s t : Seen T U C) (p q : Part T U C) → s.part ≡ Some p → Hears sends p messages lacked did q → t ≡ record { part = Some q; made = s.made ++ notes_in did }
+      → (link : LinkState T)
+      × ((t ≡ record { part = Some (with_link p link); made = s.made })
+      ⊎ ((p.is_killed ≡ false) × (t ≡ record { part = Some (as_killed (with_link p link)); made = s.made ++ Disconnected ConnectionClosed ∷ [] })))
+  hears_as s t p q there h is =
+      elim (split p.is_killed h) [
+        | inl (dead, (calm, none, same)) ↦ (p.link, inl (alive p.link same (ap notes_in none)))
+        | inr (live, tells') ↦
+            elim (which lacked) [
+              | inl starved ↦
+                  let u = told_starved sends (tells (core_of p) messages) refl p.link lacked did q starved tells' in (u.link, inr (live, dead live u.link u.part_is u.notes_are))
+              | inr calm ↦
+                  let u = told_ended sends (tells (core_of p) messages) (λ c. refl) p.link lacked did q calm tells' in
+                  elim u.core_is [
+                    | inl same ↦ (
+                      u.link,
+                      inl (alive u.link (u.part_is ∙ ap (λ (c : Core U C). part_of (record { core = c; link = u.link })) same)
+                          (u.notes_are ∙ ap (λ (c : Core U C). notes_in (end_deeds {U = U} c.ended)) same)),
+                    )
+                    | inr (some, same) ↦ (
+                      u.link,
+                      inr (
+                        live,
+                        dead live u.link (u.part_is ∙ ap (λ (c : Core U C). part_of (record { core = c; link = u.link })) same)
+                            (u.notes_are ∙ ap (λ (c : Core U C). notes_in (end_deeds {U = U} c.ended)) same),
+                      ),
+                    )
+                  ]
+            ]
+      ]
+    where
+      alive : (link : LinkState T) → q ≡ with_link p link → notes_in did ≡ [] → t ≡ record { part = Some (with_link p link); made = s.made }
+      alive link part notes =
+          is ∙ ap (λ (x : Part T U C). seen_with x (s.made ++ notes_in did)) part ∙ ap (λ (n : List (Happening U)). seen_with (with_link p link) (s.made ++ n)) notes
+          ∙ ap (seen_with (with_link p link)) (append-nil s.made)
+
+      dead : p.is_killed ≡ false → (link : LinkState T) → q ≡ as_killed (with_link p link) → notes_in did ≡ notes_in (end_deeds (cond p.is_killed None (Some ConnectionClosed)))
+          → t ≡ record { part = Some (as_killed (with_link p link)); made = s.made ++ Disconnected ConnectionClosed ∷ [] }
+      dead live link part notes =
+          is ∙ ap (λ (x : Part T U C). seen_with x (s.made ++ notes_in did)) part ∙ ap (λ (n : List (Happening U)). seen_with (as_killed (with_link p link)) (s.made ++ n)) notes
+          ∙ ap (λ (b : Bool). seen_with (as_killed (with_link p link)) (s.made ++ notes_in (end_deeds (cond b None (Some ConnectionClosed))))) live
+
+module _ {T U C : Type 0} (sends : T → Queue → Result ℕ IoFault → T → Type 0) (messages : Part T U C → List Said) (lacked : Bool) (did : List (Deed U)) where
+  -- so is a client that feels a call
+  feels_any : (s t : Seen T U C) → Feels s (λ p q. Hears sends p (messages p) lacked did q) lacked did t → IsToldOrKilled s t
+  feels_any s t h = at s.part refl h
+    where
+      at : (o : Option (Part T U C)) → s.part ≡ o
+          → MatchOption o ((Unit {0}) × Unfelt s lacked did t) (λ p. (q : Part T U C) × Hears sends p (messages p) lacked did q × (t ≡ record { part = Some q; made = s.made ++ notes_in did }))
+          → MatchOption o (t ≡ s)
+          (λ p. (link : LinkState T)
+          × ((t ≡ record { part = Some (with_link p link); made = s.made })
+          ⊎ ((p.is_killed ≡ false) × (t ≡ record { part = Some (as_killed (with_link p link)); made = s.made ++ Disconnected ConnectionClosed ∷ [] }))))
+      at None none (u, (calm, nothing, same)) = same
+      at (Some p) there (q, hears, is) = hears_as sends (messages p) lacked did s t p q there hears is
+
+module _ {T U C : Type 0} where
+  -- a client that feels nothing
+  unfelt_as : (s t : Seen T U C) → t ≡ s → IsToldOrKilled s t
+  unfelt_as s t same = at s.part refl
+    where
+      at : (o : Option (Part T U C)) → s.part ≡ o
+          → MatchOption o (t ≡ s)
+          (λ p. (link : LinkState T)
+          × ((t ≡ record { part = Some (with_link p link); made = s.made })
+          ⊎ ((p.is_killed ≡ false) × (t ≡ record { part = Some (as_killed (with_link p link)); made = s.made ++ Disconnected ConnectionClosed ∷ [] }))))
+      at None none = same
+      at (Some p) there = (p.link, inl (same ∙ ap (λ (o : Option (Part T U C)). let x : Seen T U C = record { part = o; made = s.made } in x) there))
+
+-- ---- what an id names
+
+no_error : {g : GlobalParts} {e : GlobalError} → ◌≡◌ {A = Result GlobalParts GlobalError} (Ok g) (Err e) → ⊥
+no_error is = absurd cc
+
+module _ {G : Type 0} where
+  global_parts : (zero : Bool) (id : Id) (h : Option (Object (KeptGlobal G))) (x : Object (KeptGlobal G)) → cond zero None (named_in global_serial id h) ≡ Some x
+      → (zero ≡ false) × ((x.value.serial == id.serial) ≡ true)
+  global_parts true id h x e = absurd cc
+  global_parts false id None x e = absurd cc
+  global_parts false id (Some y) x e = (refl, at (y.value.serial == id.serial) refl e)
+    where
+      at : (b : Bool) → (y.value.serial == id.serial) ≡ b → cond b (Some y) None ≡ Some x → (x.value.serial == id.serial) ≡ true
+      at true is e = ap (λ (z : Object (KeptGlobal G)). z.value.serial == id.serial) (inside e) ∙ is
+        where
+          inside : Some y ≡ Some x → x ≡ y
+          inside e = cc
+      at false is e = absurd cc
+
+  global_here : (store : Store (KeptGlobal G)) (id : Id) (x : Object (KeptGlobal G)) → (id.number == 0) ≡ false → held store id.number ≡ Some x → (x.value.serial == id.serial) ≡ true
+      → cond (id.number == 0) None (named_in global_serial id (held store id.number)) ≡ Some x
+  global_here store id x numbered holds tells' =
+      ap (λ (b : Bool). cond b None (named_in global_serial id (held store id.number))) numbered ∙ ap (named_in global_serial id) holds ∙ ap (λ (b : Bool). cond b (Some x) None) tells'
+
+  both_none : (b : Bool) → ◌≡◌ {A = Option (Object (KeptGlobal G))} (cond b None None) None
+  both_none true = refl
+  both_none false = refl
+
+  disabled_in : (globals : Globals G) (id : GlobalParts) (o : Option (Object (KeptGlobal G))) → global_of globals id ≡ o
+      → global_of (disabled_at globals id.name o) id ≡ option_map as_disabled o
+  disabled_in globals id None is = is
+  disabled_in globals id (Some x) is =
+      let (numbered, tells') = global_parts (id.name == 0) (record { number = id.name; serial = id.serial }) (held globals.store id.name) x is in
+      global_here (rewritten globals.store id.name (as_disabled x)) (record { number = id.name; serial = id.serial }) (as_disabled x) numbered
+      (rewritten_here globals.store id.name (as_disabled x) id.name refl) tells'
+
+  freed_in : (globals : Globals G) (id : GlobalParts) (o : Option (Object (KeptGlobal G))) → global_of globals id ≡ o → global_of (freed_at globals id.name o) id ≡ None
+  freed_in globals id None is = is
+  freed_in globals id (Some x) is =
+      ap (λ (h : Option (Object (KeptGlobal G))). cond (id.name == 0) None (named_in global_serial (record { number = id.name; serial = id.serial }) h))
+      (removed_here globals.store id.name id.name refl)
+      ∙ both_none (id.name == 0)
+
+  next_of : (table : List InterfaceRow) (globals : Globals G) (i : InterfaceId) (version : ℕ) (g : GlobalParts) → CreatesGlobal table globals i version (Ok g) → IsNextGlobal globals g
+  next_of table globals i version g h =
+      elim (either_option (slice_get table i.0) h) [
+        | inl (unknown, is) ↦ absurd (no_error is)
+        | inr (row, known, more) ↦ at (nat_le version row.version) more
+      ]
+    where
+      at : (b : Bool) → MatchBool b (IsNextGlobal globals g) (◌≡◌ {A = Result GlobalParts GlobalError} (Ok g) (Err refused.VersionTooHigh)) → IsNextGlobal globals g
+      at true next = next
+      at false is = absurd (no_error is)
+
+  created_in : (globals : Globals G) (g : GlobalParts) (x : Object (KeptGlobal G)) → IsNextGlobal globals g → x.value.serial ≡ g.serial
+      → cond (g.name == 0) None (named_in global_serial (record { number = g.name; serial = g.serial }) (held (stored globals.store g.name x) g.name)) ≡ Some x
+  created_in globals g x next serial =
+      global_here (stored globals.store g.name x) (record { number = g.name; serial = g.serial }) x
+      (let first = next.0.within in ne_eqb g.name 0 (λ (zero : g.name ≡ 0). absurd (omega (arith, first, zero))))
+      (stored_here globals.store g.name x g.name refl) (eq-eqb x.value.serial g.serial serial)
+
+-- ---- the calls
+
+module _ {T U G C : Type 0} {w : World T G C} {before after : BackendState T U G C} {s : Step T U G C} {answer : Reply T U} (call : Calls w before s answer after) where
+  shared_of : AnswersShared before.server.offer (Asked s answer)
+  shared_of = let (e, is, refused, by) = call.step in subst (λ (c : Call T U G C). AnswersShared before.server.offer c) is by.global
+
+module _ {T U G C : Type 0} (w : World T G C) (before after : BackendState T U G C) where
+  -- of each client: what it felt, and that its objects stay
+  abbrev Each : Type 0
+  Each =
+      (id : ClientParts) → IsToldOrKilled (seen id before.server) (seen id after.server)
+      × ((o : IdParts) → and_then (seen id after.server).part (λ p. named p.store o) ≡ and_then (seen id before.server).part (λ p. named p.store o))
+
+  tells_clients : Each → TellsClients before after
+  tells_clients each = record { each = λ id. (each id).0; objects = λ o. (each o.client).1 o }
+
+  felt_by : (id : ClientParts) (messages : Part T U C → List Said) (lacked : Bool) (did : List (Deed U))
+      → Feels (seen id before.server) (λ p q. Hears w.sends p (messages p) lacked did q) lacked did (seen id after.server)
+      → IsToldOrKilled (seen id before.server) (seen id after.server)
+      × ((o : IdParts) → and_then (seen id after.server).part (λ p. named p.store o) ≡ and_then (seen id before.server).part (λ p. named p.store o))
+  felt_by id messages lacked did h = (
+    feels_any w.sends messages lacked did (seen id before.server) (seen id after.server) h,
+    λ o.
+        keeps true (seen id before.server) _ (Unit {0}) lacked did (seen id after.server) (λ x. and_then x (λ p. named p.store o))
+        (λ about p q r. ap (λ (s : Store _). named s o) (hears_store w.sends (messages p) lacked did p q r)) h,
+  )
+
+  unfelt_by : (id : ClientParts) → seen id after.server ≡ seen id before.server
+      → IsToldOrKilled (seen id before.server) (seen id after.server)
+      × ((o : IdParts) → and_then (seen id after.server).part (λ p. named p.store o) ≡ and_then (seen id before.server).part (λ p. named p.store o))
+  unfelt_by id same = (unfelt_as _ _ same, λ o. ap (λ (x : Seen T U C). and_then x.part (λ p. named p.store o)) same)
+
+  loss_each : (g : GlobalParts) → ((id : ClientParts) → (lacked : Bool) × (did : List (Deed U)) × FeelsLoss w id before.server.offer g (seen id before.server) lacked did (seen id after.server)) → Each
+  loss_each g each id =
+      let (lacked, did, h) = each id in
+      at id lacked did (is_enabled (global_of before.server.offer.globals g)) h
+    where
+      at : (id : ClientParts) (lacked : Bool) (did : List (Deed U)) (b : Bool)
+          → MatchBool b (Feels (seen id before.server) (λ p q. Hears w.sends p (removals p g.name) lacked did q) lacked did (seen id after.server))
+          (Unfelt (seen id before.server) lacked did (seen id after.server))
+          → IsToldOrKilled (seen id before.server) (seen id after.server)
+          × ((o : IdParts) → and_then (seen id after.server).part (λ p. named p.store o) ≡ and_then (seen id before.server).part (λ p. named p.store o))
+      at id lacked did true felt = felt_by id (λ p. removals p g.name) lacked did felt
+      at id lacked did false (calm, none, same) = unfelt_by id same
+
+  new_each : (i : InterfaceId) (version : ℕ) (handler : G) (r : Result GlobalParts GlobalError)
+      → ((id : ClientParts) → (lacked : Bool) × (did : List (Deed U)) × FeelsGlobal w id before.server.offer i version handler r (seen id before.server) lacked did (seen id after.server))
+      → Each
+  new_each i version handler (Ok g) each id =
+      let (lacked, did, h) = each id in
+      felt_by id (λ p. news before.server.offer.table p (w.views handler id p.client_data g) (record { name = g.name; interface = i; version = version })) lacked did h
+  new_each i version handler (Err e) each id = let (lacked, did, (calm, none, same)) = each id in unfelt_by id same
+
+module _ {T U G C : Type 0} {w : World T G C} {before after : BackendState T U G C} where
+  pub disables_global : (g : GlobalParts) → Calls w before (step.DisableGlobal g) reply.DisableGlobal after → DisablesGlobal before g after
+  disables_global g call = record {
+    global = ap (λ (o : Offer G). global_of o.globals g) (offer_of call) ∙ disabled_in before.server.offer.globals g (global_of before.server.offer.globals g) refl;
+    clients = tells_clients w before after (loss_each w before after g (λ id. let (lacked, did, (is, h)) = of_each call id in (lacked, did, h)));
+  }
+
+  pub removes_global : (g : GlobalParts) → Calls w before (step.RemoveGlobal g) reply.RemoveGlobal after → RemovesGlobal before g after
+  removes_global g call = record {
+    global = ap (λ (o : Offer G). global_of o.globals g) (offer_of call) ∙ freed_in before.server.offer.globals g (global_of before.server.offer.globals g) refl;
+    clients = tells_clients w before after (loss_each w before after g (λ id. let (lacked, did, (is, h)) = of_each call id in (lacked, did, h)));
+  }
+
+  module _ (i : InterfaceId) (version : ℕ) (handler : G) where
+    create_each : (answer : Result GlobalParts GlobalError) → Calls w before (step.CreateGlobal i version handler) (reply.CreateGlobal answer) after → (id : ClientParts)
+        → (lacked : Bool) × (did : List (Deed U)) × FeelsGlobal w id before.server.offer i version handler answer (seen id before.server) lacked did (seen id after.server)
+    create_each answer call id =
+        let (lacked, did, (r, is, h)) = of_each call id in (
+          lacked,
+          did,
+          subst (λ (a : Result GlobalParts GlobalError). FeelsGlobal w id before.server.offer i version handler a (seen id before.server) lacked did (seen id after.server)) (inside r is) h,
+        )
+      where
+        inside : (r : Result GlobalParts GlobalError) → ◌≡◌ {A = Reply T U} (reply.CreateGlobal answer) (reply.CreateGlobal r) → r ≡ answer
+        inside r is = cc
+
+    created_as : (answer : Result GlobalParts GlobalError) → Calls w before (step.CreateGlobal i version handler) (reply.CreateGlobal answer) after
+        → CreatedAs before i version handler answer after
+    created_as (Ok g) call =
+        ap (λ (o : Offer G). global_of o.globals g) (offer_of call)
+        ∙ created_in before.server.offer.globals g (new_global i version g.serial handler) (next_of before.server.offer.table before.server.offer.globals i version g (shared_of call)) refl
+    created_as (Err e) call = (offer_of call, λ id. let (lacked, did, (calm, none, same)) = create_each (Err e) call id in same)
+
+    pub offers_global : (answer : Result GlobalParts GlobalError) → Calls w before (step.CreateGlobal i version handler) (reply.CreateGlobal answer) after
+        → OffersGlobal before i version handler answer after
+    offers_global answer call = record {
+      global = created_as answer call;
+      clients = tells_clients w before after (new_each w before after i version handler answer (create_each answer call));
+    }

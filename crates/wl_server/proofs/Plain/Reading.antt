@@ -1,0 +1,183 @@
+-- A reading of one client.
+use Rattle.std.proofs.Common.{◌≡◌, ◌⊎◌, ℕ, Bool, true, false, List, [], ◌++◌, append-nil, Option, None, Some, is_some, Result, Ok, Err, refl, sym, ap, subst, ◌∙◌, true≢false}
+use mathlib.Core.Logic.{inl, inr}
+use Rattle.std.specs.Prelude.{IsSome, MatchBool}
+use Rattle.wl_wire.specs.declared.error.IoFault.{IoFault}
+use Rattle.wl_wire.specs.declared.error.IoFault.TheVariants as fault
+use Rattle.wl_link.proofs.Calls.Branches.{either_option}
+use Rattle.wl_link.specs.Exchange.{Queue}
+use Rattle.wl_wire.specs.MessageRows.{request_row}
+use Rattle.wl_link.specs.Reader.{ReaderState, Turn}
+use Rattle.wl_link.specs.Store.{held}
+use Rattle.wl_server.specs.declared.error.ActionError.{ActionError}
+use Rattle.wl_server.specs.declared.error.ActionError.TheVariants.{ActionOpen, Io}
+use Rattle.wl_server.specs.declared.notes.DisconnectReason.{DisconnectReason}
+use Rattle.wl_server.specs.declared.notes.Happening.{Happening}
+use Rattle.wl_server.specs.declared.reading.action.Action.{Action}
+use Rattle.wl_server.specs.declared.reading.action.OpenAction.{OpenAction}
+use Rattle.wl_server.specs.declared.reading.action.Reading.{Reading}
+use Rattle.wl_server.specs.declared.runs.step.Reply.{Reply}
+use Rattle.wl_server.specs.declared.runs.step.Reply.TheVariants as reply
+use Rattle.wl_server.specs.declared.runs.step.Step.TheVariants as step
+use Rattle.wl_server.specs.Backend.{BackendState, Calls}
+use Rattle.wl_server.specs.Deeds.{Bind, Deed, Handed, Request, notes_in}
+use Rattle.wl_server.specs.Globals.{Offer}
+use Rattle.wl_server.specs.Ids.{ClientParts, IdParts, same_client}
+use Rattle.wl_server.specs.Part.{Part, id_at}
+use Rattle.wl_server.specs.PartStep.{ReadsFor, World, around}
+use Rattle.wl_server.specs.PlainReading.{IsHandedOut, IsKilledOnce, LivesOn, OpenReadAs, ReadAs, ReadsClient}
+use Rattle.wl_server.specs.Reading.{Around, NextAction, action_content, answered, new_reading}
+use Rattle.wl_server.specs.ReadingEnds.{ComesOfMessage, ReadingEnds}
+use Rattle.wl_server.specs.Server.{Seen, seen}
+use Rattle.wl_server.specs.Telling.{Core, end_deeds, part_of, reader_part}
+use Rattle.wl_server.proofs.Plain.Base.{keeps, nothing_new, of_each, other_stays, own}
+use Rattle.wl_server.proofs.Plain.ReadingEnds.{reading_ends}
+use Rattle.wl_server.proofs.Plain.ReadingNotes.{notes_of_reading}
+
+split_bool : {P Q : Type 0} (b : Bool) → MatchBool b P Q → ((b ≡ true) × P) ⊎ ((b ≡ false) × Q)
+split_bool true p = inl (refl, p)
+split_bool false q = inr (refl, q)
+
+module _ {T U C : Type 0} where
+  abbrev seen_as : Part T U C → List (Happening U) → Seen T U C
+  seen_as q made = record { part = Some q; made = made }
+
+module _ {T U G C : Type 0} (sends : T → Queue → Result ℕ IoFault → T → Type 0) (receives : T → ℕ → Result Queue IoFault → T → Type 0) (a : Around G C) where
+  module _ (s t : Seen T U C) (end : ReaderState T (Core U C)) (is : t ≡ record { part = Some (part_of end); made = s.made ++ notes_in (end_deeds {U = U} end.core.ended) }) where
+    lives_on : end.core.is_killed ≡ false → end.core.ended ≡ None → LivesOn a.table a.client s (part_of end) t
+    lives_on live fresh = (
+      live,
+      is ∙ ap (λ (o : Option DisconnectReason). seen_as' (s.made ++ notes_in (end_deeds {U = U} o))) fresh ∙ ap seen_as' (append-nil s.made),
+    )
+      where
+        seen_as' : List (Happening U) → Seen T U C
+        seen_as' made = record { part = Some (part_of end); made = made }
+
+    killed_once : end.core.is_killed ≡ true → IsSome end.core.ended → IsKilledOnce a.table a.client s (part_of end) t
+    killed_once dead reason = at end.core.ended refl reason
+      where
+        seen_as' : List (Happening U) → Seen T U C
+        seen_as' made = record { part = Some (part_of end); made = made }
+
+        at : (o : Option DisconnectReason) → end.core.ended ≡ o → IsSome o → IsKilledOnce a.table a.client s (part_of end) t
+        at None ended some = absurd (true≢false (sym some))
+        at (Some reason) ended some = (dead, (reason, is ∙ ap (λ (o : Option DisconnectReason). seen_as' (s.made ++ notes_in (end_deeds {U = U} o))) ended))
+
+    handed_out : (h : Handed) → ComesOfMessage sends a h end → IsHandedOut a.table a.client h (part_of end)
+    handed_out (Request sender opcode args is_destructor created) (before, m, link, x, row, read, held_before, has, sender_is, opcode_is, numbers, destructor, holds, fit, open') = (
+      x,
+      row,
+      ap (λ (n : ℕ). held end.core.store n) number ∙ holds,
+      sender_is ∙ ap (λ (n : ℕ). id_at a.client n x) (sym number),
+      ap (request_row a.table x.interface) opcode_is ∙ has,
+      destructor,
+      fit,
+      open',
+    )
+      where
+        number : sender.number ≡ m.sender
+        number = ap (λ (i : IdParts). i.number) sender_is
+    handed_out (Bind global object) comes = comes
+
+    open_read : (turns : List Turn) (answer : Result Handed ActionError) (refused : Bool) (left : ℕ) → ReadingEnds sends a turns answer refused left end
+        → OpenReadAs a.table a.client answer s (part_of end) t
+    open_read turns (Ok h) refused left (live, fresh, comes) = (handed_out h comes, lives_on live fresh)
+    open_read turns (Err ActionOpen) refused left so = so
+    open_read turns (Err (Io fault.WouldBlock)) refused left (why, (live, fresh, idle)) = (idle, lives_on live fresh)
+    open_read turns (Err (Io fault.OutOfMemory)) refused left (why, (live, fresh, idle)) = (idle, lives_on live fresh)
+    open_read turns (Err (Io fault.Pipe)) refused left (why, (dead, reason, idle)) = (idle, killed_once dead reason)
+    open_read turns (Err (Io fault.TooBig)) refused left (why, (dead, reason, idle)) = (idle, killed_once dead reason)
+    open_read turns (Err (Io fault.Proto)) refused left (why, (dead, reason, idle)) = (idle, killed_once dead reason)
+    open_read turns (Err (Io fault.InvalidInput)) refused left (why, (dead, reason, idle)) = (idle, killed_once dead reason)
+    open_read turns (Err (Io (fault.Other n))) refused left (why, (dead, reason, idle)) = (idle, killed_once dead reason)
+
+  -- nothing of the part has changed, and nothing is noted
+  unread : (s t : Seen T U C) (p q : Part T U C) (did : List (Deed U)) → s.part ≡ Some p → t ≡ record { part = Some q; made = s.made ++ notes_in did } → did ≡ [] → q ≡ p → t ≡ s
+  unread s t p q did there is none same = nothing_new s t p q did there same (ap notes_in none) is
+
+  next_as : (s t : Seen T U C) (p q : Part T U C) (r r' : Reading) (answer : Result Handed ActionError) (lacked : Bool) (did : List (Deed U)) → s.part ≡ Some p
+      → t ≡ record { part = Some q; made = s.made ++ notes_in did } → NextAction sends receives a r p answer r' lacked did q → ReadAs a.table a.client answer s t
+  next_as s t p q r r' answer lacked did there is h =
+      elim (either_option p.action h) [
+        | inr (action, is_open, (says, same, calm, none, stays)) ↦
+            inr (p, there, inl (subst (λ (o : Option OpenAction). IsSome o) (sym is_open) refl, says, unread s t p q did there is none stays))
+        | inl (idle, g) ↦
+            elim (split_bool p.is_killed g) [
+              | inl (dead, (says, same, calm, none, stays)) ↦ inr (p, there, inr (inl (idle, dead, says, unread s t p q did there is none stays)))
+              | inr (live, (turns, out, end, reads, says, same, calm, did_so, after)) ↦
+                  let t_is : t ≡ record { part = Some (part_of end); made = s.made ++ notes_in (end_deeds {U = U} end.core.ended) } =
+                  is ∙ ap (λ (x : Part T U C). seen_as x (s.made ++ notes_in did)) after
+                  ∙ ap (λ (d : List (Deed U)). seen_as (part_of end) (s.made ++ notes_in d)) did_so
+                  ∙ ap (λ (n : List (Happening U)). seen_as (part_of end) (s.made ++ n)) (notes_of_reading sends receives a r.turns_left (reader_part p) turns out end reads) in
+                  inr (
+                    p,
+                    there,
+                    inr (inr (
+                      idle,
+                      live,
+                      (
+                        part_of end,
+                        subst (λ (x : Result Handed ActionError). OpenReadAs a.table a.client x s (part_of end) t) (sym says)
+                            (open_read s t end t_is turns (answered out.stopped out.gave) out.refused out.left
+                            (reading_ends sends receives a r.turns_left p turns out end live idle reads)),
+                      ),
+                    )),
+                  )
+            ]
+      ]
+
+module _ {T U G C : Type 0} (w : World T G C) (id : ClientParts) (offer : Offer G) (r r' : Reading) (answer : Result Handed ActionError) (s t : Seen T U C) (lacked : Bool) (did : List (Deed U)) where
+  pub reads_as : ReadsFor w id offer id r answer r' s lacked did t → ReadAs offer.table id answer s t
+  reads_as h =
+      elim (either_option s.part (own id s (λ p q. NextAction w.sends w.receives (around w id offer) r p answer r' lacked did q)
+      ((answer ≡ Err (Io fault.InvalidInput)) × (r' ≡ r)) lacked did t h)) [
+        | inl (none, ((says, same), (calm, nothing, stays))) ↦ inl (none, says, stays)
+        | inr (p, there, (q, next, is)) ↦ next_as w.sends w.receives (around w id offer) s t p q r r' answer lacked did there is next
+      ]
+
+module _ {T U G C : Type 0} (w : World T G C) (before after : BackendState T U G C) (id : ClientParts) where
+  -- what is read of each client
+  abbrev Each : Reading → Result Action ActionError → Type 0
+  Each r answer =
+      (other : ClientParts) → (lacked : Bool) × (did : List (Deed U)) × (r' : Reading)
+      × ReadsFor w other before.server.offer id r (action_content answer) r' (seen other before.server) lacked did (seen other after.server)
+
+  reads_all : (r : Reading) (answer : Result Action ActionError) → Each r answer → ReadsClient before id answer after
+  reads_all r answer each = record {
+    client = (let (lacked, did, r', h) = each id in reads_as w id before.server.offer r r' (action_content answer) _ _ lacked did h);
+    clients = λ other differ. let (lacked, did, r', h) = each other in other_stays (same_client id other) _ _ _ lacked did _ differ h;
+    stored = λ other.
+        let (lacked, did, r', h) = each other in
+        keeps (same_client id other) _ _ _ lacked did _ (λ x. is_some x) (λ about p q next. refl) h;
+  }
+
+  pub next_action_reads : (answer : Result Action ActionError) → Calls w before (step.NextAction id) (reply.NextAction answer) after → ReadsClient before id answer after
+  next_action_reads answer call =
+      reads_all new_reading answer
+      (λ other.
+      let (lacked, did, (r, left, is, h)) = of_each call other in (
+        lacked,
+        did,
+        left,
+        subst (λ (x : Result Action ActionError). ReadsFor w other before.server.offer id new_reading (action_content x) left (seen other before.server) lacked did (seen other after.server))
+            (inside r is) h,
+      ))
+    where
+      inside : (r : Result Action ActionError) → ◌≡◌ {A = Reply T U} (reply.NextAction answer) (reply.NextAction r) → r ≡ answer
+      inside r is = cc
+
+  pub next_action_within_reads : (reading left : Reading) (answer : Result Action ActionError)
+      → Calls w before (step.NextActionWithin id reading) (reply.NextActionWithin answer left) after → ReadsClient before id answer after
+  next_action_within_reads reading left answer call =
+      reads_all reading answer
+      (λ other.
+      let (lacked, did, (r, l, is, h)) = of_each call other in (
+        lacked,
+        did,
+        l,
+        subst (λ (x : Result Action ActionError). ReadsFor w other before.server.offer id reading (action_content x) l (seen other before.server) lacked did (seen other after.server))
+            (inside r l is) h,
+      ))
+    where
+      inside : (r : Result Action ActionError) (l : Reading) → ◌≡◌ {A = Reply T U} (reply.NextActionWithin answer left) (reply.NextActionWithin r l) → r ≡ answer
+      inside r l is = cc

@@ -1,0 +1,19 @@
+use Rattle.std.proofs.Common.{◌∙◌, Some, ap, refl}
+use Rattle.wl_server.proofs.CleanupSteps.Taken.{slots_set}
+use Rattle.wl_server.proofs.ObjectCalls.LendingData.{lends_none, lends_stored}
+use Rattle.wl_server.proofs.backend.Backend.with_object_data.Goals as goal
+
+pub invariant_of-self-2 : goal.invariant_of-self-2
+invariant_of-self-2 g c = slots_set _ _ _ _ _ c.self.invariant
+
+pub returns-in_default : goal.returns-in_default
+returns-in_default g c = record {
+  call = rw (← c.self.view_is) (lends_none _ _ _ _ c.args.id.now _ c.client-client.result c.client-client.ensures c.in_default.ensures.value refl);
+}
+
+pub returns : goal.returns
+returns g c = record {
+  call = rw (← c.self.view_is)
+      (lends_stored _ _ _ _ c.args.id.now c.lend_data.result c.client-client.result _ c.client-client.ensures (ap Some c.stored.view_is ∙ c.in-Some.ensures.value) _
+      c.lend_data.ensures);
+}

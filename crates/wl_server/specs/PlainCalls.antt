@@ -1,0 +1,48 @@
+-- What a program finds after an insertion of a client, and after a limit was set, in the words of the look-ups.
+--
+-- A contract that cites one of these has another clause beside it, `call`, from which it follows.
+use Rattle.std.specs.Prelude.{◌≡◌, ℕ, ◌∷◌, [], ◌++◌, false, None, Some, Result, Ok, Err, MatchOption}
+use Rattle.wl_link.specs.Link.{IsFresh, LimitSet, LinkState}
+use Rattle.wl_server.specs.declared.error.InsertClientError.{InsertClientError}
+use Rattle.wl_server.specs.declared.notes.Happening.TheVariants.{Initialized}
+use Rattle.wl_server.specs.Backend.{BackendState}
+use Rattle.wl_server.specs.Ids.{ClientParts}
+use Rattle.wl_server.specs.Part.{fresh_part, with_link}
+use Rattle.wl_server.specs.Plain.{ObjectsStay, OtherClientsStay, client_in, notes_made_in}
+use Rattle.wl_server.specs.Server.{seen}
+
+module _ {T U G C : Type 0} where
+  -- nothing of any client has changed
+  abbrev pub ClientsStay : BackendState T U G C → BackendState T U G C → Type 0
+  ClientsStay before after = (id : ClientParts) → seen id after.server ≡ seen id before.server
+
+  -- The answer is the id of a new client: over this transport, with these data, live, and with no object but its display. Its
+  -- insertion is noted. Or no client has changed.
+  abbrev pub NewClientAs : BackendState T U G C → T → C → Result ClientParts InsertClientError → BackendState T U G C → Type 0
+  NewClientAs before transport client_data (Ok id) after =
+      (link : LinkState T) × IsFresh transport (Some before.server.offer.default_limit) link
+      × (client_in after id ≡ Some (fresh_part link client_data))
+      × (notes_made_in after id ≡ notes_made_in before id ++ Initialized ∷ [])
+      × OtherClientsStay before id after
+  NewClientAs before transport client_data (Err e) after = ClientsStay before after
+
+  pub record InsertsClient (before : BackendState T U G C) (transport : T) (client_data : C) (answer : Result ClientParts InsertClientError) (after : BackendState T U G C)
+      : Type 0 where
+    pub client : NewClientAs before transport client_data answer after
+    pub offer : after.server.offer ≡ before.server.offer
+
+  -- The buffers of the client have the limit, if it is stored. Nothing else of it has changed, and nothing of another client.
+  pub record SetsLimit (before : BackendState T U G C) (id : ClientParts) (limit : ℕ) (after : BackendState T U G C) : Type 0 where
+    pub client : MatchOption (client_in before id) (client_in after id ≡ None)
+        (λ p. (link : LinkState T) × LimitSet p.link (Some limit) link × (client_in after id ≡ Some (with_link p link)))
+    pub clients : OtherClientsStay before id after
+    pub objects : ObjectsStay before after
+    pub notes : (other : ClientParts) → notes_made_in after other ≡ notes_made_in before other
+    pub offer : after.server.offer ≡ before.server.offer
+    pub memory : after.refused ≡ false
+
+  -- New clients get the limit. Nothing of a client that is stored has changed, nor of a global.
+  pub record SetsDefaultLimit (before : BackendState T U G C) (limit : ℕ) (after : BackendState T U G C) : Type 0 where
+    pub offer : after.server.offer ≡ record before.server.offer { default_limit = limit }
+    pub clients : ClientsStay before after
+    pub memory : after.refused ≡ false

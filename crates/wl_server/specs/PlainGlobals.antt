@@ -1,0 +1,60 @@
+-- What a program finds after a global was created, disabled or removed, in the words of the look-ups.
+--
+-- A contract that cites one of these has another clause beside it, `call`, from which it follows.
+use Rattle.std.specs.Prelude.{◌≡◌, ◌⊎◌, ℕ, ◌∷◌, [], ◌++◌, false, Option, None, Some, Result, Ok, Err, MatchOption, option_map}
+use Rattle.wl_wire.specs.declared.interface.InterfaceId.{InterfaceId}
+use Rattle.wl_link.specs.declared.object.Object.{Object}
+use Rattle.wl_link.specs.Link.{LinkState}
+use Rattle.wl_server.specs.declared.error.GlobalError.{GlobalError}
+use Rattle.wl_server.specs.declared.globals.KeptGlobal.{KeptGlobal}
+use Rattle.wl_server.specs.declared.notes.DisconnectReason.TheVariants.{ConnectionClosed}
+use Rattle.wl_server.specs.declared.notes.Happening.TheVariants.{Disconnected}
+use Rattle.wl_server.specs.Backend.{BackendState}
+use Rattle.wl_server.specs.Globals.{as_disabled, global_of, new_global}
+use Rattle.wl_server.specs.Ids.{ClientParts, GlobalParts}
+use Rattle.wl_server.specs.Part.{with_link}
+use Rattle.wl_server.specs.Plain.{ObjectsStay, as_killed}
+use Rattle.wl_server.specs.PlainCalls.{ClientsStay}
+use Rattle.wl_server.specs.Server.{Seen, seen}
+
+module _ {T U C : Type 0} where
+  -- A client was told of a global, or nothing. Only its link may differ. Or it could not be told: then it is killed, which is
+  -- noted.
+  abbrev pub IsToldOrKilled : Seen T U C → Seen T U C → Type 0
+  IsToldOrKilled before after =
+      MatchOption before.part (after ≡ before)
+      (λ p. (link : LinkState T)
+      × ((after ≡ record { part = Some (with_link p link); made = before.made })
+      ⊎ ((p.is_killed ≡ false)
+      × (after ≡ record { part = Some (as_killed (with_link p link)); made = before.made ++ Disconnected ConnectionClosed ∷ [] }))))
+
+module _ {T U G C : Type 0} where
+  -- the global that the id names
+  abbrev pub global_in : BackendState T U G C → GlobalParts → Option (Object (KeptGlobal G))
+  global_in b id = global_of b.server.offer.globals id
+
+  -- each client was told, or killed, and no object has changed
+  pub record TellsClients (before after : BackendState T U G C) : Type 0 where
+    pub each : (id : ClientParts) → IsToldOrKilled (seen id before.server) (seen id after.server)
+    pub objects : ObjectsStay before after
+
+  -- The answer is the id of the new global, which is enabled and has this interface, version and handler. Or nothing has
+  -- changed.
+  abbrev pub CreatedAs : BackendState T U G C → InterfaceId → ℕ → G → Result GlobalParts GlobalError → BackendState T U G C → Type 0
+  CreatedAs before i version handler (Ok g) after = global_in after g ≡ Some (new_global i version g.serial handler)
+  CreatedAs before i version handler (Err e) after = (after.server.offer ≡ before.server.offer) × ClientsStay before after
+
+  pub record OffersGlobal (before : BackendState T U G C) (i : InterfaceId) (version : ℕ) (handler : G) (answer : Result GlobalParts GlobalError)
+      (after : BackendState T U G C) : Type 0 where
+    pub global : CreatedAs before i version handler answer after
+    pub clients : TellsClients before after
+
+  -- The global is disabled, if it is kept.
+  pub record DisablesGlobal (before : BackendState T U G C) (id : GlobalParts) (after : BackendState T U G C) : Type 0 where
+    pub global : global_in after id ≡ option_map as_disabled (global_in before id)
+    pub clients : TellsClients before after
+
+  -- The id names no global any longer.
+  pub record RemovesGlobal (before : BackendState T U G C) (id : GlobalParts) (after : BackendState T U G C) : Type 0 where
+    pub global : global_in after id ≡ None
+    pub clients : TellsClients before after

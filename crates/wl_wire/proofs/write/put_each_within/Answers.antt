@@ -1,0 +1,25 @@
+use Rattle.std.proofs.Common.{◌++◌, length, map, take, refl, sym, ap, arith, length-append, ◌∙◌}
+use Rattle.wl_wire.specs.MapIds.{with_ids}
+use Rattle.wl_wire.specs.Message.{IsArgument, piece, pieces, token}
+use Rattle.wl_wire.proofs.Pieces.{all-more, got_with_ids, length-piece, pieces-more, tokens-more, overwritten-nil, overwritten-next}
+use Rattle.wl_wire.proofs.write.put_each_within.Goals as goal
+
+pub loop-arg-init : goal.loop-arg-init
+loop-arg-init g c = (refl, omega arith, omega arith, sym (overwritten-nil c.args.payload.now 8), refl, tt)
+
+pub loop-arg-preserved : goal.loop-arg-preserved
+loop-arg-preserved g c =
+    let object_number = g.N.Numbering.object_number c.args.numbers.now in
+    let new_number = g.N.Numbering.new_number c.args.numbers.now in
+    let i = c.loop-arg.arg-index in
+    let args = map (with_ids object_number new_number) c.args.args.now in
+    let a = with_ids object_number new_number c.arg-item.result in
+    let got = got_with_ids object_number new_number c.args.args.now i c.arg-item.result c.loop-arg-test.true c.arg-item.is in (
+      omega (arith, c.loop-arg.invariant.0, c.in_ok-at.ensures.next.0, length-piece a, ap length (pieces-more args i a got.0 got.1), length-append (pieces (take i args)) (piece a)),
+      omega (arith, c.loop-arg.invariant.1, c.loop-arg.invariant.2, c.in_ok-at.ensures.next.1, c.loop-arg-test.true),
+      omega (arith, c.loop-arg-test.true),
+      overwritten-next c.args.payload.now c.loop-arg.payload c.put_within.new.payload args i c.loop-arg.at a got.0 got.1
+          (omega (arith, c.loop-arg.invariant.1, c.loop-arg.invariant.2, c.loop-arg-test.true, c.in_ok-at.ensures.next.0, c.in_ok-at.ensures.next.1, c.requires.end, length-piece a)) c.loop-arg.invariant.0 c.loop-arg.invariant.3 c.in_ok-at.ensures.bytes,
+      tokens-more args i a got.0 got.1 ∙ ap (λ t. t ++ token a) c.loop-arg.invariant.4 ∙ c.in_ok-at.ensures.token,
+      all-more IsArgument args i a got.0 got.1 c.loop-arg.invariant.5 c.in_ok-at.ensures.value,
+    )
