@@ -1,0 +1,2 @@
+-- What is on its way through the relay.
+pub mod Flow

@@ -1,0 +1,29 @@
+//! A relay: it stands between a Wayland client and a server, hands on what each of them sends, and logs each message.
+//!
+//! [`Relay`] holds a link to each side and the objects of the session. [`run`] is the program `wl-relay` over a reader and a
+//! writer: it reads the table of interfaces and then what came from each side, a line each, and writes the log and what is to
+//! be sent. `main`, in the crate `wl_relay_cli`, gives it the standard streams.
+//!
+//! | Subject | Code | Definitions, in `specs/` |
+//! |---|---|---|
+//! | the sides, and what may go wrong with one | `side` | none |
+//! | the objects and the log | `notes` | none |
+//! | what is handed on, dropped or lowered | `follow` | `Flow` |
+//! | the relay | `relay` | `Flow` |
+//! | the lines of the program | `words`, `rows`, `commands`, `stop` | none |
+#![tactic(auto)]
+
+mod commands;
+mod follow;
+mod notes;
+mod relay;
+mod rows;
+mod side;
+mod stop;
+mod words;
+
+pub use commands::{run, status, tell};
+pub use relay::{ArriveError, Relay};
+pub use rows::add_row;
+pub use side::{Fault, Mode, Side};
+pub use stop::Stop;
