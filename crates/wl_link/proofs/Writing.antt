@@ -9,6 +9,7 @@ use Rattle.wl_wire.specs.declared.error.MessageWriteError.TheVariants as errors
 use Rattle.wl_wire.specs.Message.{WireMessage, size, spelling, tokens as tokens_of}
 use Rattle.wl_wire.proofs.Spelling.RoundTrip.{length-spelling}
 use Rattle.wl_link.specs.Inside.WaitingBytes.{Waiting, Appended, waits, arrived}
+use Rattle.wl_link.specs.Link.{TokensAsk}
 use Rattle.wl_link.proofs.Receiving.{front_and_part}
 use Rattle.wl_link.proofs.Trees.{written}
 
@@ -96,19 +97,19 @@ module _ (m : WireMessage) (storage payload' : List ℕ) (start end : ℕ) (fds 
       → OnOk result (fds' ≡ fds ++ tokens_of m.args)
       → ((result ≡ Err errors.TooLong) ↔ (65535 < size m))
       → ((result ≡ Err errors.BufferTooSmall) ↔ ((size m ≤ 65535) × (length payload < size m)))
-      → (tokens_of m.args ≡ [] → result ≢ Err errors.OutOfMemory)
+      → (result ≡ Err errors.OutOfMemory → TokensAsk fds m)
       → OnErr result ((payload' ≡ payload) × (fds' ≡ fds))
       → Appended (waits (slice_range storage start end) (length storage)) fds m result (waits (slice_range storage' start (end + arrived result)) (length storage)) fds'
-  appended_behind (Ok n) payload len written tokens long small none same =
+  appended_behind (Ok n) payload len written tokens long small asks same =
       let fit = fits (Ok n) (length payload) (λ e. cc) (λ e. cc) long small in
       (fit.0, room_behind payload len fit.1, ap (λ (bs : List ℕ). waits bs (length storage)) (spelled_behind n (drop n payload) written.0 written.1), tokens)
-  appended_behind (Err errors.TooLong) payload len written tokens long small none same =
+  appended_behind (Err errors.TooLong) payload len written tokens long small asks same =
       (long.0 refl, ap (λ (bs : List ℕ). waits bs (length storage)) same_front, same.1)
-  appended_behind (Err errors.BufferTooSmall) payload len written tokens long small none same =
+  appended_behind (Err errors.BufferTooSmall) payload len written tokens long small asks same =
       ((small.0 refl).0, ap (λ (bs : List ℕ). waits bs (length storage)) same_front, same.1)
-  appended_behind (Err errors.OutOfMemory) payload len written tokens long small none same =
+  appended_behind (Err errors.OutOfMemory) payload len written tokens long small asks same =
       let fit = fits (Err errors.OutOfMemory) (length payload) (λ e. cc) (λ e. cc) long small in
-      (fit.0, room_behind payload len fit.1, λ e. none e refl, ap (λ (bs : List ℕ). waits bs (length storage)) same_front, same.1)
+      (fit.0, room_behind payload len fit.1, asks refl, ap (λ (bs : List ℕ). waits bs (length storage)) same_front, same.1)
 
   -- a message without tokens, written there in one pass
   pub appended_once : {X : Type 0} (x : X) (n : ℕ) (payload : List ℕ) → length payload' ≡ length payload → length payload ≡ length storage - end → n ≤ 65535

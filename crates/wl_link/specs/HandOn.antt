@@ -1,12 +1,20 @@
 -- Handing on what was received, as it is, to another link.
-use Rattle.std.specs.Prelude.{◌≡◌, ◌<◌, ◌≤◌, ◌⊎◌, false, List, length, take, Result, Ok, Err}
+use Rattle.std.specs.Prelude.{◌≡◌, ◌≢◌, ℕ, ◌<◌, ◌≤◌, ◌⊎◌, false, true, List, [], length, take, Result, Ok, Err}
 use Rattle.wl_wire.specs.declared.argument.ArgumentType.{ArgumentType}
 use Rattle.wl_wire.specs.declared.error.MessageParseError.TheVariants as errors
 use Rattle.wl_wire.specs.Parse.{IsThere, length_of, fd_count, RefusesMessage}
 use Rattle.wl_link.specs.declared.buffered_socket.hand_on.HandOnError.{HandOnError}
 use Rattle.wl_link.specs.declared.buffered_socket.hand_on.HandOnError.TheVariants as hand
 use Rattle.wl_link.specs.Exchange.{Queue, joined, nothing}
-use Rattle.wl_link.specs.Link.{LinkState, Grown, after_first, has_room, with_incoming, with_outgoing}
+use Rattle.wl_link.specs.Link.{LinkState, Grown, Wants, after_first, has_room, needed, with_incoming, with_outgoing}
+
+-- The buffer has to grow for so many more bytes, and may, but there is no memory: nothing changes.
+abbrev pub NoMemoryToGrow : {S : Type 0} → LinkState S → ℕ → LinkState S → Type 0
+NoMemoryToGrow to more to' = (to' ≡ to) × Wants to.limit (needed to more) to.outgoing_capacity
+
+-- The buffer has grown as far as it may, and has room for so many more bytes; but there is no memory for the tokens.
+abbrev pub NoMemoryForTokens : {S : Type 0} → LinkState S → ℕ → LinkState S → Type 0
+NoMemoryForTokens to more to' = Grown to more to' × (has_room to' more ≡ true)
 
 -- the message at the front, under this signature: its bytes and its tokens
 abbrev pub first_of : List ArgumentType → Queue → Queue
@@ -18,6 +26,7 @@ module _ {S R : Type 0} where
   RoomMade from to grown = Grown to (length_of from.incoming.bytes) grown
 
   -- Each reason comes on its own condition, in this order. Nothing is handed on; the buffer of the other link may have grown.
+  -- Memory is wanted only to double that buffer, and for the tokens of a message that has some.
   abbrev pub RefusesHandOn : List ArgumentType → LinkState R → LinkState S → HandOnError → LinkState S → Type 0
   RefusesHandOn signature from to hand.MissingData to' =
       RefusesMessage from.incoming.bytes signature from.incoming.tokens errors.MissingData × (to' ≡ to)
@@ -27,7 +36,9 @@ module _ {S R : Type 0} where
   RefusesHandOn signature from to hand.NoRoom to' =
       IsThere from.incoming.bytes signature from.incoming.tokens × RoomMade from to to' × (has_room to' (length_of from.incoming.bytes) ≡ false)
   RefusesHandOn signature from to hand.OutOfMemory to' =
-      IsThere from.incoming.bytes signature from.incoming.tokens × ((to' ≡ to) ⊎ RoomMade from to to')
+      IsThere from.incoming.bytes signature from.incoming.tokens
+      × (NoMemoryToGrow to (length_of from.incoming.bytes) to'
+      ⊎ (NoMemoryForTokens to (length_of from.incoming.bytes) to' × (0 < fd_count signature)))
 
   -- The message at the front leaves one link, and stands after what waits to be sent on the other, byte for byte.
   abbrev pub HandsOn : List ArgumentType → LinkState R → LinkState S → Result (Unit {0}) HandOnError → LinkState R → LinkState S → Type 0
@@ -39,7 +50,7 @@ module _ {S R : Type 0} where
   HandsOn signature from to (Err e) from' to' = (from' ≡ from) × RefusesHandOn signature from to e to'
 
   -- All that was received leaves one link, and stands after what waits to be sent on the other; or it stays, if the other link may
-  -- not have so much, or for want of memory.
+  -- not have so much, or for want of memory: to double its buffer, or for tokens, if some were received.
   abbrev pub HandsOnRest : LinkState R → LinkState S → Result (Unit {0}) HandOnError → LinkState R → LinkState S → Type 0
   HandsOnRest from to (Ok _) from' to' =
       (from' ≡ with_incoming from from.transport nothing)
@@ -47,7 +58,10 @@ module _ {S R : Type 0} where
       × (to' ≡ with_outgoing grown grown.transport (joined grown.outgoing from.incoming)))
   HandsOnRest from to (Err hand.NoRoom) from' to' =
       (from' ≡ from) × Grown to (length from.incoming.bytes) to' × (has_room to' (length from.incoming.bytes) ≡ false)
-  HandsOnRest from to (Err hand.OutOfMemory) from' to' = (from' ≡ from) × ((to' ≡ to) ⊎ Grown to (length from.incoming.bytes) to')
+  HandsOnRest from to (Err hand.OutOfMemory) from' to' =
+      (from' ≡ from)
+      × (NoMemoryToGrow to (length from.incoming.bytes) to'
+      ⊎ (NoMemoryForTokens to (length from.incoming.bytes) to' × (from.incoming.tokens ≢ [])))
   HandsOnRest from to (Err _) from' to' = ⊥
 
   -- What waits to be sent on one link, followed by what was received on the other, stays as it was.

@@ -179,11 +179,15 @@ abbrev pub Grown : {T : Type 0} → LinkState T → ℕ → LinkState T → Type
 Grown before more after =
     Grows before.limit (needed before more) before.outgoing_capacity after.outgoing_capacity × (after ≡ with_outgoing_capacity before after.outgoing_capacity)
 
--- the message stands after what waits; or there is no memory for its tokens, and nothing is changed
+-- the message's tokens ask for memory: it has some, and behind those that wait they would be more than 28
+abbrev pub TokensAsk : List Token → WireMessage → Type 0
+TokensAsk waiting m = (tokens m.args ≢ []) × (28 < length waiting + length (tokens m.args))
+
+-- the message stands after what waits; or its tokens ask for memory, there is none, and nothing is changed
 abbrev pub Put : {T : Type 0} → LinkState T → WireMessage → Result (Unit {0}) IoFault → LinkState T → Type 0
 Put before m answer after =
     ((answer ≡ Ok tt) × (after ≡ with_outgoing before before.transport (joined before.outgoing (spelled m))))
-    ⊎ ((answer ≡ Err fault.OutOfMemory) × (after ≡ before) × (tokens m.args ≢ []))
+    ⊎ ((answer ≡ Err fault.OutOfMemory) × (after ≡ before) × TokensAsk before.outgoing.tokens m)
 
 abbrev pub has_room : {T : Type 0} → LinkState T → ℕ → Bool
 has_room l more = nat_le (needed l more) l.outgoing_capacity
@@ -261,12 +265,16 @@ FilledBy receives before received answer after =
     × (answer ≡ counted_answer (count_of received))
     × (after ≡ with_incoming (with_incoming_capacity before (grown_capacity before)) after.transport (with_came before.incoming received))
 
--- or there was no memory for that growth or for the tokens that a receive may give, and nothing was received
+-- a receive asks for memory: the buffer is to grow, or more than 28 tokens wait
+abbrev pub ReceiveAsks : {T : Type 0} → LinkState T → Type 0
+ReceiveAsks l = (l.incoming_capacity < grown_capacity l) ⊎ (28 < length l.incoming.tokens)
+
+-- or the receive asked for memory, there was none, and nothing was received
 abbrev pub Filled : {T : Type 0} → (T → ℕ → Result Queue IoFault → T → Type 0)
     → LinkState T → Result (Unit {0}) IoFault → LinkState T → Type 0
 Filled receives before answer after =
     ((received : Result Queue IoFault) × FilledBy receives before received answer after)
-    ⊎ ((answer ≡ Err fault.OutOfMemory) × (after ≡ before))
+    ⊎ ((answer ≡ Err fault.OutOfMemory) × (after ≡ before) × ReceiveAsks before)
 
 -- the message at the front is not there to its last byte
 abbrev pub LacksBytes : List ℕ → Type 0

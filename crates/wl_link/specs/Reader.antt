@@ -13,7 +13,7 @@ use Rattle.wl_wire.specs.declared.error.MessageParseError.TheVariants as parse
 use Rattle.wl_wire.specs.Message.{WireMessage}
 use Rattle.wl_wire.specs.Parse.{IsThere, opcode_of, sender_of}
 use Rattle.wl_link.specs.Exchange.{Queue, Sending, joined, nothing}
-use Rattle.wl_link.specs.Link.{FilledBy, FindsRoom, LinkState, ReadOne, count_of, counted_answer}
+use Rattle.wl_link.specs.Link.{FilledBy, FindsRoom, LinkState, ReadOne, ReceiveAsks, count_of, counted_answer}
 use Rattle.wl_link.specs.Puts.{FlushesOut, PutsOut, Said, lacks_memory}
 
 -- what a message, malformed bytes, or the end of what is open does
@@ -181,12 +181,12 @@ module _ {T Core Event Finish : Type 0} (sends : T → Queue → Result ℕ IoFa
   abbrev pub Leaves : ReaderState T Core → Verdict Core Event → LinkState T → Type 0
   Leaves p v link = ReadsAs p (Err parse.Malformed) p.link × (link ≡ p.link) × (v ≡ reader.malformed p.core)
 
-  -- no receive is left; or memory is refused, for what the message asks for or for what a receive may give
+  -- no receive is left; or memory is refused, if the message at the front or a receive asks for some
   abbrev pub Halts : ℕ → ReaderState T Core → Gives Event → Type 0
   Halts left p out =
       (Lacks p × (left ≡ 0) × (out ≡ stops (Some fault.WouldBlock) false left))
       ⊎ ((FrontAsks p × (out ≡ stops (Some fault.OutOfMemory) true left))
-      ⊎ (Lacks p × ((n : ℕ) × (left ≡ suc n) × (out ≡ stops (Some fault.OutOfMemory) true n))))
+      ⊎ ((Lacks p × ReceiveAsks p.link) × ((n : ℕ) × (left ≡ suc n) × (out ≡ stops (Some fault.OutOfMemory) true n))))
 
   -- the reading ends here: the core no longer reads on, or the reading has to stop (`Halts`)
   abbrev pub Stops : ℕ → ReaderState T Core → Gives Event → Type 0

@@ -49,7 +49,7 @@ abbrev pub all_left : List RelayCall → Queue
 all_left [] = nothing
 all_left (c ∷ cs) = joined (left_by c) (all_left cs)
 
--- a send of this call answered no 0
+-- no send of this call answered 0
 abbrev pub NotZero : RelayCall → Type 0
 NotZero (BySend es answer) = NoZero es
 NotZero (ByReceive received) = Unit {0}

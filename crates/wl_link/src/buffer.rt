@@ -97,12 +97,17 @@ impl Buffer {
         }
     }
 
-    /// Makes the capacity `size` bytes, which is no less than it was. If there is no memory, the buffer stays as it was.
+    /// Makes the capacity `size` bytes, which is no less than it was. If there is no memory, the buffer stays as it was. To
+    /// keep the capacity as it is takes no memory.
     pub fn grow(&mut self, size: usize) -> Result<(), OutOfMemory>
         requires { self.old.size ≤ size }
         ensures ok { OnOk result (self.new ≡ waits self.old.bytes size) }
         ensures err { OnErr result (self.new ≡ self.old) }
+        ensures full { OnErr result (self.old.size < size) }
     {
+        if size == self.storage.len() {
+            return Ok(());
+        }
         self.storage.resize(size, 0)?;
         Ok(())
     }
@@ -130,6 +135,8 @@ impl Buffer {
     }
 
     /// As `write`, which calls it for a message that was not written in one pass. Its bytes are counted before any is written.
+    ///
+    /// It is not inlined, so that it costs nothing for the messages that are.
     #[inline(never)]
     fn write_counted<Id, N: Numbering<Id>>(
         &mut self,
@@ -200,6 +207,7 @@ impl Buffer {
         ensures received { Received T.receives transport.old (beside self.old.bytes tokens.old.items) self.old.size result
             transport.new (beside self.new.bytes tokens.new.items) }
         ensures size { self.new.size ≡ self.old.size }
+        ensures capacity { deque_capacity tokens.old ≤ deque_capacity tokens.new }
     {
         let (start, end) = (self.start, self.end);
         self.start = 0;
@@ -313,6 +321,7 @@ fn receive_at_front<T: Transport>(
         (beside (slice_range storage.old start end) tokens.old.items) (length storage.old) result
         transport.new (beside (slice_range storage.new 0 (end - start + arrived result)) tokens.new.items) }
     ensures room { end - start + arrived result ≤ length storage.old }
+    ensures capacity { deque_capacity tokens.old ≤ deque_capacity tokens.new }
 {
     move_to_front(storage, start, end);
     transport.rcv_msg(&mut storage[end - start..], tokens)

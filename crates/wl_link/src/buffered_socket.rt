@@ -51,6 +51,8 @@ impl<T> fmt::Debug for BufferedSocket<T> {
 }
 
 impl<T> Model for BufferedSocket<T> {
+    ghost use Rattle.std.specs.Prelude.{◌≤◌};
+    ghost use Rattle.std.specs.VecDeque.{deque_capacity};
     ghost use Rattle.wl_link.specs.Link.{LinkState};
     ghost use Rattle.wl_link.specs.Inside.WaitingBytes.{beside};
 
@@ -64,6 +66,9 @@ impl<T> Model for BufferedSocket<T> {
       outgoing_capacity = s.outgoing.size;
       limit = s.limit;
     } };
+
+    // So there is room for what a receive may give, unless more than 28 tokens wait.
+    ghost invariant = { λ s. 56 ≤ deque_capacity s.fds_in };
 }
 
 impl<T> BufferedSocket<T> {
@@ -87,12 +92,14 @@ impl<T> BufferedSocket<T> {
     {
         let incoming = Buffer::new(alloc, DEFAULT_MAX_BUFFER_SIZE)?;
         let outgoing = Buffer::new(alloc, DEFAULT_MAX_BUFFER_SIZE)?;
+        let fds_in = VecDeque::with_capacity(alloc, 2 * MAX_FDS_OUT)?;
+        let fds_out = TokenQueue::new(alloc)?;
         Ok(BufferedSocket {
             transport,
             incoming,
-            fds_in: VecDeque::new(alloc),
+            fds_in,
             outgoing,
-            fds_out: TokenQueue::new(alloc),
+            fds_out,
             limit: rounded(max_buffer_size),
         })
     }
@@ -383,7 +390,8 @@ impl<T: Transport> BufferedSocket<T> {
     /// still too little room, what waits is flushed. The errors are:
     ///
     /// - `TooBig` if the message takes more than 65535 bytes, or if there is too little room even after the flush;
-    /// - `OutOfMemory` if there is no memory to double the buffer, or for the message's tokens;
+    /// - `OutOfMemory` if there is no memory to double the buffer, or for the message's tokens. There is always room for 28
+    ///   tokens that wait, these among them;
     /// - a fault of that flush, but not `WouldBlock`.
     ///
     /// After an error the message is not written. A buffer that was doubled keeps its capacity, though, and the flush may
@@ -413,6 +421,8 @@ impl<T: Transport> BufferedSocket<T> {
     }
 
     /// Makes room and writes the message, if there was too little room after what waits.
+    ///
+    /// It is not inlined, so that it costs nothing for a write that finds room.
     #[inline(never)]
     fn make_room_and_write<Id, N: Numbering<Id>>(
         &mut self,
@@ -470,8 +480,9 @@ impl<T: Transport> BufferedSocket<T> {
     /// If no byte of the buffer is free, it is doubled first, up to the limit or 65536 bytes, whichever is less. So a
     /// message that is not complete always finds room, if it is no longer than that. The errors are:
     ///
-    /// - `OutOfMemory` if there is no memory to double the buffer, or for the 28 tokens that a receive may give. Then
-    ///   nothing was received;
+    /// - `OutOfMemory` if there is no memory to double the buffer, or to make room for the 28 tokens that a receive may give.
+    ///   That room is there unless more than 28 tokens wait. So a receive that finds a byte free and no more tokens is not
+    ///   refused memory. After this error nothing was received;
     /// - `Pipe` if no bytes came: the stream has ended, or no byte of the buffer is free. Tokens that came without bytes
     ///   wait all the same;
     /// - a fault of the transport. It may be `OutOfMemory` too.
@@ -505,11 +516,13 @@ fn size_with_room(incoming: &Buffer, limit: Option<usize>) -> usize
     size * 2
 }
 
-/// Makes room for as many tokens as a receive may give at most. If there is room already, this is one comparison.
+/// Makes room for as many tokens as a receive may give at most. If there is room already, this is one comparison. A queue with
+/// a capacity of twice as many asks for memory only if more than 28 wait in it.
 fn reserve_tokens(tokens: &mut VecDeque<Token>) -> Result<(), AllocError>
     ensures items { tokens.new.items ≡ tokens.old.items }
     ensures room { OnOk result (deque_len tokens.new + 28 ≤ deque_capacity tokens.new) }
-    ensures full { OnErr result (deque_capacity tokens.old < deque_len tokens.old + 28) }
+    ensures full { OnErr result (56 ≤ deque_capacity tokens.old → 28 < length tokens.old.items) }
+    ensures capacity { deque_capacity tokens.old ≤ deque_capacity tokens.new }
 {
     if tokens.capacity() - tokens.len() >= MAX_FDS_OUT {
         return Ok(());

@@ -229,7 +229,7 @@ fn take_least(levels: &mut [Vec<u64>], end: usize, reads: &mut u32) -> Option<us
     ensures ready { is_ready levels.new ≡ is_ready levels.old }
     ensures len { length levels.new ≡ length levels.old }
 {
-    // Up to 64 places have one word, which is read and written once.
+    // Up to 64 places have one word: the search reads it once, and clears the bit in it.
     if has_one_word(levels) {
         take_from_one(levels, end, reads)
     } else {

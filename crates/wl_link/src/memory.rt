@@ -205,6 +205,7 @@ impl Transport for Memory {
         ensures received { ScriptReceives self.old (length buffer.old)
             (receipt result buffer.new tokens.old.items tokens.new.items) self.new }
         ensures lands { Lands result buffer.old tokens.old.items buffer.new tokens.new.items }
+        ensures capacity { deque_capacity tokens.old ≤ deque_capacity tokens.new }
 
         // The rest of the buffer stays as it was. If the queue has the capacity for 28 more tokens, no memory is needed.
         ensures rest { IfOk result (λ n. drop n buffer.new ≡ drop n buffer.old) }

@@ -89,6 +89,7 @@ impl Parcel {
         ensures few { length self.old.tokens ≤ 28 }
         ensures rest { IfOk result (λ n. drop n buffer.new ≡ drop n buffer.old) }
         ensures room { deque_len tokens.old + 28 ≤ deque_capacity tokens.old → IsOk result }
+        ensures capacity { deque_capacity tokens.old ≤ deque_capacity tokens.new }
     {
         append(tokens, &self.tokens)?;
         self.tokens.clear();
@@ -154,6 +155,7 @@ fn append(to: &mut VecDeque<Token>, tokens: &[Token]) -> Result<(), AllocError>
     ensures items { MatchResult result (λ _. to.new.items ≡ to.old.items ++ tokens.now)
         (λ _. (to.new.items ≡ to.old.items) × (tokens.now ≢ [])) }
     ensures room { deque_len to.old + length tokens.now ≤ deque_capacity to.old → IsOk result }
+    ensures capacity { deque_capacity to.old ≤ deque_capacity to.new }
 {
     if tokens.is_empty() {
         return Ok(());

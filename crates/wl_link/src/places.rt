@@ -231,6 +231,8 @@ impl<Data: Drop> Places<Data> {
     }
 
     /// Reserves the capacity for one more place, which is not known to be there.
+    ///
+    /// It is a function of its own, so that it costs one comparison if the capacity is known to be there.
     #[inline(never)]
     fn reserve_next(&mut self) -> Result<(), OutOfMemory>
         requires free { ShowsFree self.old.slots.items self.old.free.levels.items }

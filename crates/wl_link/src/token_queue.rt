@@ -1,9 +1,12 @@
 //! The tokens that wait to be sent. A *token* is a number that stands for a file descriptor.
 
 ghost use Rattle.std.specs.Prelude.{◌≡◌, ◌≢◌, ◌↔◌, ◌<◌, ◌≤◌, ◌++◌, [], Err, length, take, drop, IfOk, OnOk, OnErr};
+ghost use Rattle.std.specs.VecDeque.{deque_capacity};
 ghost use Rattle.wl_wire.specs.MapIds.{numbered};
 ghost use Rattle.wl_wire.specs.Message.{IsMessage, size, spelling, tokens};
+ghost use Rattle.wl_link.specs.Link.{TokensAsk};
 
+use crate::transport::MAX_FDS_OUT;
 use std::alloc::Global;
 use std::collections::VecDeque;
 use std::marker::Model;
@@ -12,7 +15,7 @@ use wl_wire::{Message, MessageWriteError, Numbering, OutOfMemory, Token, write_n
 /// A queue of tokens in a vector.
 ///
 /// The tokens that are taken off the front stay in the vector at first. They are removed, and the others moved, once they
-/// are at least as many as the others.
+/// are at least as many as the others. So a vector with room for 56 tokens always has room for 28 that wait.
 #[derive(Drop)]
 pub struct TokenQueue {
     tokens: Vec<Token>,
@@ -20,26 +23,24 @@ pub struct TokenQueue {
 }
 
 impl Model for TokenQueue {
-    ghost use Rattle.std.specs.Prelude.{List, ◌≤◌, drop};
-    ghost use Rattle.std.specs.Vec.{vec_len};
+    ghost use Rattle.std.specs.Prelude.{List, ◌+◌, ◌≤◌, drop};
+    ghost use Rattle.std.specs.Vec.{vec_capacity, vec_len};
     ghost use Rattle.wl_wire.specs.declared.argument.Token.{Token};
 
     ghost Value = { List Token };
 
     ghost view = { λ q. drop q.start q.tokens.items };
 
-    ghost invariant = { λ q. q.start ≤ vec_len q.tokens };
+    ghost invariant = { λ q. (q.start + q.start ≤ vec_len q.tokens) × (56 ≤ vec_capacity q.tokens) };
 }
 
 impl TokenQueue {
-    /// An empty queue. It allocates nothing.
-    pub fn new(alloc: Global) -> Self
-        ensures { result ≡ [] }
+    /// An empty queue. The error is `OutOfMemory`.
+    pub fn new(alloc: Global) -> Result<Self, OutOfMemory>
+        ensures { IfOk result (λ q. q ≡ []) }
     {
-        TokenQueue {
-            tokens: Vec::new(alloc),
-            start: 0,
-        }
+        let tokens = Vec::with_capacity(alloc, 2 * MAX_FDS_OUT)?;
+        Ok(TokenQueue { tokens, start: 0 })
     }
 
     /// How many tokens wait.
@@ -74,7 +75,7 @@ impl TokenQueue {
     }
 
     /// Takes `count` tokens off the front of the other queue, which has them, and appends them to this one. If there is no
-    /// memory for them, nothing is changed.
+    /// memory for them, nothing is changed. For no tokens none is needed.
     pub fn append_from(
         &mut self,
         tokens: &mut VecDeque<Token>,
@@ -84,6 +85,8 @@ impl TokenQueue {
         ensures appended { OnOk result (self.new ≡ self.old ++ take count tokens.old.items) }
         ensures taken { OnOk result (tokens.new.items ≡ drop count tokens.old.items) }
         ensures unchanged { OnErr result ((self.new ≡ self.old) × (tokens.new.items ≡ tokens.old.items)) }
+        ensures some { OnErr result (0 < count) }
+        ensures capacity { deque_capacity tokens.new ≡ deque_capacity tokens.old }
     {
         if count == 0 {
             return Ok(());
@@ -97,7 +100,8 @@ impl TokenQueue {
     /// Writes the message at the front of the slice, with the numbers that `numbers` gives its ids, and appends its tokens
     /// to the queue. Returns how many bytes were written.
     ///
-    /// The errors are those of `write_to_buffers`. An error changes nothing.
+    /// The errors are those of `write_to_buffers`. An error changes nothing. Memory is refused only if more than 28 tokens would
+    /// wait.
     pub fn write<Id, N: Numbering<Id>>(
         &mut self,
         message: &Message<Id, Token>,
@@ -111,7 +115,7 @@ impl TokenQueue {
         ensures too_small { (result ≡ Err MessageWriteError.BufferTooSmall)
             ↔ ((size (numbered (N.object_number numbers.now) (N.new_number numbers.now) message.now) ≤ 65535) × (length payload.old < size (numbered (N.object_number numbers.now) (N.new_number numbers.now) message.now))) }
         ensures message { OnOk result (IsMessage (numbered (N.object_number numbers.now) (N.new_number numbers.now) message.now)) }
-        ensures no_tokens { tokens (numbered (N.object_number numbers.now) (N.new_number numbers.now) message.now).args ≡ [] → result ≢ Err MessageWriteError.OutOfMemory }
+        ensures memory { result ≡ Err MessageWriteError.OutOfMemory → TokensAsk self.old (numbered (N.object_number numbers.now) (N.new_number numbers.now) message.now) }
         ensures unchanged { OnErr result ((payload.new ≡ payload.old) × (self.new ≡ self.old)) }
     {
         write_numbered(message, numbers, payload, &mut self.tokens)

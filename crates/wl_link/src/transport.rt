@@ -1,6 +1,7 @@
 //! What carries bytes and tokens to the peer. A *token* is a number that stands for a file descriptor.
 
 ghost use Rattle.std.specs.Prelude.{ℕ, ◌≤◌, length, Result, Ok};
+ghost use Rattle.std.specs.VecDeque.{deque_capacity};
 ghost use Rattle.wl_wire.specs.declared.error.IoFault.{IoFault};
 ghost use Rattle.wl_link.specs.Exchange.{Queue, Lands, receipt};
 
@@ -35,10 +36,14 @@ pub trait Transport {
     ///
     /// 0 bytes are the end of the stream, unless the buffer has no bytes. The error is the transport's fault: `WouldBlock`
     /// if nothing can be received now. After an error the buffer and the queue are as they were.
+    ///
+    /// The queue never loses capacity. So an implementation appends to the queue that it is lent, and puts no other in its
+    /// place.
     fn rcv_msg(&mut self, buffer: &mut [u8], tokens: &mut VecDeque<Token>) -> Result<usize, IoFault>
         ensures received { receives self.old (length buffer.old)
             (receipt result buffer.new tokens.old.items tokens.new.items) self.new }
-        ensures lands { Lands result buffer.old tokens.old.items buffer.new tokens.new.items };
+        ensures lands { Lands result buffer.old tokens.old.items buffer.new tokens.new.items }
+        ensures capacity { deque_capacity tokens.old ≤ deque_capacity tokens.new };
 
     // No more is taken than was offered.
     ghost within_offer: { (before after : Self) (offer : Queue) (n : ℕ) →

@@ -1,6 +1,6 @@
 -- How long the pieces of arguments are, and how one is written behind another.
 use Rattle.std.proofs.Common.{◌≡◌, ℕ, zero, suc, ◌+◌, ◌*◌, ◌-◌, ◌≤◌, ◌<◌, List, [], ◌∷◌, ◌++◌, length, get_or, map, take, drop, replicate, Some, None, refl, sym, ap, subst, ◌∙◌, append_assoc, arith, length-append, add-zero, zero-add, true≢false}
-use Rattle.std.proofs.lemmas.List.{length-map, get_or-map, append-nil, length-replicate, replicate-append-replicate, take_more, length-take-le, length-drop, take_at, drop_at, drop-drop, take-append-drop, take-append-le, take-take, drop-append-le, drop-replicate}
+use Rattle.std.proofs.lemmas.List.{nil_from_length, length-map, get_or-map, append-nil, length-replicate, replicate-append-replicate, take_more, length-take-le, length-drop, take_at, drop_at, drop-drop, take-append-drop, take-append-le, take-take, drop-append-le, drop-replicate}
 use Rattle.std.proofs.lemmas.Grind.{flat_map-append}
 use Rattle.std.proofs.lemmas.List.Sums.{sum_by-cons, sum_by_push}
 use Rattle.std.specs.List.{AllByRecursion, sum_by}
@@ -123,6 +123,39 @@ module _ {A : Type 0} (P : A → Type 0) where
   all-at [] i x all lt is = absurd (omega arith)
   all-at (y ∷ xs) zero x all lt is = subst P (sym is) all.0
   all-at (y ∷ xs) (suc i) x all lt is = all-at xs i x all.1 (omega arith) is
+
+-- an argument without a token takes a word at least
+piece_len-some : (a : WireArgument) → token a ≡ [] → 4 ≤ piece_len a
+piece_len-some (arg.Str None) none = omega arith
+piece_len-some (arg.Str (Some text)) none = omega arith
+piece_len-some (arg.Array bytes) none = omega arith
+piece_len-some (arg.Fd t) none = absurd (cc)
+piece_len-some _ none = omega arith
+
+-- if no argument has a token, this one has none, nor have those after it
+no_token_first : (a : WireArgument) (args : List WireArgument) → tokens (a ∷ args) ≡ [] → (token a ≡ []) × (tokens args ≡ [])
+no_token_first a args none =
+    let len : length (token a) + length (tokens args) ≡ 0 = sym (length-append (token a) (tokens args)) ∙ ap length none in
+    (nil_from_length (token a) (omega (arith, len)), nil_from_length (tokens args) (omega (arith, len)))
+
+-- arguments without tokens take a word each at least
+pub words_at_least : (args : List WireArgument) → tokens args ≡ [] → 4 * length args ≤ length (pieces args)
+words_at_least [] none = omega arith
+words_at_least (a ∷ args) none =
+    let nones = no_token_first a args none in
+    omega (arith, length-append (piece a) (pieces args), length-piece a, piece_len-some a nones.0, words_at_least args nones.1)
+
+-- so do those after this one, which has no token either
+pub rest_at_least : (args : List WireArgument) (i : ℕ) (a : WireArgument) → i < length args → a ≡ get_or args i a → tokens args ≡ []
+    → (token a ≡ []) × (length (pieces (take i args)) + length (piece a) + 4 * (length args - (i + 1)) ≤ length (pieces args))
+rest_at_least [] i a lt is none = absurd (omega arith)
+rest_at_least (x ∷ args) zero a lt is none =
+    let nones = no_token_first x args none in
+    (ap token is ∙ nones.0, omega (arith, length-append (piece x) (pieces args), ap (λ (b : WireArgument). length (piece b)) is, words_at_least args nones.1))
+rest_at_least (x ∷ args) (suc i) a lt is none =
+    let nones = no_token_first x args none in
+    let others = rest_at_least args i a (omega arith) is nones.1 in
+    (others.0, omega (arith, others.1, length-append (piece x) (pieces args), length-append (piece x) (pieces (take i args))))
 
 -- ---- words
 

@@ -1,4 +1,5 @@
--- The text of a message in a log, as libwayland writes it if `WAYLAND_DEBUG` is set.
+-- The text of a message in a log, as libwayland before version 1.23 writes it if `WAYLAND_DEBUG` is set, but for strings, whose bytes
+-- may be written in hex.
 --
 -- `interface@number.message(argument, argument)`, as in `wl_surface@3.attach(wl_buffer@5, 0, 0)`.
 use Rattle.std.specs.Prelude.{ℕ, ℤ, pos, negsuc, ◌/◌, ◌%◌, ◌*◌, ◌+◌, List, [], ◌∷◌, ◌++◌, length, nat_lt, false, ◌==◌, Option, None, Some, codes, if◌then◌else◌, unsigned_abs}
@@ -66,9 +67,13 @@ abbrev pub object_text : List InterfaceRow → Option InterfaceId → ℕ → Li
 object_text table interface number =
     if number == 0 then codes "nil" else option_map_or (λ i. named table i number) interface (unknown number)
 
+-- a new object of an interface with this name; 0 is no number of one
+abbrev pub new_named : List ℕ → ℕ → List ℕ
+new_named name number = codes "new id " ++ name ++ codes "@" ++ (if number == 0 then codes "nil" else decimal number)
+
 -- the new object of a bind is of the interface that its other arguments name
 abbrev pub new_text : List InterfaceRow → Option InterfaceId → ℕ → List ℕ
-new_text table child number = codes "new id " ++ option_map_or (λ i. named table i number) child (unknown number)
+new_text table child number = new_named (option_map_or (λ i. name_of table i.0) child (codes "[unknown]")) number
 
 -- ---- messages
 

@@ -1,9 +1,12 @@
-//! The text of a message in a log, as libwayland writes it if `WAYLAND_DEBUG` is set.
+//! The text of a message in a log, as libwayland before version 1.23 writes it if `WAYLAND_DEBUG` is set, without the time in front.
+//!
+//! One thing differs: a byte of a string that is no printing ASCII character is written in hex, so that a message is always one
+//! line, and no peer can write what a terminal obeys.
 
-ghost use Rattle.std.specs.Prelude.{ℕ, Option, ◌≡◌, ◌++◌, ◌<◌, Contains, OnOk};
+ghost use Rattle.std.specs.Prelude.{ℕ, Option, ◌≡◌, ◌++◌, ◌<◌, Contains, OnErr, OnOk};
 ghost use Rattle.std.specs.List.{flat_map};
 ghost use Rattle.std.specs.String.{string_bytes};
-ghost use Rattle.wl_wire.specs.LogText.{argument_text, arguments_text, digit_at, escaped, fixed_text, fraction_text, further_text, glyph, message_text, new_text, object_text, sign_text, string_text, whole_text};
+ghost use Rattle.wl_wire.specs.LogText.{argument_text, arguments_text, digit_at, escaped, fixed_text, fraction_text, further_text, glyph, message_text, new_named, new_text, object_text, sign_text, string_text, whole_text};
 ghost use Rattle.wl_wire.specs.Message.{content};
 ghost use Rattle.wl_wire.specs.Table.{message_row};
 ghost use Rattle.wl_wire.specs.declared.interface.InterfaceId.{InterfaceId as Interfaces};
@@ -133,6 +136,16 @@ fn push_object(
     }
 }
 
+/// Appends a new object of an interface with this name; `nil` stands for number 0.
+fn push_new_of(text: &mut String, name: &str, number: u32) -> Result<(), AllocError>
+    ensures { OnOk result (string_bytes text.new ≡ string_bytes text.old ++ new_named name.now number) }
+{
+    if number == 0 {
+        return write!(text, "new id {name}@nil");
+    }
+    write!(text, "new id {name}@{number}")
+}
+
 /// Appends a new object with its interface.
 fn push_new(
     text: &mut String,
@@ -143,24 +156,13 @@ fn push_new(
     ensures { OnOk result (string_bytes text.new ≡ string_bytes text.old ++ new_text table.now child number) }
 {
     match child {
-        Some(child) => write!(text, "new id {}@{number}", table.name(child)),
-        None => write!(text, "new id [unknown]@{number}"),
+        Some(child) => push_new_of(text, table.name(child), number),
+        None => push_new_of(text, "[unknown]", number),
     }
 }
 
-/// Appends the text of an argument. `objects` tells the interface of an object, and `child` is that of the new one.
-///
-/// | Argument | Text |
-/// |---|---|
-/// | a number | in decimal; a fixed-point number with eight digits behind the point, as `21.25000000` |
-/// | a string | in quotes; a byte that is no printing ASCII character as `\x0a`. Null is `nil` |
-/// | an object | `wl_buffer@5`; `[unknown]@5` if its interface is not known; `nil` for 0 |
-/// | a new object | `new id wl_surface@3`; `new id [unknown]@3` without `child`, as that of a bind |
-/// | an array | `array[8]`, with the number of its bytes |
-/// | a descriptor | `fd 4`, with the number of its token |
-///
-/// If there is no memory, a part of the text may stand in `text`.
-pub fn push_argument<K: KnownObjects>(
+/// Appends the text of an argument, as `push_argument` does. If there is no memory, a part of it may be appended.
+fn append_argument<K: KnownObjects>(
     text: &mut String,
     table: &Protocol,
     objects: &K,
@@ -184,6 +186,35 @@ pub fn push_argument<K: KnownObjects>(
     }
 }
 
+/// Appends the text of an argument. `objects` tells the interface of an object, and `child` is that of the new one.
+///
+/// | Argument | Text |
+/// |---|---|
+/// | a number | in decimal; a fixed-point number with eight digits behind the point, as `21.25000000` |
+/// | a string | in quotes; a byte that is no printing ASCII character as `\x0a`. Null is `nil` |
+/// | an object | `wl_buffer@5`; `[unknown]@5` if its interface is not known; `nil` for 0 |
+/// | a new object | `new id wl_surface@3`; `new id [unknown]@3` without `child`, as that of a bind; `new id wl_surface@nil` for 0 |
+/// | an array | `array[8]`, with the number of its bytes |
+/// | a descriptor | `fd 4`, with the number of its token |
+///
+/// If there is no memory, `text` stays as it was.
+pub fn push_argument<K: KnownObjects>(
+    text: &mut String,
+    table: &Protocol,
+    objects: &K,
+    child: Option<InterfaceId>,
+    argument: &Argument<u32, Token>,
+) -> Result<(), AllocError>
+    ensures pushed { OnOk result (string_bytes text.new ≡ string_bytes text.old
+        ++ argument_text table.now (K.KnownObjects.interface_of objects.now) child argument.now) }
+    ensures unchanged { OnErr result (string_bytes text.new ≡ string_bytes text.old) }
+{
+    // In a string of its own first, of which nothing is left if memory fails in its middle.
+    let mut piece = String::new(*text.allocator());
+    append_argument(&mut piece, table, objects, child, argument)?;
+    text.push_str(piece.as_str())
+}
+
 /// Appends the text of an argument that is not the first one.
 fn push_further<K: KnownObjects>(
     text: &mut String,
@@ -196,7 +227,7 @@ fn push_further<K: KnownObjects>(
         ++ further_text table.now (K.KnownObjects.interface_of objects.now) child argument.now) }
 {
     text.push_str(", ")?;
-    push_argument(text, table, objects, child, argument)
+    append_argument(text, table, objects, child, argument)
 }
 
 /// Appends the texts of the arguments that are not the first one.
@@ -230,15 +261,12 @@ fn push_arguments<K: KnownObjects>(
     let [first, others @ ..] = arguments else {
         return Ok(());
     };
-    push_argument(text, table, objects, child, first)?;
+    append_argument(text, table, objects, child, first)?;
     push_others(text, table, objects, child, others)
 }
 
-/// Appends the text of a message of an object of this interface, as `wl_surface@3.attach(wl_buffer@5, 0, 0)`. `desc` is what
-/// the table has of the message, and `objects` tells the interfaces of the objects that it is about.
-///
-/// The arguments are written as by `push_argument`. If there is no memory, a part of the text may stand in `text`.
-pub fn push_message<K: KnownObjects>(
+/// Appends the text of a message, as `push_message` does. If there is no memory, a part of it may be appended.
+fn append_message<K: KnownObjects>(
     text: &mut String,
     table: &Protocol,
     objects: &K,
@@ -259,4 +287,26 @@ pub fn push_message<K: KnownObjects>(
         message.args.as_slice(),
     )?;
     text.push_str(")")
+}
+
+/// Appends the text of a message of an object of this interface, as `wl_surface@3.attach(wl_buffer@5, 0, 0)`. `desc` is what
+/// the table has of the message, and `objects` tells the interfaces of the objects that it is about.
+///
+/// The arguments are written as by `push_argument`. If there is no memory, `text` stays as it was.
+pub fn push_message<K: KnownObjects>(
+    text: &mut String,
+    table: &Protocol,
+    objects: &K,
+    interface: InterfaceId,
+    desc: &MessageDesc,
+    message: &Message<u32, Token>,
+) -> Result<(), AllocError>
+    ensures pushed { OnOk result (string_bytes text.new ≡ string_bytes text.old
+        ++ message_text table.now (K.KnownObjects.interface_of objects.now) interface (message_row desc.now) (content message.now)) }
+    ensures unchanged { OnErr result (string_bytes text.new ≡ string_bytes text.old) }
+{
+    // In a string of its own first, of which nothing is left if memory fails in its middle.
+    let mut line = String::new(*text.allocator());
+    append_message(&mut line, table, objects, interface, desc, message)?;
+    text.push_str(line.as_str())
 }

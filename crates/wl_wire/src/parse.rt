@@ -5,7 +5,7 @@
 //! multiple of four.
 
 ghost use Rattle.std.specs.Prelude.{None, ℕ, List, MatchOption, MatchResult, ◌≡◌, ◌≢◌, ◌↔◌, ◌<◌, ◌≤◌, ◌++◌, length, drop, IsOk, IsSome, IsTrue, IfSome, is_some, All, IfOk, IfErr, OnOk, OnErr, option_map, slice_index_or};
-ghost use Rattle.std.specs.VecDeque.{deque_len};
+ghost use Rattle.std.specs.VecDeque.{deque_capacity, deque_len};
 ghost use Rattle.wl_wire.specs.declared.error.MessageParseError.TheVariants.{OutOfMemory};
 ghost use Rattle.smallvec.specs.SmallVec.{HasRoomFor};
 ghost use Rattle.wl_wire.specs.declared.argument.Token.{Token as WireToken};
@@ -278,6 +278,8 @@ pub fn fd_places(signature: &[ArgumentType]) -> usize
 ///
 /// If there are too few tokens, it is `MissingFD`; else, if the bytes cannot be read, it is `Malformed`; else it is
 /// `OutOfMemory`.
+///
+/// It is not inlined, so that it costs nothing for a message that reads.
 #[cold]
 #[inline(never)]
 fn refusal(signature: &[ArgumentType], payload: &[u8], fds: &[Token]) -> MessageParseError
@@ -355,7 +357,7 @@ pub fn message_is_there(raw: &[u8], signature: &[ArgumentType], tokens: usize) -
 
 /// Does the same as `parse_into`, but leaves the message's tokens in the queue.
 ///
-/// So a program may look at the message, and hand on its bytes and tokens as they are.
+/// So a program may look at the message, and hand on its bytes and tokens as they are. The queue keeps its capacity.
 pub fn peek_into(
     alloc: Global,
     raw: &[u8],
@@ -369,6 +371,7 @@ pub fn peek_into(
     ensures refused { IfErr result (RefusesMessage raw.now signature.now fds.old.items) }
     ensures inline { IsInline signature.now → IfErr result (λ e. e ≢ OutOfMemory) }
     ensures unchanged { fds.new.items ≡ fds.old.items }
+    ensures room { deque_capacity fds.new ≡ deque_capacity fds.old }
     ensures capacity { INLINE_ARGS ≤ message.new.args.capacity }
 {
     let head = read_header(raw)?;
@@ -385,7 +388,8 @@ pub fn peek_into(
 
 /// Takes `count` tokens off the front.
 fn take_tokens(fds: &mut VecDeque<Token>, count: usize)
-    ensures { fds.new.items ≡ drop count fds.old.items }
+    ensures taken { fds.new.items ≡ drop count fds.old.items }
+    ensures room { deque_capacity fds.new ≡ deque_capacity fds.old }
 {
     for _ in 0..count {
         let _ = fds.pop_front();
@@ -396,7 +400,7 @@ fn take_tokens(fds: &mut VecDeque<Token>, count: usize)
 /// replaced.
 ///
 /// The lent `args` must have a capacity of at least [`INLINE_ARGS`], as a new `SmallVec` of that size has. Returns the
-/// bytes after the message. After an error the content of the lent message has no meaning.
+/// bytes after the message. After an error the content of the lent message has no meaning. The queue keeps its capacity.
 pub fn parse_into<'a>(
     alloc: Global,
     raw: &'a [u8],
@@ -418,6 +422,7 @@ pub fn parse_into<'a>(
     ensures refused { IfErr result (RefusesMessage raw.now signature.now fds.old.items) }
     ensures inline { IsInline signature.now → IfErr result (λ e. e ≢ OutOfMemory) }
     ensures unchanged { OnErr result (fds.new.items ≡ fds.old.items) }
+    ensures room { deque_capacity fds.new ≡ deque_capacity fds.old }
     ensures capacity { INLINE_ARGS ≤ message.new.args.capacity }
 {
     let header = read_header(raw)?;

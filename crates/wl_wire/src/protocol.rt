@@ -1,6 +1,6 @@
 //! The table of the interfaces that a session knows.
 
-ghost use Rattle.std.specs.Prelude.{ℕ, None, Some, ◌≡◌, ◌≢◌, ◌<◌, ◌↔◌, ◌⊎◌, ◌++◌, IsTrue, IfOk, IfSome, OnErr, length, slice_get, option_map};
+ghost use Rattle.std.specs.Prelude.{ℕ, None, Some, ◌≡◌, ◌≢◌, ◌<◌, ◌↔◌, ◌⊎◌, ◌++◌, [], IsTrue, IfOk, IfSome, OnErr, length, slice_get, option_map};
 ghost use Rattle.std.specs.Option.{option_copied};
 ghost use Rattle.wl_wire.specs.Argument.{Matches};
 ghost use Rattle.wl_wire.specs.Table.{anonymous_id, anonymous_row, callback_row, display_row, registry_row, AnswersGrowth, IsAcceptedTable, IsFirstFault, IsFirstFaultFrom, grown, interface_row, interface_rows, message_row, name_of, table_of};
@@ -171,6 +171,13 @@ impl Protocol {
         ensures accepted { IsAcceptedTable self.now }
     {
         self.interfaces.len()
+    }
+
+    /// Whether the table has no interface. It always has the fixed four.
+    pub fn is_empty(&self) -> bool
+        ensures { IsTrue result ↔ (self.now ≡ []) }
+    {
+        self.interfaces.is_empty()
     }
 
     /// The id of the interface with that name; `None` if the table has none.

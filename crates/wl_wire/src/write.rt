@@ -136,6 +136,8 @@ fn put_word(payload: &mut [u8], at: usize, n: u32) -> usize
 ///
 /// `ending` zeros (none or one) follow the bytes, and count with them. First a word of zeros is written over the last four
 /// bytes, and then the count and the bytes. The rest of that word is the ending and the padding.
+///
+/// It is not inlined, so that the loops that call it stay short for arguments that are words.
 #[inline(never)]
 fn put_counted(payload: &mut [u8], at: usize, bytes: &[u8], ending: usize) -> usize
     requires room { at + counted_len (length bytes.now + ending) ≤ length payload.old }
@@ -463,6 +465,8 @@ pub fn write_numbered<Id, N: Numbering<Id>>(
 }
 
 /// Writes counted bytes as `put_counted` does, if their padding ends by the place `end`.
+///
+/// It is not inlined, so that it costs nothing for an argument that is a word.
 #[inline(never)]
 fn put_counted_within(
     payload: &mut [u8],
@@ -475,7 +479,8 @@ fn put_counted_within(
     requires end { end ≤ length payload.old }
     requires small { end ≤ 65535 }
     requires ending { ending ≤ 1 }
-    ensures { IfSome result (λ next. (next ≡ at + counted_len (length bytes.now + ending)) × (next ≤ end) × (payload.new ≡ overwritten payload.old at (counted (bytes.now ++ replicate ending 0)))) }
+    ensures written { IfSome result (λ next. (next ≡ at + counted_len (length bytes.now + ending)) × (next ≤ end) × (payload.new ≡ overwritten payload.old at (counted (bytes.now ++ replicate ending 0)))) }
+    ensures none { result ≡ None → end < at + counted_len (length bytes.now + ending) }
 {
     let room = end - at;
     if room <= bytes.len() {
@@ -505,6 +510,7 @@ fn put_within<Id, N: Numbering<Id>>(
     ensures bytes { IfSome result (λ _. payload.new ≡ overwritten payload.old at (piece (with_ids (N.object_number numbers.now) (N.new_number numbers.now) arg.now))) }
     ensures token { IfSome result (λ _. token (with_ids (N.object_number numbers.now) (N.new_number numbers.now) arg.now) ≡ []) }
     ensures value { IfSome result (λ _. IsArgument (with_ids (N.object_number numbers.now) (N.new_number numbers.now) arg.now)) }
+    ensures none { result ≡ None → token (with_ids (N.object_number numbers.now) (N.new_number numbers.now) arg.now) ≡ [] → end < at + piece_len (with_ids (N.object_number numbers.now) (N.new_number numbers.now) arg.now) }
 {
     match arg {
         Argument::Int(n) => Some(put_word(payload, at, n.cast_unsigned())),
@@ -534,6 +540,7 @@ fn put_each_within<Id, N: Numbering<Id>>(
     ensures bytes { IfSome result (λ _. payload.new ≡ overwritten payload.old 8 (pieces (map (with_ids (N.object_number numbers.now) (N.new_number numbers.now)) args.now))) }
     ensures tokens { IfSome result (λ _. tokens (map (with_ids (N.object_number numbers.now) (N.new_number numbers.now)) args.now) ≡ []) }
     ensures values { IfSome result (λ _. AllByRecursion IsArgument (map (with_ids (N.object_number numbers.now) (N.new_number numbers.now)) args.now)) }
+    ensures none { result ≡ None → tokens (map (with_ids (N.object_number numbers.now) (N.new_number numbers.now)) args.now) ≡ [] → end < 8 + length (pieces (map (with_ids (N.object_number numbers.now) (N.new_number numbers.now)) args.now)) }
 {
     if args.len() > MAX_WORDS || end - 8 < 4 * args.len() {
         return None;
@@ -552,7 +559,7 @@ fn put_each_within<Id, N: Numbering<Id>>(
 /// Writes the message at the front of `payload` in one pass over its arguments, if it has no tokens, fits into `payload` and
 /// takes no more than 65535 bytes. Returns how many bytes were written; the bytes after them stay as they were.
 ///
-/// Otherwise it returns `None`, and what is in `payload` is not said.
+/// Otherwise, and only then, it returns `None`, and what is in `payload` is not said.
 pub fn write_once<Id, N: Numbering<Id>>(
     message: &Message<Id, Token>,
     numbers: &N,
@@ -562,6 +569,9 @@ pub fn write_once<Id, N: Numbering<Id>>(
     ensures written { IfSome result (λ n. (n ≡ size (numbered (N.object_number numbers.now) (N.new_number numbers.now) message.now)) × (payload.new ≡ spelling (numbered (N.object_number numbers.now) (N.new_number numbers.now) message.now) ++ drop n payload.old)) }
     ensures tokens { IfSome result (λ _. tokens (numbered (N.object_number numbers.now) (N.new_number numbers.now) message.now).args ≡ []) }
     ensures message { IfSome result (λ _. IsMessage (numbered (N.object_number numbers.now) (N.new_number numbers.now) message.now)) }
+    ensures none { result ≡ None → tokens (numbered (N.object_number numbers.now) (N.new_number numbers.now) message.now).args ≡ []
+        → size (numbered (N.object_number numbers.now) (N.new_number numbers.now) message.now) ≤ 65535
+        → length payload.old < size (numbered (N.object_number numbers.now) (N.new_number numbers.now) message.now) }
 {
     let end = payload.len().min(MAX_MESSAGE_SIZE);
     if end < 8 {

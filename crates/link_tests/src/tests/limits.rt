@@ -14,7 +14,7 @@ const WRITE_4096: Act = Act::Write((42, 0), &[Arg::Ones(4084)]);
 const WRITE_4100: Act = Act::Write((42, 0), &[Arg::Ones(4088)]);
 
 /// Runs over a script, and what they tell.
-static ROWS: [Row; 10] = [
+static ROWS: [Row; 12] = [
     Row {
         name: "buffer grows without a limit",
         cues: &[],
@@ -37,7 +37,31 @@ static ROWS: [Row; 10] = [
         ],
         told: "write: done\nstorage: 4096, 8192\nwaiting: 0, 0, 4100, 1\n0 sends recorded\n",
     },
+    // There is room for 28 descriptors that wait.
+    Row {
+        name: "buffer grows for the twenty-ninth descriptor",
+        cues: &[],
+        limit: None,
+        acts: &[
+            Act::WriteDescriptors(28),
+            Act::Write((42, 0), &[Arg::Ones(4088), Arg::Fd(7)]),
+            Act::Tell(Fact::Storage),
+            Act::Tell(Fact::Waiting),
+        ],
+        told: "write: done\nwrite: done\nstorage: 4096, 8192\nwaiting: 0, 0, 4108, 29\n0 sends recorded\n",
+    },
     // The buffer is full, and may not grow: what waits is sent first.
+    Row {
+        name: "29 descriptors wait behind a flush",
+        cues: &[],
+        limit: Some(4096),
+        acts: &[
+            WRITE_4096,
+            Act::WriteDescriptors(29),
+            Act::Tell(Fact::Waiting),
+        ],
+        told: "write: done\nwrite: done\nwaiting: 0, 0, 8, 29\n1 sends recorded\n",
+    },
     Row {
         name: "message with a descriptor waits behind a flush",
         cues: &[],

@@ -18,7 +18,7 @@ const THREE_MESSAGES: [u8; 52] = [
 const THREE_TOKENS: [Token; 3] = [Token(1), Token(0), Token(2)];
 
 /// Runs over a script, and what they tell.
-static ROWS: [Row; 7] = [
+static ROWS: [Row; 8] = [
     Row {
         name: "three messages in one chunk",
         cues: &[Cue::Arrive(&THREE_MESSAGES, &THREE_TOKENS)],
@@ -50,6 +50,17 @@ static ROWS: [Row; 7] = [
         limit: None,
         acts: &[Act::Fill, Act::Tell(Fact::Waiting)],
         told: "arrive: more than 28 tokens in one chunk\n0 arrivals left\nreceive: broken pipe\nwaiting: 0, 28, 0, 0\n0 sends recorded\n",
+    },
+    Row {
+        name: "tokens behind more than 28 tokens",
+        cues: &[
+            Cue::ArriveTokens(28),
+            Cue::ArriveTokens(28),
+            Cue::ArriveTokens(28),
+        ],
+        limit: None,
+        acts: &[Act::Fill, Act::Fill, Act::Fill, Act::Tell(Fact::Waiting)],
+        told: "receive: broken pipe\nreceive: broken pipe\nreceive: broken pipe\nwaiting: 0, 84, 0, 0\n0 sends recorded\n",
     },
     Row {
         name: "unknown messages stay",

@@ -26,7 +26,7 @@ impl KnownObjects for OnlyFive {
 struct Row(Arg, Option<InterfaceId>, &'static str);
 
 /// Arguments and their texts. A fixed-point number is given as its value times 256.
-static ROWS: [Row; 16] = [
+static ROWS: [Row; 18] = [
     Row(Arg::Int(-7), None, "-7"),
     Row(Arg::Uint(4_294_967_295), None, "4294967295"),
     Row(Arg::Fixed(5440), None, "21.25000000"),
@@ -45,6 +45,8 @@ static ROWS: [Row; 16] = [
     Row(Arg::Object(0), None, "nil"),
     Row(Arg::NewId(3), Some(PAIR), "new id pair@3"),
     Row(Arg::NewId(3), None, "new id [unknown]@3"),
+    Row(Arg::NewId(0), Some(PAIR), "new id pair@nil"),
+    Row(Arg::NewId(0), None, "new id [unknown]@nil"),
     Row(Arg::Array(&[1, 2, 3]), None, "array[3]"),
     Row(Arg::Fd(4), None, "fd 4"),
 ];

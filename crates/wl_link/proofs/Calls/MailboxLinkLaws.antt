@@ -19,10 +19,10 @@ came_is before room (Ok came) = refl
 came_is before room (Err fault) = sym (joined_nothing before)
 
 pub fill_keeps : (before after : LinkState MailboxState) (answer : Result (Unit {0}) IoFault) → Filled MailboxReceives before answer after → KeepsWhatCame before after
-fill_keeps before after answer (inr same) = (
-  ap still_to_read same.1,
-  ap (λ (l : LinkState MailboxState). l.outgoing) same.1,
-  ap (λ (l : LinkState MailboxState). l.transport.waiting) same.1,
+fill_keeps before after answer (inr (refused, same, asks)) = (
+  ap still_to_read same,
+  ap (λ (l : LinkState MailboxState). l.outgoing) same,
+  ap (λ (l : LinkState MailboxState). l.transport.waiting) same,
 )
 fill_keeps before after answer (inl filled) =
     let received = filled.0 in

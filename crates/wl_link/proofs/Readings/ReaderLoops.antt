@@ -85,10 +85,10 @@ module _ {T Core Event Finish : Type 0} (sends : T → Queue → Result ℕ IoFa
   pub received_fault : ((c : Core) → reader.faulted c fault.OutOfMemory ≡ c) → (before : ReaderState T Core) (link : LinkState T) (f : IoFault) → Filled receives before.link (Err f) link
       → FindsRoom before.link (grown_capacity before.link) → ReceivedTo sends receives reader before (Some f) (record { core = reader.faulted before.core f; link = link })
   received_fault starves before link f (inl (r, made)) finds = inl (r, link, (made.0, refl, made.2), room_found receives before.link link r (Err f) made finds, sym made.1, refl)
-  received_fault starves before link f (inr (is, same)) finds =
+  received_fault starves before link f (inr (is, same, asks)) finds =
       let memory = failed_is f fault.OutOfMemory is in
       let with_core : Core → ReaderState T Core = λ c. record { core = c; link = link } in
-      inr (memory, ap with_core (ap (reader.faulted before.core) memory ∙ starves before.core) ∙ ap (with_link before) same)
+      inr (memory, ap with_core (ap (reader.faulted before.core) memory ∙ starves before.core) ∙ ap (with_link before) same, asks)
 
   module _ (allowed : ℕ) (start : ReaderState T Core) where
     pub begins : SoFar allowed start [] false 0 start
@@ -137,10 +137,10 @@ module _ {T Core Event Finish : Type 0} (sends : T → Queue → Result ℕ IoFa
                 ),
               ),
             )
-            ended n (inr (memory, same)) =
+            ended n (inr (memory, same, asks)) =
                 subst (λ (g : IoFault). HasReading sends receives reader (suc n) mid (stopped_by g n) after) (sym memory)
                 (subst (λ (x : ReaderState T Core). HasReading sends receives reader (suc n) mid (stopped_by fault.OutOfMemory n) x) (sym same)
-                (halts (suc n) mid (stopped_by fault.OutOfMemory n) on (inr (inr (lacks, (n, refl, refl))))))
+                (halts (suc n) mid (stopped_by fault.OutOfMemory n) on (inr (inr ((lacks, asks), (n, refl, refl))))))
 
         -- a receive after which it goes on
         pub receive_goes_on : (after : ReaderState T Core) → ReceivedTo sends receives reader mid None after → SoFar allowed start (gave ++ more) (refused || lacked) (used + 1) after

@@ -3,7 +3,7 @@
 use Rattle.std.proofs.Common.{◌≡◌, ◌⊎◌, ℕ, Bool, List, Option, None, Some, Result, Ok, Err}
 use Rattle.wl_wire.specs.declared.error.IoFault.{IoFault}
 use Rattle.wl_link.specs.Exchange.{Queue}
-use Rattle.wl_link.specs.Link.{FilledBy, FindsRoom, LinkState, count_of, counted_answer}
+use Rattle.wl_link.specs.Link.{FilledBy, FindsRoom, LinkState, ReceiveAsks, count_of, counted_answer}
 use Rattle.wl_link.specs.Reader.{Given, Gives, ReaderState, Reader, Reads, Turn, given_first, stops, with_link}
 use Rattle.wl_wire.specs.declared.error.IoFault.TheVariants as fault
 
@@ -28,4 +28,4 @@ module _ {T Core Event Finish : Type 0} (sends : T → Queue → Result ℕ IoFa
   ReceivedTo before (Some f) after =
       ((r : Result Queue IoFault) × (link : LinkState T) × FilledBy receives before.link r (counted_answer (count_of r)) link × FindsRoom before.link link.incoming_capacity
       × (counted_answer (count_of r) ≡ Err f) × (after ≡ record { core = reader.faulted before.core f; link = link }))
-      ⊎ ((f ≡ fault.OutOfMemory) × (after ≡ before))
+      ⊎ ((f ≡ fault.OutOfMemory) × (after ≡ before) × ReceiveAsks before.link)

@@ -8,7 +8,7 @@ use Rattle.wl_wire.specs.declared.error.IoFault.{IoFault}
 use Rattle.wl_wire.specs.declared.error.IoFault.TheVariants as fault
 use Rattle.wl_link.specs.Exchange.{Queue}
 use Rattle.wl_wire.specs.Parse.{length_of}
-use Rattle.wl_link.specs.Link.{count_of, incoming_limit, with_came}
+use Rattle.wl_link.specs.Link.{TokensAsk, count_of, incoming_limit, with_came}
 
 -- the bytes, and how many the buffer can hold
 pub record Waiting : Type 0 where
@@ -44,7 +44,7 @@ abbrev pub FitsUnder : Option ℕ → List ℕ → Type 0
 FitsUnder limit bytes = 8 ≤ length bytes → length_of bytes ≤ incoming_limit limit
 
 -- The message stands after what waits. An error changes nothing: the message is too long, or there is too little room
--- after what waits, or there is no memory for its tokens.
+-- after what waits, or its tokens ask for memory and there is none.
 abbrev pub Appended : {X : Type 0} → Waiting → List Token → WireMessage → Result X MessageWriteError → Waiting → List Token → Type 0
 Appended before fds m (Ok _) after fds' =
     (size m ≤ 65535) × (length before.bytes + size m ≤ before.size)
@@ -53,7 +53,7 @@ Appended before fds m (Err errors.TooLong) after fds' = (65535 < size m) × (aft
 Appended before fds m (Err errors.BufferTooSmall) after fds' = (size m ≤ 65535) × (after ≡ before) × (fds' ≡ fds)
 Appended before fds m (Err errors.OutOfMemory) after fds' =
     (size m ≤ 65535) × (length before.bytes + size m ≤ before.size)
-    × (tokens_of m.args ≢ []) × (after ≡ before) × (fds' ≡ fds)
+    × TokensAsk fds m × (after ≡ before) × (fds' ≡ fds)
 
 -- the link's answer to a write
 abbrev pub write_answer_of : Result (Unit {0}) MessageWriteError → Result (Unit {0}) IoFault

@@ -2,6 +2,7 @@
 //! it is.
 
 ghost use Rattle.std.specs.Prelude.{◌≡◌, ◌≢◌, ◌+◌, ◌<◌, ◌≤◌, ◌++◌, [], length, take, drop, OnOk, OnErr, IfOk, IfErr, MatchOption};
+ghost use Rattle.std.specs.VecDeque.{deque_capacity};
 ghost use Rattle.wl_wire.specs.Argument.{Matches};
 ghost use Rattle.wl_wire.specs.Message.{content};
 ghost use Rattle.wl_wire.specs.declared.error.MessageParseError.TheVariants as parse;
@@ -12,6 +13,7 @@ ghost use Rattle.wl_link.specs.Link.{has_room, with_incoming, with_outgoing};
 ghost use Rattle.wl_link.specs.Inside.WaitingBytes.{beside};
 
 use crate::buffered_socket::BufferedSocket;
+use crate::transport::MAX_FDS_OUT;
 use std::collections::VecDeque;
 use thiserror::Error;
 use wl_wire::{
@@ -79,8 +81,8 @@ impl<T> BufferedSocket<T> {
         peek_into(alloc, bytes, signature, &mut self.fds_in, message)
     }
 
-    /// Takes out all that was received and not read yet: the bytes and the tokens. If there is no memory for the bytes, nothing
-    /// is changed.
+    /// Takes out all that was received and not read yet: the bytes and the tokens. If there is no memory for the bytes, or for
+    /// the queue of the tokens that come next, nothing is changed.
     pub fn take_received(&mut self) -> Result<(Vec<u8>, VecDeque<Token>), OutOfMemory>
         ensures taken { IfOk result (λ x. (x.0.items ≡ self.old.incoming.bytes) × (x.1.items ≡ self.old.incoming.tokens)) }
         ensures left { OnOk result (self.new ≡ with_incoming self.old self.old.transport nothing) }
@@ -88,8 +90,9 @@ impl<T> BufferedSocket<T> {
     {
         let alloc = *self.fds_in.allocator();
         let bytes = Vec::from_slice(alloc, self.incoming.bytes())?;
+        let empty = VecDeque::with_capacity(alloc, 2 * MAX_FDS_OUT)?;
         self.incoming.consume(bytes.len());
-        let tokens = std::mem::replace(&mut self.fds_in, VecDeque::new(alloc));
+        let tokens = std::mem::replace(&mut self.fds_in, empty);
         Ok((bytes, tokens))
     }
 
@@ -102,9 +105,9 @@ impl<T> BufferedSocket<T> {
     /// - `MissingData` if a part of the message is missing;
     /// - `Malformed` if its header says a length below 8;
     /// - `MissingFD` if fewer tokens wait than the signature has file descriptors;
-    /// - `OutOfMemory` if there is no memory to double the buffer;
+    /// - `OutOfMemory` if the buffer has too little room and may be doubled, and there is no memory for it;
     /// - `NoRoom` if the buffer has too little room;
-    /// - `OutOfMemory` if there is no memory for the tokens.
+    /// - `OutOfMemory` if the message has tokens, and there is no memory for them.
     pub fn hand_on<S>(
         &mut self,
         signature: &[ArgumentType],
@@ -145,8 +148,8 @@ impl<T> BufferedSocket<T> {
     /// messages or not.
     ///
     /// Nothing is sent. The buffer of the other link is doubled if need be, as its limit allows. The error is `NoRoom` if the
-    /// buffer has too little room, and `OutOfMemory` if there is no memory to double it, or for the tokens. After an error both
-    /// links have what they had.
+    /// buffer has too little room, and `OutOfMemory` if there is no memory to double it, or for the tokens, if there are some.
+    /// After an error both links have what they had.
     pub fn hand_on_rest<S>(&mut self, to: &mut BufferedSocket<S>) -> Result<(), HandOnError>
         ensures handed { HandsOnRest self.old to.old result self.new to.new }
         ensures carried { Carries self.old to.old self.new to.new }
@@ -179,6 +182,8 @@ impl<T> BufferedSocket<T> {
         ensures put { OnOk result (self.new ≡ with_outgoing self.old self.old.transport (joined self.old.outgoing (beside bytes.now (take count tokens.old.items)))) }
         ensures taken { OnOk result (tokens.new.items ≡ drop count tokens.old.items) }
         ensures unchanged { OnErr result ((self.new ≡ self.old) × (tokens.new.items ≡ tokens.old.items)) }
+        ensures some { OnErr result (0 < count) }
+        ensures capacity { deque_capacity tokens.new ≡ deque_capacity tokens.old }
     {
         self.fds_out.append_from(tokens, count)?;
         self.outgoing.append(bytes);

@@ -124,11 +124,14 @@ pub fn cutting_does_not_matter<T: Transport>()
     ensures { CuttingLaw T.receives }
 {}
 
-/// What a program hands on from one link to another leaves as it came: the same bytes and the same tokens, in the same order,
-/// and no others. It does not matter how they were cut into receives, and how they are cut into sends.
+/// What a program hands on from one link to another by `hand_on` leaves as it came: the same bytes and the same tokens, in the
+/// same order, and no others. It does not matter how they were cut into receives, and how they are cut into sends. Each send takes
+/// some bytes: one that answers 0 loses the tokens that it was offered.
 ///
 /// What the second link's transport took, and then what waits there to be sent, and then what was received on the first link and
 /// not handed on yet, is what waited at first and then what came.
+///
+/// The law is about receives, `hand_on` and flushes. That `hand_on_rest` loses nothing either is its clause `carried`.
 pub fn what_came_in_leaves<R: Transport, S: Transport>()
     ensures { RelayLaw R.receives S.sends }
 {}

@@ -7,4 +7,4 @@ pub returns-clause-appended : goal.returns-clause-appended
 returns-clause-appended g c =
     appended_behind (numbered (g.N.Numbering.object_number c.args.numbers.now) (g.N.Numbering.new_number c.args.numbers.now) c.args.message.now) c.args.storage.now c.write.new.payload c.args.start c.args.end c.args.fds.now c.write.new.self
     c.requires.ordered c.requires.within c.write.result _ (omega arith)
-    c.write.ensures.written c.write.ensures.tokens c.write.ensures.too_long c.write.ensures.too_small c.write.ensures.no_tokens c.write.ensures.unchanged
+    c.write.ensures.written c.write.ensures.tokens c.write.ensures.too_long c.write.ensures.too_small c.write.ensures.memory c.write.ensures.unchanged

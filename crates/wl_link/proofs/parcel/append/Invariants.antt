@@ -4,3 +4,4 @@ use Rattle.wl_link.proofs.parcel.append.Given as goal
 
 abbrev pub invariant-loop-token : goal.invariant-loop-token
 invariant-loop-token l = (l.to.items ≡ l.fn.to.items ++ take l.token-index l.tokens) × (deque_len l.to + length l.tokens ≤ deque_capacity l.to + l.token-index)
+    × (deque_capacity l.fn.to ≤ deque_capacity l.to)

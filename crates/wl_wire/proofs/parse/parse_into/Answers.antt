@@ -34,7 +34,7 @@ returns-clause-tokens c =
     let left = drop c.in-Ok.taken c.args.fds.now.items in
     let found = found_whole c.args.raw.now c.split_at.result.0.now c.in_ok-header.header.len c.args.signature.now c.args.fds.now.items c.clear.new.self.items c.read_arguments.new.args.items left
     c.in_ok-header.ensures.words.2 c.split_at.ensures.front c.clear.ensures.items c.in-Ok.ensures.found in
-    c.take_tokens.ensures ∙ left_is c.args.signature.now (payload_of c.args.raw.now) c.args.fds.now.items c.read_arguments.new.args.items left found
+    c.take_tokens.ensures.taken ∙ left_is c.args.signature.now (payload_of c.args.raw.now) c.args.fds.now.items c.read_arguments.new.args.items left found
 
 pub returns-in_err-header-clause-written : goal.returns-in_err-header-clause-written
 returns-in_err-header-clause-written c = λ m behind others ok same bytes tokens_are.

@@ -9,7 +9,7 @@ abbrev pub invariant-loop-arg : goal.invariant-loop-arg
 invariant-loop-arg g l =
     let args = map (with_ids (g.N.Numbering.object_number l.numbers) (g.N.Numbering.new_number l.numbers)) l.args in
     (l.at ≡ 8 + length (pieces (take l.arg-index args)))
-    × (l.at + 4 * (length l.args - l.arg-index) + l.room ≤ l.end)
+    × (l.at + 4 * (length l.args - l.arg-index) + l.room ≡ l.end)
     × (l.arg-index ≤ length l.args)
     × (l.payload ≡ overwritten l.fn.payload 8 (pieces (take l.arg-index args)))
     × (tokens (take l.arg-index args) ≡ [])

@@ -1,4 +1,5 @@
-use Rattle.std.proofs.Common.{length}
+use Rattle.std.proofs.Common.{◌≤◌, length}
+use Rattle.std.specs.VecDeque.{deque_capacity}
 use Rattle.wl_link.specs.Inside.WaitingBytes.{beside}
 use Rattle.wl_link.proofs.Calls.FlushLaws.{FlushLeads}
 use Rattle.wl_link.proofs.buffered_socket.BufferedSocket.flush_waiting.Given as goal
@@ -14,6 +15,7 @@ invariant-loop-self g l =
       outgoing_capacity = l.self-inside.outgoing.size;
       limit = l.self-inside.limit;
     })
+    × (56 ≤ deque_capacity l.self-inside.fds_in)
 
 abbrev pub decreases-loop-self : goal.decreases-loop-self
 decreases-loop-self g l = length l.self-inside.outgoing.bytes
