@@ -12,7 +12,7 @@ use Rattle.wl_client.specs.declared.objects.Note.{Note}
 use Rattle.wl_client.specs.Handling.{Handling, Swallows, HandsOut, Breaks, handling}
 use Rattle.wl_client.specs.Reading.{with_link}
 use Rattle.wl_client.specs.Session.{SessionState}
-use Rattle.wl_client.specs.Inside.ReadingLoop.{Carries, HandledTo, MessageResult, GaveEvent, WentOn, LacksMore, Ended, ReadsIn, HandlesMessage}
+use Rattle.wl_client.specs.Inside.ReadingLoop.{Carries, HandledTo, MessageResult, GaveEvent, WentOn, Ended, ReadsIn, HandlesMessage}
 
 -- the session of these parts
 abbrev session_of : {T U : Type 0} → List InterfaceRow → LinkState T → Objects (Kept U) → Option WaylandError → Option OpenEvent → List Note → SessionState T U

@@ -7,3 +7,5 @@ pub mod RoomLaws
 pub mod OutcomeLaws
 pub mod StretchLaws
 pub mod AccountLaws
+pub mod ScriptedLaws
+pub mod HeardLaws

@@ -1,19 +1,23 @@
 -- What holds of a client over its history: ids, names, notes and errors, of one and the same list of changes.
-use Rattle.std.specs.Prelude.{◌≡◌, List, [], ◌∷◌, ◌++◌, IsSome, length}
+use Rattle.std.specs.Prelude.{◌≡◌, false, List, [], ◌∷◌, ◌++◌, IsSome, Result, Ok, Err, MatchOption, length}
 use Rattle.wl_wire.specs.Table.{InterfaceRow}
 use Rattle.wl_link.specs.Identity.{Change}
 use Rattle.wl_link.specs.Named.{StaysNamed}
 use Rattle.wl_link.specs.Runs.{IsWhereItStops}
 use Rattle.wl_link.specs.Script.{Script}
+use Rattle.wl_client.specs.declared.error.InvalidId.{InvalidId}
 use Rattle.wl_client.specs.declared.objects.Kept.{Kept}
 use Rattle.wl_client.specs.declared.step.Reply.{Reply}
+use Rattle.wl_client.specs.declared.step.Reply.TheVariants as reply
 use Rattle.wl_client.specs.declared.step.Step.{Step}
+use Rattle.wl_client.specs.declared.step.Step.TheVariants as step
 use Rattle.wl_client.specs.Failed.{StaysFailed}
-use Rattle.wl_client.specs.Handed.{Follows, HasOwnIds}
+use Rattle.wl_client.specs.Handed.{Follows}
 use Rattle.wl_client.specs.Histories.{Called, Changed, Deed, Does, History, called}
 use Rattle.wl_client.specs.Noted.{NotesWhatEnded}
 use Rattle.wl_client.specs.ObjectId.{IdParts}
-use Rattle.wl_client.specs.Session.{ClientState, IsConnected, SessionState, id_of, named, objects_of, over_transport, serial_of}
+use Rattle.wl_client.specs.Objects.{user_data_of}
+use Rattle.wl_client.specs.Session.{ClientState, IsConnected, SessionState, id_of, named, objects_of, serial_of}
 use Rattle.wl_client.specs.Steps.{Entry, Making, StepOf, entries}
 use Rattle.wl_client.specs.Stretches.{EachPartIsCut}
 
@@ -54,6 +58,14 @@ module _ {T U : Type 0} (makes : Making T U) where
   pub record IsChange (before : SessionState T U) (t : T) (after : SessionState T U) : Type 0 where
     pub change : Does makes before (Changed t) after
     pub accounted : StaysAccountedFor before (Changed t) after
+
+module _ {T U R : Type 0} (makes : Making T U) (lend : U → R → U → Type 0) where
+  -- The closure is called once with the user data of the object that the id names. What it leaves is set as if `set_data` had
+  -- been called with it. Without such data it is not called, and nothing is changed.
+  abbrev pub LendsAsCall : ClientState T U → IdParts → Result R InvalidId → ClientState T U → Type 0
+  LendsAsCall before id answer after =
+      MatchOption (user_data_of before.session id) ((answer ≡ Err _) × (after ≡ record before { refused = false }))
+      (λ u. (r : R) × (left : U) × lend u r left × (answer ≡ Ok r) × Calls makes before (step.SetData id left) (reply.SetData (Ok tt)) after)
 
 module _ {U : Type 0} where
   -- A history, and then steps that stopped because memory was refused in one of them; those before it have these replies.

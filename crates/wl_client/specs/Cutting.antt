@@ -10,7 +10,11 @@ use Rattle.wl_link.specs.Reader.{AllFed, Given, Gives, ReaderState, Reads, Turn,
 use Rattle.wl_link.specs.Served.{GoesOnAs, Served}
 use Rattle.wl_client.specs.declared.error.EventError.{EventError}
 use Rattle.wl_client.specs.declared.error.FinishRefused.{FinishRefused}
-use Rattle.wl_client.specs.Reading.{answered, client, handed_by, reader_state_of, receives_allowed}
+use Rattle.wl_client.specs.declared.step.Reply.{Reply}
+use Rattle.wl_client.specs.declared.step.Reply.TheVariants as reply
+use Rattle.wl_client.specs.declared.step.Step.{Step}
+use Rattle.wl_client.specs.declared.step.Step.TheVariants as step
+use Rattle.wl_client.specs.Reading.{answered, client, event_content, handed_by, reader_state_of, receives_allowed}
 use Rattle.wl_client.specs.Requests.{SessionMessage}
 use Rattle.wl_client.specs.Session.{Core, SessionState}
 
@@ -43,3 +47,10 @@ module _ {T U : Type 0} where
   abbrev pub CutsFinish : SessionState T U → Option U → Result (Unit {0}) (FinishRefused U) → SessionState T U → Type 0
   CutsFinish before u answer after =
       before.error ≡ None → answer ≡ Ok tt → (finishes : List (Option U)) → GoesOn (reader_state_of before) nothing (u ∷ finishes) [] (reader_state_of after) finishes
+
+  -- it does not matter to this call how bytes are cut, if it reads or finishes an event
+  abbrev pub IsCut : (T → Queue → Result ℕ IoFault → T → Type 0) → (T → ℕ → Result Queue IoFault → T → Type 0) → SessionState T U → Step U → Reply U → Bool
+      → SessionState T U → Type 0
+  IsCut sends receives before step.NextEvent (reply.NextEvent answer) refused after = CutsReading sends receives before (event_content answer) refused after
+  IsCut sends receives before (step.FinishEvent u) (reply.FinishEvent answer) refused after = CutsFinish before u answer after
+  IsCut sends receives before _ answer refused after = Unit {0}

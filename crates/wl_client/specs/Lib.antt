@@ -8,8 +8,10 @@ pub mod Events
 pub mod Handling
 pub mod Reading
 pub mod Finish
+pub mod Plain
 pub mod Steps
 pub mod Histories
+pub mod Scripted
 -- Laws of runs.
 pub mod Handed
 pub mod Named
@@ -18,6 +20,7 @@ pub mod Failed
 pub mod Replies
 pub mod Cutting
 pub mod Stretches
+pub mod Heard
 pub mod Accounts
 -- What only the functions inside promise each other.
 pub mod Inside

@@ -4,16 +4,21 @@ ghost use Rattle.std.specs.Prelude.{◌≡◌, IsSome, MatchOption, MatchResult}
 ghost use Rattle.wl_client.specs.Session.{alive, core_of, named, with_core};
 ghost use Rattle.wl_client.specs.Cutting.{CutsFinish};
 ghost use Rattle.wl_client.specs.Finish.{Finishes, with_data_for, with_dead};
-ghost use Rattle.wl_client.specs.Steps.{refused_finish};
+ghost use Rattle.wl_client.specs.Plain.{EndsEvent};
+ghost use Rattle.wl_client.specs.Accounts.{Calls};
+ghost use Rattle.wl_client.specs.Steps.{CallOf, refused_finish};
+ghost use Rattle.wl_client.specs.declared.step.Reply.TheVariants as reply;
+ghost use Rattle.wl_client.specs.declared.step.Step.TheVariants as step;
 
 use crate::backend::Backend;
 use crate::error::{FinishError, FinishRefused};
 use crate::event::OpenEvent;
 use crate::object_id::ObjectId;
 use crate::objects::{give_data, named_in, note_end};
+use wl_link::Transport;
 use wl_wire::OutOfMemory;
 
-impl<T: Drop, U: Drop> Backend<T, U> {
+impl<T: Transport + Drop, U: Drop> Backend<T, U> {
     /// Ends the event that `next_event` handed out. If the event made an object, the object gets this user data.
     ///
     /// An event may end its sender (`MessageDesc::is_destructor`). Then the sender is marked as destroyed by both sides. It
@@ -26,7 +31,19 @@ impl<T: Drop, U: Drop> Backend<T, U> {
     ///
     /// Each gives the data back. The event stays open, and nothing is changed.
     pub fn finish_event(&mut self, user_data: Option<U>) -> Result<(), FinishRefused<U>>
+        ensures call { Calls (CallOf T.sends T.receives) self.old (step.FinishEvent user_data) (reply.FinishEvent result) self.new }
+        ensures plain { EndsEvent self.old.session user_data result self.new.session }
+        ensures finished { Finishes self.old.session user_data result self.new.session }
+        ensures refused { self.new.refused ≡ refused_finish result }
         ensures cutting { CutsFinish self.old.session user_data result self.new.session }
+    {
+        self.end_event(user_data)
+    }
+}
+
+impl<T: Drop, U: Drop> Backend<T, U> {
+    /// Ends the event that is open, or says why it cannot be ended with these data.
+    fn end_event(&mut self, user_data: Option<U>) -> Result<(), FinishRefused<U>>
         ensures finished { Finishes self.old.session user_data result self.new.session }
         ensures refused { self.new.refused ≡ refused_finish result }
     {

@@ -1,8 +1,11 @@
 //! Sends what waits to be sent.
 
 ghost use Rattle.std.specs.Prelude.{◌≡◌};
+ghost use Rattle.wl_client.specs.Accounts.{Calls};
 ghost use Rattle.wl_client.specs.Finish.{SessionFlushed};
-ghost use Rattle.wl_client.specs.Steps.{refused_flush};
+ghost use Rattle.wl_client.specs.Steps.{CallOf, refused_flush};
+ghost use Rattle.wl_client.specs.declared.step.Reply.TheVariants as reply;
+ghost use Rattle.wl_client.specs.declared.step.Step.TheVariants as step;
 
 use crate::backend::Backend;
 use crate::error::{FlushError, WaylandError};
@@ -25,6 +28,16 @@ impl<T: Transport + Drop, U: Drop> Backend<T, U> {
     /// - `WouldBlock` if the transport can send no more now. What was not sent still waits;
     /// - `OutOfMemory` if the transport had no memory. What was not sent still waits.
     pub fn flush(&mut self) -> Result<(), FlushError>
+        ensures call { Calls (CallOf T.sends T.receives) self.old step.Flush (reply.Flush result) self.new }
+        ensures flushed { SessionFlushed T.sends self.old.session result self.new.session }
+        ensures refused { self.new.refused ≡ refused_flush result }
+    {
+        self.send_waiting()
+    }
+
+    /// Sends what waits to be sent, if the session has no error. A fault of the transport is stored, if no later send can
+    /// mend it.
+    fn send_waiting(&mut self) -> Result<(), FlushError>
         ensures flushed { SessionFlushed T.sends self.old.session result self.new.session }
         ensures refused { self.new.refused ≡ refused_flush result }
     {

@@ -1,31 +1,41 @@
 //! Laws that follow from the definitions of a session alone. Each function does nothing; its contract states a law.
 //!
 //! A *run* is a list of calls over the transport by script, each with its reply. A *history* is a list of calls over any
-//! transport, each with its reply, and of changes that the program makes to the transport between them. Where a law says
-//! so, it begins with `connect`. A law that is about every transport has a clause for the transport by script, whose own
-//! calls may be among the steps. An id *names* an object if its number has that object and its serial is that object's.
+//! transport, each with its reply, and of changes that the program makes to the transport between them. A history *from
+//! `connect` on* begins with a session as `connect` returns it (`IsConnected`); any other may begin with any session. A law
+//! that is about every transport has a clause for the transport by script, whose own calls may be among the steps. An id
+//! *names* an object if its number has that object and its serial is that object's.
 
-ghost use Rattle.std.specs.Prelude.{◌≡◌, ◌∷◌, [], Bool, List, Option, None, Ok, IsSome, false, length, ℕ};
+ghost use Rattle.std.specs.Prelude.{◌≡◌, ◌∷◌, ◌++◌, ◌↔◌, [], Bool, List, Option, None, Result, Ok, Err, IsSome, Vec, false, length, map, ℕ};
+ghost use Rattle.std.specs.Global.{Global};
+ghost use Rattle.wl_wire.specs.declared.argument.Token.{Token};
+ghost use Rattle.wl_wire.specs.declared.error.IoFault.{IoFault};
+ghost use Rattle.wl_wire.specs.declared.error.OutOfMemory.{OutOfMemory};
 ghost use Rattle.wl_wire.specs.Table.{InterfaceRow};
+ghost use Rattle.wl_link.specs.declared.memory.ArriveError.{ArriveError};
 ghost use Rattle.wl_link.specs.Exchange.{IsFunction, IsReceiveFunction, Queue, nothing};
 ghost use Rattle.wl_link.specs.Reader.{AllFed, Given, Gives, ReaderState, Reads, Turn, received_in};
-ghost use Rattle.wl_link.specs.Script.{Script, ScriptReceives, ScriptSends};
-ghost use Rattle.wl_client.specs.Cutting.{GoesOn, IsServed};
+ghost use Rattle.wl_link.specs.Script.{Script, ScriptReceives, ScriptSends, parcel};
+ghost use Rattle.wl_client.specs.Cutting.{GoesOn, IsCut, IsServed};
 ghost use Rattle.wl_client.specs.Finish.{Finishes};
 ghost use Rattle.wl_client.specs.Reading.{client, reader_state_of};
 ghost use Rattle.wl_client.specs.Requests.{SessionMessage};
 ghost use Rattle.wl_client.specs.declared.step.Reply.{Reply};
+ghost use Rattle.wl_client.specs.declared.step.Reply.TheVariants as reply;
 ghost use Rattle.wl_client.specs.declared.step.Step.{Step};
+ghost use Rattle.wl_client.specs.declared.step.Step.TheVariants as step;
 ghost use Rattle.wl_client.specs.Accounts.{IsAccountedFor};
 ghost use Rattle.wl_client.specs.Failed.{StaysFailed};
 ghost use Rattle.wl_client.specs.Handed.{HasOwnIds};
-ghost use Rattle.wl_client.specs.Histories.{Deed, History};
+ghost use Rattle.wl_client.specs.Heard.{AllHeard, Hears, events_in, finished_in};
+ghost use Rattle.wl_client.specs.Histories.{Called, Changed, Deed, History, called};
 ghost use Rattle.wl_client.specs.Named.{KeepsNaming};
 ghost use Rattle.wl_client.specs.ObjectId.{IdParts};
 ghost use Rattle.wl_client.specs.Noted.{NotesWhatEnded};
 ghost use Rattle.wl_client.specs.Replies.{SameReply, SameReplies};
-ghost use Rattle.wl_client.specs.Session.{Core, SessionState, IsConnected, named};
-ghost use Rattle.wl_client.specs.Steps.{CallOf, Entry, Leads, StepOf, entries};
+ghost use Rattle.wl_client.specs.Scripted.{Arrives, Becomes};
+ghost use Rattle.wl_client.specs.Session.{Core, SessionState, IsConnected, named, over_transport};
+ghost use Rattle.wl_client.specs.Steps.{CallOf, Entry, Leads, StepOf, entries, refused_arrive, refused_script};
 ghost use Rattle.wl_client.specs.Stretches.{IsRunServed, IsStretch, IsStretchWithin, SameLeft, arrived, events_of, finished};
 
 use crate::next_event::READ_TURNS;
@@ -34,8 +44,9 @@ use wl_link::Transport;
 /// The identity law: each id that a session hands out names the object that it was made of, as long as that object is kept,
 /// and then none.
 ///
-/// Each id in a reply is made in the step of that reply. The id of a new object, of a request or an event, is that of an
-/// object which this step made. The law also holds where memory was refused in a step.
+/// It holds of every history from `connect` on. Each id in a reply is made in the step of that reply. The id of a new object,
+/// of a request or an event, is that of an object which this step made. The law also holds where memory was refused in a
+/// step.
 pub fn each_id_names_its_own_object<T: Transport, U>()
     ensures every { (table : List InterfaceRow) (transport : T) (before after : SessionState T U) (deeds : List (Deed T U)) →
         IsConnected table transport before → History (CallOf T.sends T.receives) before deeds after → HasOwnIds (CallOf T.sends T.receives) before deeds after }
@@ -45,8 +56,8 @@ pub fn each_id_names_its_own_object<T: Transport, U>()
 
 /// The identity law for any id, no matter where it comes from: also for one that `display_id` or a look-up returned.
 ///
-/// From each point of a history on at which the id names an object, it names that object as long as that is kept, and then
-/// none (`named`). If it names none at a later point, it never names one again (`none`).
+/// It holds of every history from `connect` on. From each point on at which the id names an object, it names that object as
+/// long as that is kept, and then none (`named`). If it names none at a later point, it never names one again (`none`).
 pub fn each_id_that_names_an_object_keeps_it<T: Transport, U>()
     ensures named { (table : List InterfaceRow) (transport : T) (begun point after : SessionState T U) (done later : List (Deed T U)) →
         IsConnected table transport begun → History (CallOf T.sends T.receives) begun done point → History (CallOf T.sends T.receives) point later after →
@@ -65,8 +76,8 @@ pub fn each_id_that_names_an_object_keeps_it<T: Transport, U>()
 
 /// The law of notes: each object that ends with user data is noted once, and no other.
 ///
-/// Over every history, the notes that were taken, followed by those that still wait, are those of the objects that ended
-/// with user data, in order. Each note was made in the step in which its object ended.
+/// Over every history from `connect` on, the notes that were taken, followed by those that still wait, are those of the
+/// objects that ended with user data, in order. Each note was made in the step in which its object ended.
 pub fn each_object_that_ends_is_noted_once<T: Transport, U>()
     ensures every { (table : List InterfaceRow) (transport : T) (before after : SessionState T U) (deeds : List (Deed T U)) →
         IsConnected table transport before → History (CallOf T.sends T.receives) before deeds after → NotesWhatEnded (CallOf T.sends T.receives) before deeds after }
@@ -74,8 +85,8 @@ pub fn each_object_that_ends_is_noted_once<T: Transport, U>()
         IsConnected table transport before → History StepOf before deeds after → NotesWhatEnded StepOf before deeds after }
 {}
 
-/// The law of errors: a session that has an error keeps one. Over every history, each reading and each flush answers
-/// `Failed`.
+/// The law of errors: a session that has an error keeps one. Over every history that begins with such a session, each reading
+/// and each flush answers `Failed`.
 pub fn a_failed_session_stays_failed<T: Transport, U>()
     ensures every { (before after : SessionState T U) (deeds : List (Deed T U)) →
         IsSome before.error → History (CallOf T.sends T.receives) before deeds after → StaysFailed deeds after }
@@ -93,12 +104,50 @@ pub fn each_client_is_accounted_for<T: Transport, U>()
 {}
 
 /// A call of a session over the transport by script is a step over that transport (`step`). So a history of such calls is one
-/// of steps (`history`), and what is said of a run by `Backend::replay` may be joined to it.
+/// of steps (`history`). What is said of a run by `Backend::replay` may be joined to it (`histories_are_joined`).
 pub fn calls_over_scripts_are_steps<U>()
     ensures step { (before : SessionState Script U) (call : Step U) (answer : Reply U) (refused : Bool) (after : SessionState Script U) →
         CallOf ScriptSends ScriptReceives before call answer refused after → StepOf before call answer refused after }
     ensures history { (before after : SessionState Script U) (deeds : List (Deed Script U)) →
         History (CallOf ScriptSends ScriptReceives) before deeds after → History StepOf before deeds after }
+{}
+
+/// Histories that follow one another are one history (`every`, and `script` of steps over the transport by script). A run,
+/// as of `Backend::replay`, is a history of its entries (`run`), and so is a part of a history in which only such calls are
+/// made.
+pub fn histories_are_joined<T: Transport, U>()
+    ensures every { (begun mid after : SessionState T U) (deeds others : List (Deed T U)) →
+        History (CallOf T.sends T.receives) begun deeds mid → History (CallOf T.sends T.receives) mid others after →
+        History (CallOf T.sends T.receives) begun (deeds ++ others) after }
+    ensures script { (begun mid after : SessionState Script U) (deeds others : List (Deed Script U)) →
+        History StepOf begun deeds mid → History StepOf mid others after → History StepOf begun (deeds ++ others) after }
+    ensures run { (before after : SessionState Script U) (run : List (Entry U)) →
+        Leads before run after ↔ History StepOf before (called run) after }
+{}
+
+/// What a program does to the transport by script through `Backend::transport_mut` is a step, if it is one call of `Memory`.
+///
+/// The premise of each clause is what the contract of that call says of the transport. So in a history the step may stand
+/// for the change of the transport (`instead`): what is proved of runs over scripts then holds of it.
+pub fn calls_of_a_script_are_steps<U>()
+    ensures arrive { (before : SessionState Script U) (bytes : Vec ℕ Global) (tokens : Vec Token Global) (answer : Result (Unit {0}) ArriveError) (t : Script) →
+        Arrives before.link.transport (record { bytes = bytes.items; tokens = tokens.items }) answer t →
+        StepOf before (step.Arrive bytes tokens) (reply.Arrive answer) (refused_arrive answer) (over_transport before t) }
+    ensures arrive_fault { (before : SessionState Script U) (fault : IoFault) (answer : Result (Unit {0}) OutOfMemory) (t : Script) →
+        Becomes before.link.transport (record before.link.transport { arrivals = before.link.transport.arrivals ++ Err fault ∷ [] }) answer t →
+        StepOf before (step.ArriveFault fault) (reply.ArriveFault answer) (refused_script answer) (over_transport before t) }
+    ensures accept { (before : SessionState Script U) (count : ℕ) (answer : Result (Unit {0}) OutOfMemory) (t : Script) →
+        Becomes before.link.transport (record before.link.transport { answers = before.link.transport.answers ++ Ok count ∷ [] }) answer t →
+        StepOf before (step.Accept count) (reply.Accept answer) (refused_script answer) (over_transport before t) }
+    ensures accept_fault { (before : SessionState Script U) (fault : IoFault) (answer : Result (Unit {0}) OutOfMemory) (t : Script) →
+        Becomes before.link.transport (record before.link.transport { answers = before.link.transport.answers ++ Err fault ∷ [] }) answer t →
+        StepOf before (step.AcceptFault fault) (reply.AcceptFault answer) (refused_script answer) (over_transport before t) }
+    ensures take_sent { (before : SessionState Script U) (sent : Vec (Vec ℕ Global × Vec Token Global) Global) (t : Script) →
+        map parcel sent.items ≡ before.link.transport.sent → t ≡ record before.link.transport { sent = [] } →
+        StepOf before step.TakeSent (reply.TakeSent sent) false (over_transport before t) }
+    ensures instead { (begun after : SessionState Script U) (earlier later : List (Deed Script U)) (t : Script) (e : Entry U) →
+        ((mid : SessionState Script U) → History StepOf begun earlier mid → StepOf mid e.step e.answer e.refused (over_transport mid t)) →
+        History StepOf begun (earlier ++ Changed t ∷ later) after → History StepOf begun (earlier ++ Called e ∷ later) after }
 {}
 
 /// If memory is not refused, each step over the transport by script has one outcome, and so has each run.
@@ -127,18 +176,35 @@ pub fn each_run_has_one_outcome<T: Transport, U>()
 /// the session after the reading hands out if it serves the rest of the stream (`reading`). Each receive of the reading
 /// must have brought a byte or have returned `WouldBlock`, and memory must not have been refused.
 ///
-/// If the session has no error and accepts a finish, that is the next of the finishes (`finish`). A session can always
-/// serve what waits (`some`), and that has one outcome (`one`).
+/// If the session has no error and accepts a finish, that is the next of the finishes (`finish`). Both are said of each call
+/// that reads or finishes, too (`call`). A session can always serve what waits (`some`), and that has one outcome (`one`).
 pub fn cutting_does_not_matter_to_a_client<T: Transport, U>()
     ensures reading { (left : ℕ) (before after : ReaderState T (Core U)) (turns : List Turn) (out : Gives SessionMessage) →
         Reads T.sends client T.receives left before turns out after → AllFed turns → out.refused ≡ false →
         (finishes : List (Option U)) → GoesOn before (received_in turns) finishes out.gave after finishes }
     ensures finish { (before after : SessionState T U) (u : Option U) → before.error ≡ None → Finishes before u (Ok tt) after →
         (finishes : List (Option U)) → GoesOn (reader_state_of before) nothing (u ∷ finishes) [] (reader_state_of after) finishes }
+    ensures call { (before after : SessionState T U) (call : Step U) (answer : Reply U) (refused : Bool) →
+        CallOf T.sends T.receives before call answer refused after → IsCut T.sends T.receives before call answer refused after }
     ensures one { (before : ReaderState T (Core U)) (more : Queue) (finishes : List (Option U)) (events others : List (Given SessionMessage)) (x y : _) →
         IsServed before more finishes events x → IsServed before more finishes others y → (events ≡ others) × (x ≡ y) }
     ensures some { (before : ReaderState T (Core U)) (more : Queue) (finishes : List (Option U)) →
         (events : List (Given SessionMessage)) × (after : _) × IsServed before more finishes events after }
+{}
+
+/// The same for a part of a history over any transport, in which events are read and finished. The program may change the
+/// transport in it, but no other call is made, and memory is not refused.
+///
+/// Such a part has *turns*: the receives and messages of its readings, one after another (`heard`). If each receive brought a
+/// byte or would have blocked, then the session before the part, served over all that was received, first hands out the
+/// events of the part. Then it hands out what the session after the part hands out (`served`). The finishes are those that
+/// were accepted, and any others after them. So it does not matter how that was cut into receives and readings.
+pub fn cutting_does_not_matter_to_a_history<T: Transport, U>()
+    ensures heard { (before after : SessionState T U) (deeds : List (Deed T U)) →
+        History (CallOf T.sends T.receives) before deeds after → AllHeard deeds → (turns : List Turn) × Hears T.sends T.receives before deeds turns after }
+    ensures served { (before after : SessionState T U) (deeds : List (Deed T U)) (turns : List Turn) →
+        before.error ≡ None → AllHeard deeds → Hears T.sends T.receives before deeds turns after → AllFed turns →
+        (finishes : List (Option U)) → GoesOn (reader_state_of before) (received_in turns) (finished_in deeds ++ finishes) (events_in deeds) (reader_state_of after) finishes }
 {}
 
 /// The same for a *stretch* of a run, in which bytes and tokens arrive and events are read and finished.

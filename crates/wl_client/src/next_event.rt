@@ -2,9 +2,14 @@
 
 ghost use Rattle.std.specs.Prelude.{◌≡◌, ◌≤◌, Ok, OnErr, option_map};
 ghost use Rattle.std.specs.Result.{result_and};
+ghost use Rattle.wl_client.specs.Accounts.{Calls};
 ghost use Rattle.wl_client.specs.Cutting.{CutsReading};
+ghost use Rattle.wl_client.specs.Plain.{ReadsEvent};
 ghost use Rattle.wl_client.specs.Reading.{EndsWithRoom, NextEvent, ReadsTo, event_content};
 ghost use Rattle.wl_client.specs.Inside.ReadingLoop.{Live, ReceivedTo, Waited, event_answer, event_refused, with_event};
+ghost use Rattle.wl_client.specs.Steps.{CallOf};
+ghost use Rattle.wl_client.specs.declared.step.Reply.TheVariants as reply;
+ghost use Rattle.wl_client.specs.declared.step.Step.TheVariants as step;
 
 use crate::backend::Backend;
 use crate::error::{EventError, WaylandError};
@@ -87,9 +92,18 @@ impl<T: Transport + Drop, U: Drop> Backend<T, U> {
     /// A message does not end the session by a full buffer, if it is no longer than the limit or 65536 bytes, whichever is
     /// less, and its tokens come no later than its last byte.
     pub fn next_event(&mut self) -> Result<Message<ObjectId, Token>, EventError>
-        ensures cutting { CutsReading T.sends T.receives self.old.session (event_content result) self.new.refused self.new.session }
+        ensures call { Calls (CallOf T.sends T.receives) self.old step.NextEvent (reply.NextEvent result) self.new }
+        ensures plain { ReadsEvent self.old.session (event_content result) self.new.session }
         ensures read { NextEvent T.sends T.receives self.old.session (event_content result) self.new.refused self.new.session }
+        ensures cutting { CutsReading T.sends T.receives self.old.session (event_content result) self.new.refused self.new.session }
         ensures room { EndsWithRoom self.old.session self.new.session }
+    {
+        self.read_next()
+    }
+
+    /// Reads the next event, unless the session has an error or an event is open.
+    fn read_next(&mut self) -> Result<Message<ObjectId, Token>, EventError>
+        ensures { NextEvent T.sends T.receives self.old.session (event_content result) self.new.refused self.new.session }
     {
         self.refused = false;
         if self.error.is_some() {
@@ -124,8 +138,10 @@ impl<T: Transport + Drop, U: Drop> Backend<T, U> {
         &mut self,
         event: &mut Message<ObjectId, Token>,
     ) -> Result<(), EventError>
-        ensures cutting { CutsReading T.sends T.receives self.old.session (event_content (result_and result (Ok event.new))) self.new.refused self.new.session }
+        ensures call { Calls (CallOf T.sends T.receives) self.old step.NextEvent (reply.NextEvent (result_and result (Ok event.new))) self.new }
+        ensures plain { ReadsEvent self.old.session (event_content (result_and result (Ok event.new))) self.new.session }
         ensures read { NextEvent T.sends T.receives self.old.session (event_content (result_and result (Ok event.new))) self.new.refused self.new.session }
+        ensures cutting { CutsReading T.sends T.receives self.old.session (event_content (result_and result (Ok event.new))) self.new.refused self.new.session }
         ensures room { EndsWithRoom self.old.session self.new.session }
         ensures kept { OnErr result (event.new ≡ event.old) }
     {

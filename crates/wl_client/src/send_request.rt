@@ -2,9 +2,13 @@
 
 ghost use Rattle.std.specs.Prelude.{◌≡◌, ◌<◌, ◌⊎◌, true, IfSome, IsSome, IsTrue, OnErr, OnOk, MatchResult, is_some, vec_len, vec_capacity};
 ghost use Rattle.wl_wire.specs.MapIds.{numbered};
+ghost use Rattle.wl_client.specs.Plain.{SendsRequest};
 ghost use Rattle.wl_client.specs.Requests.{Requested, Sent, SentAs, SentWithChild, ended_by, id_of_new, number_of_new, session_content};
 ghost use Rattle.wl_client.specs.Inside.Sending.{IsNext, IsNextObject, LacksNext, WrittenTo, ended_of, is_noted, notes_ending, serial_with, store_ending, store_with};
-ghost use Rattle.wl_client.specs.Steps.{refused_request};
+ghost use Rattle.wl_client.specs.Accounts.{Calls};
+ghost use Rattle.wl_client.specs.Steps.{CallOf, refused_request};
+ghost use Rattle.wl_client.specs.declared.step.Reply.TheVariants as reply;
+ghost use Rattle.wl_client.specs.declared.step.Step.TheVariants as step;
 
 use crate::backend::Backend;
 use crate::error::{RequestError, WaylandError};
@@ -253,6 +257,8 @@ impl<T: Transport + Drop, U: Drop> Backend<T, U> {
         user_data: Option<U>,
         child_spec: Option<(InterfaceId, u32)>,
     ) -> Result<ObjectId, RequestError>
+        ensures call { Calls (CallOf T.sends T.receives) self.old (step.SendRequest message user_data child_spec) (reply.SendRequest result) self.new }
+        ensures plain { SendsRequest self.old.session (session_content message) user_data child_spec result self.new.session }
         ensures requested { Requested T.sends self.old.session (session_content message) user_data child_spec result self.new.session }
         ensures refused { self.new.refused ≡ refused_request result }
     {
@@ -262,6 +268,21 @@ impl<T: Transport + Drop, U: Drop> Backend<T, U> {
     /// Sends a request that is lent, as `send_request` does: a caller that keeps the message may use its memory again. The
     /// errors are those of `send_request`.
     pub fn send_request_lent(
+        &mut self,
+        message: &Message<ObjectId, Token>,
+        user_data: Option<U>,
+        child_spec: Option<(InterfaceId, u32)>,
+    ) -> Result<ObjectId, RequestError>
+        ensures call { Calls (CallOf T.sends T.receives) self.old (step.SendRequest message.now user_data child_spec) (reply.SendRequest result) self.new }
+        ensures plain { SendsRequest self.old.session (session_content message.now) user_data child_spec result self.new.session }
+        ensures requested { Requested T.sends self.old.session (session_content message.now) user_data child_spec result self.new.session }
+        ensures refused { self.new.refused ≡ refused_request result }
+    {
+        self.check_and_send(message, user_data, child_spec)
+    }
+
+    /// Checks the request, and sends it if it is not refused.
+    fn check_and_send(
         &mut self,
         message: &Message<ObjectId, Token>,
         user_data: Option<U>,

@@ -1,5 +1,5 @@
 -- That a public call keeps a history accounted for, and that a run over the transport by script is a part of one.
-use Rattle.std.proofs.Common.{◌≡◌, ℕ, Bool, false, List, [], ◌∷◌, ◌++◌, Result, refl, subst}
+use Rattle.std.proofs.Common.{ℕ, Bool, List, [], ◌∷◌, ◌++◌, Result, refl, subst}
 use Rattle.wl_wire.specs.declared.error.IoFault.{IoFault}
 use Rattle.wl_wire.specs.Table.{InterfaceRow}
 use Rattle.wl_link.proofs.OverRuns.RunLaws.{stopped_leads}
@@ -57,6 +57,11 @@ module _ {U : Type 0} where
   pub run_history : (before after : SessionState Script U) (run : List (Entry U)) → Leads before run after → History StepOf before (called run) after
   run_history before after [] same = same
   run_history before after (e ∷ run) (mid, by, leads) = (mid, by, run_history mid after run leads)
+
+  -- and a history of entries is a run
+  pub history_run : (before after : SessionState Script U) (run : List (Entry U)) → History StepOf before (called run) after → Leads before run after
+  history_run before after [] same = same
+  history_run before after (e ∷ run) (mid, by, leads) = (mid, by, history_run mid after run leads)
 
   pub joined_history : (begun mid after : SessionState Script U) (deeds : List (Deed Script U)) (run : List (Entry U)) → History StepOf begun deeds mid
       → Leads mid run after → History StepOf begun (deeds ++ called run) after

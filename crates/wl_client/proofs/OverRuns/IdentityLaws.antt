@@ -13,7 +13,7 @@ use Rattle.wl_client.proofs.OverRuns.ChangeLaws.{deed_moves, each_all, note_ids_
 use Rattle.wl_client.proofs.OverRuns.FailedLaws.{IsKept, stays_failed}
 use Rattle.wl_client.specs.Accounts.{IsAccountedFor, IsPoint}
 use Rattle.wl_client.specs.Handed.{Follows, HasOwnIds, ended_notes, is_over, note_ids, notes_by}
-use Rattle.wl_client.specs.Histories.{Deed, Does, History}
+use Rattle.wl_client.specs.Histories.{Deed, History}
 use Rattle.wl_client.specs.Objects.{info_in, info_of}
 use Rattle.wl_client.specs.Named.{KeepsNaming}
 use Rattle.wl_client.specs.Noted.{NotesWhatEnded, all_ended_notes, notes_of}

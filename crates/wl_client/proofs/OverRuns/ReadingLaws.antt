@@ -26,13 +26,17 @@ use Rattle.wl_client.specs.declared.error.FinishRefused.{FinishRefused}
 use Rattle.wl_client.specs.declared.error.WaylandError.{WaylandError}
 use Rattle.wl_client.specs.declared.protocol_error.EventFault.TheVariants as wrong
 use Rattle.wl_client.specs.declared.event.OpenEvent.{OpenEvent}
-use Rattle.wl_client.specs.Cutting.{CutsFinish, CutsReading, GoesOn, IsServed, no_sends}
+use Rattle.wl_client.specs.declared.step.Reply.{Reply}
+use Rattle.wl_client.specs.declared.step.Step.{Step}
+use Rattle.wl_client.specs.declared.step.Step.TheVariants as step
+use Rattle.wl_client.specs.Cutting.{CutsFinish, CutsReading, GoesOn, IsCut, IsServed, no_sends}
 use Rattle.wl_client.specs.Events.{error_of}
 use Rattle.wl_client.specs.Handling.{Handling, Swallows, HandsOut, Breaks, handed, handling}
 use Rattle.wl_client.specs.Finish.{FinishesEvent, Finishes, core_finished, refusal}
-use Rattle.wl_client.specs.Reading.{NextEvent, answered, core_after, client, faulted, finish, finish_verdict, handed_by, objects_in, reader_state_of, receives_allowed, starved_to, verdict}
+use Rattle.wl_client.specs.Reading.{NextEvent, answered, core_after, client, event_content, faulted, finish, finish_verdict, handed_by, objects_in, reader_state_of, receives_allowed, starved_to, verdict}
 use Rattle.wl_client.specs.Requests.{SessionMessage}
 use Rattle.wl_client.specs.Session.{Core, SessionState, core_of, with_core}
+use Rattle.wl_client.specs.Steps.{CallOf}
 use Rattle.wl_link.specs.Identity.{Objects}
 use Rattle.wl_client.specs.declared.objects.Kept.{Kept}
 
@@ -270,6 +274,17 @@ module _ {T U : Type 0} where
     where
       no_receives : T → ℕ → Result Queue IoFault → T → Type 0
       no_receives before room received after = ⊥
+
+-- ---- a call
+
+module _ {T U : Type 0} (sends : T → Queue → Result ℕ IoFault → T → Type 0) (receives : T → ℕ → Result Queue IoFault → T → Type 0) where
+  pub call_cuts : (before after : SessionState T U) (call : Step U) (answer : Reply U) (refused : Bool) → CallOf sends receives before call answer refused after
+      → IsCut sends receives before call answer refused after
+  call_cuts before after step.NextEvent answer refused (r, is, h) =
+      subst (λ (a : Reply U). IsCut sends receives before step.NextEvent a refused after) (sym is) (next_event_cuts sends receives before (event_content r) refused after h)
+  call_cuts before after (step.FinishEvent u) answer refused (r, is, no_memory, h) =
+      subst (λ (a : Reply U). IsCut sends receives before (step.FinishEvent u) a refused after) (sym is) (finish_cuts before u r after h)
+  call_cuts before after _ answer refused h = tt
 
 -- ---- something is served of whatever waits, and it is determined
 

@@ -1,4 +1,3 @@
-use Rattle.wl_client.proofs.OverRuns.AccountLaws.{call_history, call_step, calls, is_change}
 use Rattle.wl_client.proofs.OverRuns.FailedLaws.{calls_kept, steps_kept}
 use Rattle.wl_client.proofs.OverRuns.IdentityLaws.{accounted}
 use Rattle.wl_client.specs.Steps.{CallOf, StepOf}

@@ -1,4 +1,4 @@
-use Rattle.std.proofs.Common.{◌≡◌, Option, None, Some, MatchOption, refl, sym}
+use Rattle.std.proofs.Common.{◌≡◌, Some, refl}
 use Rattle.wl_link.specs.declared.object.Object.{Object}
 use Rattle.wl_client.specs.declared.objects.Kept.{Kept}
 use Rattle.wl_client.specs.Session.{with_user_data}

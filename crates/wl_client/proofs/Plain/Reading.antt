@@ -1,0 +1,209 @@
+-- A reading: what it hands out, and what the session is after it.
+use Rattle.std.proofs.Common.{◌≡◌, ◌⊎◌, ℕ, Bool, true, false, List, [], ◌∷◌, ◌++◌, map, Option, None, Some, IsSome, is_none, is_some, Result, Ok, Err, ◌&&◌, MatchBool, MatchResult, refl, sym, ap, ap₂, subst, ◌∙◌, true≢false}
+use mathlib.Core.Logic.{inl, inr}
+use Rattle.wl_wire.specs.declared.error.IoFault.{IoFault}
+use Rattle.wl_wire.specs.declared.error.IoFault.TheVariants as fault
+use Rattle.wl_link.proofs.Calls.Branches.{either_option}
+use Rattle.wl_link.specs.Exchange.{Queue, Sending}
+use Rattle.wl_link.specs.Identity.{Objects}
+use Rattle.wl_link.specs.Link.{LinkState, counted_answer, count_of}
+use Rattle.wl_link.specs.Puts.{Said, lacks_memory}
+use Rattle.wl_link.specs.Reader.{CarriesOut, Given, Gives, Halts, HandedOut, Handled, ReaderState, Reads, Received, Turn, Unread, Verdict, came_to, given_first, put_and_gave, stops, with_link}
+use Rattle.wl_client.specs.declared.error.EventError.{EventError}
+use Rattle.wl_client.specs.declared.error.WaylandError.{WaylandError}
+use Rattle.wl_client.specs.declared.event.OpenEvent.{OpenEvent}
+use Rattle.wl_client.specs.declared.objects.Kept.{Kept}
+use Rattle.wl_client.specs.declared.protocol_error.EventFault.TheVariants as wrong
+use Rattle.wl_client.specs.Events.{error_of}
+use Rattle.wl_client.specs.Handling.{Breaks, Handling, HandsOut, Swallows, handed, handling}
+use Rattle.wl_client.specs.Plain.{CanRead, EventIsOpen, HasFailed, KeepsRest, ReadsEvent}
+use Rattle.wl_client.specs.Reading.{NextEvent, answered, client, core_after, event_in, faulted, objects_in, reader_state_of, reads_on, receives_allowed, starved_to, verdict}
+use Rattle.wl_client.specs.Requests.{SessionMessage}
+use Rattle.wl_client.specs.Session.{Core, SessionState, core_of}
+use Rattle.wl_client.proofs.Plain.Opening.{Opens, OpensIn, opens}
+
+when_true : {P : Type 0} (Q : Type 0) (b : Bool) → b ≡ true → MatchBool b P Q → P
+when_true Q true is h = h
+when_true Q false is h = absurd (true≢false (sym is))
+
+when_false : {Q : Type 0} (P : Type 0) (b : Bool) → b ≡ false → MatchBool b P Q → Q
+when_false P true is h = absurd (true≢false is)
+when_false P false is h = h
+
+-- ---- what a reading comes to
+
+module _ {U : Type 0} where
+  abbrev CameTo : Option IoFault → List (Given SessionMessage) → Core U → Type 0
+  CameTo (Some fault.WouldBlock) gave d = (gave ≡ []) × CanRead d
+  CameTo (Some fault.OutOfMemory) gave d = (gave ≡ []) × CanRead d
+  CameTo (Some f) gave d = (gave ≡ []) × HasFailed d
+  CameTo None gave d = ((m : SessionMessage) × (gave ≡ HandedOut m ∷ []) × EventIsOpen m d) ⊎ ((gave ≡ []) × HasFailed d)
+
+  record Ended (c : Core U) (out : Gives SessionMessage) (d : Core U) : Type 0 where
+    kept : KeepsRest c d
+    came : CameTo out.stopped out.gave d
+
+  live_on : (c : Core U) → CanRead c → reads_on c ≡ true
+  live_on c live = ap₂ (λ (e : Option WaylandError) (o : Option OpenEvent). is_none e && is_none o) live.0 live.1
+
+  failed_off : (c : Core U) → IsSome c.error → reads_on c ≡ false
+  failed_off c failed = at c.error failed
+    where
+      at : (e : Option WaylandError) → IsSome e → (is_none e && is_none c.open_event) ≡ false
+      at None some = absurd (true≢false (sym some))
+      at (Some e) some = refl
+
+  opened_off : (c : Core U) (event : OpenEvent) → c.open_event ≡ Some event → reads_on c ≡ false
+  opened_off c event is = ap (λ (o : Option OpenEvent). is_none c.error && is_none o) is ∙ never (is_none c.error)
+    where
+      never : (b : Bool) → (b && false) ≡ false
+      never true = refl
+      never false = refl
+
+  -- a receive that failed
+  faulted_so : (c : Core U) → CanRead c → (f : IoFault) → CameTo (Some f) [] (faulted c f) × KeepsRest c (faulted c f)
+  faulted_so c live fault.WouldBlock = ((refl, live), (refl, refl))
+  faulted_so c live fault.OutOfMemory = ((refl, live), (refl, refl))
+  faulted_so c live _ = ((refl, (refl, live.1)), (refl, refl))
+
+module _ {T U : Type 0} (sends : T → Queue → Result ℕ IoFault → T → Type 0) (receives : T → ℕ → Result Queue IoFault → T → Type 0) where
+  -- a reader that no longer reads on stops here
+  stopped : (left : ℕ) (p after : ReaderState T (Core U)) (turns : List Turn) (out : Gives SessionMessage) → Reads sends client receives left p turns out after
+      → reads_on p.core ≡ false → (out ≡ stops None false left) × (after ≡ p)
+  stopped left p after [] out (same, ends) off = (when_false _ (reads_on p.core) off ends, same)
+  stopped left p after (Received r ∷ turns) out (on, lacks, h) off = absurd (true≢false (sym on ∙ off))
+  stopped left p after (Handled es ∷ turns) out (on, h) off = absurd (true≢false (sym on ∙ off))
+  stopped left p after (Unread es ∷ turns) out (on, h) off = absurd (true≢false (sym on ∙ off))
+
+  -- what a message gives, and what the core is then, with memory or without
+  carries : (c : Core U) (h : Handling U) (link : LinkState T) (es : List Sending) (first : List (Given SessionMessage)) (lacked : Bool) (mid : ReaderState T (Core U))
+      → CarriesOut sends client (verdict c h) link es first lacked mid
+      → (first ≡ map HandedOut (handed h)) × ((mid.core ≡ core_after c h) ⊎ (mid.core ≡ starved_to c h))
+  carries c h link es first lacked mid (inl (begun, others, put, wrote, between, short, puts, flushes, split, end, is, was)) = (
+    is ∙ ap (λ (ms : List Said). put_and_gave ms (handed h)) puts.1,
+    inl (end ∙ ap (λ (w : Result (Unit {0}) IoFault). came_to client (verdict c h) w) puts.2),
+  )
+  carries c h link es first lacked mid (inr (asks, was, none, is, same)) = (is, inr (ap (λ (p : ReaderState T (Core U)). p.core) same))
+
+  module _ (c : Core U) (live : CanRead c) (left : ℕ) (first : List (Given SessionMessage)) (lacked : Bool) (mid after : ReaderState T (Core U)) (turns : List Turn)
+      (out rest : Gives SessionMessage) (split : out ≡ given_first first lacked rest) (more : Reads sends client receives left mid turns rest after)
+      (again : CanRead mid.core → Ended mid.core rest after.core) where
+    -- the message did nothing more, and the reading goes on
+    goes_on : (o : Objects (Kept U)) → first ≡ [] → mid.core ≡ core_after c (Swallows o) → Ended c out after.core
+    goes_on o none is =
+        let rec = again (ap (λ (d : Core U). d.error) is ∙ live.0, ap (λ (d : Core U). d.open_event) is ∙ live.1) in
+        subst (λ (g : Gives SessionMessage). Ended c g after.core) (sym (split ∙ ap (λ (f : List (Given SessionMessage)). given_first f lacked rest) none))
+        (record {
+          kept = (rec.kept.0 ∙ ap (λ (d : Core U). d.table) is, rec.kept.1 ∙ ap (λ (d : Core U). d.notes) is);
+          came = rec.came;
+        })
+
+    -- the reading ends here
+    ends_at : (gave : List (Given SessionMessage)) → first ≡ gave → reads_on mid.core ≡ false → KeepsRest c mid.core → CameTo None (gave ++ []) mid.core → Ended c out after.core
+    ends_at gave is off kept came =
+        let (rest_is, same) = stopped left mid after turns rest more off in
+        subst (λ (p : ReaderState T (Core U)). Ended c out p.core) (sym same)
+        (subst (λ (g : Gives SessionMessage). Ended c g mid.core)
+        (sym (split ∙ ap₂ (λ (f : List (Given SessionMessage)) (r : Gives SessionMessage). given_first f lacked r) is rest_is))
+        (record { kept = kept; came = came }))
+
+    fails : (o : Objects (Kept U)) (w : WaylandError) → first ≡ [] → mid.core ≡ record c { store = o.store; last_serial = o.last_serial; error = Some w } → Ended c out after.core
+    fails o w none is =
+        let failed : IsSome mid.core.error = ap (λ (d : Core U). is_some d.error) is in
+        ends_at [] none (failed_off mid.core failed) (ap (λ (d : Core U). d.table) is, ap (λ (d : Core U). d.notes) is)
+        (inr (refl, (failed, ap (λ (d : Core U). d.open_event) is ∙ live.1)))
+
+    hands : (m : SessionMessage) (event : OpenEvent) (o : Objects (Kept U)) → Opens c.table m event o → first ≡ HandedOut m ∷ []
+        → mid.core ≡ record c { store = o.store; last_serial = o.last_serial; open_event = Some event } → Ended c out after.core
+    hands m event o so is same =
+        ends_at (HandedOut m ∷ []) is (opened_off mid.core event (ap (λ (d : Core U). d.open_event) same)) (ap (λ (d : Core U). d.table) same, ap (λ (d : Core U). d.notes) same)
+        (inl (
+          m,
+          refl,
+          subst (λ (d : Core U). EventIsOpen m d) (sym same)
+              (record {
+                sender = so.sender;
+                row = so.row;
+                created = so.created;
+                holds = so.holds;
+                sender_is = so.sender_is;
+                live = so.live;
+                event = so.has;
+                opened = ap Some so.event_is;
+                made = so.made;
+                error = live.0;
+              }),
+        ))
+
+    handled : (h : Handling U) → OpensIn c.table h → first ≡ map HandedOut (handed h) → (mid.core ≡ core_after c h) ⊎ (mid.core ≡ starved_to c h) → Ended c out after.core
+    handled (Swallows o) so is (inl came) = goes_on o is came
+    handled (Swallows o) so is (inr came) = goes_on o is came
+    handled (HandsOut m event o) so is (inl came) = hands m event o so is came
+    handled (HandsOut m event o) so is (inr came) = hands m event o so is came
+    handled (Breaks e o) so is (inl came) = fails o _ is came
+    handled (Breaks e o) so is (inr came) = fails o _ is came
+
+  reads_end : (left : ℕ) (p after : ReaderState T (Core U)) (turns : List Turn) (out : Gives SessionMessage) → Reads sends client receives left p turns out after
+      → CanRead p.core → Ended p.core out after.core
+  reads_end left p after [] out (same, ends) live =
+      subst (λ (q : ReaderState T (Core U)). Ended p.core out q.core) (sym same) (halts (when_true _ (reads_on p.core) (live_on p.core live) ends))
+    where
+      blocks : (n : ℕ) → out ≡ stops (Some fault.WouldBlock) false n → Ended p.core out p.core
+      blocks n is = subst (λ (g : Gives SessionMessage). Ended p.core g p.core) (sym is) (record { kept = (refl, refl); came = (refl, live) })
+
+      starves : (n : ℕ) → out ≡ stops (Some fault.OutOfMemory) true n → Ended p.core out p.core
+      starves n is = subst (λ (g : Gives SessionMessage). Ended p.core g p.core) (sym is) (record { kept = (refl, refl); came = (refl, live) })
+
+      halts : Halts sends client left p out → Ended p.core out p.core
+      halts (inl (lacks, none, is)) = blocks left is
+      halts (inr (inl (asks, is))) = starves left is
+      halts (inr (inr (lacks, (n, some, is)))) = starves n is
+  reads_end left p after (Received r ∷ turns) out (on, lacks, (n, is, (link, filled, finds, h))) live =
+      go (counted_answer (count_of r)) h (λ more. reads_end n (with_link p link) after turns out more live)
+    where
+      go : (r : Result (Unit {0}) IoFault)
+          → MatchResult r (λ _. Reads sends client receives n (with_link p link) turns out after)
+          (λ f. (turns ≡ []) × (out ≡ stops (Some f) (lacks_memory (Err f)) n) × (after ≡ record { core = client.faulted p.core f; link = link }))
+          → (Reads sends client receives n (with_link p link) turns out after → Ended p.core out after.core) → Ended p.core out after.core
+      go (Ok u) more goes = goes more
+      go (Err f) (none, out_is, same) goes =
+          let so = faulted_so p.core live f in
+          subst (λ (q : ReaderState T (Core U)). Ended p.core out q.core) (sym same)
+          (subst (λ (g : Gives SessionMessage). Ended p.core g (faulted p.core f)) (sym out_is) (record { kept = so.1; came = so.0 }))
+  reads_end left p after (Handled es ∷ turns) out (on, (v, link, first, lacked, mid, rest, (m, read, is), carried, split, more)) live =
+      let h = handling p.core.table (objects_in p.core) m in
+      let so = carries p.core h link es first lacked mid (subst (λ (w : Verdict (Core U) SessionMessage). CarriesOut sends client w link es first lacked mid) is carried) in
+      handled p.core live left first lacked mid after turns out rest split more (λ on. reads_end left mid after turns rest more on) h
+      (opens p.core.table (objects_in p.core) m) so.0 so.1
+  reads_end left p after (Unread es ∷ turns) out (on, (v, link, first, lacked, mid, rest, (read, same, is), carried, split, more)) live =
+      let h : Handling U = Breaks (error_of p.core.table wrong.Malformed) (objects_in p.core) in
+      let so = carries p.core h link es first lacked mid (subst (λ (w : Verdict (Core U) SessionMessage). CarriesOut sends client w link es first lacked mid) is carried) in
+      handled p.core live left first lacked mid after turns out rest split more (λ on. reads_end left mid after turns rest more on) h tt so.0 so.1
+
+  -- the answer, by how the reading ended
+  answers_so : (s after : SessionState T U) → CanRead (core_of s) → KeepsRest (core_of s) (core_of after) → (stopped : Option IoFault) (gave : List (Given SessionMessage))
+      → CameTo stopped gave (core_of after) → ReadsEvent s (answered stopped gave) after
+  answers_so s after live kept (Some fault.WouldBlock) gave came = (live, came.1, kept)
+  answers_so s after live kept (Some fault.OutOfMemory) gave came = (live, came.1, kept)
+  answers_so s after live kept (Some _) gave came = inr (live, came.1, kept)
+  answers_so s after live kept None gave (inl (m, is, open')) =
+      subst (λ (g : List (Given SessionMessage)). ReadsEvent s (event_in g) after) (sym is) (live, open', kept)
+  answers_so s after live kept None gave (inr (none, failed)) =
+      subst (λ (g : List (Given SessionMessage)). ReadsEvent s (event_in g) after) (sym none) (inr (live, failed, kept))
+
+  pub reads_event : (s : SessionState T U) (answer : Result SessionMessage EventError) (refused : Bool) (after : SessionState T U)
+      → NextEvent sends receives s answer refused after → ReadsEvent s answer after
+  reads_event s answer refused after h =
+      elim (either_option s.error h) [
+        | inr (e, some, (is, unasked, same)) ↦
+            subst (λ (a : Result SessionMessage EventError). ReadsEvent s a after) (sym is) (inl (ap is_some some, same))
+        | inl (none, g) ↦
+            elim (either_option s.open_event g) [
+              | inr (event, some, (is, unasked, same)) ↦
+                  subst (λ (a : Result SessionMessage EventError). ReadsEvent s a after) (sym is) (none, ap is_some some, same)
+              | inl (unopened, (turns, out, reads, is, gave, calm)) ↦
+                  let end = reads_end receives_allowed (reader_state_of s) (reader_state_of after) turns out reads (none, unopened) in
+                  subst (λ (a : Result SessionMessage EventError). ReadsEvent s a after) (sym is)
+                  (answers_so s after (none, unopened) end.kept out.stopped out.gave end.came)
+            ]
+      ]

@@ -1,0 +1,151 @@
+-- What a program finds after a call: what it did to an object, the open event or the notes, and that all else is as before.
+-- All is said in the words of the look-ups.
+--
+-- A contract that cites one of these has another clause beside it, `call`, which says all that the call does, as a step. What
+-- stands here follows from that clause, and can be used without it.
+use Rattle.std.specs.Prelude.{◌≡◌, ◌⊎◌, ℕ, List, Bool, true, false, ◌==◌, ◌&&◌, if◌then◌else◌, Option, None, Some, IsSome, is_some, Result, Ok, Err, MatchOption}
+use Rattle.wl_wire.specs.declared.error.IoFault.{IoFault}
+use Rattle.wl_wire.specs.MessageRows.{creates, event_row, matches, request_row}
+use Rattle.wl_wire.specs.Table.{MessageRow}
+use Rattle.wl_link.specs.declared.object.Object.{Object}
+use Rattle.wl_link.specs.Store.{held}
+use Rattle.wl_client.specs.declared.error.EventError.{EventError}
+use Rattle.wl_client.specs.declared.error.EventError.TheVariants as no_event
+use Rattle.wl_client.specs.declared.error.FinishError.{FinishError}
+use Rattle.wl_client.specs.declared.error.FinishError.TheVariants as finish
+use Rattle.wl_client.specs.declared.error.FinishRefused.{FinishRefused}
+use Rattle.wl_client.specs.declared.error.RequestError.{RequestError}
+use Rattle.wl_client.specs.declared.error.RequestError.TheVariants as refused
+use Rattle.wl_client.specs.declared.error.WaylandError.TheVariants.{Io}
+use Rattle.wl_client.specs.declared.event.OpenEvent.{OpenEvent}
+use Rattle.wl_client.specs.declared.objects.Kept.{Kept}
+use Rattle.wl_client.specs.declared.objects.Note.{Note}
+use Rattle.wl_client.specs.ObjectId.{IdParts}
+use Rattle.wl_client.specs.Objects.{info_of, user_data_of}
+use Rattle.wl_client.specs.Requests.{SessionMessage, Spec, child_of}
+use Rattle.wl_client.specs.Session.{Core, SessionState, alive, core_of, fresh_object, id_at, named, noted, null_parts}
+
+-- the ids have the same number and serial
+abbrev pub same_object : IdParts → IdParts → Bool
+same_object a b = (a.number == b.number) && (a.serial == b.serial)
+
+-- the id is that of the object that an event made
+abbrev pub is_made : Option IdParts → IdParts → Bool
+is_made None id = false
+is_made (Some made) id = same_object made id
+
+-- the notes, with that of the object's end, if there is one and it has user data
+abbrev pub with_end : {U : Type 0} → List Note → ℕ → Option (Object (Kept U)) → List Note
+with_end notes n None = notes
+with_end notes n (Some x) = noted notes x.value.user_data (id_at n x)
+
+module _ {T U : Type 0} where
+  -- the object that the id names
+  abbrev pub object_of : SessionState T U → IdParts → Option (Object (Kept U))
+  object_of s id = named s.store id
+
+  -- ---- the end of an event
+
+  -- The event is open no more. The object that it made has the data. Its sender, if the event ends it, is destroyed, and noted
+  -- if it has data and the client had not destroyed it. Each other id names what it named.
+  pub record EventIsEnded (before : SessionState T U) (event : OpenEvent) (u : Option U) (after : SessionState T U) : Type 0 where
+    pub was_open : before.open_event ≡ Some event
+    pub closed : after.open_event ≡ None
+    pub fits : is_some u ≡ is_some event.created
+    pub created : (id : IdParts) (d : U) → event.created ≡ Some id → u ≡ Some d → IsSome (object_of before id) → user_data_of after id ≡ Some d
+    pub ended : event.is_destructor ≡ true → info_of after event.sender ≡ None
+    pub notes : after.notes ≡ (if event.is_destructor then with_end before.notes event.sender.number (alive (object_of before event.sender)) else before.notes)
+    pub others : (id : IdParts) → (event.is_destructor && same_object event.sender id) ≡ false → is_made event.created id ≡ false
+        → object_of after id ≡ object_of before id
+    pub error : after.error ≡ before.error
+    pub table : after.table ≡ before.table
+    pub link : after.link ≡ before.link
+
+  -- why an event was not ended
+  abbrev pub NotEnded : SessionState T U → Option U → FinishError → Type 0
+  NotEnded before u finish.NoOpenEvent = before.open_event ≡ None
+  NotEnded before u finish.MissingObjectData = (event : OpenEvent) × (before.open_event ≡ Some event) × IsSome event.created × (u ≡ None)
+  NotEnded before u finish.UnexpectedData = (event : OpenEvent) × (before.open_event ≡ Some event) × (event.created ≡ None) × IsSome u
+  NotEnded before u finish.OutOfMemory =
+      (event : OpenEvent) × (before.open_event ≡ Some event) × (event.is_destructor ≡ true) × (is_some u ≡ is_some event.created)
+      × MatchOption (alive (object_of before event.sender)) ⊥ (λ x. IsSome x.value.user_data)
+
+  -- The event that was open is ended. Or it is not, for this reason: the data come back, and nothing has changed.
+  abbrev pub EndsEvent : SessionState T U → Option U → Result (Unit {0}) (FinishRefused U) → SessionState T U → Type 0
+  EndsEvent before u (Ok _) after = (event : OpenEvent) × EventIsEnded before event u after
+  EndsEvent before u (Err e) after = (e.user_data ≡ u) × (after ≡ before) × NotEnded before u e.error
+
+  -- ---- a request
+
+  -- The request makes an object of this interface and version, or none. The answer is its id, which named nothing before and
+  -- names that object now, with the data that were given; or it is the null id.
+  abbrev pub MadeAs : SessionState T U → Option Spec → Option U → IdParts → SessionState T U → Type 0
+  MadeAs before None u id after = id ≡ null_parts
+  MadeAs before (Some child) u id after =
+      (object_of before id ≡ None) × (id.interface ≡ child.0)
+      × ((d : U) × (u ≡ Some d) × (object_of after id ≡ Some (fresh_object child.0 child.1 id.serial (Some d))))
+
+  -- The request was sent: its sender is an object that the client had not destroyed, and the table has the request, whose
+  -- signature the arguments fit. A destructor destroys its sender, which is noted if it has data. Each other id names what it
+  -- named, and the event that is open stays so. A fault of the write is the session's error.
+  pub record RequestIsSent (before : SessionState T U) (m : SessionMessage) (u : Option U) (spec : Option Spec) (id : IdParts) (after : SessionState T U) : Type 0 where
+    pub sender : Object (Kept U)
+    pub row : MessageRow
+    pub sent_by : alive (object_of before m.sender) ≡ Some sender
+    pub request : request_row before.table sender.interface m.opcode ≡ Some row
+    pub fits : matches row.signature m.args ≡ true
+    pub made : MadeAs before (if creates row then child_of row sender.version spec else None) u id after
+    pub ended : row.is_destructor ≡ true → info_of after m.sender ≡ None
+    pub notes : after.notes ≡ (if row.is_destructor then noted before.notes sender.value.user_data (id_at m.sender.number sender) else before.notes)
+    pub others : (other : IdParts) → (row.is_destructor && same_object m.sender other) ≡ false → same_object id other ≡ false
+        → object_of after other ≡ object_of before other
+    pub open_event : after.open_event ≡ before.open_event
+    pub table : after.table ≡ before.table
+    pub error : (after.error ≡ before.error) ⊎ ((f : IoFault) × (after.error ≡ Some (Io f)))
+
+  -- The request was sent. Or it was not, and nothing has changed; after a want of memory what waits in the link may have.
+  abbrev pub SendsRequest : SessionState T U → SessionMessage → Option U → Option Spec → Result IdParts RequestError → SessionState T U → Type 0
+  SendsRequest before m u spec (Ok id) after = RequestIsSent before m u spec id after
+  SendsRequest before m u spec (Err refused.OutOfMemory) after = core_of after ≡ core_of before
+  SendsRequest before m u spec (Err e) after = after ≡ before
+
+module _ {U : Type 0} where
+  -- ---- a reading
+
+  -- The event is open from now on. Its sender is a kept object that the client has not destroyed, and the table has the event
+  -- for the interface of that object. An object that the event made is new, of the sender's version, and has no data yet.
+  pub record EventIsOpen (m : SessionMessage) (after : Core U) : Type 0 where
+    pub sender : Object (Kept U)
+    pub row : MessageRow
+    pub created : Option IdParts
+    pub holds : held after.store m.sender.number ≡ Some sender
+    pub sender_is : m.sender ≡ id_at m.sender.number sender
+    pub live : sender.value.client_destroyed ≡ false
+    pub event : event_row after.table sender.interface m.opcode ≡ Some row
+    pub opened : after.open_event ≡ Some (record { sender = m.sender; is_destructor = row.is_destructor; created = created })
+    pub made : MatchOption created (Unit {0})
+        (λ id. (row.child_interface ≡ Some id.interface) × (held after.store id.number ≡ Some (fresh_object id.interface sender.version id.serial None)))
+    pub error : after.error ≡ None
+
+  -- the session has no error, and no event is open
+  abbrev pub CanRead : Core U → Type 0
+  CanRead c = (c.error ≡ None) × (c.open_event ≡ None)
+
+  -- the session has an error, and no event is open
+  abbrev pub HasFailed : Core U → Type 0
+  HasFailed c = IsSome c.error × (c.open_event ≡ None)
+
+  -- the table and the notes are as before
+  abbrev pub KeepsRest : Core U → Core U → Type 0
+  KeepsRest before after = (after.table ≡ before.table) × (after.notes ≡ before.notes)
+
+module _ {T U : Type 0} where
+  -- An event is handed out, and open. Or there is none: the session had an error before or has one now, an event was open
+  -- before, or nothing more can be read now.
+  abbrev pub ReadsEvent : SessionState T U → Result SessionMessage EventError → SessionState T U → Type 0
+  ReadsEvent before (Ok m) after = CanRead (core_of before) × EventIsOpen m (core_of after) × KeepsRest (core_of before) (core_of after)
+  ReadsEvent before (Err no_event.Failed) after =
+      (IsSome before.error × (after ≡ before)) ⊎ (CanRead (core_of before) × HasFailed (core_of after) × KeepsRest (core_of before) (core_of after))
+  ReadsEvent before (Err no_event.EventOpen) after = (before.error ≡ None) × IsSome before.open_event × (after ≡ before)
+  ReadsEvent before (Err no_event.WouldBlock) after = CanRead (core_of before) × CanRead (core_of after) × KeepsRest (core_of before) (core_of after)
+  ReadsEvent before (Err no_event.OutOfMemory) after = CanRead (core_of before) × CanRead (core_of after) × KeepsRest (core_of before) (core_of after)
