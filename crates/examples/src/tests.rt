@@ -5,5 +5,6 @@ mod client;
 mod embedding;
 mod link;
 mod readme;
+mod room;
 mod server;
 mod wire;

@@ -1,5 +1,6 @@
 -- How a call is a step of the server.
 pub mod Doing
+pub mod Numbering
 pub mod Slots
 pub mod OneClient
 pub mod Moved

@@ -17,3 +17,5 @@ pub mod ReadingNotes
 pub mod Reading
 pub mod Insertion
 pub mod Globals
+pub mod Events
+pub mod Errors

@@ -15,6 +15,7 @@ pub mod Gathering
 pub mod NoteOrder
 pub mod Leaving
 pub mod Places
+pub mod Opening
 pub mod Finishing
 pub mod News
 pub mod Cleanup

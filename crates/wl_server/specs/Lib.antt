@@ -33,7 +33,6 @@ pub mod NotedOnce
 pub mod NotedEnds
 pub mod Announced
 pub mod Cutting
-pub mod DataInPlace
 pub mod Stretches
 pub mod Room
 pub mod Bounded
@@ -44,10 +43,8 @@ pub mod Histories
 -- ---- dispatches
 pub mod Reached
 pub mod Dispatch
+pub mod DispatchOutcome
 -- ---- what callers use
 pub mod Plain
-pub mod PlainReading
-pub mod PlainCalls
-pub mod PlainGlobals
 -- ---- what the functions inside promise each other
 pub mod Inside

@@ -3,6 +3,11 @@
 --
 -- A contract that cites one of these has another clause beside it, `call` or `finished`, which says all that the call does,
 -- as a step. What stands here follows from that clause, and can be used without it.
+pub mod Reading
+pub mod Events
+pub mod Globals
+pub mod Calls
+pub mod DataInPlace
 use Rattle.std.specs.Prelude.{◌≡◌, ◌⊎◌, ℕ, List, [], ◌∷◌, ◌++◌, Bool, true, false, ◌&&◌, if◌then◌else◌, Option, None, Some, IsSome, is_some, Result, Ok, Err, MatchOption, MatchResult, Vec, option_map}
 use Rattle.std.specs.Global.{Global}
 use Rattle.wl_wire.specs.declared.error.IoFault.{IoFault}

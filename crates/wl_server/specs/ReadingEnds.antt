@@ -1,5 +1,6 @@
--- How a reading of a client ends: with an action of a message that was read, or for one of a few reasons.
-use Rattle.std.specs.Prelude.{◌≡◌, ◌⊎◌, ℕ, List, [], ◌∷◌, map, Bool, true, false, Option, None, Some, IsSome, Result, Ok, Err}
+-- How a reading of a client ends: with an action of the message that its last turn found at the front, or for one of a few
+-- reasons.
+use Rattle.std.specs.Prelude.{◌≡◌, ◌⊎◌, ℕ, List, [], ◌∷◌, ◌++◌, map, Bool, true, false, Option, None, Some, IsSome, Result, Ok, Err}
 use Rattle.wl_wire.specs.declared.argument.Argument.{Argument}
 use Rattle.wl_wire.specs.declared.argument.Argument.TheVariants as arg
 use Rattle.wl_wire.specs.declared.argument.ArgumentType.{ArgumentType}
@@ -9,24 +10,26 @@ use Rattle.wl_wire.specs.declared.error.IoFault.TheVariants as fault
 use Rattle.wl_wire.specs.declared.interface.InterfaceId.{InterfaceId}
 use Rattle.wl_wire.specs.MessageRows.{fits, next_interface, request_row, rest_of}
 use Rattle.wl_wire.specs.Message.{WireMessage}
-use Rattle.wl_wire.specs.Table.{MessageRow}
+use Rattle.wl_wire.specs.Table.{MessageRow, registry_id}
 use Rattle.wl_link.specs.declared.object.Object.{Object}
-use Rattle.wl_link.specs.Exchange.{Queue}
-use Rattle.wl_link.specs.Link.{LinkState, count_of, counted_answer}
-use Rattle.wl_link.specs.Reader.{Lacks, ReaderState, ReadsAs, Received, Turn}
+use Rattle.wl_link.specs.Exchange.{Queue, Sending}
+use Rattle.wl_link.specs.Link.{FilledBy, LinkState, ReceiveAsks, count_of, counted_answer}
+use Rattle.wl_link.specs.Reader.{CarriesOut, FrontAsks, Given, Handled, Lacks, Leaves, ReaderState, ReadsAs, Received, Takes, Turn, Unread, Verdict, with_link}
 use Rattle.wl_link.specs.Store.{Store, held}
 use Rattle.wl_server.specs.declared.error.ActionError.{ActionError}
 use Rattle.wl_server.specs.declared.error.ActionError.TheVariants.{ActionOpen, Io}
+use Rattle.wl_server.specs.declared.globals.KeptGlobal.{KeptGlobal}
 use Rattle.wl_server.specs.declared.notes.DisconnectReason.TheVariants.{ConnectionClosed}
 use Rattle.wl_server.specs.declared.objects.Kept.{Kept}
 use Rattle.wl_server.specs.declared.reading.action.OpenAction.TheVariants as opened
 use Rattle.wl_server.specs.Deeds.{Bind, Handed, Request}
 use Rattle.wl_server.specs.Events.{wire_argument}
-use Rattle.wl_server.specs.Ids.{ClientParts, IdParts}
+use Rattle.wl_server.specs.Globals.{global_at}
+use Rattle.wl_server.specs.Ids.{ClientParts, GlobalParts, IdParts}
 use Rattle.wl_server.specs.Part.{fresh_object, id_at, null_id}
-use Rattle.wl_server.specs.Reading.{Around, server}
+use Rattle.wl_server.specs.Reading.{Around, may_bind, server}
 use Rattle.wl_server.specs.Requests.{allows_null, kinds_after}
-use Rattle.wl_server.specs.Telling.{Core}
+use Rattle.wl_server.specs.Telling.{Core, Told}
 
 -- ---- the arguments of a request that is handed out
 
@@ -64,32 +67,82 @@ module _ {U C : Type 0} where
   LeavesClient fault.OutOfMemory end = (end.is_killed ≡ false) × (end.ended ≡ None) × (end.action ≡ None)
   LeavesClient f end = (end.is_killed ≡ true) × IsSome end.ended × (end.action ≡ None)
 
+-- ---- how far the turns lead
+
+module _ {T U G C : Type 0} (sends : T → Queue → Result ℕ IoFault → T → Type 0) (receives : T → ℕ → Result Queue IoFault → T → Type 0) (a : Around G C) where
+  -- What a turn does: bytes were received; or the message at the front was taken, or its bytes were malformed, and what
+  -- follows from it was carried out.
+  abbrev pub TurnLeads : Turn → ReaderState T (Core U C) → ReaderState T (Core U C) → Type 0
+  TurnLeads (Received r) before after =
+      (link : LinkState T) × FilledBy receives before.link r (Ok tt) link × (after ≡ with_link before link)
+  TurnLeads (Handled es) before after =
+      (v : Verdict (Core U C) (Told U)) × (link : LinkState T) × (gave : List (Given (Told U))) × (refused : Bool)
+      × Takes sends (server a) before v link × CarriesOut sends (server a) v link es gave refused after
+  TurnLeads (Unread es) before after =
+      (v : Verdict (Core U C) (Told U)) × (link : LinkState T) × (gave : List (Given (Told U))) × (refused : Bool)
+      × Leaves sends (server a) before v link × CarriesOut sends (server a) v link es gave refused after
+
+  -- the turns lead from one state to the other, one after another
+  abbrev pub TurnsLead : List Turn → ReaderState T (Core U C) → ReaderState T (Core U C) → Type 0
+  TurnsLead [] before after = after ≡ before
+  TurnsLead (t ∷ turns) before after = (mid : ReaderState T (Core U C)) × TurnLeads t before mid × TurnsLead turns mid after
+
+-- ---- the message of an action
+
 module _ {T U G C : Type 0} (sends : T → Queue → Result ℕ IoFault → T → Type 0) (a : Around G C) where
-  -- The action is open, and comes of a message that was read. A request has the message's opcode, and its arguments turned back
-  -- to the wire are the message's. A bind has a new object, which has no data yet.
-  abbrev pub ComesOfMessage : Handed → ReaderState T (Core U C) → Type 0
-  ComesOfMessage (Request sender opcode args is_destructor created) end =
-      (before : ReaderState T (Core U C)) × (m : WireMessage) × (link : LinkState T) × (x : Object (Kept U)) × (row : MessageRow)
-      × ReadsAs sends (server a) before (Ok m) link
+  -- The message is a request to a kept object, and this is its action, open from now on: it has the message's opcode, and its
+  -- arguments turned back to the wire are the message's.
+  abbrev pub IsItsRequest : IdParts → ℕ → List (Argument IdParts Token) → Bool → Option IdParts → ReaderState T (Core U C) → WireMessage → ReaderState T (Core U C) → Type 0
+  IsItsRequest sender opcode args is_destructor created before m end =
+      (x : Object (Kept U)) × (row : MessageRow)
       × (held before.core.store m.sender ≡ Some x) × (request_row a.table x.interface m.opcode ≡ Some row)
       × (sender ≡ id_at a.client m.sender x) × (opcode ≡ m.opcode) × (map wire_argument args ≡ m.args) × (is_destructor ≡ row.is_destructor)
       × (held end.core.store m.sender ≡ Some x) × ObjectsFit a.client end.core.store row.signature row.arg_interfaces args
       × (end.core.action ≡ Some (opened.Request sender is_destructor created))
-  ComesOfMessage (Bind global object) end =
-      (version : ℕ) × (object.client ≡ a.client) × (held end.core.store object.number ≡ Some (fresh_object object.interface version object.serial None))
+
+  -- The message is a request to a registry of the client. Its arguments are the name of a global, the name of an interface, a
+  -- version and a new number. The global that has the name may be bound so (`may_bind`). The action is its bind, open from now
+  -- on, with a new object of that number, interface and version, which has no data yet.
+  abbrev pub IsItsBind : GlobalParts → IdParts → ReaderState T (Core U C) → WireMessage → ReaderState T (Core U C) → Type 0
+  IsItsBind global object before m end =
+      (x : Object (Kept U)) × (interface : List ℕ) × (version : ℕ) × (kept : Object (KeptGlobal G))
+      × (held before.core.store m.sender ≡ Some x) × (x.interface.0 ≡ registry_id.0)
+      × (m.args ≡ arg.Uint global.name ∷ arg.Str (Some interface) ∷ arg.Uint version ∷ arg.NewId object.number ∷ [])
+      × (held a.globals.store global.name ≡ Some kept) × (global ≡ global_at global.name kept)
+      × (may_bind a before.core global.name (Some interface) version kept ≡ true)
+      × (object.client ≡ a.client) × (object.interface ≡ kept.interface)
+      × (held end.core.store object.number ≡ Some (fresh_object kept.interface version object.serial None))
       × (end.core.action ≡ Some (opened.Bind object))
+
+  abbrev pub IsItsAction : Handed → ReaderState T (Core U C) → WireMessage → ReaderState T (Core U C) → Type 0
+  IsItsAction (Request sender opcode args is_destructor created) = IsItsRequest sender opcode args is_destructor created
+  IsItsAction (Bind global object) = IsItsBind global object
+
+  -- a message was read at the front of what waits, and this is its action
+  abbrev pub ComesOfFront : Handed → ReaderState T (Core U C) → ReaderState T (Core U C) → Type 0
+  ComesOfFront h before end =
+      (m : WireMessage) × (link : LinkState T) × ReadsAs sends (server a) before (Ok m) link × IsItsAction h before m end
 
   -- why a reading answers this fault if no receive failed so, with so many receives left
   abbrev pub StopsItself : IoFault → Bool → ℕ → ReaderState T (Core U C) → Type 0
   StopsItself fault.WouldBlock refused left end = (left ≡ 0) × Lacks sends (server a) end
-  StopsItself fault.OutOfMemory refused left end = refused ≡ true
+  StopsItself fault.OutOfMemory refused left end =
+      (refused ≡ true) × (FrontAsks sends (server a) end ⊎ (Lacks sends (server a) end × ReceiveAsks end.link))
   StopsItself fault.Proto refused left end = end.core.ended ≡ Some ConnectionClosed
   StopsItself fault.Pipe refused left end = IsSome end.core.ended
   StopsItself _ refused left end = ⊥
 
+module _ {T U G C : Type 0} (sends : T → Queue → Result ℕ IoFault → T → Type 0) (receives : T → ℕ → Result Queue IoFault → T → Type 0) (a : Around G C) where
+  -- The action comes of the message that the last turn found at the front: the turns before it led from the beginning to
+  -- where that message was read.
+  abbrev pub ComesOfLast : Handed → ReaderState T (Core U C) → List Turn → ReaderState T (Core U C) → Type 0
+  ComesOfLast h start turns end =
+      (earlier : List Turn) × (es : List Sending) × (before : ReaderState T (Core U C))
+      × (turns ≡ earlier ++ Handled es ∷ []) × TurnsLead sends receives a earlier start before × ComesOfFront sends a h before end
+
   -- what a reading of a live client without an open action comes to: with these turns and this answer, it ends so
-  abbrev pub ReadingEnds : List Turn → Result Handed ActionError → Bool → ℕ → ReaderState T (Core U C) → Type 0
-  ReadingEnds turns (Ok h) refused left end = (end.core.is_killed ≡ false) × (end.core.ended ≡ None) × ComesOfMessage h end
-  ReadingEnds turns (Err ActionOpen) refused left end = ⊥
-  ReadingEnds turns (Err (Io f)) refused left end =
-      (LastReceiveFailed f turns ⊎ StopsItself f refused left end) × LeavesClient f end.core
+  abbrev pub ReadingEnds : ReaderState T (Core U C) → List Turn → Result Handed ActionError → Bool → ℕ → ReaderState T (Core U C) → Type 0
+  ReadingEnds start turns (Ok h) refused left end = (end.core.is_killed ≡ false) × (end.core.ended ≡ None) × ComesOfLast h start turns end
+  ReadingEnds start turns (Err ActionOpen) refused left end = ⊥
+  ReadingEnds start turns (Err (Io f)) refused left end =
+      (LastReceiveFailed f turns ⊎ StopsItself sends a f refused left end) × LeavesClient f end.core

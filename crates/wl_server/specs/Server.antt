@@ -11,11 +11,18 @@ use Rattle.wl_server.specs.Globals.{Offer, new_offer}
 use Rattle.wl_server.specs.Ids.{ClientParts, same_client}
 use Rattle.wl_server.specs.Part.{Part}
 
--- a stored client: its serial, its part, and the notes of it that were made and not gathered yet, in order
+-- The numbers in time of a client's notes, in order: of those that were made and not gathered yet, and of those that wait.
+pub record NoteTimes : Type 0 where
+  pub made : List ℕ
+  pub waiting : List ℕ
+
+-- a stored client: its serial, its part, the notes of it that were made and not gathered yet, in order, and the numbers in time
+-- of its notes
 pub record Stored (T U C : Type 0) : Type 0 where
   pub serial : ℕ
   pub part : Part T U C
   pub made : List (Happening U)
+  pub times : NoteTimes
 
 -- the offer, the last serial given to a client, the clients by slot, and the notes of all clients that were gathered
 pub record ServerState (T U G C : Type 0) : Type 0 where
@@ -53,7 +60,15 @@ notes_of id notes = flat_map (told_of id) notes
 abbrev pub new_server : {T U G C : Type 0} → List InterfaceRow → ServerState T U G C
 new_server table = record { offer = new_offer table; last_client = 0; clients = []; notes = [] }
 
+-- no numbers
+abbrev pub no_times : NoteTimes
+no_times = record { made = []; waiting = [] }
+
 module _ {T U C : Type 0} where
+  -- the client without the numbers in time of its notes
+  abbrev pub untimed : Stored T U C → Stored T U C
+  untimed s = record { serial = s.serial; part = s.part; made = s.made; times = no_times }
+
   -- nothing is held of a client
   abbrev pub nothing_seen : Seen T U C
   nothing_seen = record { part = None; made = [] }

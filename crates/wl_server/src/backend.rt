@@ -64,10 +64,11 @@ impl<T, U, G, C> fmt::Debug for Backend<T, U, G, C> {
 
 impl<T, U, G, C> Model for Backend<T, U, G, C> {
     ghost use Rattle.std.specs.Coded.{codes};
-    ghost use Rattle.std.specs.Prelude.{vec_len};
+    ghost use Rattle.std.specs.Prelude.{map, vec_len};
     ghost use Rattle.wl_link.specs.ObjectMap.{store_code};
     ghost use Rattle.wl_server.specs.Backend.{BackendState};
     ghost use Rattle.wl_server.specs.Inside.Inserting.{HasSlots};
+    ghost use Rattle.wl_server.specs.Inside.NoteOrder.{HasNumbers, times_of};
 
     ghost Value = { BackendState T U G C };
 
@@ -87,7 +88,7 @@ impl<T, U, G, C> Model for Backend<T, U, G, C> {
       refused = b.refused;
     } };
 
-    ghost invariant = { λ b. HasSlots (vec_len b.clients) b.free_from b.clients.items };
+    ghost invariant = { λ b. HasSlots (vec_len b.clients) b.free_from b.clients.items × HasNumbers b.numbers (map times_of b.clients.items) };
 }
 
 impl<T: Drop, U: Drop, G: Drop, C: Drop> Backend<T, U, G, C> {

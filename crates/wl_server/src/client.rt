@@ -14,7 +14,7 @@ pub mod transport;
 
 use crate::notes::queues::{MadeNotes, WaitingNotes};
 use crate::objects::ClientObjects;
-use crate::reading::action::OpenAction;
+use crate::reading::open_place::OpenPlace;
 use std::alloc::Global;
 use std::marker::Model;
 use wl_link::BufferedSocket;
@@ -33,7 +33,7 @@ pub struct Client<T, U, C> {
     /// Whether it was killed. It is then kept until the next cleanup.
     pub is_killed: bool,
     /// The action that was handed out and is not finished yet.
-    pub action: Option<OpenAction>,
+    pub action: OpenPlace,
     /// The notes that the next cleanup hands on. A *note* tells the program what happened to a client or to an object
     /// (`Note`).
     pub waiting: WaitingNotes<U>,
@@ -66,6 +66,7 @@ impl<T, U, C> Model for Client<T, U, C> {
         waiting = map (λ w. w.1) c.waiting.queue.items;
       };
       made = map (λ m. m.1) c.made.queue.items;
+      times = record { made = map (λ m. m.0) c.made.queue.items; waiting = map (λ w. w.0) c.waiting.queue.items };
     } };
 
     ghost invariant = { λ c. c.is_killed ≡ false → deque_len c.made.queue < deque_capacity c.made.queue };

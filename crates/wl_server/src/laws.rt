@@ -39,6 +39,7 @@ ghost use Rattle.wl_server.specs.Backend.{BackendState};
 ghost use Rattle.wl_server.specs.Bounded.{EachIsBounded, EachPartIsBounded, receives_over};
 ghost use Rattle.wl_server.specs.Cutting.{EachIsServed, GoesOn, HistoriesAreCut, IsServed};
 ghost use Rattle.wl_server.specs.Dispatch.{EachIsDispatched, EndsDispatch, IsDispatched, answering};
+ghost use Rattle.wl_server.specs.DispatchOutcome.{DispatchesHaveOneOutcome, IsDeterministic, ManyDispatchesHaveOneOutcome};
 ghost use Rattle.wl_server.specs.GivenOnce.{GivesOnce, HaveGivenOnce};
 ghost use Rattle.wl_server.specs.Globals.{CreatesGlobal, Globals, Offer};
 ghost use Rattle.wl_server.specs.Ids.{ClientParts, GlobalParts};
@@ -125,6 +126,28 @@ pub fn each_run_of_a_server_has_one_outcome<T: Transport, U, G: GlobalHandler<C>
         AnswersGrowth table rows a → AnswersGrowth table rows b → a ≡ b }
     ensures cleanup { (out out' : List (ClientParts × T)) → RiseBySlot out → RiseBySlot out' →
         ((id : ClientParts) → share_of id out ≡ share_of id out') → out ≡ out' }
+{}
+
+/// A dispatch has one outcome, over every transport whose answers follow from its value, if the handler is deterministic.
+///
+/// A handler is deterministic if what it answers, what becomes of it, and how the server looks after its call follow from
+/// what it is given, from its own value, and from how the server looks before (`IsDeterministic`). So is a handler that makes
+/// no call, and whose answers are functions.
+///
+/// Take two dispatches of one client (clause `client`), or of the same clients (clause `several`), with the same handler,
+/// over servers that look the same to their program. If `memory_refused` is false after both, they return the same, the
+/// handlers are the same afterwards, and the servers look the same.
+pub fn each_dispatch_has_one_outcome<
+    T: Transport,
+    U,
+    G: GlobalHandler<C>,
+    C,
+    H: Handler<T, U, G, C>,
+>()
+    ensures client { IsFunction T.sends → IsReceiveFunction T.receives → IsDeterministic (answering H.requests H.binds) →
+        DispatchesHaveOneOutcome (over T.sends T.receives G.views) (answering H.requests H.binds) }
+    ensures several { IsFunction T.sends → IsReceiveFunction T.receives → IsDeterministic (answering H.requests H.binds) →
+        ManyDispatchesHaveOneOutcome (over T.sends T.receives G.views) (answering H.requests H.binds) }
 {}
 
 /// The identity law of a server, over every transport: each id that is handed out names its own object.
@@ -332,20 +355,24 @@ pub fn a_reading_receives_64_times()
 
 /// A reading of a live client without an open action ends with an action or for a reason.
 ///
-/// An action comes of a message that was read. A request has the message's opcode, and its arguments are the message's if
-/// each id is turned back into its number. Each object argument is null, where the table allows it, or the kept object of
-/// its number, of an interface that fits. A fault is what the last receive answered, or one of these four:
+/// An action comes of the message that the last turn found at the front of what was received. A request has the message's
+/// opcode, and its arguments are the message's if each id is turned back into its number. Each object argument is null,
+/// where the table allows it, or the kept object of its number, of an interface that fits. A bind comes of a message to a
+/// registry of the client: of the name of a global, the name of its interface, a version, and the number of the new object.
+/// A fault is what the last receive answered, or one of these four:
 ///
 /// - `WouldBlock`: no receive is left, and the message at the front lacks bytes or tokens.
-/// - `OutOfMemory`: memory was refused.
-/// - `Proto`: the client sent bytes that are no message that it may send.
-/// - `Pipe`: the client broke the protocol in another way, or could not be told something.
+/// - `OutOfMemory`: memory was refused, and the message at the front asks for some, or a receive does. A message of at most
+///   four arguments asks for none if it has no string and no array, and makes no object. A receive asks for none if a byte
+///   of the buffer is free and no more than 28 tokens wait.
+/// - `Proto`: the client was killed for the reason `ConnectionClosed`.
+/// - `Pipe`: the client was killed, for whatever reason.
 ///
 /// After `WouldBlock` and `OutOfMemory` the client lives on. After any other fault it was killed in this reading.
 pub fn each_reading_ends_for_a_reason<T: Transport, U, G: GlobalHandler<C>, C>()
     ensures { (a : Around G C) (left : ℕ) (before : Part T U C) (turns : List Turn) (out : Gives (Told U)) (end : ReaderState T (Core U C)) →
         before.is_killed ≡ false → before.action ≡ None → Reads T.sends (server a) T.receives left (reader_part before) turns out end →
-        ReadingEnds T.sends a turns (answered out.stopped out.gave) out.refused out.left end }
+        ReadingEnds T.sends T.receives a (reader_part before) turns (answered out.stopped out.gave) out.refused out.left end }
 {}
 
 /// A call that does not read a client receives nothing from it. `next_action` receives from its client at most 64 times.

@@ -1,7 +1,6 @@
 //! The server side of the Wayland protocol: clients, their objects by id, globals, requests and events.
 //!
-//! A [`Backend`] is a server. The page of this crate, `README.md`, has an example and the order in which errors are
-//! looked for.
+//! A [`Backend`] is a server. The page of this crate, `README.md`, has an example.
 //!
 //! Each call that is a step has the contract `Calls` (`specs/Backend`), which says that the call is one step of its
 //! definition. `specs/Server` has what the server holds, and `specs/Part` what it holds for one client. `specs/PartStep`
@@ -18,7 +17,7 @@
 //! | `transport_mut` | `client::transport` | `Backend`, `Lending` |
 //! | `create_object`, `destroy_object`, `set_object_data` | `objects` | `Objects` |
 //! | `send_event`, `send_event_lent`, `post_error` | `events` | `Events`, `Errors`, `Posted` |
-//! | `next_action`, `next_action_within`, and both `_into` | `reading::next_action` | `Reading`, `Requests`, `Cutting`, `Room`, `PlainReading`, `ReadingEnds` |
+//! | `next_action`, `next_action_within`, and both `_into` | `reading::next_action` | `Reading`, `Requests`, `Cutting`, `Room`, `Plain/Reading`, `ReadingEnds` |
 //! | `finish_request`, `finish_bind`, and both `_returning` | `reading::finish` | `Finish`, `Cutting`, `Plain` |
 //! | `dispatch_single_client`, `dispatch_all_clients`, [`Handler`] | `dispatch` | `Dispatch`, `Reached` |
 //! | `create_global`, `disable_global`, `remove_global` | `globals::create_global`, `globals::remove_global` | `PartStep`, `Globals`, `Felt` |
@@ -28,16 +27,16 @@
 //! | `replay` | `runs::replay` | `Runs`, `Histories`, `WholeOutcome` |
 //!
 //! Most calls have a second clause, `plain`. It says what the program finds of the object, the client, the global or the
-//! notes after the call, in the words of the look-ups (`specs/Plain`, `PlainCalls`, `PlainGlobals`, `PlainReading`). It
-//! follows from `Calls`.
+//! notes after the call, in the words of the look-ups (`specs/Plain` and the files of the folder `specs/Plain/`). It follows
+//! from `Calls`.
 //!
 //! The laws of runs are the contracts of the functions of [`laws`]. A *run* is a list of calls, one after another. The
 //! words of each law stand in a file of `specs/`: `Runs` (each client is alone), `Identified` (ids), `Logged` (what was
 //! sent), `Announced` (globals), `NotedOnce` (notes), `Killed` (killed clients), `GivenOnce` (ids of clients and globals),
 //! `Accounts` (these seven, of one history), `Named` (what any id names), `NotedEnds` (which objects notes tell of),
-//! `Cutting` and `Stretches` (it does not matter how the bytes are cut into receives), `Outcome` and `WholeOutcome` (there
-//! is one outcome), `Bounded` (how often is received), `ReadingEnds` (why a reading ends). That a message always has room
-//! in the buffer (`Room`) is a clause of `next_action` itself.
+//! `Cutting` and `Stretches` (it does not matter how the bytes are cut into receives), `Outcome`, `WholeOutcome` and
+//! `DispatchOutcome` (there is one outcome), `Bounded` (how often is received), `ReadingEnds` (why a reading ends). That a
+//! message always has room in the buffer (`Room`) is a clause of `next_action` itself.
 #![tactic(auto)]
 
 mod backend;

@@ -23,9 +23,7 @@ impl<T: Drop, U: Drop, G: Drop, C: Drop> Backend<T, U, G, C> {
     pub(crate) fn client(&self, id: &ClientId) -> Option<&Client<T, U, C>>
         ensures { option_copied result ≡ client_at id.now self.now.server.clients }
     {
-        let Some(Some(client)) = self.clients.get(id.slot() as usize) else {
-            return None;
-        };
+        let client = self.clients.get(id.slot() as usize)?.as_ref()?;
         if client.serial == id.serial() {
             Some(client)
         } else {

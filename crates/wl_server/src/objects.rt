@@ -6,7 +6,7 @@ ghost use Rattle.std.specs.Prelude.{◌≡◌, ◌<◌, ◌++◌, true, IfSome, 
 ghost use Rattle.std.specs.List.{filter};
 ghost use Rattle.std.specs.VecDeque.{deque_capacity, deque_len};
 ghost use Rattle.wl_link.specs.Store.{held, removed};
-ghost use Rattle.wl_server.specs.Inside.NoteOrder.{one_waits};
+ghost use Rattle.wl_server.specs.Inside.NoteOrder.{GivesNumbers, one_waits};
 ghost use Rattle.wl_server.specs.Part.{named, note_of_end, registries_without, same_id, fresh_object as the_object, id_at as the_id};
 
 pub mod create;
@@ -155,6 +155,8 @@ pub fn take_out_noted<U: Drop>(
         (λ x. map (λ w. w.1) waiting.new.queue.items ≡ map (λ w. w.1) waiting.old.queue.items ++ note_of_end id.now.client id.now.number x) }
     ensures numbers { MatchOption (held objects.old.map.store id.now.number) (numbers.new ≡ numbers.old)
         (λ x. numbers.new ≡ (if is_some x.value.user_data then one_waits numbers.old else numbers.old)) }
+    ensures in_time { GivesNumbers (map (λ w. w.0) waiting.old.queue.items) numbers.old.waiting (map (λ w. w.0) waiting.new.queue.items) numbers.new.waiting }
+    ensures made { numbers.new.made ≡ numbers.old.made }
 {
     let number = id.protocol_id();
     let Some(object) = take_out(objects, number) else {

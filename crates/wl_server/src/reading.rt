@@ -9,6 +9,7 @@ pub mod display;
 pub mod finish;
 pub mod message;
 pub mod next_action;
+pub mod open_place;
 pub mod other;
 pub mod registry;
 pub mod request;

@@ -1,5 +1,6 @@
 //! The example of the README.
 
+use anyhow::Result;
 use std::alloc::Global;
 use std::test::Fail;
 use wl_link::Memory;
@@ -13,7 +14,7 @@ type Server = Backend<Memory, (), ShownToAll, ()>;
 type Sends = Vec<(Vec<u8>, Vec<Token>)>;
 
 /// Takes a new client, whose socket received these bytes.
-fn serve(alloc: Global, server: &mut Server, received: &[u8]) -> Result<Sends, Fail> {
+fn serve(alloc: Global, server: &mut Server, received: &[u8]) -> Result<Sends> {
     let client = server.insert_client(Memory::new(alloc), ())?;
     let (bytes, fds) = (Vec::from_slice(alloc, received)?, Vec::new(alloc));
     server.transport_mut(&client)?.arrive(bytes, fds)?;

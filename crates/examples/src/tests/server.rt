@@ -1,4 +1,4 @@
-//! A server over a transport of its own: the example of the page of `wl_server`.
+//! A server over a transport of its own, whose clients have counters.
 
 ghost use Rattle.std.specs.Prelude.{◌≤◌, IfOk, length};
 

@@ -10,7 +10,7 @@ use Rattle.wl_server.specs.Ids.{ClientParts, same_client}
 use Rattle.wl_server.specs.Lending.{over_transport, server_over}
 use Rattle.wl_server.specs.Part.{Part}
 use Rattle.wl_server.specs.PartStep.{Changed, Quietly, WithTransport, World}
-use Rattle.wl_server.specs.Server.{ServerState, Stored}
+use Rattle.wl_server.specs.Server.{ServerState, Stored, untimed}
 use Rattle.wl_server.specs.Steps.{Makes}
 use Rattle.wl_server.proofs.CallSteps.Slots.{did_at, each_set, lacks_at}
 
@@ -43,8 +43,8 @@ module _ {T U G C : Type 0} (w : World T G C) (before : ServerState T U G C) (ta
       last : before.last_client ≡ before.last_client + 0
       last = omega arith
 
-      made : over_transport c t ≡ record (over_transport c t) { made = c.made ++ [] }
-      made = ap (λ (m : List (Happening U)). let s : Stored T U C = record (over_transport c t) { made = m } in s) (sym (append-nil c.made))
+      made : untimed (over_transport c t) ≡ record (untimed (over_transport c t)) { made = c.made ++ [] }
+      made = ap (λ (m : List (Happening U)). let s : Stored T U C = record (untimed (over_transport c t)) { made = m } in s) (sym (append-nil c.made))
 
       was_refused : (false ≡ true) ⊎ ((id : ClientParts) × (lacks_at (same_client target id) false ≡ true)) → false ≡ true
       was_refused (inl growth) = growth

@@ -5,13 +5,13 @@ use Rattle.wl_server.specs.declared.notes.Happening.{Happening}
 use Rattle.wl_server.specs.Inside.Client.{Does}
 use Rattle.wl_server.specs.Part.{Part, with_link}
 use Rattle.wl_server.specs.PartStep.{WithTransport}
-use Rattle.wl_server.specs.Server.{Stored}
+use Rattle.wl_server.specs.Server.{Stored, no_times}
 
 module _ {T U C : Type 0} where
   -- a client that made no notes
   pub without_notes : (s : Stored T U C) (q : Part T U C)
-      → ◌≡◌ {A = Stored T U C} (record { serial = s.serial; part = q; made = s.made }) (record { serial = s.serial; part = q; made = s.made ++ [] })
-  without_notes s q = ap (λ (made : List (Happening U)). let x : Stored T U C = record { serial = s.serial; part = q; made = made } in x) (sym (append-nil s.made))
+      → ◌≡◌ {A = Stored T U C} (record { serial = s.serial; part = q; made = s.made; times = no_times }) (record { serial = s.serial; part = q; made = s.made ++ []; times = no_times })
+  without_notes s q = ap (λ (made : List (Happening U)). let x : Stored T U C = record { serial = s.serial; part = q; made = made; times = no_times } in x) (sym (append-nil s.made))
 
   pub moved : (s : Stored T U C) (becomes : T → T → Type 0) (t : T) → becomes s.part.link.transport t
       → Does s (λ p did q. (did ≡ []) × WithTransport becomes p q) (record s { part = with_link s.part (with_transport s.part.link t) })

@@ -1,16 +1,16 @@
 -- What is held of each client id after one slot was written.
-use Rattle.std.proofs.Common.{◌≡◌, ◌≢◌, ℕ, suc, zero, Bool, true, false, ◌<◌, List, [], ◌∷◌, ◌++◌, length, Option, None, Some, is_some, refl, sym, ap, subst, ◌∙◌, append_assoc, true≢false}
+use Rattle.std.proofs.Common.{◌≡◌, ◌≢◌, ℕ, suc, zero, Bool, true, false, ◌<◌, ◌≤◌, List, [], ◌∷◌, ◌++◌, length, Option, None, Some, is_some, refl, sym, ap, subst, ◌∙◌, append_assoc, true≢false}
 use Rattle.std.specs.Option.{option_map_or}
 use Rattle.std.specs.Prelude.{if◌then◌else◌, ◌==◌, slice_get, slice_index_or, slice_set}
 use Rattle.std.proofs.lemmas.Bool.{eqb-true, eq-eqb, false≢true}
-use Rattle.std.proofs.lemmas.Option.{slice_get_read, slice_get_within}
+use Rattle.std.proofs.lemmas.Option.{slice_get_past, slice_get_read, slice_get_within}
 use Rattle.wl_server.specs.declared.notes.Happening.{Happening}
 use Rattle.wl_server.specs.declared.notes.Note.{Note}
 use Rattle.wl_server.specs.Deeds.{Deed, notes_in}
 use Rattle.wl_server.specs.Ids.{ClientParts, same_client}
 use Rattle.wl_server.specs.Part.{Part}
 use Rattle.wl_server.specs.PartStep.{OfClient, OnPart}
-use Rattle.wl_server.specs.Server.{Seen, Stored, client_at, if_serial, notes_of, seen_as}
+use Rattle.wl_server.specs.Server.{Seen, Stored, client_at, if_serial, no_times, notes_of, seen_as, untimed}
 
 -- ---- lists
 
@@ -156,7 +156,7 @@ module _ {T U C : Type 0} where
   as_meant false id before after R missing lacked did meant on = absurd (false≢true meant)
 
   pub on_part : (gathered : List (Happening U)) (s s' : Stored T U C) (R : Part T U C → List (Deed U) → Part T U C → Type 0) (missing : Type 0) (lacked : Bool)
-      (did : List (Deed U)) (q : Part T U C) → R s.part did q → s' ≡ record { serial = s.serial; part = q; made = s.made ++ notes_in did }
+      (did : List (Deed U)) (q : Part T U C) → R s.part did q → untimed s' ≡ record { serial = s.serial; part = q; made = s.made ++ notes_in did; times = no_times }
       → OnPart (seen_as gathered (Some s)) (λ p q. R p did q) missing lacked did (seen_as gathered (Some s'))
   on_part gathered s s' R missing lacked did q does is = (
     q,
@@ -179,7 +179,7 @@ module _ {T U C : Type 0} where
   pub each_set : (clients : List (Option (Stored T U C))) (notes : List (Note U)) (target : ClientParts) (s s' : Stored T U C)
       (R : Kind T U C) (missing : Type 0) (lacked : Bool) (did : List (Deed U)) (q : Part T U C)
       → slice_get clients target.slot ≡ Some (Some s) → s.serial ≡ target.serial → R target s.part lacked did q
-      → s' ≡ record { serial = s.serial; part = q; made = s.made ++ notes_in did } → (id : ClientParts)
+      → untimed s' ≡ record { serial = s.serial; part = q; made = s.made ++ notes_in did; times = no_times } → (id : ClientParts)
       → DoneFor target R missing lacked did id (held_of notes clients id) (held_of notes (slice_set clients target.slot (Some s')) id)
   each_set clients notes target s s' R missing lacked did q here known does is id =
       elim (compare target id) [
@@ -236,3 +236,27 @@ module _ {T U C : Type 0} where
       other : (b : Bool) → b ≡ false → Missing target R missing id b (held_of notes clients id)
       other true differ = absurd (true≢false differ)
       other false differ = (refl, refl, refl)
+
+-- ---- a client that is looked up
+
+module _ {T U C : Type 0} where
+  pub reads_place : (clients : List (Option (Stored T U C))) (id : ClientParts) (slot : ℕ) (x : Option (Stored T U C))
+      → slot ≡ id.slot → slice_get clients slot ≡ Some x → client_at id clients ≡ if_serial id.serial x
+  reads_place clients id slot x same here =
+      ap (λ (n : ℕ). if_serial id.serial (option_map_or (λ s. s) (slice_get clients n) None)) (sym same)
+      ∙ ap (λ (o : Option (Option (Stored T U C))). if_serial id.serial (option_map_or (λ s. s) o None)) here
+
+  pub reads_past : (clients : List (Option (Stored T U C))) (id : ClientParts) (slot : ℕ) → slot ≡ id.slot → length clients ≤ slot → client_at id clients ≡ None
+  reads_past clients id slot same past =
+      ap (λ (n : ℕ). if_serial id.serial (option_map_or (λ s. s) (slice_get clients n) None)) (sym same)
+      ∙ ap (λ (o : Option (Option (Stored T U C))). if_serial id.serial (option_map_or (λ s. s) o None)) (slice_get_past clients slot past)
+
+  pub serial_same : (serial : ℕ) (s : Stored T U C) → s.serial ≡ serial → if_serial serial (Some s) ≡ Some s
+  serial_same serial s same = rw (eq-eqb s.serial serial same) refl
+
+  pub serial_differs : (serial : ℕ) (s : Stored T U C) → s.serial ≢ serial → if_serial serial (Some s) ≡ None
+  serial_differs serial s differ = at (s.serial == serial) refl
+    where
+      at : (b : Bool) → (s.serial == serial) ≡ b → if_serial serial (Some s) ≡ None
+      at true same = absurd (differ (eqb-true s.serial serial same))
+      at false other = rw other refl

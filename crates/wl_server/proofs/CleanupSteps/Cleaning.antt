@@ -18,7 +18,7 @@ use Rattle.wl_server.specs.Ids.{ClientParts}
 use Rattle.wl_server.specs.Inside.Leaving.{FlushesKilled, ends_in, ends_of, given_in, staying}
 use Rattle.wl_server.specs.Part.{Part, id_at, id_of, note_of_end, with_link}
 use Rattle.wl_server.specs.PartStep.{CleanedAs, Feels, World, share_of}
-use Rattle.wl_server.specs.Server.{Seen, Stored, seen_as}
+use Rattle.wl_server.specs.Server.{Seen, Stored, no_times, seen_as, untimed}
 use Rattle.wl_server.proofs.Readings.Notes.{notes_append, notes_of_sends}
 use Rattle.wl_server.proofs.CleanupSteps.Outgoing.{if_false, if_true}
 
@@ -89,11 +89,11 @@ module _ {T U G C : Type 0} (w : World T G C) (id : ClientParts) (offer : Offer 
         ),
       )
 
-  left_is : (x : Option (Stored T U C)) → to_gather true x ≡ [] → x ≡ option_map (emptied true) x
+  left_is : (x : Option (Stored T U C)) → to_gather true x ≡ [] → option_map untimed x ≡ option_map (emptied true) x
   left_is None none = refl
   left_is (Some s) none = both s.made s.part.waiting none
-      (λ made waiting. ap (λ (m : List (Happening U)). let x : Stored T U C = record { serial = s.serial; part = s.part; made = m } in Some x) made
-      ∙ ap (λ (m : List (Happening U)). let x : Stored T U C = record { serial = s.serial; part = record s.part { waiting = m }; made = [] } in Some x) waiting)
+      (λ made waiting. ap (λ (m : List (Happening U)). let x : Stored T U C = record { serial = s.serial; part = s.part; made = m; times = no_times } in Some x) made
+      ∙ ap (λ (m : List (Happening U)). let x : Stored T U C = record { serial = s.serial; part = record s.part { waiting = m }; made = []; times = no_times } in Some x) waiting)
     where
       both : {P : Type 0} (a b : List (Happening U)) → a ++ b ≡ [] → (a ≡ [] → b ≡ [] → P) → P
       both [] b none goes = goes refl none
@@ -133,6 +133,23 @@ module _ {T U G C : Type 0} (w : World T G C) (id : ClientParts) (offer : Offer 
           (noted ∙ ap (λ (b : Bool). n2 ++ (if b then ends_of id (entries s1.part.store.objects) else [])) live1)
           (given ∙ ap (λ (b : Bool). if b then (s1.part.link.transport ∷ []) else []) live1)))
 
+  -- the numbers of its notes are of no account
+  seen_untimed : (n : List (Happening U)) (x : Option (Stored T U C)) → seen_as n (staying (option_map untimed x)) ≡ seen_as n (staying x)
+  seen_untimed n None = refl
+  seen_untimed n (Some s) = at s.part.is_killed
+    where
+      at : (b : Bool) → seen_as n (if b then None else Some (untimed s)) ≡ seen_as n (if b then None else Some s)
+      at true = refl
+      at false = refl
+
+  ends_untimed : (x : Option (Stored T U C)) → ends_in id x ≡ ends_in id (option_map untimed x)
+  ends_untimed None = refl
+  ends_untimed (Some s) = refl
+
+  given_untimed : (x : Option (Stored T U C)) → given_in x ≡ given_in (option_map untimed x)
+  given_untimed None = refl
+  given_untimed (Some s) = refl
+
   none_is : (x : Option (Stored T U C)) → option_map (λ s. s.part) x ≡ None → x ≡ None
   none_is None is = refl
   none_is (Some s) is = absurd (none-some s.part (sym is))
@@ -143,19 +160,20 @@ module _ {T U G C : Type 0} (w : World T G C) (id : ClientParts) (offer : Offer 
       → option_map (emptied true) x2 ≡ option_map (emptied true) x1 → to_gather true x2 ≡ [] → n2 ++ to_gather true x2 ≡ n ++ to_gather true x1
       → n3 ≡ n2 ++ ends_in id x2 → share_of id out.items ≡ given_in x2 → CleanedBy x0 n lacked (staying x2) n3
   cleaned_one x0 x1 x2 lacked sent n n2 n3 felt same none told noted given =
-      subst (λ (x : Option (Stored T U C)). CleanedBy x0 n lacked (staying x) n3) (sym is) (at x0 x1 felt told1 noted1 given1)
+      subst (λ (held : Seen T U C). (did : List (Deed U)) × CleanedAs w id offer (Ok out) (seen_as n x0) lacked did held) (seen_untimed n3 x2)
+      (subst (λ (x : Option (Stored T U C)). CleanedBy x0 n lacked (staying x) n3) (sym is) (at x0 x1 felt told1 noted1 given1))
     where
-      is : x2 ≡ option_map (emptied true) x1
+      is : option_map untimed x2 ≡ option_map (emptied true) x1
       is = left_is x2 none ∙ same
 
       told1 : n2 ++ [] ≡ n ++ to_gather true x1
       told1 = ap (λ (l : List (Happening U)). n2 ++ l) (sym none) ∙ told
 
       noted1 : n3 ≡ n2 ++ ends_in id (option_map (emptied true) x1)
-      noted1 = noted ∙ ap (λ (x : Option (Stored T U C)). n2 ++ ends_in id x) is
+      noted1 = noted ∙ ap (λ (l : List (Happening U)). n2 ++ l) (ends_untimed x2) ∙ ap (λ (x : Option (Stored T U C)). n2 ++ ends_in id x) is
 
       given1 : share_of id out.items ≡ given_in (option_map (emptied true) x1)
-      given1 = given ∙ ap given_in is
+      given1 = given ∙ given_untimed x2 ∙ ap given_in is
 
       at : (x0 x1 : Option (Stored T U C)) → Feels (seen_as [] x0) (λ p q. FlushesKilled w.sends p lacked sent q) lacked sent (seen_as [] x1)
           → n2 ++ [] ≡ n ++ to_gather true x1 → n3 ≡ n2 ++ ends_in id (option_map (emptied true) x1) → share_of id out.items ≡ given_in (option_map (emptied true) x1)

@@ -6,7 +6,7 @@ use Rattle.std.specs.Prelude.{◌⊎◌, ◌==◌, if◌then◌else◌, slice_ge
 use Rattle.std.specs.List.Sorted.{IsPermutation}
 use Rattle.std.proofs.lemmas.Bool.{eqb-true, eq-eqb, false≢true}
 use Rattle.std.proofs.lemmas.List.{length-append, length-map, map-append, nil_from_length}
-use Rattle.std.proofs.lemmas.List.Sorted.{sum_by-IsPermutation}
+use Rattle.std.proofs.lemmas.List.Sorted.{IsPermutation-refl, sum_by-IsPermutation}
 use Rattle.std.proofs.lemmas.List.Sums.{sum_by-append, sum_by-cons}
 use Rattle.std.proofs.lemmas.Option.{same_Some, slice_get-get_or}
 use Rattle.wl_server.specs.declared.notes.Happening.{Happening}
@@ -14,9 +14,9 @@ use Rattle.wl_server.specs.declared.notes.Happening.TheVariants as happened
 use Rattle.wl_server.specs.declared.notes.Note.{Note}
 use Rattle.wl_server.specs.declared.notes.queues.NotePlace.{NotePlace}
 use Rattle.wl_server.specs.Inside.Gathering.{AllLeft, MovesNote, to_gather}
-use Rattle.wl_server.specs.Inside.NoteOrder.{IsOrderOf, place_of, places_at, slot_of}
+use Rattle.wl_server.specs.Inside.NoteOrder.{IsOrderOf, all_places, count_places, place_at, place_of, places_at, places_of, slot_of, times_of}
 use Rattle.wl_server.specs.Ids.{ClientParts}
-use Rattle.wl_server.specs.Server.{Stored, note_of, stored_at}
+use Rattle.wl_server.specs.Server.{NoteTimes, Stored, no_times, note_of, stored_at}
 use Rattle.wl_server.proofs.CallSteps.Slots.{get_set_other, get_set_same, other_of}
 
 -- ---- lists of places
@@ -51,6 +51,70 @@ slots_take order i p here =
 
 pub places_moved : (k : ℕ) (order order' : List NotePlace) → IsPermutation order order' → places_at k order' ≡ places_at k order
 places_moved k order order' moves = sum_by-IsPermutation (λ (p : NotePlace). if p.slot == k then 1 else 0) order order' moves
+
+drop_next : {A : Type 0} (xs : List A) (k : ℕ) (x : A) → slice_get xs k ≡ Some x → drop k xs ≡ x ∷ drop (suc k) xs
+drop_next [] k x here = absurd (false≢true (ap is_some here))
+drop_next (y ∷ xs) zero x here = ap (λ (z : _). z ∷ xs) (same_Some y x here)
+drop_next (y ∷ xs) (suc k) x here = drop_next xs k x here
+
+drop_at : {A : Type 0} (xs : List A) (k : ℕ) (x : A) → slice_get xs k ≡ Some x → drop k xs ≡ x ∷ drop (k + 1) xs
+drop_at xs k x here =
+    let next : suc k ≡ k + 1 = omega arith in
+    subst (λ (n : ℕ). drop k xs ≡ x ∷ drop n xs) next (drop_next xs k x here)
+
+drop_past : {A : Type 0} (xs : List A) (k : ℕ) → length xs ≤ k → drop k xs ≡ []
+drop_past [] zero past = refl
+drop_past [] (suc k) past = refl
+drop_past (x ∷ xs) zero past = absurd (omega (arith, past))
+drop_past (x ∷ xs) (suc k) past = drop_past xs k (omega (arith, past))
+
+pub places_by_number : {U : Type 0} (waits : Bool) (slot : ℕ) (notes : List (ℕ × Happening U)) → map (place_of waits slot) notes ≡ map (place_at waits slot) (map (λ n. n.0) notes)
+places_by_number waits slot [] = refl
+places_by_number waits slot (n ∷ notes) = ap (λ (l : List NotePlace). place_of waits slot n ∷ l) (places_by_number waits slot notes)
+
+pub put_made_places : {U : Type 0} (slot : ℕ) (made : List (ℕ × Happening U)) (ws : List ℕ) (order order' : List NotePlace) → order' ≡ order ++ map (place_of false slot) made
+    → order' ≡ order ++ places_of false slot (record { made = map (λ n. n.0) made; waiting = ws })
+put_made_places slot made ws order order' is =
+    is ∙ ap (λ (l : List NotePlace). order ++ l) (places_by_number false slot made ∙ sym (append-nil (map (place_at false slot) (map (λ n. n.0) made))))
+
+pub put_both_places : {U : Type 0} (slot : ℕ) (made waiting : List (ℕ × Happening U)) (order order' order'' : List NotePlace) → order' ≡ order ++ map (place_of false slot) made
+    → order'' ≡ order' ++ map (place_of true slot) waiting
+    → order'' ≡ order ++ places_of true slot (record { made = map (λ n. n.0) made; waiting = map (λ n. n.0) waiting })
+put_both_places slot made waiting order order' order'' is is' =
+    is' ∙ (ap (λ (l : List NotePlace). l ++ map (place_of true slot) waiting) is
+    ∙ (append_assoc order (map (place_of false slot) made) (map (place_of true slot) waiting)
+    ∙ (ap (λ (l : List NotePlace). order ++ (l ++ map (place_of true slot) waiting)) (places_by_number false slot made)
+    ∙ ap (λ (l : List NotePlace). order ++ (map (place_at false slot) (map (λ n. n.0) made) ++ l)) (places_by_number true slot waiting))))
+
+pub put_no_places : (waits : Bool) (slot : ℕ) (order : List NotePlace) → order ≡ order ++ places_of waits slot no_times
+put_no_places true slot order = sym (append-nil order)
+put_no_places false slot order = sym (append-nil order)
+
+-- how many places a client's notes have does not hang on its slot
+places_length : (waits : Bool) (slot : ℕ) (t : NoteTimes) → length (places_of waits slot t) ≡ length (places_of waits 0 t)
+places_length waits slot t =
+    length-append (map (place_at false slot) t.made) (if waits then map (place_at true slot) t.waiting else [])
+    ∙ (sym (at waits) ∙ sym (length-append (map (place_at false 0) t.made) (if waits then map (place_at true 0) t.waiting else [])))
+  where
+    at : (b : Bool) → length (map (place_at false 0) t.made) + length (if b then map (place_at true 0) t.waiting else [])
+        ≡ length (map (place_at false slot) t.made) + length (if b then map (place_at true slot) t.waiting else [])
+    at true =
+        let m = length-map t.made (place_at false 0) in
+        let m' = length-map t.made (place_at false slot) in
+        let w = length-map t.waiting (place_at true 0) in
+        let w' = length-map t.waiting (place_at true slot) in
+        omega (arith, m, m', w, w')
+    at false =
+        let m = length-map t.made (place_at false 0) in
+        let m' = length-map t.made (place_at false slot) in
+        omega (arith, m, m')
+
+no_places : (waits : Bool) (slot : ℕ) (ts : List NoteTimes) → count_places waits ts ≤ 0 → all_places waits slot ts ≡ []
+no_places waits slot [] few = refl
+no_places waits slot (t ∷ ts) few =
+    let same = places_length waits slot t in
+    ap (λ (l : List NotePlace). l ++ all_places waits (slot + 1) ts) (nil_from_length (places_of waits slot t) (omega (arith, few, same)))
+    ∙ no_places waits (slot + 1) ts (omega (arith, few))
 
 -- ---- the places of a client's notes
 
@@ -283,10 +347,37 @@ module _ {T U C : Type 0} (waits : Bool) where
       (subst (λ (m : ℕ). MovesNote waits m x notes x' notes') is moved) left)
 
   -- there is no place where there is no note
-  pub none_order : (clients : List (Option (Stored T U C))) (order : List NotePlace) → order ≡ [] → AllLeft waits clients → IsOrderOf waits clients order
-  none_order clients order none left =
+  pub none_order : (clients : List (Option (Stored T U C))) (order : List NotePlace) → order ≡ [] → AllLeft waits clients → count_places waits (map times_of clients) ≤ 0
+      → IsOrderOf waits clients order
+  none_order clients order none left few =
       subst (λ (l : List NotePlace). IsOrderOf waits clients l) (sym none)
-      (record { rise = λ k d below. absurd (omega (arith, below)); each = none_placed clients left })
+      (record {
+        rise = λ k d below. absurd (omega (arith, below));
+        each = none_placed clients left;
+        numbers = subst (λ (l : List NotePlace). IsPermutation l []) (sym (no_places waits 0 (map times_of clients) few)) (IsPermutation-refl []);
+      })
+
+  -- ---- the places, client by client
+
+  pub places_rest : (clients : List (Option (Stored T U C))) (k : ℕ) (x : Option (Stored T U C)) → slice_get clients k ≡ Some x
+      → count_places waits (map times_of (drop k clients)) ≡ length (places_of waits 0 (times_of x)) + count_places waits (map times_of (drop (k + 1) clients))
+  places_rest clients k x here = ap (λ (l : List (Option (Stored T U C))). count_places waits (map times_of l)) (drop_at clients k x here)
+
+  -- the places so far, and those that are left
+  pub placed_so_far : (clients : List (Option (Stored T U C))) (k : ℕ) (x : Option (Stored T U C)) (order order' : List NotePlace) → slice_get clients k ≡ Some x
+      → order ++ all_places waits k (map times_of (drop k clients)) ≡ all_places waits 0 (map times_of clients) → order' ≡ order ++ places_of waits k (times_of x)
+      → order' ++ all_places waits (k + 1) (map times_of (drop (k + 1) clients)) ≡ all_places waits 0 (map times_of clients)
+  placed_so_far clients k x order order' here before is =
+      ap (λ (l : List NotePlace). l ++ all_places waits (k + 1) (map times_of (drop (k + 1) clients))) is
+      ∙ (append_assoc order (places_of waits k (times_of x)) (all_places waits (k + 1) (map times_of (drop (k + 1) clients)))
+      ∙ (ap (λ (l : List (Option (Stored T U C))). order ++ all_places waits k (map times_of l)) (sym (drop_at clients k x here)) ∙ before))
+
+  pub placed_whole : (clients : List (Option (Stored T U C))) (k : ℕ) (order order' : List NotePlace) → length clients ≤ k
+      → order ++ all_places waits k (map times_of (drop k clients)) ≡ all_places waits 0 (map times_of clients) → IsPermutation order order'
+      → IsPermutation (all_places waits 0 (map times_of clients)) order'
+  placed_whole clients k order order' past before moved =
+      subst (λ (l : List NotePlace). IsPermutation l order')
+      (sym (append-nil order) ∙ (ap (λ (l : List (Option (Stored T U C))). order ++ all_places waits k (map times_of l)) (sym (drop_past clients k past)) ∙ before)) moved
 
 pub along_more : (start now now' : List ℕ) (order : List NotePlace) (i n : ℕ) (d : NotePlace) → i < length order → n ≡ (get_or order i d).slot
     → now ≡ start ++ map (λ q. q.slot) (take i order) → now' ≡ now ++ n ∷ [] → now' ≡ start ++ map (λ q. q.slot) (take (i + 1) order)

@@ -18,7 +18,7 @@ use Rattle.wl_server.specs.Felt.{FlushedTo}
 use Rattle.wl_server.specs.Ids.{ClientParts}
 use Rattle.wl_server.specs.Inside.Leaving.{Flushes, FlushesKilled, all_staying, collected, with_data, ends_at, ends_of, given_at, id_in, staying}
 use Rattle.wl_server.specs.Part.{end_note, id_at}
-use Rattle.wl_server.specs.Server.{Stored, note_of}
+use Rattle.wl_server.specs.Server.{Stored, no_times, note_of}
 use Rattle.wl_server.proofs.Readings.Flushing.{killed_stays, live_flushed}
 use Rattle.wl_server.proofs.CleanupSteps.Gathering.{map_set}
 use Rattle.wl_server.proofs.CallSteps.Slots.{get_set_other, get_set_same, other_of}
@@ -78,7 +78,7 @@ module _ {T U C : Type 0} where
     [],
     s.part,
     if_false s.part.is_killed _ _ live (refl, refl, refl),
-    ap (λ (m : List (Happening U)). let x : Stored T U C = record { serial = s.serial; part = s.part; made = m } in x) (sym (append-nil s.made)),
+    ap (λ (m : List (Happening U)). let x : Stored T U C = record { serial = s.serial; part = s.part; made = m; times = no_times } in x) (sym (append-nil s.made)),
   )
 
   pub flushes_where : (sends : T → Queue → Result ℕ IoFault → T → Type 0) (killed : Bool) (s s' : Stored T U C) (answer : Result (Unit {0}) IoFault) (lacked : Bool)

@@ -2,7 +2,7 @@
 use Rattle.std.proofs.Common.{◌≡◌, ℕ, suc, ◌+◌, Bool, true, false, List, [], ◌∷◌, ◌++◌, length, Option, None, Some, is_some, Result, refl, sym, ap, subst, ◌∙◌, arith, append-nil}
 use mathlib.Core.Logic.{inl, inr}
 use Rattle.std.specs.Option.{option_map, option_map_or}
-use Rattle.std.specs.Prelude.{◌⊎◌, ◌<◌, ◌≤◌, MatchBool, if◌then◌else◌, slice_get}
+use Rattle.std.specs.Prelude.{◌⊎◌, ◌<◌, ◌≤◌, IsPermutation, MatchBool, map, if◌then◌else◌, slice_get}
 use Rattle.std.proofs.lemmas.Bool.{false≢true}
 use Rattle.std.proofs.lemmas.List.{length-append}
 use Rattle.std.proofs.lemmas.Option.{same_Some, slice_get_within}
@@ -17,9 +17,9 @@ use Rattle.wl_server.specs.Ids.{ClientParts}
 use Rattle.wl_server.specs.Inside.Leaving.{FlushesKilled, collected, ends_at, given_at}
 use Rattle.wl_server.specs.Part.{Part, with_link}
 use Rattle.wl_server.specs.Inside.Places.{AllFeel, FeltAt, PlaceFeels}
-use Rattle.wl_server.specs.Server.{Stored, stored_at}
+use Rattle.wl_server.specs.Server.{NoteTimes, Stored, no_times, stored_at}
 use Rattle.wl_server.specs.declared.notes.queues.NotePlace.{NotePlace}
-use Rattle.wl_server.specs.Inside.NoteOrder.{IsOrderOf}
+use Rattle.wl_server.specs.Inside.NoteOrder.{IsOrderOf, all_places, times_of}
 use Rattle.wl_server.proofs.CleanupSteps.Ordering.{split}
 use Rattle.wl_server.proofs.Readings.Notes.{notes_of_sends}
 
@@ -55,19 +55,19 @@ module _ {T U C : Type 0} where
   -- ---- a flush
 
   same_flushed : (sends : T → Queue → Result ℕ IoFault → T → Type 0) (slot : ℕ) (s : Stored T U C) (q : Part T U C) (lacked : Bool) (did : List (Deed U))
-      → FlushesKilled sends s.part lacked did q → SamePlace slot (Some s) (Some (record { serial = s.serial; part = q; made = s.made ++ notes_in did }))
+      → FlushesKilled sends s.part lacked did q → SamePlace slot (Some s) (Some (record { serial = s.serial; part = q; made = s.made ++ notes_in did; times = no_times }))
   same_flushed sends slot s q lacked did flushes = at s.part.is_killed flushes
     where
-      as_new : (notes_in did ≡ []) → q ≡ with_link s.part q.link → SamePlace slot (Some s) (Some (record { serial = s.serial; part = q; made = s.made ++ notes_in did }))
+      as_new : (notes_in did ≡ []) → q ≡ with_link s.part q.link → SamePlace slot (Some s) (Some (record { serial = s.serial; part = q; made = s.made ++ notes_in did; times = no_times }))
       as_new quiet is =
-          subst (λ (p : Part T U C). SamePlace slot (Some s) (Some (record { serial = s.serial; part = p; made = s.made ++ notes_in did }))) (sym is) (
+          subst (λ (p : Part T U C). SamePlace slot (Some s) (Some (record { serial = s.serial; part = p; made = s.made ++ notes_in did; times = no_times }))) (sym is) (
             ap (λ (l : List (Happening U)). length ((s.made ++ l) ++ s.part.waiting)) quiet ∙ ap (λ (l : List (Happening U)). length (l ++ s.part.waiting)) (append-nil s.made),
             refl,
             given_length (record { slot = slot; serial = s.serial }) s.part.link.transport q.link.transport s.part.is_killed,
           )
 
       at : (b : Bool) → MatchBool b ((answer : Result (Unit {0}) IoFault) × FlushedTo sends s.part answer lacked did q) ((lacked ≡ false) × (did ≡ []) × (q ≡ s.part))
-          → SamePlace slot (Some s) (Some (record { serial = s.serial; part = q; made = s.made ++ notes_in did }))
+          → SamePlace slot (Some s) (Some (record { serial = s.serial; part = q; made = s.made ++ notes_in did; times = no_times }))
       at true (answer, (es, link, by, lack, sent, is)) =
           as_new (ap notes_in sent ∙ notes_of_sends es) (is ∙ ap (λ (l : _). with_link s.part l) (sym (ap (λ (p : Part T U C). p.link) is)))
       at false (not, none, same) = as_new (ap notes_in none) (same ∙ ap (λ (l : _). with_link s.part l) (sym (ap (λ (p : Part T U C). p.link) same)))
@@ -76,7 +76,8 @@ module _ {T U C : Type 0} where
       → PlaceFeels (λ id p lacked did q. FlushesKilled sends p lacked did q) slot x lacked y → SamePlace slot x y
   same_place sends slot None y lacked (not, is) = subst (λ (o : Option (Stored T U C)). SamePlace slot None o) (sym is) (refl, refl, refl)
   same_place sends slot (Some s) y lacked (s', (did, q, flushes, made), is) =
-      subst (λ (o : Option (Stored T U C)). SamePlace slot (Some s) o) (sym (is ∙ ap Some made)) (same_flushed sends slot s q lacked did flushes)
+      subst (λ (o : Option (Stored T U C)). SamePlace slot (Some s) o) (sym is)
+      (subst (λ (x : Stored T U C). SamePlace slot (Some s) (Some x)) (sym made) (same_flushed sends slot s q lacked did flushes))
 
   pub flushed_counts : (sends : T → Queue → Result ℕ IoFault → T → Type 0) (refused : Bool) (start now : List (Option (Stored T U C)))
       → AllFeel (λ id p lacked did q. FlushesKilled sends p lacked did q) refused (length start) start now → SameCounts 0 start now
@@ -105,8 +106,13 @@ module _ {T U C : Type 0} where
 
   -- the places that were taken down before the flush are still those of the notes
   pub flushed_order : (sends : T → Queue → Result ℕ IoFault → T → Type 0) (refused : Bool) (start now : List (Option (Stored T U C))) (order : List NotePlace)
-      → AllFeel (λ id p lacked did q. FlushesKilled sends p lacked did q) refused (length start) start now → IsOrderOf true start order → IsOrderOf true now order
-  flushed_order sends refused start now order all is = record { rise = is.rise; each = λ k. is.each k ∙ sym (at k (split k (length start))) }
+      → AllFeel (λ id p lacked did q. FlushesKilled sends p lacked did q) refused (length start) start now → map times_of now ≡ map times_of start
+      → IsOrderOf true start order → IsOrderOf true now order
+  flushed_order sends refused start now order all times is = record {
+    rise = is.rise;
+    each = λ k. is.each k ∙ sym (at k (split k (length start)));
+    numbers = subst (λ (ts : List NoteTimes). IsPermutation (all_places true 0 ts) order) (sym times) is.numbers;
+  }
     where
       at : (k : ℕ) → (k < length start) ⊎ (length start ≤ k) → length (to_gather true (stored_at k now)) ≡ length (to_gather true (stored_at k start))
       at k (inl below) = felt_leaves sends k (all.lacks k) (slice_get start k) (slice_get now k) (all.felt k below)

@@ -12,7 +12,7 @@ use Rattle.wl_server.specs.Inside.Client.{Does}
 use Rattle.wl_server.specs.Deeds.{Deed, notes_in}
 use Rattle.wl_server.specs.Part.{Part}
 use Rattle.wl_server.specs.Inside.Puts.{Puts}
-use Rattle.wl_server.specs.Server.{Stored}
+use Rattle.wl_server.specs.Server.{Stored, no_times, untimed}
 use Rattle.wl_server.specs.Telling.{Core, Kills, Tells, Told, closed_down, end_deeds, part_of, speaker, tells}
 use Rattle.wl_server.specs.Inside.Carried.{told_notes}
 use Rattle.wl_server.proofs.Readings.Notes.{tells_put}
@@ -40,17 +40,17 @@ module _ {U C : Type 0} where
 module _ {T U C : Type 0} where
   -- a client of that core and link, with these notes made
   abbrev pub client_of : ℕ → Core U C → LinkState T → List (Happening U) → Stored T U C
-  client_of serial c link made = record { serial = serial; part = part_of (record { core = c; link = link }); made = made }
+  client_of serial c link made = record { serial = serial; part = part_of (record { core = c; link = link }); made = made; times = no_times }
 
   -- it is closed down where a message could not be put
   pub told_closing : (serial : ℕ) (c : Core U C) (link : LinkState T) (made : List (Happening U)) (told : Result (Unit {0}) IoFault) (after : Stored T U C)
       → c.ended ≡ None
-      → MatchResult told (λ _. after ≡ client_of serial c link made) (λ _. Does (client_of serial c link made) (λ p did q. Kills p ConnectionClosed did q) after)
-      → after ≡ client_of serial (closing c told) link (made ++ notes_in (end_deeds (closing c told).ended))
+      → MatchResult told (λ _. untimed after ≡ client_of serial c link made) (λ _. Does (client_of serial c link made) (λ p did q. Kills p ConnectionClosed did q) after)
+      → untimed after ≡ client_of serial (closing c told) link (made ++ notes_in (end_deeds (closing c told).ended))
   told_closing serial c link made (Ok u) after none same =
       rw none (same ∙ ap (client_of serial c link) (sym (append-nil made)))
   told_closing serial c link made (Err f) after none (did, q, (did-is, q-is), is) =
-      rw none (is ∙ ap (λ (p : Part T U C). let x : Stored T U C = record { serial = serial; part = p; made = made ++ notes_in did } in x) q-is
+      rw none (is ∙ ap (λ (p : Part T U C). let x : Stored T U C = record { serial = serial; part = p; made = made ++ notes_in did; times = no_times } in x) q-is
       ∙ ap (λ (d : List (Deed U)). client_of serial (closed_down c) link (made ++ notes_in d)) did-is)
 
   -- the messages were put up to the first that failed, and nothing is noted beside the end of the client

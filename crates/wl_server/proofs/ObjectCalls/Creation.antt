@@ -18,7 +18,7 @@ use Rattle.wl_server.specs.Deeds.{Deed}
 use Rattle.wl_server.specs.Ids.{ClientParts, IdParts}
 use Rattle.wl_server.specs.Objects.{Creates, new_object, with_new_at}
 use Rattle.wl_server.specs.Part.{Part, fresh_object, last_possible_serial}
-use Rattle.wl_server.specs.Server.{Stored}
+use Rattle.wl_server.specs.Server.{Stored, no_times}
 use Rattle.wl_server.proofs.CallSteps.Doing.{does_quietly}
 
 known : {A : Type 0} (o : Option A) (X Y : Type 0) → is_some o ≡ true → Y → MatchOption o X (λ _. Y)
@@ -51,7 +51,7 @@ module _ {T U C : Type 0} (table : List InterfaceRow) (client : ClientParts) (s 
   over store = record s.part { store = store }
 
   abbrev pub Refused : CreateError → Store (Kept U) → Type 0
-  Refused e store = Does s (λ p did q. Created (Err e) p did q) (record { serial = s.serial; part = over store; made = s.made })
+  Refused e store = Does s (λ p did q. Created (Err e) p did q) (record { serial = s.serial; part = over store; made = s.made; times = no_times })
 
   pub unknown_interface : is_some (slice_get table i.0) ≡ false → Does s (λ p did q. Created (Err create.UnknownInterface) p did q) s
   unknown_interface is = does_quietly s (Created (Err create.UnknownInterface)) s.part (refl, unknown (slice_get table i.0) _ _ is (refl, refl))
@@ -82,7 +82,7 @@ module _ {T U C : Type 0} (table : List InterfaceRow) (client : ClientParts) (s 
     pub created : (n serial : ℕ) (x : Object (Kept U)) (store : Store (Kept U)) → serial ≡ s.part.last_serial + 1 → x ≡ fresh_object i version serial (Some u)
         → InsertsNew server_range s.part.store x (Ok n) store
         → Does s (λ p did q. Created (Ok (record { number = n; serial = serial; client = client; interface = i })) p did q)
-        (record { serial = s.serial; part = with_both store serial; made = s.made })
+        (record { serial = s.serial; part = with_both store serial; made = s.made; times = no_times })
     created n serial x store next is (least, put) =
         does_quietly s (Created (Ok (id serial))) (with_both store serial) (
           refl,

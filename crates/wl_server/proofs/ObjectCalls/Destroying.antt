@@ -24,7 +24,7 @@ use Rattle.wl_server.specs.Ids.{IdParts}
 use Rattle.wl_server.specs.Objects.{Destroys, destroyable, destroys, told_of_removed, unless_refused}
 use Rattle.wl_server.specs.Part.{Part, id_of, named, note_of_end, registries_without, serial_of}
 use Rattle.wl_server.specs.Inside.Puts.{Puts}
-use Rattle.wl_server.specs.Server.{Stored}
+use Rattle.wl_server.specs.Server.{Stored, no_times, untimed}
 use Rattle.wl_server.specs.Telling.{Core, Did, Kills, Told, core_of, deletions, end_deeds, speaker}
 use Rattle.wl_server.proofs.CallSteps.Doing.{does_quietly}
 use Rattle.wl_server.proofs.Readings.Notes.{tells_carried}
@@ -96,14 +96,14 @@ module _ {T U C : Type 0} (sends : T → Queue → Result ℕ IoFault → T → 
     silent c = leaves_no_note id x.value.user_data c
 
     abbrev with_notes : Stored T U C → List (Happening U) → Stored T U C
-    with_notes a notes = record { serial = a.serial; part = a.part; made = notes }
+    with_notes a notes = record { serial = a.serial; part = a.part; made = notes; times = no_times }
 
     no_notes : (made : List (Happening U)) {notes : List (Happening U)} → notes ≡ [] → made ++ (notes ++ []) ≡ made
     no_notes made none = rw none (append-nil made)
 
     -- other notes wait
     abbrev pub with_waiting : Stored T U C → List (Happening U) → Stored T U C
-    with_waiting a waiting = record a { part = record a.part { waiting = waiting } }
+    with_waiting a waiting = record (untimed a) { part = record a.part { waiting = waiting } }
 
     -- there was no memory for its note
     pub starved : (waiting : List (Happening U)) → waiting ≡ s.part.waiting → is_some x.value.user_data ≡ true
@@ -142,11 +142,12 @@ module _ {T U C : Type 0} (sends : T → Queue → Result ℕ IoFault → T → 
         waiting = s.part.waiting ++ note_of_end id.client id.number x;
       };
       made = s.made;
+      times = no_times;
     }
 
     gone_to : (link : LinkState T) (wrote : Result (Unit {0}) IoFault) (after : Stored T U C) → lacks_memory wrote ≡ false
-        → MatchResult wrote (λ _. after ≡ gone link) (λ _. Does (gone link) (λ p did q. Kills p ConnectionClosed did q) after)
-        → after ≡ arrived s (came_to speaker verdict wrote) link
+        → MatchResult wrote (λ _. untimed after ≡ gone link) (λ _. Does (gone link) (λ p did q. Kills p ConnectionClosed did q) after)
+        → untimed after ≡ arrived s (came_to speaker verdict wrote) link
     gone_to link (Ok u) after lacked told = told ∙ ap (with_notes (gone link)) (sym (append-nil s.made))
     gone_to link (Err fault.OutOfMemory) after lacked told = absurd (false≢true (sym lacked))
     gone_to link _ after lacked told = kills_is (gone link) after ConnectionClosed told
@@ -154,7 +155,7 @@ module _ {T U C : Type 0} (sends : T → Queue → Result ℕ IoFault → T → 
     -- it is gone, and the client was told, or closed down where it could not be
     told_destroyed : (link : LinkState T) (n : ℕ) (wrote : Result (Unit {0}) IoFault) (after a : Stored T U C) → n ≡ id.number → a ≡ gone link
         → Puts sends s.part.link (deletions n) wrote link → lacks_memory wrote ≡ false
-        → MatchResult wrote (λ _. after ≡ a) (λ _. Does a (λ p did q. Kills p ConnectionClosed did q) after)
+        → MatchResult wrote (λ _. untimed after ≡ a) (λ _. Does a (λ p did q. Kills p ConnectionClosed did q) after)
         → Does s (λ p did q. Destruction (Ok tt) p did q) after
     told_destroyed link n wrote after a number is_gone puts lacked told =
         let core : Core U C = came_to speaker verdict wrote in
@@ -163,7 +164,7 @@ module _ {T U C : Type 0} (sends : T → Queue → Result ℕ IoFault → T → 
           link,
           inl (wrote, link, [], false, subst (λ (k : ℕ). Puts sends s.part.link (deletions k) wrote link) number puts, (refl, refl, refl), refl, rw lacked refl),
           gone_to link wrote after lacked
-              (subst (λ (b : Stored T U C). MatchResult wrote (λ _. after ≡ b) (λ _. Does b (λ p did q. Kills p ConnectionClosed did q) after)) is_gone told)
+              (subst (λ (b : Stored T U C). MatchResult wrote (λ _. untimed after ≡ b) (λ _. Does b (λ p did q. Kills p ConnectionClosed did q) after)) is_gone told)
               ∙ ap (λ (notes : List (Happening U)). with_notes (arrived s core link) (s.made ++ (notes ++ notes_in (end_deeds core.ended)))) (sym (silent core)),
         )
 
@@ -172,6 +173,7 @@ module _ {T U C : Type 0} (sends : T → Queue → Result ℕ IoFault → T → 
       serial = s.serial;
       part = record s.part { link = link; store = store; registries = registries; waiting = waiting };
       made = s.made;
+      times = no_times;
     }
 
     -- what was taken out is gone
@@ -196,7 +198,7 @@ module _ {T U C : Type 0} (sends : T → Queue → Result ℕ IoFault → T → 
         → lacks_memory wrote ≡ false → store ≡ removed s.part.store id.number
         → IfSome (held s.part.store id.number) (λ y. registries ≡ registries_without s.part.registries id.number y)
         → IfSome (held s.part.store id.number) (λ y. waiting ≡ before ++ note_of_end id.client id.number y) → before ≡ s.part.waiting
-        → MatchResult wrote (λ _. after ≡ with_all link store registries waiting)
+        → MatchResult wrote (λ _. untimed after ≡ with_all link store registries waiting)
         (λ _. Does (with_all link store registries waiting) (λ p did q. Kills p ConnectionClosed did q) after)
         → Does s (λ p did q. Destruction (Ok tt) p did q) after
     destroyed link n store registries before waiting wrote after number puts lacked without forgotten noted same told =

@@ -22,7 +22,7 @@ use Rattle.wl_server.specs.Ids.{ClientParts, same_client}
 use Rattle.wl_server.specs.Inside.Inserting.{AreTaken, IsPut}
 use Rattle.wl_server.specs.Part.{fresh_part, last_possible_serial}
 use Rattle.wl_server.specs.PartStep.{Asked, Inserted, Unfelt, World}
-use Rattle.wl_server.specs.Server.{Seen, ServerState, Stored, client_at, if_serial, notes_of, seen_as, stored_at}
+use Rattle.wl_server.specs.Server.{Seen, ServerState, Stored, client_at, if_serial, no_times, notes_of, seen_as, stored_at, untimed}
 use Rattle.wl_server.specs.Steps.{IsLeastFree, LacksSlot, StepOf}
 use Rattle.wl_server.proofs.CallSteps.Slots.{Are, Serials, Slots, client_absent, client_present, compare, did_at, get_set_other, get_set_same, held_of, other_of, same_parts, same_self, same_serials, same_slots}
 
@@ -93,20 +93,20 @@ module _ {T U G C : Type 0} (w : World T G C) where
       MatchBool b (Inserted w id offer transport client_data before false (did_at b (Noted Initialized ∷ [])) after)
       (Unfelt before false (did_at b (Noted Initialized ∷ [])) after)
 
-  as_new : (id : ClientParts) (offer : Offer G) (transport : T) (client_data : C) (gathered : List (Happening U)) (link : LinkState T) (b : Bool) (x y : Option (Stored T U C))
+  as_new : (id : ClientParts) (offer : Offer G) (transport : T) (client_data : C) (gathered : List (Happening U)) (link : LinkState T) (b : Bool) (x y : Option (Stored T U C)) (s : Stored T U C)
       → b ≡ true → IsFresh transport (Some offer.default_limit) link → x ≡ None
-      → y ≡ Some (record { serial = id.serial; part = fresh_part link client_data; made = Initialized ∷ [] })
+      → y ≡ Some s → untimed s ≡ record { serial = id.serial; part = fresh_part link client_data; made = Initialized ∷ []; times = no_times }
       → InsertedAt id offer transport client_data b (seen_as gathered x) (seen_as gathered y)
-  as_new id offer transport client_data gathered link true x y is fresh none some = (
+  as_new id offer transport client_data gathered link true x y s is fresh none some new = (
     link,
     fresh,
     refl,
     refl,
-    ap (seen_as gathered) some
+    ap (seen_as gathered) some ∙ ap (λ (c : Stored T U C). seen_as gathered (Some c)) new
         ∙ ap (λ (m : List (Happening U)). let s : Seen T U C = record { part = Some (fresh_part link client_data); made = m ++ Initialized ∷ [] } in s)
         (sym (ap (λ (o : Option (Stored T U C)). let s : Seen T U C = seen_as gathered o in s.made) none ∙ append-nil gathered)),
   )
-  as_new id offer transport client_data gathered link false x y is fresh none some = absurd (false≢true is)
+  as_new id offer transport client_data gathered link false x y s is fresh none some new = absurd (false≢true is)
 
   as_unfelt : (id : ClientParts) (offer : Offer G) (transport : T) (client_data : C) (b : Bool) (before after : Seen T U C) → b ≡ false → after ≡ before
       → InsertedAt id offer transport client_data b before after
@@ -120,8 +120,8 @@ module _ {T U G C : Type 0} (w : World T G C) where
       elim (compare new id) [
         | Are slot serial ↦ subst (λ (i : ClientParts). InsertedAt i offer transport client_data (same_client new i) (held_of notes clients i) (held_of notes clients' i))
             (same_parts new id slot serial)
-            (as_new new offer transport client_data (notes_of new notes) link (same_client new new) (client_at new clients) (client_at new clients') (same_self new) fresh
-            (ap (if_serial new.serial) free) (client_present new clients' s here serial' ∙ ap Some is))
+            (as_new new offer transport client_data (notes_of new notes) link (same_client new new) (client_at new clients) (client_at new clients') s (same_self new) fresh
+            (ap (if_serial new.serial) free) (client_present new clients' s here serial') is)
         | Slots slot ↦ as_unfelt id offer transport client_data (same_client new id) _ _ (same_slots new id slot)
             (ap (λ (x : Option (Option (Stored T U C))). seen_as (notes_of id notes) (if_serial id.serial (option_map_or (λ s. s) x None)))
             (others id.slot (λ e. other_of new.slot id.slot slot (sym e))))

@@ -8,7 +8,7 @@ use Rattle.wl_server.specs.declared.objects.Kept.{Kept}
 use Rattle.wl_server.specs.declared.runs.step.Reply.TheVariants as reply
 use Rattle.wl_server.specs.declared.runs.step.Step.TheVariants as step
 use Rattle.wl_server.specs.Backend.{BackendState, Calls}
-use Rattle.wl_server.specs.DataInPlace.{LendsDataIn, LendsObjectData}
+use Rattle.wl_server.specs.Plain.DataInPlace.{LendsDataIn, LendsObjectData}
 use Rattle.wl_server.specs.Ids.{ClientParts, IdParts}
 use Rattle.wl_server.specs.Lookups.{and_then, object_data_of}
 use Rattle.wl_server.specs.Part.{named, with_user_data}
@@ -41,7 +41,7 @@ module _ {T U G C R : Type 0} (call : U → R → U → Type 0) (w : World T G C
     at_slot c = record { server = record before { clients = slice_set before.clients read.slot (Some c) }; refused = false }
 
     abbrev having : Store (Kept U) → Stored T U C
-    having store = record { serial = s.serial; part = record s.part { store = store }; made = s.made }
+    having store = record { serial = s.serial; part = record s.part { store = store }; made = s.made; times = s.times }
 
     -- nothing was written
     kept : (store : Store (Kept U)) → store ≡ s.part.store → at_slot (having store) ≡ record { server = before; refused = false }

@@ -19,14 +19,14 @@ use Rattle.wl_server.specs.Errors.{error_messages, error_of, posts}
 use Rattle.wl_server.specs.Ids.{IdParts}
 use Rattle.wl_server.specs.Part.{Part, named, with_link}
 use Rattle.wl_server.specs.Inside.Puts.{Puts}
-use Rattle.wl_server.specs.Server.{Stored}
+use Rattle.wl_server.specs.Server.{Stored, no_times, untimed}
 use Rattle.wl_server.specs.Telling.{Core, Kills, core_of, end_deeds, error_message, killed, part_of, speaker}
 use Rattle.wl_server.proofs.GlobalCalls.Putting.{puts_none}
 
 module _ {T U C : Type 0} where
   -- over another link
   abbrev pub linked : Stored T U C → LinkState T → Stored T U C
-  linked s link = record { serial = s.serial; part = with_link s.part link; made = s.made }
+  linked s link = record s { part = with_link s.part link }
 
   -- it is killed
   abbrev pub ended : Stored T U C → DisconnectReason → Stored T U C
@@ -34,15 +34,16 @@ module _ {T U C : Type 0} where
     serial = s.serial;
     part = record s.part { is_killed = true };
     made = s.made ++ notes_in (end_deeds (killed (core_of s.part) reason).ended);
+    times = no_times;
   }
 
   abbrev with_made : Stored T U C → List (Happening U) → Stored T U C
-  with_made s made = record { serial = s.serial; part = s.part; made = made }
+  with_made s made = record { serial = s.serial; part = s.part; made = made; times = no_times }
 
-  pub kills_is : (s after : Stored T U C) (reason : DisconnectReason) → Does s (λ p did q. Kills p reason did q) after → after ≡ ended s reason
+  pub kills_is : (s after : Stored T U C) (reason : DisconnectReason) → Does s (λ p did q. Kills p reason did q) after → untimed after ≡ ended s reason
   kills_is s after reason (did, q, (deeds, part), is) =
-      is ∙ ap (λ (p : Part T U C). let x : Stored T U C = record { serial = s.serial; part = p; made = s.made ++ notes_in did } in x) part
-      ∙ ap (λ d. let x : Stored T U C = record { serial = s.serial; part = record s.part { is_killed = true }; made = s.made ++ notes_in d } in x) deeds
+      is ∙ ap (λ (p : Part T U C). let x : Stored T U C = record { serial = s.serial; part = p; made = s.made ++ notes_in did; times = no_times } in x) part
+      ∙ ap (λ d. let x : Stored T U C = record { serial = s.serial; part = record s.part { is_killed = true }; made = s.made ++ notes_in d; times = no_times } in x) deeds
 
   -- a killed one stays as it is
   pub ended_twice : (s : Stored T U C) (first second : DisconnectReason) → ended (ended s first) second ≡ ended s first
@@ -65,6 +66,7 @@ module _ {T U C : Type 0} where
     serial = s.serial;
     part = part_of (record { core = core; link = link });
     made = s.made ++ notes_in (end_deeds core.ended);
+    times = no_times;
   }
 
   spoken_is : (table : List InterfaceRow) (s : Stored T U C) (link : LinkState T) (id : IdParts) (code : ℕ) (text : List ℕ) (wrote : Result (Unit {0}) IoFault)
@@ -76,13 +78,13 @@ module _ {T U C : Type 0} where
 
   -- a client that was killed
   still : (s : Stored T U C) (link : LinkState T) (table : List InterfaceRow) (id : IdParts) (code : ℕ) (text : List ℕ) → s.part.is_killed ≡ true
-      → linked s link ≡ arrived s (killed (core_of s.part) (BrokeProtocol (error_of table id code text))) link
+      → untimed (linked s link) ≡ arrived s (killed (core_of s.part) (BrokeProtocol (error_of table id code text))) link
   still s link table id code text dead = at s.part.is_killed dead
     where
       at : (b : Bool) → b ≡ true
-          → (let x : Stored T U C = record { serial = s.serial; part = record s.part { link = link; is_killed = b }; made = s.made } in x)
+          → (let x : Stored T U C = record { serial = s.serial; part = record s.part { link = link; is_killed = b }; made = s.made; times = no_times } in x)
           ≡ (let core : Core U C = record (core_of s.part) { is_killed = b } in arrived s (killed core (BrokeProtocol (error_of table id code text))) link)
-      at true is = ap (λ (made : List (Happening U)). let x : Stored T U C = record { serial = s.serial; part = record s.part { link = link; is_killed = true }; made = made } in x) (sym (append-nil s.made))
+      at true is = ap (λ (made : List (Happening U)). let x : Stored T U C = record { serial = s.serial; part = record s.part { link = link; is_killed = true }; made = made; times = no_times } in x) (sym (append-nil s.made))
       at false is = absurd (false≢true is)
 
 -- what was found by reference is there where it was found
@@ -110,7 +112,7 @@ module _ {T U C : Type 0} (sends : T → Queue → Result ℕ IoFault → T → 
     killed (core_of s.part) (BrokeProtocol (error_of table id code text)),
     after.part.link,
     inl (Ok tt, s.part.link, es, lacked, rw dead (puts_none sends s.part.link), flushed, refl, refl),
-    rest ∙ still s after.part.link table id code text dead,
+    ap untimed rest ∙ still s after.part.link table id code text dead,
   )
 
   -- there was no memory for the texts

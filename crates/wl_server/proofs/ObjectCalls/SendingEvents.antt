@@ -29,8 +29,9 @@ use Rattle.wl_server.specs.Ids.{ClientParts, IdParts}
 use Rattle.wl_server.specs.Objects.{told_of_removed}
 use Rattle.wl_server.specs.Part.{Part, named, with_link}
 use Rattle.wl_server.specs.Inside.Puts.{Puts}
-use Rattle.wl_server.specs.Server.{Stored}
+use Rattle.wl_server.specs.Server.{Stored, no_times, untimed}
 use Rattle.wl_server.specs.Telling.{Core, Kills, Tells, closed_down, core_of, end_deeds, part_of, tells}
+use Rattle.wl_server.proofs.CallSteps.Doing.{told_untimed}
 use Rattle.wl_server.proofs.ObjectCalls.Closing.{client_of, closing, told_by, told_closing}
 use Rattle.wl_server.proofs.ObjectCalls.Destroying.{leaves_no_note, named_is_held}
 use Rattle.wl_server.proofs.Readings.Notes.{notes_append, notes_of_sends}
@@ -67,7 +68,7 @@ module _ {U : Type 0} where
 module _ {T U C : Type 0} (client : ClientParts) (m : SessionMessage) (sender : Object (Kept U)) where
   -- its sender is gone, where the event ends it, and this is its link
   abbrev after_end : Stored T U C → Bool → LinkState T → Stored T U C
-  after_end s ends link = record s {
+  after_end s ends link = record (untimed s) {
     part = record s.part {
       link = link;
       store = store_ending ends s.part.store m.sender.number;
@@ -80,7 +81,7 @@ module _ {T U C : Type 0} (client : ClientParts) (m : SessionMessage) (sender : 
       → after_end s ends link ≡ client_of s.serial (ends_sender client (core_of s.part) m sender ends).core link s.made
   after_end_is s true link = refl
   after_end_is s false link =
-      ap (λ (waiting : List (Happening U)). let x : Stored T U C = record s { part = record s.part { link = link; waiting = waiting } } in x)
+      ap (λ (waiting : List (Happening U)). let x : Stored T U C = record (untimed s) { part = record s.part { link = link; waiting = waiting } } in x)
       (append-nil s.part.waiting)
 
   module _ (sends : T → Queue → Result ℕ IoFault → T → Type 0) where
@@ -114,7 +115,7 @@ module _ {T U C : Type 0} (client : ClientParts) (m : SessionMessage) (sender : 
     -- the event was written, or its write failed and not for want of memory
     pub sent : (s s1 s2 : Stored T U C) (ends : Bool) (n : ℕ) (mid : LinkState T) (written : Result (Unit {0}) IoFault) (lacked : Bool)
         → Wrote sends s.part.link (wire_message m) written mid → lacks_memory written ≡ false
-        → s1 ≡ after_end s ends mid → n ≡ m.sender.number → TellsEnd sends s1 n ends written lacked s2
+        → untimed s1 ≡ after_end s ends mid → n ≡ m.sender.number → TellsEnd sends s1 n ends written lacked s2
         → Does s (λ p did q. SendsGranted sends client p m sender ends (Ok tt) lacked did q) s2
     sent s s1 s2 ends n mid written lacked (es, wrote) went ended n-is (told, after, puts, lacked-is, closed) =
         by written wrote went
@@ -129,11 +130,11 @@ module _ {T U C : Type 0} (client : ClientParts) (m : SessionMessage) (sender : 
         none_ended false = refl
 
         after-is : (did : List (Deed U)) → notes_in did ≡ notes_in (end_deeds (closing c told).ended)
-            → s2 ≡ record { serial = s.serial; part = part_of (record { core = closing c told; link = after }); made = s.made ++ notes_in did }
+            → untimed s2 ≡ record { serial = s.serial; part = part_of (record { core = closing c told; link = after }); made = s.made ++ notes_in did; times = no_times }
         after-is did notes =
             told_closing s.serial c after s.made told s2 (none_ended ends)
-            (subst (λ (x : Stored T U C). MatchResult told (λ _. s2 ≡ x) (λ _. Does x (λ p did q. Kills p ConnectionClosed did q) s2))
-            (ap (λ (x : Stored T U C). let y : Stored T U C = record x { part = with_link x.part after } in y) ended ∙ after_end_is s ends after) closed)
+            (subst (λ (x : Stored T U C). MatchResult told (λ _. untimed s2 ≡ x) (λ _. Does x (λ p did q. Kills p ConnectionClosed did q) s2))
+            (ap (λ (x : Stored T U C). let y : Stored T U C = record x { part = with_link x.part after } in y) ended ∙ after_end_is s ends after) (told_untimed _ told s2 (record s1 { part = with_link s1.part after }) closed))
             ∙ ap (λ (l : List (Happening U)). client_of s.serial (closing c told) after (s.made ++ l)) (sym notes)
 
         by : (written : Result (Unit {0}) IoFault) → WroteBy sends s.part.link (wire_message m) es written mid → lacks_memory written ≡ false
@@ -166,24 +167,24 @@ module _ {T U C : Type 0} (client : ClientParts) (m : SessionMessage) (sender : 
             )
 
     -- there was no room for the note of its sender's end
-    pub no_room : (s s1 : Stored T U C) (ends : Bool) → AsksForMemory sender ends → s1 ≡ s
+    pub no_room : (s s1 : Stored T U C) (ends : Bool) → AsksForMemory sender ends → untimed s1 ≡ untimed s
         → Does s (λ p did q. SendsGranted sends client p m sender ends (Err refused.OutOfMemory) true did q) s1
     no_room s s1 ends asks same = (
       [],
       s.part,
       inl (asks, refl, refl, refl, refl),
-      same ∙ ap (λ (made : List (Happening U)). let x : Stored T U C = record s { made = made } in x) (sym (append-nil s.made)),
+      same ∙ ap (λ (made : List (Happening U)). let x : Stored T U C = record (untimed s) { made = made } in x) (sym (append-nil s.made)),
     )
 
     -- there was no memory for the write
     pub not_written : (s s1 : Stored T U C) (ends : Bool) (mid : LinkState T) (written : Result (Unit {0}) IoFault)
-        → Wrote sends s.part.link (wire_message m) written mid → lacks_memory written ≡ true → s1 ≡ record s { part = with_link s.part mid }
+        → Wrote sends s.part.link (wire_message m) written mid → lacks_memory written ≡ true → untimed s1 ≡ record (untimed s) { part = with_link s.part mid }
         → Does s (λ p did q. SendsGranted sends client p m sender ends (Err refused.OutOfMemory) true did q) s1
     not_written s s1 ends mid written (es, wrote) lacked same = (
       map Sent es ++ [],
       with_link s.part mid,
       inr (es, [], written, mid, wrote, refused_as written lacked, refl),
-      same ∙ ap (λ (l : List (Happening U)). let x : Stored T U C = record s { part = with_link s.part mid; made = l } in x)
+      same ∙ ap (λ (l : List (Happening U)). let x : Stored T U C = record (untimed s) { part = with_link s.part mid; made = l } in x)
           (sym (append-nil s.made) ∙ ap (λ (l : List (Happening U)). s.made ++ l) (sym (notes_behind es []))),
     )
       where
@@ -195,8 +196,8 @@ module _ {T U C : Type 0} (client : ClientParts) (m : SessionMessage) (sender : 
 -- ---- an event, refused or not
 
 module _ {T U C : Type 0} (sends : T → Queue → Result ℕ IoFault → T → Type 0) (client : ClientParts) (table : List InterfaceRow) (s : Stored T U C) (m : SessionMessage) where
-  same_made : s ≡ record { serial = s.serial; part = s.part; made = s.made ++ [] }
-  same_made = ap (λ (made : List (Happening U)). let x : Stored T U C = record s { made = made } in x) (sym (append-nil s.made))
+  same_made : untimed s ≡ record { serial = s.serial; part = s.part; made = s.made ++ []; times = no_times }
+  same_made = ap (λ (made : List (Happening U)). let x : Stored T U C = record (untimed s) { made = made } in x) (sym (append-nil s.made))
 
   -- to a killed client nothing is sent
   pub to_killed : s.part.is_killed ≡ true → Does s (λ p did q. SendsEvent sends client table p m (Ok tt) false did q) s

@@ -10,7 +10,7 @@ use Rattle.wl_server.specs.Ids.{IdParts}
 use Rattle.wl_server.specs.Objects.{DataSet}
 use Rattle.wl_server.specs.Part.{Part, named}
 use Rattle.wl_server.specs.PartStep.{Asked, Quietly}
-use Rattle.wl_server.specs.Server.{Stored}
+use Rattle.wl_server.specs.Server.{Stored, no_times}
 use Rattle.wl_server.specs.declared.runs.step.Reply.TheVariants as reply
 use Rattle.wl_server.specs.declared.runs.step.Step.TheVariants as step
 use Rattle.wl_server.proofs.CallSteps.OneClient.{IsOwn}
@@ -40,6 +40,6 @@ data_set {T} {U} {C} p id u answer store = at (named p.store id)
 
 pub set_does : {T U C : Type 0} (s : Stored T U C) (id : IdParts) (u : U) (answer : Result (Unit {0}) InvalidId) (store : Store (Kept U))
     → MatchOption (named s.part.store id) (answer ≡ Err _) (λ _. answer ≡ Ok tt) → store ≡ data_given s.part.store id.number (named s.part.store id) u
-    → Does s (λ p did q. Quietly false did (DataSet p id u answer q)) (record { serial = s.serial; part = record s.part { store = store }; made = s.made })
+    → Does s (λ p did q. Quietly false did (DataSet p id u answer q)) (record { serial = s.serial; part = record s.part { store = store }; made = s.made; times = no_times })
 set_does s id u answer store answered given =
     does_quietly s (λ p did q. Quietly false did (DataSet p id u answer q)) _ (refl, refl, data_set s.part id u answer store answered given)

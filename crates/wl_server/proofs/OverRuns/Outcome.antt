@@ -10,4 +10,5 @@ pub mod MoveLaws
 pub mod ShareLaws
 pub mod WholeLaws
 pub mod WholeRuns
+pub mod DispatchLaws
 pub mod LookupLaws

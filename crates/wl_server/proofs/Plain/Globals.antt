@@ -27,16 +27,18 @@ use Rattle.wl_server.specs.declared.runs.step.Step.TheVariants as step
 use Rattle.wl_server.specs.Backend.{BackendState, Calls}
 use Rattle.wl_server.specs.Deeds.{Deed, notes_in}
 use Rattle.wl_server.specs.Felt.{Hears, news, removals}
-use Rattle.wl_server.specs.Globals.{CreatesGlobal, Globals, IsNextGlobal, Offer, as_disabled, disabled_at, freed_at, global_of, global_serial, is_enabled, new_global}
+use Rattle.wl_server.specs.Globals.{CreatesGlobal, Globals, IsNextGlobal, Offer, as_disabled, disabled, disabled_at, freed, freed_at, global_of, global_serial, is_enabled, new_global}
+use Rattle.wl_server.specs.GivenOnce.{same_global}
 use Rattle.wl_server.specs.Ids.{ClientParts, GlobalParts, IdParts}
 use Rattle.wl_server.specs.Lookups.{and_then}
 use Rattle.wl_server.specs.Part.{Part, named, with_link}
 use Rattle.wl_server.specs.PartStep.{Asked, Call, Feels, FeelsGlobal, FeelsLoss, Unfelt, World}
 use Rattle.wl_server.specs.Plain.{as_killed}
-use Rattle.wl_server.specs.PlainGlobals.{CreatedAs, DisablesGlobal, IsToldOrKilled, OffersGlobal, RemovesGlobal, TellsClients}
+use Rattle.wl_server.specs.Plain.Globals.{DisablesGlobal, GlobalCreatedAs, IsToldOrKilled, MayBeTold, OffersGlobal, RemovesGlobal}
 use Rattle.wl_server.specs.Server.{Seen, seen}
 use Rattle.wl_server.specs.Steps.{AnswersShared}
 use Rattle.wl_server.specs.Telling.{Core, core_of, end_deeds, part_of, tells}
+use Rattle.wl_server.proofs.OverRuns.Ids.GivenLaws.{Changes, created_elsewhere, disabled_changes, freed_changes}
 use Rattle.wl_server.proofs.Plain.Base.{keeps, of_each}
 use Rattle.wl_server.proofs.Plain.Insertion.{offer_of}
 use Rattle.wl_server.proofs.Plain.Verdicts.{told, told_ended, told_starved}
@@ -211,8 +213,8 @@ module _ {T U G C : Type 0} (w : World T G C) (before after : BackendState T U G
       (id : ClientParts) → IsToldOrKilled (seen id before.server) (seen id after.server)
       × ((o : IdParts) → and_then (seen id after.server).part (λ p. named p.store o) ≡ and_then (seen id before.server).part (λ p. named p.store o))
 
-  tells_clients : Each → TellsClients before after
-  tells_clients each = record { each = λ id. (each id).0; objects = λ o. (each o.client).1 o }
+  may_be_told : Each → MayBeTold before after
+  may_be_told each = record { each = λ id. (each id).0; objects = λ o. (each o.client).1 o }
 
   felt_by : (id : ClientParts) (messages : Part T U C → List Said) (lacked : Bool) (did : List (Deed U))
       → Feels (seen id before.server) (λ p q. Hears w.sends p (messages p) lacked did q) lacked did (seen id after.server)
@@ -251,17 +253,29 @@ module _ {T U G C : Type 0} (w : World T G C) (before after : BackendState T U G
       felt_by id (λ p. news before.server.offer.table p (w.views handler id p.client_data g) (record { name = g.name; interface = i; version = version })) lacked did h
   new_each i version handler (Err e) each id = let (lacked, did, (calm, none, same)) = each id in unfelt_by id same
 
+  -- another id names what it named, where what one names was changed
+  by_change : (change : Option (Object (KeptGlobal G)) → Option (Object (KeptGlobal G))) (changed : Globals G) (target other : GlobalParts) → same_global target other ≡ false
+      → Changes change before.server.offer.globals target changed → global_of changed other ≡ global_of before.server.offer.globals other
+  by_change change changed target other differ by =
+      by other ∙ ap (λ (b : Bool). cond b (change (global_of before.server.offer.globals other)) (global_of before.server.offer.globals other)) differ
+
 module _ {T U G C : Type 0} {w : World T G C} {before after : BackendState T U G C} where
   pub disables_global : (g : GlobalParts) → Calls w before (step.DisableGlobal g) reply.DisableGlobal after → DisablesGlobal before g after
   disables_global g call = record {
     global = ap (λ (o : Offer G). global_of o.globals g) (offer_of call) ∙ disabled_in before.server.offer.globals g (global_of before.server.offer.globals g) refl;
-    clients = tells_clients w before after (loss_each w before after g (λ id. let (lacked, did, (is, h)) = of_each call id in (lacked, did, h)));
+    others = λ other differ.
+        ap (λ (o : Offer G). global_of o.globals other) (offer_of call)
+        ∙ by_change w before after (option_map as_disabled) (disabled before.server.offer.globals g) g other differ (disabled_changes before.server.offer.globals g);
+    clients = may_be_told w before after (loss_each w before after g (λ id. let (lacked, did, (is, h)) = of_each call id in (lacked, did, h)));
   }
 
   pub removes_global : (g : GlobalParts) → Calls w before (step.RemoveGlobal g) reply.RemoveGlobal after → RemovesGlobal before g after
   removes_global g call = record {
     global = ap (λ (o : Offer G). global_of o.globals g) (offer_of call) ∙ freed_in before.server.offer.globals g (global_of before.server.offer.globals g) refl;
-    clients = tells_clients w before after (loss_each w before after g (λ id. let (lacked, did, (is, h)) = of_each call id in (lacked, did, h)));
+    others = λ other differ.
+        ap (λ (o : Offer G). global_of o.globals other) (offer_of call)
+        ∙ by_change w before after (λ o. None) (freed before.server.offer.globals g) g other differ (freed_changes before.server.offer.globals g);
+    clients = may_be_told w before after (loss_each w before after g (λ id. let (lacked, did, (is, h)) = of_each call id in (lacked, did, h)));
   }
 
   module _ (i : InterfaceId) (version : ℕ) (handler : G) where
@@ -277,16 +291,30 @@ module _ {T U G C : Type 0} {w : World T G C} {before after : BackendState T U G
         inside : (r : Result GlobalParts GlobalError) → ◌≡◌ {A = Reply T U} (reply.CreateGlobal answer) (reply.CreateGlobal r) → r ≡ answer
         inside r is = cc
 
+    next : (g : GlobalParts) → Calls w before (step.CreateGlobal i version handler) (reply.CreateGlobal (Ok g)) after → IsNextGlobal before.server.offer.globals g
+    next g call = next_of before.server.offer.table before.server.offer.globals i version g (shared_of call)
+
+    -- no global has its name, so its id named none
+    unnamed_before : (g : GlobalParts) → Calls w before (step.CreateGlobal i version handler) (reply.CreateGlobal (Ok g)) after → global_of before.server.offer.globals g ≡ None
+    unnamed_before g call =
+        ap (λ (h : Option (Object (KeptGlobal G))). cond (g.name == 0) None (named_in global_serial (record { number = g.name; serial = g.serial }) h)) (next g call).0.absent
+        ∙ both_none (g.name == 0)
+
     created_as : (answer : Result GlobalParts GlobalError) → Calls w before (step.CreateGlobal i version handler) (reply.CreateGlobal answer) after
-        → CreatedAs before i version handler answer after
-    created_as (Ok g) call =
-        ap (λ (o : Offer G). global_of o.globals g) (offer_of call)
-        ∙ created_in before.server.offer.globals g (new_global i version g.serial handler) (next_of before.server.offer.table before.server.offer.globals i version g (shared_of call)) refl
+        → GlobalCreatedAs before i version handler answer after
+    created_as (Ok g) call = (
+      unnamed_before g call,
+      ap (λ (o : Offer G). global_of o.globals g) (offer_of call)
+          ∙ created_in before.server.offer.globals g (new_global i version g.serial handler) (next g call) refl,
+      λ other differ.
+          ap (λ (o : Offer G). global_of o.globals other) (offer_of call)
+          ∙ created_elsewhere before.server.offer.globals i version handler g (next g call) g.serial other differ,
+    )
     created_as (Err e) call = (offer_of call, λ id. let (lacked, did, (calm, none, same)) = create_each (Err e) call id in same)
 
     pub offers_global : (answer : Result GlobalParts GlobalError) → Calls w before (step.CreateGlobal i version handler) (reply.CreateGlobal answer) after
         → OffersGlobal before i version handler answer after
     offers_global answer call = record {
       global = created_as answer call;
-      clients = tells_clients w before after (new_each w before after i version handler answer (create_each answer call));
+      clients = may_be_told w before after (new_each w before after i version handler answer (create_each answer call));
     }

@@ -12,7 +12,7 @@ use Rattle.wl_server.specs.Ids.{ClientParts, same_client}
 use Rattle.wl_server.specs.Lookups.{and_then}
 use Rattle.wl_server.specs.Part.{Part, named, with_link}
 use Rattle.wl_server.specs.PartStep.{Asked, Call, InsertedAs, OfClient, Quietly, World}
-use Rattle.wl_server.specs.PlainCalls.{InsertsClient, NewClientAs, SetsDefaultLimit, SetsLimit}
+use Rattle.wl_server.specs.Plain.Calls.{InsertsClient, NewClientAs, SetsDefaultLimit, SetsLimit}
 use Rattle.wl_server.specs.Server.{Seen, seen}
 use Rattle.wl_server.specs.Steps.{offer_after}
 use Rattle.wl_server.proofs.CallSteps.Slots.{same_self}

@@ -2,6 +2,7 @@
 use Rattle.std.proofs.Common.{◌≡◌, ◌⊎◌, ℕ, Bool, true, false, List, [], ◌++◌, append-nil, Option, None, Some, is_some, Result, Ok, Err, refl, sym, ap, subst, ◌∙◌, true≢false}
 use mathlib.Core.Logic.{inl, inr}
 use Rattle.std.specs.Prelude.{IsSome, MatchBool}
+use Rattle.wl_wire.specs.declared.interface.InterfaceId.{InterfaceId}
 use Rattle.wl_wire.specs.declared.error.IoFault.{IoFault}
 use Rattle.wl_wire.specs.declared.error.IoFault.TheVariants as fault
 use Rattle.wl_link.proofs.Calls.Branches.{either_option}
@@ -23,11 +24,11 @@ use Rattle.wl_server.specs.Backend.{BackendState, Calls}
 use Rattle.wl_server.specs.Deeds.{Bind, Deed, Handed, Request, notes_in}
 use Rattle.wl_server.specs.Globals.{Offer}
 use Rattle.wl_server.specs.Ids.{ClientParts, IdParts, same_client}
-use Rattle.wl_server.specs.Part.{Part, id_at}
+use Rattle.wl_server.specs.Part.{Part, fresh_object, id_at}
 use Rattle.wl_server.specs.PartStep.{ReadsFor, World, around}
-use Rattle.wl_server.specs.PlainReading.{IsHandedOut, IsKilledOnce, LivesOn, OpenReadAs, ReadAs, ReadsClient}
+use Rattle.wl_server.specs.Plain.Reading.{IsHandedOut, IsKilledOnce, LivesOn, OpenReadAs, ReadAs, ReadsClient}
 use Rattle.wl_server.specs.Reading.{Around, NextAction, action_content, answered, new_reading}
-use Rattle.wl_server.specs.ReadingEnds.{ComesOfMessage, ReadingEnds}
+use Rattle.wl_server.specs.ReadingEnds.{ComesOfLast, ReadingEnds}
 use Rattle.wl_server.specs.Server.{Seen, seen}
 use Rattle.wl_server.specs.Telling.{Core, end_deeds, part_of, reader_part}
 use Rattle.wl_server.proofs.Plain.Base.{keeps, nothing_new, of_each, other_stays, own}
@@ -63,8 +64,8 @@ module _ {T U G C : Type 0} (sends : T → Queue → Result ℕ IoFault → T �
         at None ended some = absurd (true≢false (sym some))
         at (Some reason) ended some = (dead, (reason, is ∙ ap (λ (o : Option DisconnectReason). seen_as' (s.made ++ notes_in (end_deeds {U = U} o))) ended))
 
-    handed_out : (h : Handed) → ComesOfMessage sends a h end → IsHandedOut a.table a.client h (part_of end)
-    handed_out (Request sender opcode args is_destructor created) (before, m, link, x, row, read, held_before, has, sender_is, opcode_is, numbers, destructor, holds, fit, open') = (
+    handed_out : (h : Handed) (start : ReaderState T (Core U C)) (turns : List Turn) → ComesOfLast sends receives a h start turns end → IsHandedOut a.table a.client h (part_of end)
+    handed_out (Request sender opcode args is_destructor created) start turns (earlier, es, before, split, led, (m, link, read, (x, row, held_before, has, sender_is, opcode_is, numbers, destructor, holds, fit, open'))) = (
       x,
       row,
       ap (λ (n : ℕ). held end.core.store n) number ∙ holds,
@@ -77,19 +78,24 @@ module _ {T U G C : Type 0} (sends : T → Queue → Result ℕ IoFault → T �
       where
         number : sender.number ≡ m.sender
         number = ap (λ (i : IdParts). i.number) sender_is
-    handed_out (Bind global object) comes = comes
+    handed_out (Bind global object) start turns (earlier, es, before, split, led, (m, link, read, (x, interface, version, kept, held_before, registry, args, there, named', may, of, of_interface, holds, open'))) = (
+      version,
+      of,
+      holds ∙ ap (λ (i : InterfaceId). Some (fresh_object i version object.serial None)) (sym of_interface),
+      open',
+    )
 
-    open_read : (turns : List Turn) (answer : Result Handed ActionError) (refused : Bool) (left : ℕ) → ReadingEnds sends a turns answer refused left end
+    open_read : (start : ReaderState T (Core U C)) (turns : List Turn) (answer : Result Handed ActionError) (refused : Bool) (left : ℕ) → ReadingEnds sends receives a start turns answer refused left end
         → OpenReadAs a.table a.client answer s (part_of end) t
-    open_read turns (Ok h) refused left (live, fresh, comes) = (handed_out h comes, lives_on live fresh)
-    open_read turns (Err ActionOpen) refused left so = so
-    open_read turns (Err (Io fault.WouldBlock)) refused left (why, (live, fresh, idle)) = (idle, lives_on live fresh)
-    open_read turns (Err (Io fault.OutOfMemory)) refused left (why, (live, fresh, idle)) = (idle, lives_on live fresh)
-    open_read turns (Err (Io fault.Pipe)) refused left (why, (dead, reason, idle)) = (idle, killed_once dead reason)
-    open_read turns (Err (Io fault.TooBig)) refused left (why, (dead, reason, idle)) = (idle, killed_once dead reason)
-    open_read turns (Err (Io fault.Proto)) refused left (why, (dead, reason, idle)) = (idle, killed_once dead reason)
-    open_read turns (Err (Io fault.InvalidInput)) refused left (why, (dead, reason, idle)) = (idle, killed_once dead reason)
-    open_read turns (Err (Io (fault.Other n))) refused left (why, (dead, reason, idle)) = (idle, killed_once dead reason)
+    open_read start turns (Ok h) refused left (live, fresh, comes) = (handed_out h start turns comes, lives_on live fresh)
+    open_read start turns (Err ActionOpen) refused left so = so
+    open_read start turns (Err (Io fault.WouldBlock)) refused left (why, (live, fresh, idle)) = (idle, lives_on live fresh)
+    open_read start turns (Err (Io fault.OutOfMemory)) refused left (why, (live, fresh, idle)) = (idle, lives_on live fresh)
+    open_read start turns (Err (Io fault.Pipe)) refused left (why, (dead, reason, idle)) = (idle, killed_once dead reason)
+    open_read start turns (Err (Io fault.TooBig)) refused left (why, (dead, reason, idle)) = (idle, killed_once dead reason)
+    open_read start turns (Err (Io fault.Proto)) refused left (why, (dead, reason, idle)) = (idle, killed_once dead reason)
+    open_read start turns (Err (Io fault.InvalidInput)) refused left (why, (dead, reason, idle)) = (idle, killed_once dead reason)
+    open_read start turns (Err (Io (fault.Other n))) refused left (why, (dead, reason, idle)) = (idle, killed_once dead reason)
 
   -- nothing of the part has changed, and nothing is noted
   unread : (s t : Seen T U C) (p q : Part T U C) (did : List (Deed U)) → s.part ≡ Some p → t ≡ record { part = Some q; made = s.made ++ notes_in did } → did ≡ [] → q ≡ p → t ≡ s
@@ -118,7 +124,7 @@ module _ {T U G C : Type 0} (sends : T → Queue → Result ℕ IoFault → T �
                       (
                         part_of end,
                         subst (λ (x : Result Handed ActionError). OpenReadAs a.table a.client x s (part_of end) t) (sym says)
-                            (open_read s t end t_is turns (answered out.stopped out.gave) out.refused out.left
+                            (open_read s t end t_is (reader_part p) turns (answered out.stopped out.gave) out.refused out.left
                             (reading_ends sends receives a r.turns_left p turns out end live idle reads)),
                       ),
                     )),

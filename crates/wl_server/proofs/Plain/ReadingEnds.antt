@@ -1,9 +1,11 @@
 -- How a reading ends, over its turns.
-use Rattle.std.proofs.Common.{◌≡◌, ◌⊎◌, ℕ, Bool, true, false, not, cond, eqb, ◌&&◌, List, [], ◌∷◌, ◌++◌, map, append-nil, append_assoc, Option, None, Some, is_none, is_some, Result, Ok, Err, refl, sym, ap, subst, ◌∙◌, true≢false}
+use Rattle.std.proofs.Common.{◌≡◌, ◌⊎◌, ℕ, Bool, true, false, not, cond, eqb, eqb-true, ◌&&◌, List, [], ◌∷◌, ◌++◌, map, append-nil, append_assoc, Option, None, Some, is_none, is_some, Result, Ok, Err, refl, sym, ap, subst, ◌∙◌, true≢false}
 use mathlib.Core.Logic.{inl, inr}
 use Rattle.std.specs.Prelude.{IsSome, MatchResult, ◌||◌, nat_lt}
 use Rattle.wl_wire.specs.declared.argument.Argument.{Argument}
+use Rattle.wl_wire.specs.declared.argument.Argument.TheVariants as arg
 use Rattle.wl_wire.specs.declared.argument.Token.{Token}
+use Rattle.wl_wire.specs.Argument.{WireArgument}
 use Rattle.wl_wire.specs.declared.error.IoFault.{IoFault}
 use Rattle.wl_wire.specs.declared.error.IoFault.TheVariants as fault
 use Rattle.wl_wire.specs.Message.{WireMessage}
@@ -12,7 +14,7 @@ use Rattle.wl_wire.specs.Table.{MessageRow, display_id, name_of, registry_id}
 use Rattle.wl_link.specs.declared.object.Object.{Object}
 use Rattle.wl_link.proofs.Ids.StoreLaws.{stored_here}
 use Rattle.wl_link.specs.Exchange.{Queue, Sending}
-use Rattle.wl_link.specs.Link.{LinkState, count_of, counted_answer}
+use Rattle.wl_link.specs.Link.{FilledBy, LinkState, count_of, counted_answer}
 use Rattle.wl_link.specs.Puts.{Said}
 use Rattle.wl_link.specs.Reader.{CarriesOut, Given, Gives, Handled, HandedOut, Halts, Queued, Reads, ReadsAs, Received, Turn, Unread, Verdict, came_to, given_first, put_and_gave, stops, with_link, ReaderState}
 use Rattle.wl_link.specs.Store.{held}
@@ -26,16 +28,16 @@ use Rattle.wl_server.specs.declared.reading.action.OpenAction.{OpenAction}
 use Rattle.wl_server.specs.declared.reading.action.OpenAction.TheVariants as opened
 use Rattle.wl_server.specs.Deeds.{Deed, Handed, Remembered}
 use Rattle.wl_server.specs.Deeds as deeds
-use Rattle.wl_server.specs.Errors.{since_text}
+use Rattle.wl_server.specs.Errors.{bind_text, new_id_text, since_text}
 use Rattle.wl_server.specs.Globals.{global_at, shown}
 use Rattle.wl_server.specs.Ids.{IdParts}
 use Rattle.wl_server.specs.Part.{Part, id_at}
-use Rattle.wl_server.specs.Reading.{Around, action_in, answered, binds, breaks, converted, display_request, faulted, garbled, hands_out, new_at, other_request, reads_on, registry_request, replies, request, row_in, server, stops_if, synced, with_registry}
-use Rattle.wl_server.specs.ReadingEnds.{ComesOfMessage, LastReceiveFailed, LeavesClient, ObjectsFit, ReadingEnds, StopsItself}
+use Rattle.wl_server.specs.Reading.{Around, action_in, answered, binds, binds_to, breaks, converted, display_request, faulted, garbled, hands_out, may_bind, new_at, other_request, reads_on, registry_request, replies, request, row_in, server, stops_if, synced, with_registry}
+use Rattle.wl_server.specs.ReadingEnds.{ComesOfFront, LastReceiveFailed, LeavesClient, ObjectsFit, ReadingEnds, StopsItself, TurnLeads}
 use Rattle.wl_server.specs.Requests.{Outcome, Whole, Wrong, convert, is_valid_new, made_id, made_object, start, with_made}
 use Rattle.wl_server.specs.Telling.{Core, Did, Told, deletions, done_message, introductions, objects_in, reader_part, with_objects}
 use Rattle.wl_server.specs.Telling as telling
-use Rattle.wl_server.proofs.OverRuns.Announced.RequestCases.{display_case, registry_case}
+use Rattle.wl_server.proofs.OverRuns.Announced.RequestCases.{display_case}
 use Rattle.wl_server.proofs.Plain.Arguments.{Came, converts}
 use Rattle.wl_server.proofs.Plain.Base.{none_and_some, when_false, when_true}
 
@@ -71,6 +73,10 @@ split_result : {A E : Type 0} {P : A → Type 0} {Q : E → Type 0} (r : Result 
 split_result (Ok x) p = inl (x, refl, p)
 split_result (Err e) q = inr (e, refl, q)
 
+-- the turn took a message
+abbrev TookOne : Turn → Type 0
+TookOne t = (es : List Sending) × (t ≡ Handled es)
+
 -- ---- what was given
 
 module _ {U : Type 0} where
@@ -102,33 +108,62 @@ module _ {U C : Type 0} where
   reads_of : (c : Core U C) → IsRead c → reads_on c ≡ true
   reads_of c r = ap (λ (b : Bool). not b && is_none c.action) r.live ∙ ap (λ (o : Option OpenAction). is_none o) r.idle
 
-module _ {T U G C : Type 0} (sends : T → Queue → Result ℕ IoFault → T → Type 0) (receives : T → ℕ → Result Queue IoFault → T → Type 0) (a : Around G C) where
-  -- what is answered at the end of a reading for what a message came to
-  abbrev Answers : Result Handed ActionError → ReaderState T (Core U C) → Type 0
-  Answers (Ok h) end = (end.core.is_killed ≡ false) × (end.core.ended ≡ None) × ComesOfMessage sends a h end
-  Answers (Err (Io fault.Proto)) end = (end.core.ended ≡ Some ConnectionClosed) × LeavesClient fault.Proto end.core
-  Answers (Err (Io fault.Pipe)) end = IsSome end.core.ended × LeavesClient fault.Pipe end.core
-  Answers (Err e) end = ⊥
+-- ---- a bind
 
-  answers_end : (turns : List Turn) (refused : Bool) (left : ℕ) (answer : Result Handed ActionError) (end : ReaderState T (Core U C)) → Answers answer end
-      → ReadingEnds sends a turns answer refused left end
-  answers_end turns refused left (Ok h) end so = so
-  answers_end turns refused left (Err ActionOpen) end so = absurd so
-  answers_end turns refused left (Err (Io fault.Proto)) end (is, leaves) = (inr is, leaves)
-  answers_end turns refused left (Err (Io fault.Pipe)) end (is, leaves) = (inr is, leaves)
-  answers_end turns refused left (Err (Io fault.WouldBlock)) end so = absurd so
-  answers_end turns refused left (Err (Io fault.OutOfMemory)) end so = absurd so
-  answers_end turns refused left (Err (Io fault.TooBig)) end so = absurd so
-  answers_end turns refused left (Err (Io fault.InvalidInput)) end so = absurd so
-  answers_end turns refused left (Err (Io (fault.Other n))) end so = absurd so
+module _ {U G C : Type 0} (a : Around G C) (c : Core U C) (P : Verdict (Core U C) (Told U) → Type 0) where
+  -- it holds of each bind that these arguments may ask for
+  abbrev Bound : List WireArgument → Type 0
+  Bound args =
+      (g : ℕ) (interface : List ℕ) (version n : ℕ) (kept : Object (KeptGlobal G)) → args ≡ arg.Uint g ∷ arg.Str (Some interface) ∷ arg.Uint version ∷ arg.NewId n ∷ []
+      → held a.globals.store g ≡ Some kept → may_bind a c g (Some interface) version kept ≡ true → is_valid_new (objects_in c) n ≡ true → P (binds a c g version n kept)
+
+  bound_case : P (garbled c) → ((code : ℕ) (text : List ℕ) → P (breaks a c code text)) → (args : List WireArgument) → Bound args → P (registry_request a c args)
+  bound_case garbled' breaks' (arg.Uint g ∷ arg.Str None ∷ arg.Uint version ∷ arg.NewId n ∷ []) bound = at (held a.globals.store g)
+    where
+      at : (o : Option (Object (KeptGlobal G))) → P (binds_to a c g None version n o)
+      at None = breaks' 0 _
+      at (Some kept) = breaks' 0 _
+  bound_case garbled' breaks' (arg.Uint g ∷ arg.Str (Some interface) ∷ arg.Uint version ∷ arg.NewId n ∷ []) bound = at (held a.globals.store g) refl
+    where
+      at : (o : Option (Object (KeptGlobal G))) → held a.globals.store g ≡ o → P (binds_to a c g (Some interface) version n o)
+      at None there = breaks' 0 _
+      at (Some kept) there = go (may_bind a c g (Some interface) version kept) (is_valid_new (objects_in c) n) refl refl
+        where
+          go : (b v : Bool) → may_bind a c g (Some interface) version kept ≡ b → is_valid_new (objects_in c) n ≡ v
+              → P (cond b (cond v (binds a c g version n kept) (breaks a c 0 (new_id_text n))) (breaks a c 0 (bind_text interface version g)))
+          go true true may valid = bound g interface version n kept refl there may valid
+          go true false may valid = breaks' 0 _
+          go false v may valid = breaks' 0 _
+  bound_case garbled' breaks' _ bound = garbled'
+
+module _ {T U G C : Type 0} (sends : T → Queue → Result ℕ IoFault → T → Type 0) (receives : T → ℕ → Result Queue IoFault → T → Type 0) (a : Around G C) where
+  -- what is answered at the end of a reading for what the message at the front came to in this turn
+  abbrev Answers : Turn → ReaderState T (Core U C) → Result Handed ActionError → ReaderState T (Core U C) → Type 0
+  Answers t before (Ok h) end = (end.core.is_killed ≡ false) × (end.core.ended ≡ None) × TookOne t × ComesOfFront sends a h before end
+  Answers t before (Err (Io fault.Proto)) end = (end.core.ended ≡ Some ConnectionClosed) × LeavesClient fault.Proto end.core
+  Answers t before (Err (Io fault.Pipe)) end = IsSome end.core.ended × LeavesClient fault.Pipe end.core
+  Answers t before (Err e) end = ⊥
+
+  answers_end : (t : Turn) (before : ReaderState T (Core U C)) (refused : Bool) (left : ℕ) (answer : Result Handed ActionError) (end : ReaderState T (Core U C)) → Answers t before answer end
+      → ReadingEnds sends receives a before (t ∷ []) answer refused left end
+  answers_end t before refused left (Ok h) end (live, fresh, (es, is), comes) = (live, fresh, ([], es, before, ap (λ (u : Turn). u ∷ []) is, refl, comes))
+  answers_end t before refused left (Err ActionOpen) end so = absurd so
+  answers_end t before refused left (Err (Io fault.Proto)) end (is, leaves) = (inr is, leaves)
+  answers_end t before refused left (Err (Io fault.Pipe)) end (is, leaves) = (inr is, leaves)
+  answers_end t before refused left (Err (Io fault.WouldBlock)) end so = absurd so
+  answers_end t before refused left (Err (Io fault.OutOfMemory)) end so = absurd so
+  answers_end t before refused left (Err (Io fault.TooBig)) end so = absurd so
+  answers_end t before refused left (Err (Io fault.InvalidInput)) end so = absurd so
+  answers_end t before refused left (Err (Io (fault.Other n))) end so = absurd so
 
   -- what a verdict came to: the client is read on, and nothing is answered; or this is answered
-  abbrev Turned : List (Given (Told U)) → ReaderState T (Core U C) → Type 0
-  Turned first mid = (IsRead mid.core × Silent first) ⊎ ((reads_on mid.core ≡ false) × Answers (action_in first) mid)
+  abbrev Turned : Turn → ReaderState T (Core U C) → List (Given (Told U)) → ReaderState T (Core U C) → Type 0
+  Turned t before first mid = (IsRead mid.core × Silent first) ⊎ ((reads_on mid.core ≡ false) × Answers t before (action_in first) mid)
 
-  abbrev Turns : Verdict (Core U C) (Told U) → LinkState T → Type 0
-  Turns v link =
-      (es : List Sending) (first : List (Given (Told U))) (lacked : Bool) (mid : ReaderState T (Core U C)) → CarriesOut sends (server a) v link es first lacked mid → Turned first mid
+  abbrev Turns : (List Sending → Turn) → ReaderState T (Core U C) → Verdict (Core U C) (Told U) → LinkState T → Type 0
+  Turns turn before v link =
+      (es : List Sending) (first : List (Given (Told U))) (lacked : Bool) (mid : ReaderState T (Core U C)) → CarriesOut sends (server a) v link es first lacked mid
+      → Turned (turn es) before first mid
 
   -- a killed client is read no more
   not_read : (c : Core U C) → c.is_killed ≡ true → reads_on c ≡ false
@@ -149,13 +184,13 @@ module _ {T U G C : Type 0} (sends : T → Queue → Result ℕ IoFault → T �
   garbled_came c r (Err fault.InvalidInput) = (refl, reason_if c.is_killed c.ended ConnectionClosed r.live, r.idle)
   garbled_came c r (Err (fault.Other n)) = (refl, reason_if c.is_killed c.ended ConnectionClosed r.live, r.idle)
 
-  garbled_turns : (c : Core U C) → IsRead c → (link : LinkState T) → Turns (garbled c) link
-  garbled_turns c r link es first lacked mid (inr (asks, memory, none, gave, is)) = absurd (true≢false (sym asks))
-  garbled_turns c r link es first lacked mid (inl (es1, es2, put, wrote, l, lacks, puts, flushed, is, core, gave, refused)) =
+  garbled_turns : (turn : List Sending → Turn) (before : ReaderState T (Core U C)) (c : Core U C) → IsRead c → (link : LinkState T) → Turns turn before (garbled c) link
+  garbled_turns turn before c r link es first lacked mid (inr (asks, memory, none, gave, is)) = absurd (true≢false (sym asks))
+  garbled_turns turn before c r link es first lacked mid (inl (es1, es2, put, wrote, l, lacks, puts, flushed, is, core, gave, refused)) =
       let (dead, reason, idle) = subst (Closed c) (sym core) (garbled_came c r wrote) in
       inr (
         not_read mid.core dead,
-        subst (λ (x : Result Handed ActionError). Answers x mid) (sym (ap action_in gave ∙ after_puts put _)) (reason, (dead, some_is mid.core.ended ConnectionClosed reason, idle)),
+        subst (λ (x : Result Handed ActionError). Answers (turn es) before x mid) (sym (ap action_in gave ∙ after_puts put _)) (reason, (dead, some_is mid.core.ended ConnectionClosed reason, idle)),
       )
 
   -- ---- a client that broke the protocol
@@ -173,16 +208,17 @@ module _ {T U G C : Type 0} (sends : T → Queue → Result ℕ IoFault → T �
   breaks_came m code text r (Err fault.InvalidInput) = (refl, some_is _ _ (reason_if m.is_killed m.ended _ r.live), r.idle)
   breaks_came m code text r (Err (fault.Other n)) = (refl, some_is _ _ (reason_if m.is_killed m.ended _ r.live), r.idle)
 
-  ended_turned : (first : List (Given (Told U))) (mid : ReaderState T (Core U C)) → action_in first ≡ Err (Io fault.Pipe) → Ended mid.core → Turned first mid
-  ended_turned first mid is (dead, reason, idle) =
-      inr (not_read mid.core dead, subst (λ (x : Result Handed ActionError). Answers x mid) (sym is) (reason, (dead, reason, idle)))
+  ended_turned : (t : Turn) (before : ReaderState T (Core U C)) (first : List (Given (Told U))) (mid : ReaderState T (Core U C)) → action_in first ≡ Err (Io fault.Pipe)
+      → Ended mid.core → Turned t before first mid
+  ended_turned t before first mid is (dead, reason, idle) =
+      inr (not_read mid.core dead, subst (λ (x : Result Handed ActionError). Answers t before x mid) (sym is) (reason, (dead, reason, idle)))
 
-  breaks_turns : (m : Core U C) (code : ℕ) (text : List ℕ) → IsRead m → (link : LinkState T) → Turns (breaks a m code text) link
-  breaks_turns m code text r link es first lacked mid (inr (asks, memory, none, gave, is)) =
-      ended_turned first mid (ap action_in gave)
+  breaks_turns : (turn : List Sending → Turn) (before : ReaderState T (Core U C)) (m : Core U C) (code : ℕ) (text : List ℕ) → IsRead m → (link : LinkState T) → Turns turn before (breaks a m code text) link
+  breaks_turns turn before m code text r link es first lacked mid (inr (asks, memory, none, gave, is)) =
+      ended_turned (turn es) before first mid (ap action_in gave)
       (subst (λ (s : ReaderState T (Core U C)). Ended s.core) (sym is) (refl, some_is _ _ (reason_if m.is_killed m.ended ConnectionClosed r.live), r.idle))
-  breaks_turns m code text r link es first lacked mid (inl (es1, es2, put, wrote, l, lacks, puts, flushed, is, core, gave, refused)) =
-      ended_turned first mid (ap action_in gave ∙ after_puts put _) (subst Ended (sym core) (breaks_came m code text r wrote))
+  breaks_turns turn before m code text r link es first lacked mid (inl (es1, es2, put, wrote, l, lacks, puts, flushed, is, core, gave, refused)) =
+      ended_turned (turn es) before first mid (ap action_in gave ∙ after_puts put _) (subst Ended (sym core) (breaks_came m code text r wrote))
 
   -- ---- a request that the server answers
 
@@ -208,9 +244,10 @@ module _ {T U G C : Type 0} (sends : T → Queue → Result ℕ IoFault → T �
   handed_both [] y = refl
   handed_both (e ∷ x) y = ap (λ (es : List (Given (Told U))). HandedOut e ∷ es) (handed_both x y)
 
-  replies_turns : (m : Core U C) (puts : List Said) (did : List (Deed U)) → Mute did → IsRead m → (link : LinkState T) → Turns (replies m puts did) link
-  replies_turns m puts did mute r link es first lacked mid (inr (asks, memory, none, gave, is)) = absurd (true≢false (sym asks))
-  replies_turns m puts did mute r link es first lacked mid (inl (es1, es2, put, wrote, l, lacks, put_out, flushed, is, core, gave, refused)) =
+  replies_turns : (turn : List Sending → Turn) (before : ReaderState T (Core U C)) (m : Core U C) (puts : List Said) (did : List (Deed U)) → Mute did → IsRead m → (link : LinkState T)
+      → Turns turn before (replies m puts did) link
+  replies_turns turn before m puts did mute r link es first lacked mid (inr (asks, memory, none, gave, is)) = absurd (true≢false (sym asks))
+  replies_turns turn before m puts did mute r link es first lacked mid (inl (es1, es2, put, wrote, l, lacks, put_out, flushed, is, core, gave, refused)) =
       elim (replies_came m puts did r wrote) [
         | inl same ↦
             let at_m : mid.core ≡ m = core ∙ same in
@@ -222,99 +259,127 @@ module _ {T U G C : Type 0} (sends : T → Queue → Result ℕ IoFault → T �
             let dead : (came_to (server a) (replies m puts did) wrote).is_killed ≡ true = ended.0 in
             let given : first ≡ put_and_gave put (map Did did ++ telling.Stops fault.Pipe ∷ []) =
             gave ∙ ap (λ (b : Bool). put_and_gave put (map Did did ++ stops_when b)) dead in
-            ended_turned first mid
+            ended_turned (turn es) before first mid
             (ap action_in given ∙ after_puts put _ ∙ ap action_in (handed_both (map Did did) (telling.Stops fault.Pipe ∷ [])) ∙ mute (HandedOut (telling.Stops fault.Pipe) ∷ []))
             (subst Ended (sym core) ended)
       ]
 
   -- ---- an action
 
-  hands_out_turns : (m : Core U C) (action : OpenAction) (h : Handed) → m.is_killed ≡ false → m.ended ≡ None
-      → ((link : LinkState T) → ComesOfMessage sends a h (record { core = record m { action = Some action }; link = link })) → (link : LinkState T) → Turns (hands_out m action h) link
-  hands_out_turns m action h live fresh comes link es first lacked mid (inr (asks, memory, none, gave, is)) = absurd (true≢false (sym asks))
-  hands_out_turns m action h live fresh comes link es first lacked mid (inl (es1, es2, put, wrote, l, lacks, (none, nothing, ok, same), flushed, is, core, gave, refused)) =
+  hands_out_turns : (before : ReaderState T (Core U C)) (m : Core U C) (action : OpenAction) (h : Handed) → m.is_killed ≡ false → m.ended ≡ None
+      → ((link : LinkState T) → ComesOfFront sends a h before (record { core = record m { action = Some action }; link = link })) → (link : LinkState T)
+      → Turns Handled before (hands_out m action h) link
+  hands_out_turns before m action h live fresh comes link es first lacked mid (inr (asks, memory, none, gave, is)) = absurd (true≢false (sym asks))
+  hands_out_turns before m action h live fresh comes link es first lacked mid (inl (es1, es2, put, wrote, l, lacks, (none, nothing, ok, same), flushed, is, core, gave, refused)) =
       let at_m : mid.core ≡ record m { action = Some action } = core ∙ ap (λ (w : Result (Unit {0}) IoFault). came_to (server a) (hands_out m action h) w) ok in
       inr (
         ap reads_on at_m ∙ ap (λ (b : Bool). not b && false) live,
-        subst (λ (x : Result Handed ActionError). Answers x mid) (sym (ap action_in gave ∙ after_puts put _))
-            (subst (λ (e : Core U C). (e.is_killed ≡ false) × (e.ended ≡ None) × ComesOfMessage sends a h (record { core = e; link = mid.link })) (sym at_m) (live, fresh, comes mid.link)),
+        subst (λ (x : Result Handed ActionError). Answers (Handled es) before x mid) (sym (ap action_in gave ∙ after_puts put _))
+            (subst (λ (e : Core U C). (e.is_killed ≡ false) × (e.ended ≡ None) × TookOne (Handled es) × ComesOfFront sends a h before (record { core = e; link = mid.link }))
+            (sym at_m) (live, fresh, (es, refl), comes mid.link)),
       )
 
   module _ (c : Core U C) (r : IsRead c) (from link : LinkState T) (m : WireMessage)
       (read : ReadsAs sends (server a) (record { core = c; link = from }) (Ok m) link) where
+    abbrev here : ReaderState T (Core U C)
+    here = record { core = c; link = from }
+
     reads_over : (objects : _) → IsRead (with_objects c objects)
     reads_over objects = record { live = r.live; idle = r.idle; fresh = r.fresh }
 
     converted_turns : (receiver : Object (Kept U)) (row : MessageRow) → held c.store m.sender ≡ Some receiver → request_row a.table receiver.interface m.opcode ≡ Some row
-        → (o : Outcome U) → Came a.client receiver.version (start (objects_in c) row) [] m.args o → Turns (converted a c m receiver row o) link
-    converted_turns receiver row holds has (Wrong w objects) came = breaks_turns (with_objects c objects) 0 _ (reads_over objects) link
+        → (o : Outcome U) → Came a.client receiver.version (start (objects_in c) row) [] m.args o → Turns Handled here (converted a c m receiver row o) link
+    converted_turns receiver row holds has (Wrong w objects) came = breaks_turns Handled here (with_objects c objects) 0 _ (reads_over objects) link
     converted_turns receiver row holds has (Whole d args) (more, is, numbers, grown, fit) =
-        hands_out_turns (with_objects c d.objects) (opened.Request id row.is_destructor d.created) (deeds.Request id m.opcode args row.is_destructor d.created) r.live r.fresh
+        hands_out_turns here (with_objects c d.objects) (opened.Request id row.is_destructor d.created) (deeds.Request id m.opcode args row.is_destructor d.created) r.live r.fresh
         (λ l. (
-          record { core = c; link = from },
           m,
           link,
-          receiver,
-          row,
           read,
-          holds,
-          has,
-          refl,
-          refl,
-          ap (map _) is ∙ numbers,
-          refl,
-          grown m.sender receiver holds,
-          subst (λ (xs : List (Argument IdParts Token)). ObjectsFit a.client d.objects.store row.signature row.arg_interfaces xs) (sym is) fit,
-          refl,
+          (
+            receiver,
+            row,
+            holds,
+            has,
+            refl,
+            refl,
+            ap (map _) is ∙ numbers,
+            refl,
+            grown m.sender receiver holds,
+            subst (λ (xs : List (Argument IdParts Token)). ObjectsFit a.client d.objects.store row.signature row.arg_interfaces xs) (sym is) fit,
+            refl,
+          ),
         )) link
       where
         id : IdParts
         id = id_at a.client m.sender receiver
 
     other_turns : (receiver : Object (Kept U)) (row : MessageRow) → held c.store m.sender ≡ Some receiver → request_row a.table receiver.interface m.opcode ≡ Some row
-        → Turns (other_request a c m receiver row) link
+        → Turns Handled here (other_request a c m receiver row) link
     other_turns receiver row holds has = go (nat_lt receiver.version row.since)
       where
-        go : (b : Bool) → Turns (cond b
+        go : (b : Bool) → Turns Handled here (cond b
             (breaks a c 1 (since_text m.opcode receiver.version row.since (name_of a.table receiver.interface.0) m.sender))
             (converted a c m receiver row (convert a.client receiver.version (start (objects_in c) row) [] m.args))) link
-        go true = breaks_turns c 1 _ r link
+        go true = breaks_turns Handled here c 1 _ r link
         go false =
             converted_turns receiver row holds has (convert a.client receiver.version (start (objects_in c) row) [] m.args)
             (converts a.client receiver.version (start (objects_in c) row) [] m.args)
 
-    binds_turns : (g version n : ℕ) (x : Object (KeptGlobal G)) → is_valid_new (objects_in c) n ≡ true → Turns (binds a c g version n x) link
-    binds_turns g version n x valid =
-        hands_out_turns (with_objects c (with_made (objects_in c) n x.interface version)) (opened.Bind id) (deeds.Bind (global_at g x) id) r.live r.fresh (λ l. (version, refl, stored_here c.store n (made_object (objects_in c) x.interface version) n refl, refl)) link
+    binds_turns : (x : Object (Kept U)) → held c.store m.sender ≡ Some x → eqb x.interface.0 registry_id.0 ≡ true → Bound a c (λ v. Turns Handled here v link) m.args
+    binds_turns x holds registry g interface version n kept args there may valid =
+        hands_out_turns here (with_objects c (with_made (objects_in c) n kept.interface version)) (opened.Bind id) (deeds.Bind (global_at g kept) id) r.live r.fresh
+        (λ l. (
+          m,
+          link,
+          read,
+          (
+            x,
+            interface,
+            version,
+            kept,
+            holds,
+            eqb-true x.interface.0 registry_id.0 registry,
+            args,
+            there,
+            refl,
+            may,
+            refl,
+            refl,
+            stored_here c.store n (made_object (objects_in c) kept.interface version) n refl,
+            refl,
+          ),
+        )) link
       where
         id : IdParts
-        id = made_id a.client (objects_in c) n x.interface
+        id = made_id a.client (objects_in c) n kept.interface
 
-    request_turns : Turns ((server a).handles c m) link
+    request_turns : Turns Handled here ((server a).handles c m) link
     request_turns = whole (held c.store m.sender) (row_in a.table (held c.store m.sender) m.opcode) refl refl
       where
         P : Verdict (Core U C) (Told U) → Type 0
-        P v = Turns v link
+        P v = Turns Handled here v link
 
         whole : (receiver : Option (Object (Kept U))) (row : Option MessageRow) → held c.store m.sender ≡ receiver → row_in a.table receiver m.opcode ≡ row
             → P (request a c m receiver row)
-        whole None row holds has = garbled_turns c r link
-        whole (Some receiver) None holds has = garbled_turns c r link
-        whole (Some receiver) (Some row) holds has = go (eqb receiver.interface.0 display_id.0) (eqb receiver.interface.0 registry_id.0)
+        whole None row holds has = garbled_turns Handled here c r link
+        whole (Some receiver) None holds has = garbled_turns Handled here c r link
+        whole (Some receiver) (Some row) holds has = go (eqb receiver.interface.0 display_id.0) (eqb receiver.interface.0 registry_id.0) refl
           where
-            go : (b t : Bool) → P (cond b (display_request a c m.opcode m.args) (cond t (registry_request a c m.args) (other_request a c m receiver row)))
-            go true t =
-                display_case a c P (garbled_turns c r link) (λ code text. breaks_turns c code text r link)
-                (λ n valid. replies_turns (synced a c n) (done_message (new_at a c n) ∷ deletions n) [] (λ rest. refl) (record { live = r.live; idle = r.idle; fresh = r.fresh }) link)
-                (λ n valid. replies_turns (with_registry a c n) (introductions a.table (new_at a c n) 0 (shown a.views a.globals a.client c.client_data)) (Remembered (new_at a c n) ∷ []) (λ rest. refl) (record { live = r.live; idle = r.idle; fresh = r.fresh }) link) m.opcode m.args
-            go false true = registry_case a c P (garbled_turns c r link) (λ code text. breaks_turns c code text r link) binds_turns m.args
-            go false false = other_turns receiver row holds has
+            go : (b t : Bool) → eqb receiver.interface.0 registry_id.0 ≡ t → P (cond b (display_request a c m.opcode m.args) (cond t (registry_request a c m.args) (other_request a c m receiver row)))
+            go true t registry =
+                display_case a c P (garbled_turns Handled here c r link) (λ code text. breaks_turns Handled here c code text r link)
+                (λ n valid. replies_turns Handled here (synced a c n) (done_message (new_at a c n) ∷ deletions n) [] (λ rest. refl) (record { live = r.live; idle = r.idle; fresh = r.fresh }) link)
+                (λ n valid. replies_turns Handled here (with_registry a c n) (introductions a.table (new_at a c n) 0 (shown a.views a.globals a.client c.client_data)) (Remembered (new_at a c n) ∷ []) (λ rest. refl) (record { live = r.live; idle = r.idle; fresh = r.fresh }) link) m.opcode m.args
+            go false true registry =
+                bound_case a c P (garbled_turns Handled here c r link) (λ code text. breaks_turns Handled here c code text r link) m.args (binds_turns receiver holds registry)
+            go false false registry = other_turns receiver row holds has
 
   -- ---- over the turns
 
   itself_later : (f : IoFault) (lacked refused : Bool) (left : ℕ) (end : ReaderState T (Core U C)) → StopsItself sends a f refused left end → StopsItself sends a f (lacked || refused) left end
   itself_later fault.WouldBlock lacked refused left end so = so
-  itself_later fault.OutOfMemory lacked refused left end so = or_true lacked refused so
+  itself_later fault.OutOfMemory lacked refused left end (so, asks) = (or_true lacked refused so, asks)
   itself_later fault.Proto lacked refused left end so = so
   itself_later fault.Pipe lacked refused left end so = so
   itself_later fault.TooBig lacked refused left end so = so
@@ -323,22 +388,25 @@ module _ {T U G C : Type 0} (sends : T → Queue → Result ℕ IoFault → T �
 
   -- another turn stands before
   ends_later : (t : Turn) (turns : List Turn) (answer : Result Handed ActionError) (lacked refused : Bool) (left : ℕ) (end : ReaderState T (Core U C))
-      → ReadingEnds sends a turns answer refused left end → ReadingEnds sends a (t ∷ turns) answer (lacked || refused) left end
-  ends_later t turns (Ok h) lacked refused left end so = so
-  ends_later t turns (Err ActionOpen) lacked refused left end so = so
-  ends_later t turns (Err (Io f)) lacked refused left end (inl last, leaves) = (inl (later_turn f t turns last), leaves)
-  ends_later t turns (Err (Io f)) lacked refused left end (inr so, leaves) = (inr (itself_later f lacked refused left end so), leaves)
+      → (start mid : ReaderState T (Core U C)) → TurnLeads sends receives a t start mid
+      → ReadingEnds sends receives a mid turns answer refused left end → ReadingEnds sends receives a start (t ∷ turns) answer (lacked || refused) left end
+  ends_later t turns (Ok h) lacked refused left end start mid leads (live, fresh, (earlier, es, before, split, led, comes)) =
+      (live, fresh, (t ∷ earlier, es, before, ap (λ (us : List Turn). t ∷ us) split, (mid, leads, led), comes))
+  ends_later t turns (Err ActionOpen) lacked refused left end start mid leads so = so
+  ends_later t turns (Err (Io f)) lacked refused left end start mid leads (inl last, leaves) = (inl (later_turn f t turns last), leaves)
+  ends_later t turns (Err (Io f)) lacked refused left end start mid leads (inr so, leaves) = (inr (itself_later f lacked refused left end so), leaves)
 
   still_answered : (stopped : Option IoFault) (first gave : List (Given (Told U))) → Silent first → answered stopped (first ++ gave) ≡ answered stopped gave
   still_answered None first gave silent = silent gave
   still_answered (Some f) first gave silent = refl
 
-  abbrev pub Done : List Turn → Gives (Told U) → ReaderState T (Core U C) → Type 0
-  Done turns out end = ReadingEnds sends a turns (answered out.stopped out.gave) out.refused out.left end
+  abbrev pub Done : ReaderState T (Core U C) → List Turn → Gives (Told U) → ReaderState T (Core U C) → Type 0
+  Done start turns out end = ReadingEnds sends receives a start turns (answered out.stopped out.gave) out.refused out.left end
 
-  done_at : (turns : List Turn) (out out' : Gives (Told U)) (end end' : ReaderState T (Core U C)) → out ≡ out' → end ≡ end' → Done turns out' end' → Done turns out end
-  done_at turns out out' end end' is same so =
-      subst (λ (o : Gives (Told U)). Done turns o end) (sym is) (subst (λ (e : ReaderState T (Core U C)). Done turns out' e) (sym same) so)
+  done_at : (start : ReaderState T (Core U C)) (turns : List Turn) (out out' : Gives (Told U)) (end end' : ReaderState T (Core U C)) → out ≡ out' → end ≡ end' → Done start turns out' end'
+      → Done start turns out end
+  done_at start turns out out' end end' is same so =
+      subst (λ (o : Gives (Told U)). Done start turns o end) (sym is) (subst (λ (e : ReaderState T (Core U C)). Done start turns out' e) (sym same) so)
 
   faulted_leaves : (c : Core U C) → IsRead c → (f : IoFault) → LeavesClient f (faulted c f)
   faulted_leaves c r fault.WouldBlock = (r.live, r.fresh, r.idle)
@@ -350,54 +418,59 @@ module _ {T U G C : Type 0} (sends : T → Queue → Result ℕ IoFault → T �
   faulted_leaves c r (fault.Other n) = (refl, some_is _ _ (reason_if c.is_killed c.ended ConnectionClosed r.live), r.idle)
 
   -- the reading stops here
-  halts_end : (left : ℕ) (before : ReaderState T (Core U C)) (out : Gives (Told U)) → IsRead before.core → Halts sends (server a) left before out → Done [] out before
-  halts_end left before out r (inl (lacks, none, is)) = done_at [] out _ before before is refl (inr (none, lacks), (r.live, r.fresh, r.idle))
-  halts_end left before out r (inr (inl (asks, is))) = done_at [] out _ before before is refl (inr refl, (r.live, r.fresh, r.idle))
-  halts_end left before out r (inr (inr (lacks, (n, one, is)))) = done_at [] out _ before before is refl (inr refl, (r.live, r.fresh, r.idle))
+  halts_end : (left : ℕ) (before : ReaderState T (Core U C)) (out : Gives (Told U)) → IsRead before.core → Halts sends (server a) left before out → Done before [] out before
+  halts_end left before out r (inl (lacks, none, is)) = done_at before [] out _ before before is refl (inr (none, lacks), (r.live, r.fresh, r.idle))
+  halts_end left before out r (inr (inl (asks, is))) = done_at before [] out _ before before is refl (inr (refl, inl asks), (r.live, r.fresh, r.idle))
+  halts_end left before out r (inr (inr (lacks, (n, one, is)))) = done_at before [] out _ before before is refl (inr (refl, inr lacks), (r.live, r.fresh, r.idle))
 
   -- an action or a reason is there, and nothing more is read
-  turned_end : (t : Turn) (left : ℕ) (mid end : ReaderState T (Core U C)) (turns : List Turn) (first : List (Given (Told U))) (lacked : Bool) (rest : Gives (Told U))
-      → reads_on mid.core ≡ false → Answers (action_in first) mid → Reads sends (server a) receives left mid turns rest end → Done (t ∷ turns) (given_first first lacked rest) end
-  turned_end t left mid end [] first lacked rest off so (same, stops') =
+  turned_end : (t : Turn) (start : ReaderState T (Core U C)) (left : ℕ) (mid end : ReaderState T (Core U C)) (turns : List Turn) (first : List (Given (Told U))) (lacked : Bool) (rest : Gives (Told U))
+      → reads_on mid.core ≡ false → Answers t start (action_in first) mid → Reads sends (server a) receives left mid turns rest end
+      → Done start (t ∷ turns) (given_first first lacked rest) end
+  turned_end t start left mid end [] first lacked rest off so (same, stops') =
       let none : rest ≡ stops None false left = when_false _ (reads_on mid.core) off stops' in
-      subst (λ (o : Gives (Told U)). Done (t ∷ []) (given_first first lacked o) end) (sym none)
-      (subst (λ (e : ReaderState T (Core U C)). Done (t ∷ []) (given_first first lacked (stops None false left)) e) (sym same)
-      (subst (λ (g : List (Given (Told U))). ReadingEnds sends a (t ∷ []) (action_in g) (lacked || false) left mid) (sym (append-nil first))
-      (answers_end (t ∷ []) (lacked || false) left (action_in first) mid so)))
-  turned_end t left mid end (Received r ∷ turns) first lacked rest off so h = absurd (true≢false (sym h.0 ∙ off))
-  turned_end t left mid end (Handled es ∷ turns) first lacked rest off so h = absurd (true≢false (sym h.0 ∙ off))
-  turned_end t left mid end (Unread es ∷ turns) first lacked rest off so h = absurd (true≢false (sym h.0 ∙ off))
+      subst (λ (o : Gives (Told U)). Done start (t ∷ []) (given_first first lacked o) end) (sym none)
+      (subst (λ (e : ReaderState T (Core U C)). Done start (t ∷ []) (given_first first lacked (stops None false left)) e) (sym same)
+      (subst (λ (g : List (Given (Told U))). ReadingEnds sends receives a start (t ∷ []) (action_in g) (lacked || false) left mid) (sym (append-nil first))
+      (answers_end t start (lacked || false) left (action_in first) mid so)))
+  turned_end t start left mid end (Received r ∷ turns) first lacked rest off so h = absurd (true≢false (sym h.0 ∙ off))
+  turned_end t start left mid end (Handled es ∷ turns) first lacked rest off so h = absurd (true≢false (sym h.0 ∙ off))
+  turned_end t start left mid end (Unread es ∷ turns) first lacked rest off so h = absurd (true≢false (sym h.0 ∙ off))
 
-  then_ends : (t : Turn) (left : ℕ) (mid end : ReaderState T (Core U C)) (turns : List Turn) (first : List (Given (Told U))) (lacked : Bool) (rest out : Gives (Told U))
-      → out ≡ given_first first lacked rest → Turned first mid → Reads sends (server a) receives left mid turns rest end → (IsRead mid.core → Done turns rest end) → Done (t ∷ turns) out end
-  then_ends t left mid end turns first lacked rest out split (inl (r, silent)) reads more =
-      done_at (t ∷ turns) out (given_first first lacked rest) end end split refl
-      (subst (λ (x : Result Handed ActionError). ReadingEnds sends a (t ∷ turns) x (lacked || rest.refused) rest.left end) (sym (still_answered rest.stopped first rest.gave silent))
-      (ends_later t turns (answered rest.stopped rest.gave) lacked rest.refused rest.left end (more r)))
-  then_ends t left mid end turns first lacked rest out split (inr (off, so)) reads more =
-      done_at (t ∷ turns) out (given_first first lacked rest) end end split refl (turned_end t left mid end turns first lacked rest off so reads)
+  then_ends : (t : Turn) (start : ReaderState T (Core U C)) (left : ℕ) (mid end : ReaderState T (Core U C)) (turns : List Turn) (first : List (Given (Told U))) (lacked : Bool) (rest out : Gives (Told U))
+      → out ≡ given_first first lacked rest → TurnLeads sends receives a t start mid → Turned t start first mid → Reads sends (server a) receives left mid turns rest end
+      → (IsRead mid.core → Done mid turns rest end) → Done start (t ∷ turns) out end
+  then_ends t start left mid end turns first lacked rest out split leads (inl (r, silent)) reads more =
+      done_at start (t ∷ turns) out (given_first first lacked rest) end end split refl
+      (subst (λ (x : Result Handed ActionError). ReadingEnds sends receives a start (t ∷ turns) x (lacked || rest.refused) rest.left end) (sym (still_answered rest.stopped first rest.gave silent))
+      (ends_later t turns (answered rest.stopped rest.gave) lacked rest.refused rest.left end start mid leads (more r)))
+  then_ends t start left mid end turns first lacked rest out split leads (inr (off, so)) reads more =
+      done_at start (t ∷ turns) out (given_first first lacked rest) end end split refl (turned_end t start left mid end turns first lacked rest off so reads)
 
   pub read_ends : (left : ℕ) (before : ReaderState T (Core U C)) (turns : List Turn) (out : Gives (Told U)) (end : ReaderState T (Core U C)) → IsRead before.core
-      → Reads sends (server a) receives left before turns out end → Done turns out end
+      → Reads sends (server a) receives left before turns out end → Done before turns out end
   read_ends left before [] out end r (same, stops') =
-      done_at [] out out end before refl same (halts_end left before out r (when_true _ (reads_on before.core) (reads_of before.core r) stops'))
+      done_at before [] out out end before refl same (halts_end left before out r (when_true _ (reads_on before.core) (reads_of before.core r) stops'))
   read_ends left before (Received got ∷ turns) out end r (on, lacks, (n, is, (link, filled, room, h))) =
       elim (split_result (counted_answer (count_of got)) h) [
-        | inl (u, ok, more) ↦ ends_later (Received got) turns (answered out.stopped out.gave) false out.refused out.left end (read_ends n (with_link before link) turns out end r more)
+        | inl (u, ok, more) ↦
+            ends_later (Received got) turns (answered out.stopped out.gave) false out.refused out.left end before (with_link before link)
+            (link, subst (λ (c : Result (Unit {0}) IoFault). FilledBy receives before.link got c link) ok filled, refl)
+            (read_ends n (with_link before link) turns out end r more)
         | inr (f, failed, (over, stopped, same)) ↦
-            subst (λ (ts : List Turn). Done (Received got ∷ ts) out end) (sym over)
-            (done_at (Received got ∷ []) out _ end _ stopped same (inl (got, refl, failed), faulted_leaves before.core r f))
+            subst (λ (ts : List Turn). Done before (Received got ∷ ts) out end) (sym over)
+            (done_at before (Received got ∷ []) out _ end _ stopped same (inl (got, refl, failed), faulted_leaves before.core r f))
       ]
   read_ends left before (Handled es ∷ turns) out end r (on, (v, link, first, lacked, mid, rest, (m, read, is), by, split, more)) =
-      then_ends (Handled es) left mid end turns first lacked rest out split
+      then_ends (Handled es) before left mid end turns first lacked rest out split (v, link, first, lacked, (m, read, is), by)
       (request_turns before.core r before.link link m read es first lacked mid
       (subst (λ (w : Verdict (Core U C) (Told U)). CarriesOut sends (server a) w link es first lacked mid) is by)) more (λ r'. read_ends left mid turns rest end r' more)
   read_ends left before (Unread es ∷ turns) out end r (on, (v, link, first, lacked, mid, rest, (read, same, is), by, split, more)) =
-      then_ends (Unread es) left mid end turns first lacked rest out split
-      (garbled_turns before.core r link es first lacked mid
+      then_ends (Unread es) before left mid end turns first lacked rest out split (v, link, first, lacked, (read, same, is), by)
+      (garbled_turns Unread before before.core r link es first lacked mid
       (subst (λ (w : Verdict (Core U C) (Told U)). CarriesOut sends (server a) w link es first lacked mid) is by)) more (λ r'. read_ends left mid turns rest end r' more)
 
   -- a reading of a live client without an open action
   pub reading_ends : (left : ℕ) (before : Part T U C) (turns : List Turn) (out : Gives (Told U)) (end : ReaderState T (Core U C)) → before.is_killed ≡ false → before.action ≡ None
-      → Reads sends (server a) receives left (reader_part before) turns out end → Done turns out end
+      → Reads sends (server a) receives left (reader_part before) turns out end → Done (reader_part before) turns out end
   reading_ends left before turns out end live idle reads = read_ends left (reader_part before) turns out end (record { live = live; idle = idle; fresh = refl }) reads

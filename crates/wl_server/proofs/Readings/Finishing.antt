@@ -29,7 +29,7 @@ use Rattle.wl_server.specs.Objects.{unless_refused, without}
 use Rattle.wl_server.specs.Ids.{ClientParts, IdParts}
 use Rattle.wl_server.specs.Part.{end_note, id_at, id_of, named, note_of_end, registries_without, serial_of, with_link, with_user_data, Part}
 use Rattle.wl_server.specs.Inside.Puts.{Puts}
-use Rattle.wl_server.specs.Server.{Stored}
+use Rattle.wl_server.specs.Server.{NoteTimes, Stored, no_times, untimed}
 use Rattle.wl_server.specs.Telling.{Core, Did, Kills, killed, closed_down, core_of, deletions, end_deeds, part_of, speaker}
 use Rattle.wl_server.proofs.CallSteps.Doing.{does_quietly}
 use Rattle.wl_server.proofs.Readings.Notes.{tells_carried}
@@ -71,9 +71,9 @@ module _ {U : Type 0} where
   ended_named store sender x false is = absurd (none_some is)
 
 module _ {T U C : Type 0} (sends : T → Queue → Result ℕ IoFault → T → Type 0) (client : ClientParts) (s : Stored T U C) (sender : IdParts) (is_destructor : Bool) where
-  abbrev changed : LinkState T → Store (Kept U) → List Id → List (Happening U) → Stored T U C
-  changed link store registries made =
-      record { serial = s.serial; part = record s.part { link = link; store = store; registries = registries }; made = made }
+  abbrev changed : NoteTimes → LinkState T → Store (Kept U) → List Id → List (Happening U) → Stored T U C
+  changed times link store registries made =
+      record { serial = s.serial; part = record s.part { link = link; store = store; registries = registries }; made = made; times = times }
 
   -- of a sender that the request ends and that is kept
   where_kept : (x : Object (Kept U)) (answer : Result (Result (Unit {0}) IoFault) OutOfMemory) (after : Stored T U C) → Some x ≡ ended_by s.part.store sender is_destructor
@@ -84,19 +84,19 @@ module _ {T U C : Type 0} (sends : T → Queue → Result ℕ IoFault → T → 
 
   -- it was taken out at its number, and noted
   pub ends_taken : (x : Object (Kept U)) (n : ℕ) (wrote : Result (Unit {0}) IoFault) (link : LinkState T) (store : Store (Kept U)) (registries : List Id)
-      (made same_made : List (Happening U)) → Some x ≡ ended_by s.part.store sender is_destructor → n ≡ sender.number → Puts sends s.part.link (deletions n) wrote link
+      (made same_made : List (Happening U)) (times : NoteTimes) → Some x ≡ ended_by s.part.store sender is_destructor → n ≡ sender.number → Puts sends s.part.link (deletions n) wrote link
       → false ≡ lacks_memory wrote → store ≡ removed s.part.store n
       → ((y : Object (Kept U)) → held s.part.store n ≡ Some y
       → (registries ≡ registries_without s.part.registries n y) × (made ≡ same_made ++ note_of_end client n y))
-      → same_made ≡ s.made → EndsSender sends client s sender is_destructor (Ok wrote) (changed link store registries made)
-  ends_taken x n wrote link store registries made same_made ended-is n-is puts lacks store-is left same-is =
+      → same_made ≡ s.made → EndsSender sends client s sender is_destructor (Ok wrote) (changed times link store registries made)
+  ends_taken x n wrote link store registries made same_made times ended-is n-is puts lacks store-is left same-is =
       let out = left x (ap (held s.part.store) n-is ∙ named_held s.part.store sender x (ended_named s.part.store sender x is_destructor (sym ended-is))) in
-      where_kept x (Ok wrote) (changed link store registries made) ended-is (
+      where_kept x (Ok wrote) (changed times link store registries made) ended-is (
         subst (λ (k : ℕ). Puts sends s.part.link (deletions k) wrote link) n-is puts,
         sym lacks,
-        ap (λ (t : Store (Kept U)). changed link t registries made) (store-is ∙ ap (removed s.part.store) n-is)
-            ∙ ap (λ (r : List Id). changed link (removed s.part.store sender.number) r made) (out.0 ∙ ap (λ (k : ℕ). registries_without s.part.registries k x) n-is)
-            ∙ ap (changed link (removed s.part.store sender.number) (registries_without s.part.registries sender.number x))
+        ap (λ (t : Store (Kept U)). changed no_times link t registries made) (store-is ∙ ap (removed s.part.store) n-is)
+            ∙ ap (λ (r : List Id). changed no_times link (removed s.part.store sender.number) r made) (out.0 ∙ ap (λ (k : ℕ). registries_without s.part.registries k x) n-is)
+            ∙ ap (changed no_times link (removed s.part.store sender.number) (registries_without s.part.registries sender.number x))
             (out.1 ∙ ap (λ (notes : List (Happening U)). notes ++ note_of_end client n x) same-is ∙ ap (λ (k : ℕ). s.made ++ note_of_end client k x) n-is),
       )
 
@@ -195,17 +195,17 @@ inner wrote same = cc
 module _ {T U C : Type 0} (sends : T → Queue → Result ℕ IoFault → T → Type 0) (client : ClientParts) (s : Stored T U C) (sender : IdParts) (is_destructor : Bool)
     (created : Option IdParts) (u : Option U) where
   abbrev noting : Part T U C → List (Happening U) → Stored T U C
-  noting p notes = record { serial = s.serial; part = p; made = s.made ++ notes }
+  noting p notes = record { serial = s.serial; part = p; made = s.made ++ notes; times = no_times }
 
   -- the action is finished
   abbrev finished : Stored T U C → Stored T U C
-  finished mid = record mid { part = part_finished mid.part created u }
+  finished mid = record (untimed mid) { part = part_finished mid.part created u }
 
   abbrev ReachedBy : Option (Object (Kept U)) → Bool → Stored T U C → Type 0
   ReachedBy o refused after = IsCarried sends (ends client (core_of s.part) sender o created u) s refused after
 
   abbrev with_notes : Part T U C → List (Happening U) → Stored T U C
-  with_notes p made = record { serial = s.serial; part = p; made = made }
+  with_notes p made = record { serial = s.serial; part = p; made = made; times = no_times }
 
   -- nothing is noted
   quietly : (p : Part T U C) (notes : List (Happening U)) → notes ≡ [] → with_notes p s.made ≡ noting p (notes ++ [])
@@ -218,7 +218,7 @@ module _ {T U C : Type 0} (sends : T → Queue → Result ℕ IoFault → T → 
     core_of s.part,
     s.part.link,
     inr (asks, refl, refl, refl),
-    same ∙ quietly s.part (told_notes (ending client sender x (core_of s.part))) (none_where_kept client sender x (core_of s.part) x kept),
+    ap untimed same ∙ quietly s.part (told_notes (ending client sender x (core_of s.part))) (none_where_kept client sender x (core_of s.part) x kept),
   )
   stays x e after kept (inr (wrote, lacks, puts, is)) = (
     core_of s.part,
@@ -233,12 +233,12 @@ module _ {T U C : Type 0} (sends : T → Queue → Result ℕ IoFault → T → 
       sym (ap (came_to speaker (ends client (core_of s.part) sender (Some x) created u)) (wanted_memory wrote lacks)),
       sym (ap (λ (b : Bool). b || false) lacks),
     ),
-    is ∙ quietly (with_link s.part after.part.link) (told_notes (ending client sender x (core_of s.part))) (none_where_kept client sender x (core_of s.part) x kept),
+    ap untimed is ∙ quietly (with_link s.part after.part.link) (told_notes (ending client sender x (core_of s.part))) (none_where_kept client sender x (core_of s.part) x kept),
   )
 
   -- it leaves
   leaves : (x : Object (Kept U)) (wrote : Result (Unit {0}) IoFault) (mid after : Stored T U C) → EndsObject sends client s sender x (Ok wrote) mid
-      → MatchResult wrote (λ _. after ≡ finished mid) (λ _. Does (finished mid) (λ p did q. Kills p ConnectionClosed did q) after)
+      → MatchResult wrote (λ _. untimed after ≡ finished mid) (λ _. Does (finished mid) (λ p did q. Kills p ConnectionClosed did q) after)
       → ReachedBy (Some x) false after
   leaves x wrote mid after (puts, lacks, is) tells = (
     closing core wrote,
@@ -270,8 +270,8 @@ module _ {T U C : Type 0} (sends : T → Queue → Result ℕ IoFault → T → 
       finished-is : finished mid ≡ gone
       finished-is = ap finished is
 
-      at : (wrote : Result (Unit {0}) IoFault) → MatchResult wrote (λ _. after ≡ finished mid) (λ _. Does (finished mid) (λ p did q. Kills p ConnectionClosed did q) after)
-          → after ≡ noting (part_of (record { core = closing core wrote; link = mid.part.link })) (note ++ notes_in (end_deeds (closing core wrote).ended))
+      at : (wrote : Result (Unit {0}) IoFault) → MatchResult wrote (λ _. untimed after ≡ finished mid) (λ _. Does (finished mid) (λ p did q. Kills p ConnectionClosed did q) after)
+          → untimed after ≡ noting (part_of (record { core = closing core wrote; link = mid.part.link })) (note ++ notes_in (end_deeds (closing core wrote).ended))
       at (Ok v) same = same ∙ finished-is ∙ ap (noting gone.part) (sym (append-nil note))
       at (Err f) kills =
           kills_is (finished mid) after ConnectionClosed kills ∙ ap (λ (t : Stored T U C). ended t ConnectionClosed) finished-is
@@ -289,23 +289,28 @@ module _ {T U C : Type 0} (sends : T → Queue → Result ℕ IoFault → T → 
       at (Some x) is h = stays x e after (ended_named s.part.store sender x is_destructor is) h
 
   pub ends_done : (wrote : Result (Unit {0}) IoFault) (mid after : Stored T U C) → EndsSender sends client s sender is_destructor (Ok wrote) mid
-      → MatchResult wrote (λ _. after ≡ finished mid) (λ _. Does (finished mid) (λ p did q. Kills p ConnectionClosed did q) after)
+      → MatchResult wrote (λ _. untimed after ≡ finished mid) (λ _. Does (finished mid) (λ p did q. Kills p ConnectionClosed did q) after)
       → ReachedBy (ended_by s.part.store sender is_destructor) false after
   ends_done wrote mid after = at (ended_by s.part.store sender is_destructor) refl
     where
       at : (o : Option (Object (Kept U))) → ended_by s.part.store sender is_destructor ≡ o
           → MatchOption o ((◌≡◌ {A = Result (Result (Unit {0}) IoFault) OutOfMemory} (Ok wrote) (Ok (Ok tt))) × (mid ≡ s)) (λ x. EndsObject sends client s sender x (Ok wrote) mid)
-          → MatchResult wrote (λ _. after ≡ finished mid) (λ _. Does (finished mid) (λ p did q. Kills p ConnectionClosed did q) after)
+          → MatchResult wrote (λ _. untimed after ≡ finished mid) (λ _. Does (finished mid) (λ p did q. Kills p ConnectionClosed did q) after)
           → ReachedBy o false after
       at None is h tells = (
         core_finished (core_of s.part) created u,
         s.part.link,
         inl (Ok tt, s.part.link, [], false, puts_none sends s.part.link, (refl, refl, refl), refl, refl),
-        subst (λ (w : Result (Unit {0}) IoFault). MatchResult w (λ _. after ≡ finished mid) (λ _. Does (finished mid) (λ p did q. Kills p ConnectionClosed did q) after))
+        subst (λ (w : Result (Unit {0}) IoFault). MatchResult w (λ _. untimed after ≡ finished mid) (λ _. Does (finished mid) (λ p did q. Kills p ConnectionClosed did q) after))
             (inner wrote h.0) tells
             ∙ ap finished h.1 ∙ quietly (part_finished s.part created u) [] refl,
       )
       at (Some x) is h tells = leaves x wrote mid after h tells
+
+  -- a request that is no destructor ends nothing
+  pub ends_none : (after : Stored T U C) → is_destructor ≡ false → untimed after ≡ finished s → ReachedBy (ended_by s.part.store sender is_destructor) false after
+  ends_none after plain same =
+      ends_done (Ok tt) s after (subst (λ (b : Bool). EndsSender sends client s sender b (Ok (Ok tt)) s) (sym plain) (refl, refl)) same
 
   -- ---- a request that is finished with these data, or refused
 

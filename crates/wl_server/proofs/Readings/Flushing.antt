@@ -9,13 +9,13 @@ use Rattle.wl_server.specs.Inside.Client.{Does}
 use Rattle.wl_server.specs.Deeds.{Deed}
 use Rattle.wl_server.specs.Felt.{FlushedTo, FlushesLive}
 use Rattle.wl_server.specs.Part.{Part}
-use Rattle.wl_server.specs.Server.{Stored}
+use Rattle.wl_server.specs.Server.{Stored, no_times}
 
 module _ {T U C : Type 0} where
   -- what leaves the client as it is
   pub does_nothing : (s : Stored T U C) (R : Part T U C → List (Deed U) → Part T U C → Type 0) → R s.part [] s.part → Does s R s
   does_nothing s R stays =
-      ([], s.part, stays, ap (λ (made : List (Happening U)). let x : Stored T U C = record { serial = s.serial; part = s.part; made = made } in x) (sym (append-nil s.made)))
+      ([], s.part, stays, ap (λ (made : List (Happening U)). let x : Stored T U C = record { serial = s.serial; part = s.part; made = made; times = no_times } in x) (sym (append-nil s.made)))
 
   module _ (sends : T → Queue → Result ℕ IoFault → T → Type 0) where
     pub killed_stays : (s : Stored T U C) → s.part.is_killed ≡ true → Does s (λ p did q. FlushesLive sends p false did q) s

@@ -25,7 +25,7 @@ use Rattle.wl_server.specs.Ids.{IdParts}
 use Rattle.wl_server.specs.Part.{display_of, with_link}
 use Rattle.wl_server.specs.Inside.Puts.{Puts}
 use Rattle.wl_server.specs.Reading.{Around, action_in, breaks, garbled, hands_out, replies, stops_if}
-use Rattle.wl_server.specs.Server.{Stored}
+use Rattle.wl_server.specs.Server.{Stored, no_times, untimed}
 use Rattle.wl_server.specs.Telling.{Core, Did, Kills, Stops, Told, closed_down, core_of, deeds_in, speaker}
 use Rattle.wl_server.specs.Inside.ReadingLoop.{Acts, Ended, WentOn, HasNoNote, IsHandled, Live, MessageResult, message_result}
 use Rattle.wl_server.proofs.ObjectCalls.Posting.{kills_is}
@@ -67,11 +67,11 @@ and_false false = refl
 
 -- the client over another link
 abbrev pub over_link : {T U C : Type 0} → Stored T U C → LinkState T → Stored T U C
-over_link s link = record { serial = s.serial; part = with_link s.part link; made = s.made }
+over_link s link = record s { part = with_link s.part link }
 
 -- no note is made
-made_end : {T U C : Type 0} (s : Stored T U C) → s ≡ record { serial = s.serial; part = s.part; made = s.made ++ [] }
-made_end s = ap (λ (m : List (Happening _)). let x : Stored _ _ _ = record { serial = s.serial; part = s.part; made = m } in x) (sym (append-nil s.made))
+made_end : {T U C : Type 0} (s : Stored T U C) → untimed s ≡ record { serial = s.serial; part = s.part; made = s.made ++ []; times = no_times }
+made_end s = ap (λ (m : List (Happening _)). let x : Stored _ _ _ = record { serial = s.serial; part = s.part; made = m; times = no_times } in x) (sym (append-nil s.made))
 
 killed_reads : (killed unopened : Bool) → killed ≡ true → not killed && unopened ≡ false
 killed_reads killed unopened is = ap (λ (b : Bool). not b && unopened) is
@@ -184,7 +184,7 @@ module _ {T U C : Type 0} (sends : T → Queue → Result ℕ IoFault → T → 
           λ rest. behind_puts_and put (map HandedOut events) rest ∙ quiet.silent (stops_if (core_of s.part)) rest
               ∙ ap (λ (l : List (Told U)). action_in (map HandedOut l ++ rest)) stops,
         );
-        after_is = same ∙ made_end (over_link s link);
+        after_is = ap untimed same ∙ made_end (over_link s link);
       }
 
   pub replied_failed : (s after : Stored T U C) (link : LinkState T) (puts : List Said) (did : List (Deed U)) (f : IoFault) → AreQuiet did

@@ -17,7 +17,7 @@ use Rattle.wl_server.specs.Felt.{Hears, announcements, news}
 use Rattle.wl_server.specs.Globals.{Shown}
 use Rattle.wl_server.specs.Part.{Part, with_link}
 use Rattle.wl_server.specs.Inside.Puts.{Puts}
-use Rattle.wl_server.specs.Server.{Stored}
+use Rattle.wl_server.specs.Server.{Stored, no_times, untimed}
 use Rattle.wl_server.specs.Telling.{Core, Kills, Tells, closed_down, core_of, end_deeds, part_of, speaker, tells}
 use Rattle.wl_server.proofs.Readings.Flushing.{does_nothing}
 use Rattle.wl_server.proofs.Readings.Notes.{tells_put}
@@ -34,11 +34,11 @@ or_false false = refl
 
 module _ {T U C : Type 0} (sends : T → Queue → Result ℕ IoFault → T → Type 0) where
   abbrev over_link : Stored T U C → LinkState T → Stored T U C
-  over_link s link = record { serial = s.serial; part = with_link s.part link; made = s.made }
+  over_link s link = record s { part = with_link s.part link }
 
   -- a killed client is told nothing
   pub killed_hears : (s : Stored T U C) (messages : List Said) → s.part.is_killed ≡ true
-      → (did : List (Deed U)) × (q : Part T U C) × Hears sends s.part messages false did q × (s ≡ record { serial = s.serial; part = q; made = s.made ++ notes_in did })
+      → (did : List (Deed U)) × (q : Part T U C) × Hears sends s.part messages false did q × (untimed s ≡ record { serial = s.serial; part = q; made = s.made ++ notes_in did; times = no_times })
   killed_hears s messages killed = does_nothing s (λ p did q. Hears sends s.part messages false did q) (at_true _ s.part.is_killed killed (refl, refl, refl))
 
   -- the verdict that these messages are told was carried out
@@ -47,24 +47,24 @@ module _ {T U C : Type 0} (sends : T → Queue → Result ℕ IoFault → T → 
 
   as_heard : (s after : Stored T U C) (messages : List Said) (lacked lacked' : Bool) (did : List (Deed U)) (p q : Part T U C) (notes : List (Happening U))
       → s.part.is_killed ≡ false → Told s messages lacked did p → lacked' ≡ lacked → q ≡ p → notes_in did ≡ notes
-      → after ≡ record { serial = s.serial; part = q; made = s.made ++ notes }
-      → (did : List (Deed U)) × (q : Part T U C) × Hears sends s.part messages lacked' did q × (after ≡ record { serial = s.serial; part = q; made = s.made ++ notes_in did })
+      → untimed after ≡ record { serial = s.serial; part = q; made = s.made ++ notes; times = no_times }
+      → (did : List (Deed U)) × (q : Part T U C) × Hears sends s.part messages lacked' did q × (untimed after ≡ record { serial = s.serial; part = q; made = s.made ++ notes_in did; times = no_times })
   as_heard s after messages lacked lacked' did p q notes live tells is part noted becomes = (
     did,
     p,
     at_false _ s.part.is_killed live (subst (λ (l : Bool). Told s messages l did p) (sym is) tells),
-    becomes ∙ ap (λ (p : Part T U C). let x : Stored T U C = record { serial = s.serial; part = p; made = s.made ++ notes } in x) part
-        ∙ ap (λ (n : List (Happening U)). let x : Stored T U C = record { serial = s.serial; part = p; made = s.made ++ n } in x) (sym noted),
+    becomes ∙ ap (λ (p : Part T U C). let x : Stored T U C = record { serial = s.serial; part = p; made = s.made ++ notes; times = no_times } in x) part
+        ∙ ap (λ (n : List (Happening U)). let x : Stored T U C = record { serial = s.serial; part = p; made = s.made ++ n; times = no_times } in x) (sym noted),
   )
 
   pub live_hears : (s after : Stored T U C) (messages : List Said) (wrote : Result (Unit {0}) IoFault) (link : LinkState T) (lacked : Bool)
       → s.part.is_killed ≡ false → Puts sends s.part.link messages wrote link → lacked ≡ lacks_memory wrote
       → MatchResult wrote (λ _. after ≡ over_link s link) (λ _. Does (over_link s link) (λ p did q. Kills p ConnectionClosed did q) after)
-      → (did : List (Deed U)) × (q : Part T U C) × Hears sends s.part messages lacked did q × (after ≡ record { serial = s.serial; part = q; made = s.made ++ notes_in did })
+      → (did : List (Deed U)) × (q : Part T U C) × Hears sends s.part messages lacked did q × (untimed after ≡ record { serial = s.serial; part = q; made = s.made ++ notes_in did; times = no_times })
   live_hears s after messages (Ok u) link lacked live puts is told =
       let (did, tells, notes) = tells_put sends (tells (core_of s.part) messages) s.part.link link link (Ok u) [] false puts (refl, refl, refl) in
       as_heard s after messages false lacked did (with_link s.part link) (with_link s.part link) [] live tells is refl notes
-      (told ∙ ap (λ (n : List (Happening U)). let x : Stored T U C = record { serial = s.serial; part = with_link s.part link; made = n } in x) (sym (append-nil s.made)))
+      (ap untimed told ∙ ap (λ (n : List (Happening U)). let x : Stored T U C = record { serial = s.serial; part = with_link s.part link; made = n; times = no_times } in x) (sym (append-nil s.made)))
   live_hears s after messages (Err f) link lacked live puts is (killing, q, (deeds, part), becomes) =
       let (did, tells, notes) = tells_put sends (tells (core_of s.part) messages) s.part.link link link (Err f) [] false puts (refl, refl, refl) in
       let core = came_failed (core_of s.part) messages f in
@@ -77,7 +77,7 @@ module _ {T U C : Type 0} (sends : T → Queue → Result ℕ IoFault → T → 
   abbrev HearsNew : List InterfaceRow → Bool → Shown → Stored T U C → Bool → Stored T U C → Type 0
   HearsNew table visible g s lacked after =
       (did : List (Deed U)) × (q : Part T U C) × Hears sends s.part (news table s.part visible g) lacked did q
-      × (after ≡ record { serial = s.serial; part = q; made = s.made ++ notes_in did })
+      × (untimed after ≡ record { serial = s.serial; part = q; made = s.made ++ notes_in did; times = no_times })
 
   pub unseen_hears : (table : List InterfaceRow) (visible : Bool) (g : Shown) (s : Stored T U C) → s.part.is_killed ≡ false → visible ≡ false
       → HearsNew table visible g s false s

@@ -12,7 +12,7 @@ pub use Rattle.wl_server.specs.Inside.Carried.{told_notes}
 use Rattle.wl_server.specs.Deeds.{Acted, Came, Deed, Left, Noted, NoteTaken, Put, Remembered, Sent, notes_in}
 use Rattle.wl_server.specs.Inside.Puts.{Puts}
 use Rattle.wl_server.specs.Part.{Part}
-use Rattle.wl_server.specs.Server.{Stored}
+use Rattle.wl_server.specs.Server.{Stored, no_times, untimed}
 use Rattle.wl_server.specs.Telling.{Core, Tells, Told, deeds_in, deeds_of, end_deeds, part_of, speaker}
 
 -- ---- the notes among deeds
@@ -74,7 +74,7 @@ module _ {U C : Type 0} where
 
   module _ {T : Type 0} (sends : T → Queue → Result ℕ IoFault → T → Type 0) (v : Verdict (Core U C) (Told U)) (s after : Stored T U C) (refused : Bool) where
     abbrev noted_at : Part T U C → List (Happening U) → Stored T U C
-    noted_at q notes = record { serial = s.serial; part = q; made = s.made ++ notes }
+    noted_at q notes = record { serial = s.serial; part = q; made = s.made ++ notes; times = no_times }
 
     abbrev came_at : Core U C → LinkState T → Stored T U C
     came_at core link = noted_at (part_of (record { core = core; link = link })) (told_notes (v.events core) ++ notes_in (end_deeds core.ended))
@@ -82,7 +82,7 @@ module _ {U C : Type 0} where
     -- a verdict that was carried out over a client is told to it
     pub tells_carried : IsCarried sends v s refused after
         → (did : List (Deed U)) × (q : Part T U C) × Tells sends v s.part.link refused did q
-        × (after ≡ record { serial = s.serial; part = q; made = s.made ++ notes_in did })
+        × (untimed after ≡ record { serial = s.serial; part = q; made = s.made ++ notes_in did; times = no_times })
     tells_carried (core, link, inl (wrote, mid, others, lacked, puts, flushes, core-is, refused-is), is) =
         let t = tells_put sends v s.part.link mid link wrote others lacked puts flushes in (
           t.0,

@@ -36,7 +36,7 @@ use Rattle.wl_server.specs.Inside.Responses.{TookRequest, core_with, response_to
 use Rattle.wl_server.specs.Deeds.{Deed, Handed, Sent, notes_in}
 use Rattle.wl_server.specs.Part.{Part}
 use Rattle.wl_server.specs.Reading.{Around, action_in, NextAction, ReadsNone, ReadsTo, answered, exchanges_in, faulted, read_on, reads_on, request, request_to, row_asks, row_in, server}
-use Rattle.wl_server.specs.Server.{Stored}
+use Rattle.wl_server.specs.Server.{Stored, no_times, untimed}
 use Rattle.wl_server.specs.Telling.{Core, Kills, Told, core_of, deeds_in, deeds_of, end_deeds, part_of, reader_part}
 use Rattle.wl_server.specs.Inside.ReadingLoop.{Acts, Ended, EndsAs, Fills, ReadsOn, WentOn, HasNoNote, IsHandled, IsSilent, LacksIn, LacksMore, Live, NotTaken, MessageResult, HandlesMessage, answer_of, counted, linked, refused_of, stored_as}
 use Rattle.wl_server.proofs.Readings.Handling.{from_there}
@@ -87,8 +87,8 @@ module _ {T U C : Type 0} where
       ap (λ (o : Option DisconnectReason). let p : ReaderState T (Core U C) = record { core = record end.core { ended = o }; link = end.link } in p) (sym is)
 
   -- a client that lives on is as it was stored, with that part
-  stored_live : (s : Stored T U C) (p : Part T U C) → record { serial = s.serial; part = p; made = s.made } ≡ stored_as s (reader_part p)
-  stored_live s p = ap (λ (m : List (Happening U)). let x : Stored T U C = record { serial = s.serial; part = p; made = m } in x) (sym (append-nil s.made))
+  stored_live : (s : Stored T U C) (p : Part T U C) → record { serial = s.serial; part = p; made = s.made; times = no_times } ≡ stored_as s (reader_part p)
+  stored_live s p = ap (λ (m : List (Happening U)). let x : Stored T U C = record { serial = s.serial; part = p; made = m; times = no_times } in x) (sym (append-nil s.made))
 
 module _ {T U G C : Type 0} (sends : T → Queue → Result ℕ IoFault → T → Type 0) (receives : T → ℕ → Result Queue IoFault → T → Type 0) (a : Around G C) where
   -- ---- joining
@@ -156,7 +156,7 @@ module _ {T U G C : Type 0} (sends : T → Queue → Result ℕ IoFault → T �
         (left : r'.turns_left ≡ r.turns_left) (read : (es : List Sending) → r'.read ≡ counted r.read (handled_in (t es ∷ []))) where
       ends_so : (answer : Result Handed NoAction) (gave : List (Given (Told U))) (refused : Bool) (end : ReaderState T (Core U C)) (es : List Sending) (after : Stored T U C)
           → CarriesOut sends (server a) v link es gave refused end → reads_on end.core ≡ false → answer_of answer ≡ action_in gave → refused_of answer ≡ refused
-          → HasNoNote gave → after ≡ stored_as s end → EndsAs sends receives a s r answer after r'
+          → HasNoNote gave → untimed after ≡ stored_as s end → EndsAs sends receives a s r answer after r'
       ends_so answer gave refused end es after carried off says refuses none is =
           let rest : Gives (Told U) = stops None false r.turns_left in
           record {
@@ -174,7 +174,7 @@ module _ {T U G C : Type 0} (sends : T → Queue → Result ℕ IoFault → T �
 
       goes_so : (gave : List (Given (Told U))) (refused : Bool) (end : ReaderState T (Core U C)) (es : List Sending) (after : Stored T U C)
           → CarriesOut sends (server a) v link es gave refused end → refused ≡ false → end.core.ended ≡ None → end.core.is_killed ≡ false → end.core.action ≡ None → IsSilent gave
-          → HasNoNote gave → after ≡ stored_as s end → ReadsOn sends receives a s r after r'
+          → HasNoNote gave → untimed after ≡ stored_as s end → ReadsOn sends receives a s r after r'
       goes_so gave refused end es after carried calm unended alive unopened silent none is =
           record {
             first = t es ∷ [];
@@ -197,7 +197,7 @@ module _ {T U G C : Type 0} (sends : T → Queue → Result ℕ IoFault → T �
               (subst (λ (p : ReaderState T (Core U C)). Reads sends (server a) receives r'.turns_left p turns rest last) same reads)
 
       shorter : (gave : List (Given (Told U))) (refused : Bool) (end : ReaderState T (Core U C)) (es : List Sending) (after : Stored T U C)
-          → CarriesOut sends (server a) v link es gave refused end → after ≡ stored_as s end → length link.incoming.bytes < length s.part.link.incoming.bytes
+          → CarriesOut sends (server a) v link es gave refused end → untimed after ≡ stored_as s end → length link.incoming.bytes < length s.part.link.incoming.bytes
           → length after.part.link.incoming.bytes < length s.part.link.incoming.bytes
       shorter gave refused end es after carried is fewer =
           let kept = carries_stays sends (server a) v link end es gave refused carried in
@@ -287,6 +287,7 @@ module _ {T U G C : Type 0} (sends : T → Queue → Result ℕ IoFault → T �
     serial = s.serial;
     part = record s.part { link = link; store = objects.map.store; last_serial = objects.last_serial; registries = objects.registries.items };
     made = s.made;
+    times = s.times;
   }
 
   known : (m : WireMessage) (row : MessageRow) (o : Option (Object (Kept U))) → row_in a.table o m.opcode ≡ Some row → (x : Object (Kept U)) × (o ≡ Some x)
@@ -327,7 +328,7 @@ module _ {T U G C : Type 0} (sends : T → Queue → Result ℕ IoFault → T �
 
     -- a receive after which it goes on
     pub fills_goes : (after : Stored T U C) → Fills receives s None after → ReadsOn sends receives a s r after q
-    fills_goes after (inr (impossible, same), finds, is) = absurd (never impossible)
+    fills_goes after (inr (impossible, same, asks), finds, is) = absurd (never impossible)
       where
         never : ◌≡◌ {A = Result (Unit {0}) IoFault} (Ok tt) (Err fault.OutOfMemory) → ⊥
         never e = cc
@@ -391,14 +392,14 @@ module _ {T U G C : Type 0} (sends : T → Queue → Result ℕ IoFault → T �
           no_note = refl;
           after_is = is;
         }
-    fills_ends end after (link, inr (failed, same), finds, refused, is) =
+    fills_ends end after (link, inr (failed, same, asks), finds, refused, is) =
         let memory : end.fault ≡ fault.OutOfMemory = memory_is end.fault failed in
         let out : Gives (Told U) = stops (Some fault.OutOfMemory) true q.turns_left in
         record {
           turns = [];
           out = out;
           end = reader_part s.part;
-          reads = (refl, at_true (out ≡ stops None false r.turns_left) (reads_on (core_of s.part)) (live_reads s.part live) (inr (inr (lacks, (q.turns_left, left, refl)))));
+          reads = (refl, at_true (out ≡ stops None false r.turns_left) (reads_on (core_of s.part)) (live_reads s.part live) (inr (inr ((lacks, asks), (q.turns_left, left, refl)))));
           answer_is = ap (λ (f : IoFault). let r : Result Handed ActionError = Err (Io f) in r) memory;
           refused_is = refused ∙ ap (λ (f : IoFault). lacks_memory (Err f)) memory;
           left = refl;
@@ -477,20 +478,20 @@ module _ {T U G C : Type 0} (sends : T → Queue → Result ℕ IoFault → T �
         did,
         part_of e.end,
         next_live (answer_of answer) (refused_of answer) did (part_of e.end) live reads,
-        e.after_is ∙ ap (λ (l : List (Happening U)). let x : Stored T U C = record { serial = s.serial; part = part_of e.end; made = s.made ++ l } in x) (sym notes),
+        e.after_is ∙ ap (λ (l : List (Happening U)). let x : Stored T U C = record { serial = s.serial; part = part_of e.end; made = s.made ++ l; times = no_times } in x) (sym notes),
       )
 
   abbrev same_as : List (Happening U) → Stored T U C
-  same_as made = record { serial = s.serial; part = s.part; made = made }
+  same_as made = record { serial = s.serial; part = s.part; made = made; times = no_times }
 
   -- nothing is read
   pub open_done : r' ≡ r → after ≡ s → is_some s.part.action ≡ true → NextDoes (Err ActionOpen) false
   open_done left same some =
-      ([], s.part, next_open (Err ActionOpen) false [] s.part some (refl, left, refl, refl, refl), same ∙ ap same_as (sym (append-nil s.made)))
+      ([], s.part, next_open (Err ActionOpen) false [] s.part some (refl, left, refl, refl, refl), ap untimed same ∙ ap same_as (sym (append-nil s.made)))
 
   pub killed_done : r' ≡ r → after ≡ s → is_some s.part.action ≡ false → s.part.is_killed ≡ true → NextDoes (Err (Io fault.Pipe)) false
   killed_done left same none dead =
-      ([], s.part, next_killed (Err (Io fault.Pipe)) false [] s.part none dead (refl, left, refl, refl, refl), same ∙ ap same_as (sym (append-nil s.made)))
+      ([], s.part, next_killed (Err (Io fault.Pipe)) false [] s.part none dead (refl, left, refl, refl, refl), ap untimed same ∙ ap same_as (sym (append-nil s.made)))
 
 -- a fault after which more may come
 pub fault_stays : {T U C : Type 0} (receives : T → ℕ → Result Queue IoFault → T → Type 0) (s : Stored T U C) (link : LinkState T) (f : IoFault)

@@ -13,7 +13,7 @@ use Rattle.wl_server.specs.Finish.{FinishesBind, FinishesOpen, FinishesOpenBind,
 use Rattle.wl_server.specs.Inside.Finishing.{part_finished}
 use Rattle.wl_server.specs.Ids.{ClientParts, IdParts}
 use Rattle.wl_server.specs.Part.{Part}
-use Rattle.wl_server.specs.Server.{Stored}
+use Rattle.wl_server.specs.Server.{Stored, no_times, untimed}
 use Rattle.wl_server.proofs.CallSteps.Doing.{does_quietly}
 use Rattle.wl_server.proofs.Readings.Finishing.{where_none, where_some}
 
@@ -74,6 +74,6 @@ module _ {T U C : Type 0} (s : Stored T U C) (u : U) where
     [],
     part_finished s.part (Some object) (Some u),
     is_open s u (Ok tt) false (λ a did q. FinishesOpenBind s.part a u (Ok tt) false did q) [] (part_finished s.part (Some object) (Some u)) (opened.Bind object) is (refl, refl, refl, refl),
-    part_is ∙ ap (λ (made : List (Happening U)). let x : Stored T U C = record { serial = s.serial; part = part_finished s.part (Some object) (Some u); made = made } in x)
+    ap untimed part_is ∙ ap (λ (made : List (Happening U)). let x : Stored T U C = record { serial = s.serial; part = part_finished s.part (Some object) (Some u); made = made; times = no_times } in x)
         (sym (append-nil s.made)),
   )

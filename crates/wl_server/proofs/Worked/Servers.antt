@@ -33,7 +33,7 @@ use Rattle.wl_server.specs.Part.{Part}
 use Rattle.wl_server.specs.PartStep.{Asked, Call, PartStep, World}
 use Rattle.wl_server.specs.Reading.{new_reading}
 use Rattle.wl_server.specs.Runs.{Own, mine}
-use Rattle.wl_server.specs.Server.{Seen, Stored, notes_of}
+use Rattle.wl_server.specs.Server.{Seen, Stored, no_times, notes_of}
 use Rattle.wl_server.specs.Steps.{Entry, IsLeastFree, lacks_growth, offer_after}
 use Rattle.wl_server.proofs.Worked.Messages.{client, id_in, other, quad_id, table}
 
@@ -91,7 +91,7 @@ notes_of_the_other = refl
 
 module _ (p : Part ℕ ℕ Bool) where
   abbrev stored : ℕ → Bool → Option (Stored ℕ ℕ Bool)
-  stored serial killed = Some (record { serial = serial; part = record p { is_killed = killed }; made = [] })
+  stored serial killed = Some (record { serial = serial; part = record p { is_killed = killed }; made = []; times = no_times })
 
   -- a killed client is stored, and is not among the live ones
   live_clients_by_slot : live_from 0 (stored 1 true ∷ None ∷ stored 2 false ∷ stored 3 false ∷ [])

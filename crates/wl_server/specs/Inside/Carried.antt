@@ -8,7 +8,7 @@ use Rattle.wl_link.specs.Reader.{HandedOut, Verdict, came_to}
 use Rattle.wl_server.specs.declared.notes.Happening.{Happening}
 use Rattle.wl_server.specs.Deeds.{notes_in}
 use Rattle.wl_server.specs.Inside.Puts.{Puts}
-use Rattle.wl_server.specs.Server.{Stored}
+use Rattle.wl_server.specs.Server.{Stored, no_times, untimed}
 use Rattle.wl_server.specs.Telling.{Core, Told, deeds_in, end_deeds, part_of, speaker}
 
 -- the notes among what is handed out
@@ -32,8 +32,9 @@ module _ {T U C : Type 0} (sends : T → Queue → Result ℕ IoFault → T → 
   IsCarried v before refused after =
       (core : Core U C) × (link : LinkState T)
       × (Put v before.part.link refused core link ⊎ Starved v before.part.link refused core link)
-      × (after ≡ record {
+      × (untimed after ≡ record {
         serial = before.serial;
         part = part_of (record { core = core; link = link });
         made = before.made ++ (told_notes (v.events core) ++ notes_in (end_deeds core.ended));
+        times = no_times;
       })

@@ -6,6 +6,7 @@ use Rattle.wl_server.specs.declared.notes.Note.{Note}
 use Rattle.wl_server.specs.Inside.Gathering.{AllLeft, Gathers}
 use Rattle.wl_server.specs.Ids.{ClientParts}
 use Rattle.wl_server.specs.Inside.Leaving.{FlushesKilled, all_staying, collected, ends_at, given_at}
+use Rattle.wl_server.specs.Inside.NoteOrder.{IsInOrder}
 use Rattle.wl_server.specs.Inside.Places.{AllFeel}
 use Rattle.wl_server.specs.Server.{Stored}
 
@@ -18,6 +19,7 @@ pub record CleansUp {T U C : Type 0} (sends : T → Queue → Result ℕ IoFault
   pub flushes : AllFeel (λ id p lacked did q. FlushesKilled sends p lacked did q) refused (length clients) clients flushed
   pub gathers : Gathers true flushed notes left told
   pub all : AllLeft true left
+  pub in_order : IsInOrder true clients notes told
   pub stay : clients' ≡ all_staying left
   pub noted : notes' ≡ told ++ collected ends_at 0 left
   pub gave : given ≡ collected given_at 0 left

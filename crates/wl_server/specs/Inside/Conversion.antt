@@ -2,6 +2,7 @@
 use Rattle.std.specs.Prelude.{◌≡◌, ◌≢◌, ℕ, true, false, List, [], ◌∷◌, Option, None, Some, Result, Ok, Err}
 use Rattle.std.specs.List.{list_any}
 use Rattle.wl_wire.specs.declared.argument.Argument.{Argument}
+use Rattle.wl_wire.specs.declared.argument.Argument.TheVariants as arg
 use Rattle.wl_wire.specs.declared.argument.ArgumentType.{ArgumentType}
 use Rattle.wl_wire.specs.declared.argument.Token.{Token}
 use Rattle.wl_wire.specs.declared.interface.InterfaceId.{InterfaceId}
@@ -13,7 +14,7 @@ use Rattle.wl_server.specs.declared.objects.ClientObjects.{ClientObjects}
 use Rattle.wl_server.specs.declared.objects.Kept.{Kept}
 use Rattle.wl_server.specs.declared.reading.response.RequestFault.{RequestFault}
 use Rattle.wl_server.specs.Ids.{ClientParts, IdParts}
-use Rattle.wl_server.specs.Requests.{Converting, Outcome, Whole, Wrong, convert_one, is_valid_new, kinds_after, made_id, with_made, with_new_argument}
+use Rattle.wl_server.specs.Requests.{Converting, Outcome, Whole, Wrong, convert, is_valid_new, kinds_after, made_id, with_made, with_new_argument}
 
 -- the argument is of the next type
 abbrev pub IsNextKind : List ArgumentType → WireArgument → Type 0
@@ -45,17 +46,17 @@ module _ {U : Type 0} where
       (is_valid_new before n ≡ true) × (after ≡ with_made before n i version) × (id ≡ made_id client before n i)
 
   -- what a new id became; its type was taken off the list before
-  abbrev pub MakesNew : ClientParts → ℕ → Converting U → ℕ → Result (Argument IdParts Token) RequestFault → Converting U → Type 0
-  MakesNew client version before n (Ok b) after =
-      with_new_argument client version before n before.child ≡ Ok (b, record after { kinds = kinds_after before.kinds })
+  abbrev pub MakesNew : ClientParts → ℕ → Converting U → ℕ → Result IdParts RequestFault → Converting U → Type 0
+  MakesNew client version before n (Ok id) after =
+      with_new_argument client version before n before.child ≡ Ok (arg.NewId id, record after { kinds = kinds_after before.kinds })
   MakesNew client version before n (Err wrong) after =
       (with_new_argument client version before n before.child ≡ Err wrong) × (after.objects ≡ before.objects)
 
-  -- what became of an argument, and the state after it
-  abbrev pub Converts : ClientParts → ℕ → Converting U → WireArgument → Result (Argument IdParts Token) RequestFault → Converting U → Type 0
-  Converts client version before a (Ok b) after = convert_one client version before a ≡ Ok (b, after)
-  Converts client version before a (Err wrong) after =
-      (convert_one client version before a ≡ Err wrong) × (after.objects ≡ before.objects)
+  -- an argument was converted, and stands behind those that were converted before it; or it is wrong
+  abbrev pub Appends : ClientParts → ℕ → Converting U → List (Argument IdParts Token) → WireArgument → Result Unit RequestFault → Converting U → List (Argument IdParts Token) → Type 0
+  Appends client version before done a (Ok _) after done' = convert client version before done (a ∷ []) ≡ Whole after done'
+  Appends client version before done a (Err wrong) after done' =
+      convert client version before done (a ∷ []) ≡ Wrong wrong after.objects
 
   -- the arguments were gone through to their end, with this outcome
   abbrev pub EndsWhole : Outcome U → Objects (Kept U) → Option IdParts → List (Argument IdParts Token) → Type 0

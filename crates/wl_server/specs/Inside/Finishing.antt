@@ -16,7 +16,7 @@ use Rattle.wl_server.specs.Finish.{HoldsData, ended_by, store_with_data}
 use Rattle.wl_server.specs.Ids.{ClientParts, IdParts}
 use Rattle.wl_server.specs.Part.{Part, named, note_of_end, registries_without, with_link}
 use Rattle.wl_server.specs.Inside.Puts.{Puts}
-use Rattle.wl_server.specs.Server.{Stored}
+use Rattle.wl_server.specs.Server.{Stored, no_times, untimed}
 use Rattle.wl_server.specs.Telling.{deletions}
 
 -- whether memory was refused, by the reason or the answer
@@ -60,10 +60,11 @@ module _ {T U C : Type 0} (sends : T → Queue → Result ℕ IoFault → T → 
   abbrev pub EndsObject : Stored T U C → IdParts → Object (Kept U) → Result (Result (Unit {0}) IoFault) OutOfMemory → Stored T U C → Type 0
   EndsObject before sender x (Ok wrote) after =
       Puts sends before.part.link (deletions sender.number) wrote after.part.link × (lacks_memory wrote ≡ false)
-      × (after ≡ record {
+      × (untimed after ≡ record {
         serial = before.serial;
         part = part_without before.part after.part.link sender.number x;
         made = before.made ++ note_of_end client sender.number x;
+        times = no_times;
       })
   EndsObject before sender x (Err _) after =
       ((is_some x.value.user_data ≡ true) × (after ≡ before))

@@ -3,7 +3,7 @@ use Rattle.std.specs.Prelude.{◌≡◌, ℕ, ◌+◌, List, [], ◌∷◌, ◌+
 use Rattle.wl_server.specs.declared.notes.Happening.{Happening}
 use Rattle.wl_server.specs.declared.notes.Note.{Note}
 use Rattle.wl_server.specs.Ids.{ClientParts}
-use Rattle.wl_server.specs.Server.{Stored, client_at, note_of, notes_of}
+use Rattle.wl_server.specs.Server.{Stored, client_at, no_times, note_of, notes_of}
 
 module _ {T U C : Type 0} (waits : Bool) where
   -- the notes of a slot's client that are gathered, in order: those that were made, and then, if they are to be gathered
@@ -14,7 +14,7 @@ module _ {T U C : Type 0} (waits : Bool) where
 
   -- the client without them
   abbrev pub emptied : Stored T U C → Stored T U C
-  emptied s = record { serial = s.serial; part = record s.part { waiting = if waits then [] else s.part.waiting }; made = [] }
+  emptied s = record { serial = s.serial; part = record s.part { waiting = if waits then [] else s.part.waiting }; made = []; times = no_times }
 
   abbrev pub all_emptied : List (Option (Stored T U C)) → List (Option (Stored T U C))
   all_emptied clients = map (option_map emptied) clients

@@ -32,7 +32,7 @@ use Rattle.wl_server.specs.Deeds.{Bind, Handed, Request, notes_in}
 use Rattle.wl_server.specs.Ids.{ClientParts, GlobalParts, IdParts}
 use Rattle.wl_server.specs.Part.{Part, with_link}
 use Rattle.wl_server.specs.Reading.{Around, action_in, answered, faulted, reads_on, row_asks, row_in, server}
-use Rattle.wl_server.specs.Server.{Stored}
+use Rattle.wl_server.specs.Server.{Stored, no_times, untimed}
 use Rattle.wl_server.specs.Telling.{Core, Told, core_of, deeds_in, end_deeds, part_of, reader_part, speaker}
 
 -- what a reading looks at beside its own client, without the last serial of a global
@@ -144,7 +144,7 @@ module _ {T U C : Type 0} where
   -- the stored client after a reading that left the reader so, with the note of its end
   abbrev pub stored_as : Stored T U C → ReaderState T (Core U C) → Stored T U C
   stored_as before end =
-      record { serial = before.serial; part = part_of end; made = before.made ++ notes_in (end_deeds end.core.ended) }
+      record { serial = before.serial; part = part_of end; made = before.made ++ notes_in (end_deeds end.core.ended); times = no_times }
 
   -- a verdict was carried out for a message, and it came to this
   pub record IsHandled (sends : T → Queue → Result ℕ IoFault → T → Type 0) (v : Verdict (Core U C) (Told U)) (before : Stored T U C) (to : MessageResult)
@@ -156,7 +156,7 @@ module _ {T U C : Type 0} where
     pub carried : CarriesOut sends speaker v before.part.link es gave refused end
     pub no_note : HasNoNote gave
     pub says : Says to gave refused end.core
-    pub after_is : after ≡ stored_as before end
+    pub after_is : untimed after ≡ stored_as before end
 
 module _ {T U G C : Type 0} (sends : T → Queue → Result ℕ IoFault → T → Type 0) (receives : T → ℕ → Result Queue IoFault → T → Type 0)
     (a : Around G C) where
@@ -193,7 +193,7 @@ module _ {T U G C : Type 0} (sends : T → Queue → Result ℕ IoFault → T �
     pub left : r'.turns_left ≡ out.left
     pub read : r'.read ≡ counted r.read (handled_in turns)
     pub no_note : HasNoNote out.gave
-    pub after_is : after ≡ stored_as before end
+    pub after_is : untimed after ≡ stored_as before end
 
   -- the message at the front was handled, if one is there
   abbrev pub HandlesMessage : Stored T U C → Reading → MessageResult → Stored T U C → Reading → Type 0
@@ -217,4 +217,4 @@ module _ {T U C : Type 0} (receives : T → ℕ → Result Queue IoFault → T �
   Fills before (Some end) after =
       (link : LinkState T) × Filled receives before.part.link (Err end.fault) link
       × FindsRoom before.part.link (grown_capacity before.part.link) × (end.refused ≡ lacks_memory (Err end.fault))
-      × (after ≡ stored_as before (record { core = faulted (core_of before.part) end.fault; link = link }))
+      × (untimed after ≡ stored_as before (record { core = faulted (core_of before.part) end.fault; link = link }))

@@ -9,13 +9,13 @@ ghost use Rattle.wl_link.specs.Link.{IsFresh};
 ghost use Rattle.wl_link.specs.Store.{empty_store, stored};
 ghost use Rattle.wl_server.specs.Backend.{Calls};
 ghost use Rattle.wl_server.specs.Inside.Client.{IsInserted};
-ghost use Rattle.wl_server.specs.Inside.NoteOrder.{one_made};
+ghost use Rattle.wl_server.specs.Inside.NoteOrder.{AllInTime, GivesNumbers, NotesInTime, one_made, times_of};
 ghost use Rattle.wl_server.specs.Inside.Inserting.{AreTaken, IsPut};
 ghost use Rattle.wl_server.specs.Next.{NextClient, NextClientIsGiven};
 ghost use Rattle.wl_server.specs.Part.{display_object};
 ghost use Rattle.wl_server.specs.PartStep.{over};
-ghost use Rattle.wl_server.specs.PlainCalls.{InsertsClient};
-ghost use Rattle.wl_server.specs.Server.{Stored, stored_at};
+ghost use Rattle.wl_server.specs.Plain.Calls.{InsertsClient};
+ghost use Rattle.wl_server.specs.Server.{Stored, no_times, stored_at};
 ghost use Rattle.wl_server.specs.Steps.{IsLeastFree};
 ghost use Rattle.wl_server.specs.declared.notes.Happening.TheVariants.{Initialized};
 ghost use Rattle.wl_server.specs.declared.runs.step.Reply.TheVariants as reply;
@@ -30,6 +30,7 @@ use crate::ids::client_id::ClientId;
 use crate::notes::Happening;
 use crate::notes::queues::{MadeNotes, NoteNumbers, WaitingNotes};
 use crate::objects::{ClientObjects, Kept, fresh_object};
+use crate::reading::open_place::OpenPlace;
 use std::alloc::Global;
 use wl_link::{BufferedSocket, ObjectMap, Transport};
 use wl_wire::{OutOfMemory, WL_DISPLAY_INTERFACE};
@@ -44,6 +45,7 @@ fn first_lists<U: Drop>(
     ensures notes { IfOk result (λ lists. map (λ m. m.1) lists.1.queue.items ≡ Initialized ∷ []) }
     ensures room { IfOk result (λ lists. deque_len lists.1.queue < deque_capacity lists.1.queue) }
     ensures numbers { MatchResult result (λ lists. numbers.new ≡ one_made numbers.old) (λ e. numbers.new ≡ numbers.old) }
+    ensures in_time { IfOk result (λ lists. GivesNumbers [] numbers.old.made (map (λ m. m.0) lists.1.queue.items) numbers.new.made) }
 {
     let mut objects = ObjectMap::new(alloc);
     let display = fresh_object(WL_DISPLAY_INTERFACE, 1, 0, None);
@@ -67,6 +69,7 @@ fn first_parts<T: Drop, U: Drop>(
     ensures notes { IfOk result (λ parts. map (λ m. m.1) parts.2.queue.items ≡ Initialized ∷ []) }
     ensures room { IfOk result (λ parts. deque_len parts.2.queue < deque_capacity parts.2.queue) }
     ensures numbers { MatchResult result (λ parts. numbers.new ≡ one_made numbers.old) (λ e. numbers.new ≡ numbers.old) }
+    ensures in_time { IfOk result (λ parts. GivesNumbers [] numbers.old.made (map (λ m. m.0) parts.2.queue.items) numbers.new.made) }
 {
     let socket = BufferedSocket::new(alloc, transport, Some(max_buffer_size))?;
     // This is last because it uses up the number of a note, and an error must not use up one.
@@ -86,6 +89,7 @@ impl<T: Drop, U: Drop, C: Drop> Client<T, U, C> {
     ) -> Result<Self, OutOfMemory>
         ensures inserted { IfOk result (IsInserted serial transport (Some max_buffer_size) client_data) }
         ensures numbers { MatchResult result (λ client. numbers.new ≡ one_made numbers.old) (λ e. numbers.new ≡ numbers.old) }
+        ensures in_time { IfOk result (λ client. NotesInTime no_times numbers.old client.times numbers.new) }
     {
         let (socket, map, made) = first_parts(alloc, transport, max_buffer_size, numbers)?;
         Ok(Client {
@@ -98,7 +102,7 @@ impl<T: Drop, U: Drop, C: Drop> Client<T, U, C> {
                 registries: Vec::new(alloc),
             },
             is_killed: false,
-            action: None,
+            action: OpenPlace::new(),
             waiting: WaitingNotes::new(alloc),
             made,
         })
@@ -181,6 +185,7 @@ fn put_new<T: Drop, U: Drop, C: Drop>(
     ensures unchanged { OnErr result (clients.new.items ≡ clients.old.items) }
     ensures slots { vec_len clients.old ≤ 0x100000000 → vec_len clients.new ≤ 0x100000000 }
     ensures numbers { MatchResult result (λ _. numbers.new ≡ one_made numbers.old) (λ e. numbers.new ≡ numbers.old) }
+    ensures in_time { stored_at id.now.slot clients.old.items ≡ None → AllInTime (map times_of clients.old.items) numbers.old (map times_of clients.new.items) numbers.new }
 {
     let slot = id.slot() as usize;
     reserve_slot(clients, slot)?;

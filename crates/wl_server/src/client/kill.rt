@@ -7,7 +7,7 @@ ghost use Rattle.std.specs.Prelude.{◌≡◌, if◌then◌else◌, MatchResult}
 ghost use Rattle.wl_link.specs.Puts.{lacks_memory};
 ghost use Rattle.wl_server.specs.Backend.{Calls};
 ghost use Rattle.wl_server.specs.Inside.Client.{Does};
-ghost use Rattle.wl_server.specs.Inside.NoteOrder.{one_made};
+ghost use Rattle.wl_server.specs.Inside.NoteOrder.{NotesInTime, one_made};
 ghost use Rattle.wl_server.specs.PartStep.{over};
 ghost use Rattle.wl_server.specs.Plain.{KillsClient};
 ghost use Rattle.wl_server.specs.Telling.{Kills};
@@ -31,6 +31,7 @@ impl<T: Drop, U: Drop, C: Drop> Client<T, U, C> {
     pub fn kill(&mut self, numbers: &mut NoteNumbers, reason: DisconnectReason)
         ensures killed { Does self.old (λ p did q. Kills p reason did q) self.new }
         ensures numbers { numbers.new ≡ (if self.old.part.is_killed then numbers.old else one_made numbers.old) }
+        ensures in_time { NotesInTime self.old.times numbers.old self.new.times numbers.new }
     {
         if self.is_killed {
             return;
@@ -50,6 +51,7 @@ impl<T: Drop, U: Drop, C: Drop> Client<T, U, C> {
         ensures closed { MatchResult answer (λ _. self.new ≡ self.old) (λ _. Does self.old (λ p did q. Kills p ConnectionClosed did q) self.new) }
         ensures numbers { MatchResult answer (λ _. numbers.new ≡ numbers.old)
             (λ _. numbers.new ≡ (if self.old.part.is_killed then numbers.old else one_made numbers.old)) }
+        ensures in_time { NotesInTime self.old.times numbers.old self.new.times numbers.new }
     {
         let Err(fault) = answer else {
             return false;

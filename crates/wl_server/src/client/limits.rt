@@ -5,7 +5,7 @@
 ghost use Rattle.std.specs.Prelude.{Some, false};
 ghost use Rattle.wl_server.specs.Backend.{Calls};
 ghost use Rattle.wl_server.specs.PartStep.{over};
-ghost use Rattle.wl_server.specs.PlainCalls.{SetsDefaultLimit, SetsLimit};
+ghost use Rattle.wl_server.specs.Plain.Calls.{SetsDefaultLimit, SetsLimit};
 ghost use Rattle.wl_server.specs.declared.runs.step.Reply.TheVariants as reply;
 ghost use Rattle.wl_server.specs.declared.runs.step.Step.TheVariants as step;
 

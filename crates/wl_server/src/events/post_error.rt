@@ -6,12 +6,14 @@
 ghost use Rattle.std.specs.Prelude.{◌≡◌, IsSome, true, false};
 ghost use Rattle.wl_link.specs.Link.{Wrote};
 ghost use Rattle.wl_link.specs.Puts.{FlushesOut};
+ghost use Rattle.wl_server.specs.Inside.NoteOrder.{NotesInTime};
 ghost use Rattle.wl_server.specs.Backend.{Calls};
 ghost use Rattle.wl_server.specs.Inside.Carried.{IsCarried};
 ghost use Rattle.wl_server.specs.Inside.Client.{Does};
 ghost use Rattle.wl_server.specs.Errors.{error_messages, posts, PostsError};
 ghost use Rattle.wl_server.specs.Part.{named, with_link};
 ghost use Rattle.wl_server.specs.PartStep.{over};
+ghost use Rattle.wl_server.specs.Plain.Events.{KillsForError};
 ghost use Rattle.wl_server.specs.Inside.Puts.{Puts};
 ghost use Rattle.wl_server.specs.Posted.{PostsExactly, PostsOn};
 ghost use Rattle.wl_server.specs.Telling.{core_of, error_message};
@@ -48,6 +50,7 @@ impl<T: Transport + Drop, U: Drop, C: Drop> Client<T, U, C> {
     ) -> bool
         ensures carried { IsCarried T.sends (posts protocol.now (core_of self.old.part) id.now code text) self.old result self.new }
         ensures exactly { PostsOn T.sends self.old.part id.now code text result self.new.part }
+        ensures in_time { NotesInTime self.old.times numbers.old self.new.times numbers.new }
     {
         let alloc = self.alloc();
         if self.is_killed {
@@ -77,6 +80,7 @@ impl<T: Transport + Drop, U: Drop, C: Drop> Client<T, U, C> {
     ) -> bool
         ensures does { Does self.old (λ p did q. PostsError T.sends protocol.now p id.now code text result did q) self.new }
         ensures exactly { PostsOn T.sends self.old.part id.now code text result self.new.part }
+        ensures in_time { NotesInTime self.old.times numbers.old self.new.times numbers.new }
     {
         if id.is_null() {
             return false;
@@ -124,6 +128,7 @@ impl<T: Transport + Drop, U: Drop, G: GlobalHandler<C> + Drop, C: Drop> Backend<
     pub fn post_error(&mut self, id: &ObjectId, code: u32, text: CString)
         ensures call { Calls (over T.sends T.receives G.views) self.old (step.PostError id.now code text) reply.PostError self.new }
         ensures exactly { PostsExactly T.sends self.old id.now code text self.new }
+        ensures plain { KillsForError self.old id.now code text self.new }
     {
         self.refused = false;
         let client = id.client();

@@ -5,6 +5,7 @@
 ghost use Rattle.std.specs.Prelude.{◌≡◌, ◌<◌, ◌++◌, IfSome, OnErr, OnOk, map};
 ghost use Rattle.std.specs.VecDeque.{deque_capacity, deque_len};
 ghost use Rattle.wl_link.specs.Store.{held};
+ghost use Rattle.wl_server.specs.Inside.NoteOrder.{GivesNumbers, NotesInTime};
 ghost use Rattle.wl_server.specs.declared.runs.step.Reply.TheVariants as reply;
 ghost use Rattle.wl_server.specs.declared.runs.step.Step.TheVariants as step;
 ghost use Rattle.wl_server.specs.Backend.{Calls};
@@ -12,6 +13,7 @@ ghost use Rattle.wl_server.specs.Inside.Client.{Does};
 ghost use Rattle.wl_server.specs.Inside.Ending.{notes_ending, registries_ending, store_ending, PutsEnd, TellsEnd};
 ghost use Rattle.wl_server.specs.Events.{AsksForMemory, SendsEvent, session_content};
 ghost use Rattle.wl_server.specs.PartStep.{over};
+ghost use Rattle.wl_server.specs.Plain.Events.{EmitsEvent};
 
 use crate::backend::Backend;
 use crate::client::Client;
@@ -58,6 +60,8 @@ fn end_sender<U: Drop>(
     ensures serial { objects.new.last_serial ≡ objects.old.last_serial }
     ensures waiting { IfSome (held objects.old.map.store sender.now.number)
         (λ x. map (λ w. w.1) waiting.new.queue.items ≡ map (λ w. w.1) waiting.old.queue.items ++ notes_ending ends sender.now.client sender.now.number x) }
+    ensures in_time { GivesNumbers (map (λ w. w.0) waiting.old.queue.items) numbers.old.waiting (map (λ w. w.0) waiting.new.queue.items) numbers.new.waiting }
+    ensures made { numbers.new.made ≡ numbers.old.made }
 {
     if ends {
         take_out_noted(objects, waiting, numbers, sender);
@@ -93,7 +97,8 @@ impl<T: Transport + Drop, U: Drop, C: Drop> Client<T, U, C> {
         ends: bool,
         written: Result<(), IoFault>,
     ) -> bool
-        ensures { TellsEnd T.sends self.old number ends written result self.new }
+        ensures tells { TellsEnd T.sends self.old number ends written result self.new }
+        ensures in_time { NotesInTime self.old.times numbers.old self.new.times numbers.new }
     {
         let alloc = self.alloc();
         let answer = put_end(alloc, &mut self.socket, number, ends, written);
@@ -112,7 +117,8 @@ impl<T: Transport + Drop, U: Drop, C: Drop> Client<T, U, C> {
         numbers: &mut NoteNumbers,
         message: &Message<ObjectId, Token>,
     ) -> (Result<(), EventError>, bool)
-        ensures { Does self.old (λ p did q. SendsEvent T.sends message.now.sender_id.client protocol.now p (session_content message.now) result.0 result.1 did q) self.new }
+        ensures does { Does self.old (λ p did q. SendsEvent T.sends message.now.sender_id.client protocol.now p (session_content message.now) result.0 result.1 did q) self.new }
+        ensures in_time { NotesInTime self.old.times numbers.old self.new.times numbers.new }
     {
         if self.is_killed {
             return (Ok(()), false);
@@ -141,7 +147,8 @@ impl<T: Transport + Drop, U: Drop, G: GlobalHandler<C> + Drop, C: Drop> Backend<
     /// Puts an event that is only lent, as `send_event` does: a program that sends one message again and again keeps it and
     /// its memory.
     pub fn send_event_lent(&mut self, message: &Message<ObjectId, Token>) -> Result<(), EventError>
-        ensures { Calls (over T.sends T.receives G.views) self.old (step.SendEvent message.now) (reply.SendEvent result) self.new }
+        ensures call { Calls (over T.sends T.receives G.views) self.old (step.SendEvent message.now) (reply.SendEvent result) self.new }
+        ensures plain { EmitsEvent self.old (session_content message.now) result self.new }
     {
         self.refused = false;
         let id = message.sender_id.client();
@@ -172,7 +179,8 @@ impl<T: Transport + Drop, U: Drop, G: GlobalHandler<C> + Drop, C: Drop> Backend<
     /// exception: after `OutOfMemory` a flush may have sent or dropped some of what waited for the client, and a buffer
     /// may have grown.
     pub fn send_event(&mut self, message: Message<ObjectId, Token>) -> Result<(), EventError>
-        ensures { Calls (over T.sends T.receives G.views) self.old (step.SendEvent message) (reply.SendEvent result) self.new }
+        ensures call { Calls (over T.sends T.receives G.views) self.old (step.SendEvent message) (reply.SendEvent result) self.new }
+        ensures plain { EmitsEvent self.old (session_content message) result self.new }
     {
         self.send_event_lent(&message)
     }

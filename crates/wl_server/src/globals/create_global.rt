@@ -3,13 +3,14 @@
 //! A client is *live* as long as it is stored and not killed. It is *stored* from its insertion until `Backend::cleanup`
 //! takes it out. The *slot* of a client is its index in the server's list of clients.
 
-ghost use Rattle.std.specs.Prelude.{◌≡◌, ◌≤◌, IfSome, length};
+ghost use Rattle.std.specs.Prelude.{◌≡◌, ◌≤◌, IfSome, length, map};
 ghost use Rattle.wl_link.specs.Identity.{names};
+ghost use Rattle.wl_server.specs.Inside.NoteOrder.{AllInTime, NotesInTime, times_of};
 ghost use Rattle.wl_server.specs.Backend.{Calls};
 ghost use Rattle.wl_server.specs.Globals.{global_serial, shown_as};
 ghost use Rattle.wl_server.specs.Inside.News.{HearsNew};
 ghost use Rattle.wl_server.specs.PartStep.{over};
-ghost use Rattle.wl_server.specs.PlainGlobals.{OffersGlobal};
+ghost use Rattle.wl_server.specs.Plain.Globals.{OffersGlobal};
 ghost use Rattle.wl_server.specs.Inside.Places.{AllFeel, PlaceFeels};
 ghost use Rattle.wl_server.specs.declared.runs.step.Reply.TheVariants as reply;
 ghost use Rattle.wl_server.specs.declared.runs.step.Step.TheVariants as step;
@@ -38,6 +39,7 @@ fn tell_new_at<T: Transport + Drop, U: Drop, G: GlobalHandler<C>, C: Drop>(
     requires { announcement.old.global ≡ shown_as (id.now.name, global.now) }
     ensures felt { PlaceFeels (HearsNew T.sends G.views announcement.old.table id.now global.now) slot client.old result client.new }
     ensures same { announcement.new ≡ announcement.old }
+    ensures in_time { NotesInTime (times_of client.old) numbers.old (times_of client.new) numbers.new }
 {
     match client {
         Some(client) if !client.is_killed => {
@@ -62,7 +64,8 @@ fn tell_new<T: Transport + Drop, U: Drop, G: GlobalHandler<C>, C: Drop>(
     global: &Object<KeptGlobal<G>>,
 ) -> bool
     requires { length clients.old ≤ 0x100000000 }
-    ensures { AllFeel (HearsNew T.sends G.views protocol.now id.now global.now) result (length clients.old) clients.old clients.new }
+    ensures felt { AllFeel (HearsNew T.sends G.views protocol.now id.now global.now) result (length clients.old) clients.old clients.new }
+    ensures in_time { AllInTime (map times_of clients.old) numbers.old (map times_of clients.new) numbers.new }
 {
     let mut announcement = Announcement::new(protocol, id.name(), global);
     let mut refused = false;
@@ -89,8 +92,9 @@ fn tell_named<T: Transport + Drop, U: Drop, G: GlobalHandler<C> + Drop, C: Drop>
     id: &GlobalId,
 ) -> bool
     requires { length clients.old ≤ 0x100000000 }
-    ensures { IfSome (names global_serial (record { number = id.now.name; serial = id.now.serial }) globals.now.store)
+    ensures felt { IfSome (names global_serial (record { number = id.now.name; serial = id.now.serial }) globals.now.store)
         (λ global. AllFeel (HearsNew T.sends G.views protocol.now id.now global) result (length clients.old) clients.old clients.new) }
+    ensures in_time { AllInTime (map times_of clients.old) numbers.old (map times_of clients.new) numbers.new }
 {
     match global_in(globals, id) {
         Some(global) => tell_new(clients, numbers, protocol, id, global),

@@ -3,13 +3,14 @@
 //! A client is *live* as long as it is stored and not killed. It is *stored* from its insertion until `Backend::cleanup`
 //! takes it out. The *slot* of a client is its index in the server's list of clients.
 
-ghost use Rattle.std.specs.Prelude.{◌≡◌, ℕ, length};
+ghost use Rattle.std.specs.Prelude.{◌≡◌, ℕ, length, map};
 ghost use Rattle.wl_link.specs.Identity.{names};
+ghost use Rattle.wl_server.specs.Inside.NoteOrder.{AllInTime, NotesInTime, times_of};
 ghost use Rattle.wl_server.specs.Backend.{Calls};
 ghost use Rattle.wl_server.specs.Felt.{Hears, removals};
 ghost use Rattle.wl_server.specs.Globals.{global_serial, is_enabled as global_is_enabled};
 ghost use Rattle.wl_server.specs.PartStep.{over};
-ghost use Rattle.wl_server.specs.PlainGlobals.{DisablesGlobal, RemovesGlobal};
+ghost use Rattle.wl_server.specs.Plain.Globals.{DisablesGlobal, RemovesGlobal};
 ghost use Rattle.wl_server.specs.Inside.Places.{AllFeel, PlaceFeels};
 ghost use Rattle.wl_server.specs.declared.runs.step.Reply.TheVariants as reply;
 ghost use Rattle.wl_server.specs.declared.runs.step.Step.TheVariants as step;
@@ -44,7 +45,8 @@ fn tell_loss_at<T: Transport + Drop, U: Drop, C: Drop>(
     numbers: &mut NoteNumbers,
     name: u32,
 ) -> bool
-    ensures { (slot : ℕ) → PlaceFeels (λ id p lacked did q. Hears T.sends p (removals p name) lacked did q) slot client.old result client.new }
+    ensures felt { (slot : ℕ) → PlaceFeels (λ id p lacked did q. Hears T.sends p (removals p name) lacked did q) slot client.old result client.new }
+    ensures in_time { NotesInTime (times_of client.old) numbers.old (times_of client.new) numbers.new }
 {
     match client {
         Some(client) if !client.is_killed => {
@@ -64,7 +66,8 @@ fn tell_loss<T: Transport + Drop, U: Drop, C: Drop>(
     numbers: &mut NoteNumbers,
     name: u32,
 ) -> bool
-    ensures { AllFeel (λ id p lacked did q. Hears T.sends p (removals p name) lacked did q) result (length clients.old) clients.old clients.new }
+    ensures felt { AllFeel (λ id p lacked did q. Hears T.sends p (removals p name) lacked did q) result (length clients.old) clients.old clients.new }
+    ensures in_time { AllInTime (map times_of clients.old) numbers.old (map times_of clients.new) numbers.new }
 {
     let mut refused = false;
     for slot in 0..clients.len() {

@@ -3,12 +3,12 @@
 //! The *slot* of a client is its index in the server's list of clients. The page of the module `notes` explains what
 //! notes are, and which of them are made, wait, or are gathered.
 
-ghost use Rattle.std.specs.Prelude.{◌≡◌, ℕ, ◌+◌, ◌++◌, ◌<◌, ◌≤◌, [], length, true, IfOk, OnErr, OnOk};
+ghost use Rattle.std.specs.Prelude.{◌≡◌, ℕ, map, ◌+◌, ◌++◌, ◌<◌, ◌≤◌, [], length, true, IfOk, OnErr, OnOk};
 ghost use Rattle.std.specs.Vec.{vec_capacity, vec_len};
 ghost use Rattle.wl_server.specs.Backend.{Calls};
 ghost use Rattle.wl_server.specs.Inside.Cleanup.{CleansUp};
-ghost use Rattle.wl_server.specs.Inside.Gathering.{AllLeft, Gathers, count_leaving};
-ghost use Rattle.wl_server.specs.Inside.NoteOrder.{IsOrderOf};
+ghost use Rattle.wl_server.specs.Inside.Gathering.{count_leaving};
+ghost use Rattle.wl_server.specs.Inside.NoteOrder.{AllTakeFirst, IsOrderOf, count_places, times_of};
 ghost use Rattle.wl_server.specs.Inside.Leaving.{all_staying, collected, ends_at, given_at, staying};
 ghost use Rattle.wl_server.specs.PartStep.{over};
 ghost use Rattle.wl_server.specs.Plain.{CleansUpClients};
@@ -23,7 +23,7 @@ use crate::ids::client_id::ClientId;
 use crate::notes::Note;
 use crate::notes::gather::{count_of, gather, order_of};
 use crate::notes::leaving::{count_ending, end_objects};
-use crate::notes::queues::{NoteNumbers, NotePlace};
+use crate::notes::queues::NotePlace;
 use std::alloc::Global;
 use wl_link::Transport;
 use wl_wire::OutOfMemory;
@@ -110,6 +110,7 @@ pub struct Work {
 /// Counts what a cleanup has to do. It goes over the clients once.
 pub fn count_work<T: Drop, U: Drop, C: Drop>(clients: &[Option<Client<T, U, C>>]) -> Work
     ensures gathered { result.gathered < 0xFFFFFFFFFFFFFFFF → count_leaving true clients.now ≤ result.gathered }
+    ensures places { result.gathered < 0xFFFFFFFFFFFFFFFF → count_places true (map times_of clients.now) ≤ result.gathered }
     ensures few_gathered { result.gathered ≤ count_leaving true clients.now }
     ensures leaving { result.leaving < 0xFFFFFFFFFFFFFFFF → length (collected given_at 0 clients.now) ≤ result.leaving }
     ensures few_leaving { result.leaving ≤ length (collected given_at 0 clients.now) }
@@ -184,30 +185,11 @@ pub fn memory_for<T: Drop, U: Drop, C: Drop>(
     Ok(CleanupMemory { order, given })
 }
 
-/// Gathers all notes, those that wait too. No note waits any more, so the numbers of the notes that wait begin at 0 again.
-fn gather_all<T, U, C>(
-    clients: &mut Vec<Option<Client<T, U, C>>>,
-    order: &[NotePlace],
-    notes: &mut Vec<Note<U>>,
-    numbers: &mut NoteNumbers,
-)
-    requires order { IsOrderOf true clients.old.items order.now }
-    requires room { vec_len notes.old + count_leaving true clients.old.items ≤ vec_capacity notes.old }
-    ensures gathered { Gathers true clients.old.items notes.old.items clients.new.items notes.new.items }
-    ensures ended { AllLeft true clients.new.items }
-    ensures capacity { vec_capacity notes.new ≡ vec_capacity notes.old }
-    ensures numbers { numbers.new ≡ record numbers.old { waiting = 0 } }
-{
-    gather(clients, true, order, notes);
-    numbers.begin_waiting_anew(clients);
-}
-
 /// Flushes the killed clients, gathers all notes, and takes the killed clients out. If no client was killed, it only
 /// gathers. Returns whether memory was refused in a flush.
 fn clean_up<T: Transport + Drop, U: Drop, C: Drop>(
     clients: &mut Vec<Option<Client<T, U, C>>>,
     notes: &mut Vec<Note<U>>,
-    numbers: &mut NoteNumbers,
     memory: &mut CleanupMemory<T>,
 ) -> bool
     requires slots { length clients.old.items ≤ 0x100000000 }
@@ -216,15 +198,15 @@ fn clean_up<T: Transport + Drop, U: Drop, C: Drop>(
     requires given { length (collected given_at 0 clients.old.items) ≤ vec_capacity memory.old.given }
     requires none { memory.old.given.items ≡ [] }
     ensures cleaned { CleansUp T.sends clients.old.items notes.old.items result clients.new.items notes.new.items memory.new.given.items }
-    ensures numbers { numbers.new ≡ record numbers.old { waiting = 0 } }
+    ensures first { AllTakeFirst (map times_of clients.old.items) (map times_of clients.new.items) }
 {
     if memory.given.capacity() == 0 {
         // No client was killed: none is flushed or taken out.
-        gather_all(clients, &memory.order, notes, numbers);
+        gather(clients, true, &memory.order, notes);
         return false;
     }
     let refused = flush_each(clients, true);
-    gather_all(clients, &memory.order, notes, numbers);
+    gather(clients, true, &memory.order, notes);
     leave_all(clients, notes, &mut memory.given);
     refused
 }
@@ -249,12 +231,7 @@ impl<T: Transport + Drop, U: Drop, G: GlobalHandler<C> + Drop, C: Drop> Backend<
         let alloc = self.alloc();
         match memory_for(alloc, &self.clients, &mut self.notes) {
             Ok(mut memory) => {
-                self.refused = clean_up(
-                    &mut self.clients,
-                    &mut self.notes,
-                    &mut self.numbers,
-                    &mut memory,
-                );
+                self.refused = clean_up(&mut self.clients, &mut self.notes, &mut memory);
                 // Any of them may be free now. The next insertion goes over them once more, as this call did.
                 self.free_from = 0;
                 Ok(memory.given)

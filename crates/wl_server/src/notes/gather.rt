@@ -6,7 +6,7 @@
 ghost use Rattle.std.specs.Prelude.{◌≡◌, ℕ, ◌+◌, ◌++◌, ◌≤◌, ◌<◌, ◌==◌, ◌∷◌, [], if◌then◌else◌, length, map, false, None, Some, MatchOption, IfOk, IsPermutation, OnErr, OnOk};
 ghost use Rattle.std.specs.Vec.{vec_capacity, vec_len};
 ghost use Rattle.wl_server.specs.Inside.Gathering.{AllLeft, Gathers, MovesNote, count_leaving, emptied, to_gather};
-ghost use Rattle.wl_server.specs.Inside.NoteOrder.{IsOrderOf, Rise, places_at, slot_of};
+ghost use Rattle.wl_server.specs.Inside.NoteOrder.{AllTakeFirst, IsInOrder, IsOrderOf, Rise, TakesFirst, count_places, places_at, places_of, slot_of, times_of};
 ghost use Rattle.wl_server.specs.Server.{note_of as the_note};
 
 use crate::client::Client;
@@ -31,8 +31,9 @@ impl<T, U, C> Client<T, U, C> {
     /// Takes the next note of the client: the oldest that was made, or if there is none and `waits` is set, the oldest
     /// that waits.
     fn take_note(&mut self, waits: bool) -> Option<Happening<U>>
-        ensures { MatchOption result ((self.new ≡ self.old) × (to_gather waits (Some self.old) ≡ []))
+        ensures taken { MatchOption result ((self.new ≡ self.old) × (to_gather waits (Some self.old) ≡ []))
             (λ h. (to_gather waits (Some self.old) ≡ h ∷ to_gather waits (Some self.new)) × (emptied waits self.new ≡ emptied waits self.old)) }
+        ensures first { TakesFirst self.old.times self.new.times }
     {
         if let Some(happening) = self.made.pop() {
             return Some(happening);
@@ -54,6 +55,7 @@ fn move_note<T, U, C>(
     requires some { 0 < length (to_gather waits client.old) }
     requires room { vec_len notes.old < vec_capacity notes.old }
     ensures moved { MovesNote waits slot client.old notes.old.items client.new notes.new.items }
+    ensures first { TakesFirst (times_of client.old) (times_of client.new) }
     ensures capacity { vec_capacity notes.new ≡ vec_capacity notes.old }
 {
     let Some(client) = client else { unreachable!() };
@@ -79,6 +81,7 @@ pub fn gather<T, U, C>(
     ensures gathered { Gathers waits clients.old.items notes.old.items clients.new.items notes.new.items }
     ensures ended { AllLeft waits clients.new.items }
     ensures along { map slot_of notes.new.items ≡ map slot_of notes.old.items ++ map (λ p. p.slot) order.now }
+    ensures first { AllTakeFirst (map times_of clients.old.items) (map times_of clients.new.items) }
     ensures capacity { vec_capacity notes.new ≡ vec_capacity notes.old }
 {
     for place in order {
@@ -89,7 +92,8 @@ pub fn gather<T, U, C>(
 
 /// How many notes of the client of a slot are gathered.
 pub fn count_of<T, U, C>(client: &Option<Client<T, U, C>>, waits: bool) -> usize
-    ensures { result ≡ length (to_gather waits client.now) }
+    ensures notes { result ≡ length (to_gather waits client.now) }
+    ensures places { result ≡ length (places_of waits 0 (times_of client.now)) }
 {
     match client {
         Some(client) if waits => client.made.len() + client.waiting.len(),
@@ -101,6 +105,7 @@ pub fn count_of<T, U, C>(client: &Option<Client<T, U, C>>, waits: bool) -> usize
 /// How many notes of all clients are gathered. `usize::MAX` stands for any larger number.
 pub fn count_notes<T, U, C>(clients: &[Option<Client<T, U, C>>], waits: bool) -> usize
     ensures all { result < 0xFFFFFFFFFFFFFFFF → count_leaving waits clients.now ≤ result }
+    ensures places { result < 0xFFFFFFFFFFFFFFFF → count_places waits (map times_of clients.now) ≤ result }
     ensures no_more { result ≤ count_leaving waits clients.now }
 {
     let mut count: usize = 0;
@@ -117,7 +122,8 @@ fn put_places_at<T, U, C>(
     slot: u32,
     order: &mut Vec<NotePlace>,
 ) -> Result<(), OutOfMemory>
-    ensures { OnOk result ((k : ℕ) → places_at k order.new.items ≡ places_at k order.old.items + (if slot == k then length (to_gather waits client.now) else 0)) }
+    ensures counted { OnOk result ((k : ℕ) → places_at k order.new.items ≡ places_at k order.old.items + (if slot == k then length (to_gather waits client.now) else 0)) }
+    ensures placed { OnOk result (order.new.items ≡ order.old.items ++ places_of waits slot (times_of client.now)) }
 {
     let Some(client) = client else {
         return Ok(());
@@ -165,6 +171,8 @@ pub fn gather_made<T, U, C>(
     requires slots { length clients.old.items ≤ 0x100000000 }
     ensures gathered { IfOk result (λ _. Gathers false clients.old.items notes.old.items clients.new.items notes.new.items) }
     ensures ended { IfOk result (λ _. AllLeft false clients.new.items) }
+    ensures in_order { IfOk result (λ _. IsInOrder false clients.old.items notes.old.items notes.new.items) }
+    ensures first { AllTakeFirst (map times_of clients.old.items) (map times_of clients.new.items) }
     ensures unchanged { OnErr result ((clients.new.items ≡ clients.old.items) × (notes.new.items ≡ notes.old.items)) }
     ensures some { OnErr result (0 < count_leaving false clients.old.items) }
 {

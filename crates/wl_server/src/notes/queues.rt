@@ -6,22 +6,20 @@
 //! The numbers and the queues are private to this file. So a note gets its number when it is put into a queue, and the
 //! place of a note has the number that is kept with it.
 
-ghost use Rattle.std.specs.Prelude.{◌≡◌, ◌+◌, ◌++◌, ◌∷◌, ◌<◌, ◌≤◌, [], false, true, length, map, IfOk, MatchOption, OnOk};
+ghost use Rattle.std.specs.Prelude.{◌≡◌, ℕ, List, ◌+◌, ◌++◌, ◌∷◌, ◌<◌, ◌≤◌, [], false, true, length, map, IfOk, MatchOption, OnOk};
 ghost use Rattle.std.specs.VecDeque.{deque_capacity, deque_len};
-ghost use Rattle.wl_server.specs.Inside.Gathering.{AllLeft};
-ghost use Rattle.wl_server.specs.Inside.NoteOrder.{number_after, place_of};
+ghost use Rattle.wl_server.specs.Inside.NoteOrder.{GivesNumbers, number_after, place_of};
 
-use crate::client::Client;
 use crate::notes::Happening;
 use std::alloc::Global;
 use std::collections::VecDeque;
 use wl_wire::OutOfMemory;
 
 /// The numbers that the next notes get. Notes are kept with their client. Their numbers tell in which order the notes of
-/// all clients were put into the queues.
+/// all clients were put into the queues. They are never set back.
 #[derive(Drop)]
 pub struct NoteNumbers {
-    /// The number of the next note that waits for a cleanup: how many wait now.
+    /// The number of the next note that waits for a cleanup.
     waiting: u128,
     /// The number of the next note that is made.
     made: u128,
@@ -46,15 +44,6 @@ impl NoteNumbers {
             waiting: 0,
             made: 0,
         }
-    }
-
-    /// The numbers of the notes that wait begin at 0 again. No note of these clients waits any more.
-    pub fn begin_waiting_anew<T, U, C>(&mut self, clients: &[Option<Client<T, U, C>>])
-        requires { AllLeft true clients.now }
-        ensures { self.new ≡ record self.old { waiting = 0 } }
-    {
-        let _ = clients;
-        self.waiting = 0;
     }
 }
 
@@ -128,6 +117,7 @@ impl<U> MadeNotes<U> {
         requires { deque_len self.old.queue < deque_capacity self.old.queue }
         ensures items { self.new.queue.items ≡ self.old.queue.items ++ (numbers.old.made, happening) ∷ [] }
         ensures numbers { numbers.new ≡ record numbers.old { made = number_after numbers.old.made } }
+        ensures in_time { GivesNumbers (map (λ n. n.0) self.old.queue.items) numbers.old.made (map (λ n. n.0) self.new.queue.items) numbers.new.made }
         ensures len { deque_len self.new.queue ≡ deque_len self.old.queue + 1 }
         ensures capacity { deque_capacity self.new.queue ≡ deque_capacity self.old.queue }
     {
@@ -139,6 +129,7 @@ impl<U> MadeNotes<U> {
     pub fn pop(&mut self) -> Option<Happening<U>>
         ensures oldest { MatchOption result ((self.old.queue.items ≡ []) × (self.new.queue.items ≡ []))
             (λ h. map (λ n. n.1) self.old.queue.items ≡ h ∷ map (λ n. n.1) self.new.queue.items) }
+        ensures first { (ns : List ℕ) × (map (λ n. n.0) self.old.queue.items ≡ ns ++ map (λ n. n.0) self.new.queue.items) }
         ensures room { deque_len self.old.queue < deque_capacity self.old.queue → deque_len self.new.queue < deque_capacity self.new.queue }
     {
         let (_, happening) = self.queue.pop_front()?;
@@ -189,6 +180,7 @@ impl<U> WaitingNotes<U> {
         requires { deque_len self.old.queue < deque_capacity self.old.queue }
         ensures items { self.new.queue.items ≡ self.old.queue.items ++ (numbers.old.waiting, happening) ∷ [] }
         ensures numbers { numbers.new ≡ record numbers.old { waiting = number_after numbers.old.waiting } }
+        ensures in_time { GivesNumbers (map (λ n. n.0) self.old.queue.items) numbers.old.waiting (map (λ n. n.0) self.new.queue.items) numbers.new.waiting }
     {
         let number = next_number(&mut numbers.waiting);
         self.queue.push_back_reserved((number, happening));
@@ -196,8 +188,9 @@ impl<U> WaitingNotes<U> {
 
     /// Takes the oldest note.
     pub fn pop(&mut self) -> Option<Happening<U>>
-        ensures { MatchOption result ((self.old.queue.items ≡ []) × (self.new.queue.items ≡ []))
+        ensures oldest { MatchOption result ((self.old.queue.items ≡ []) × (self.new.queue.items ≡ []))
             (λ h. map (λ n. n.1) self.old.queue.items ≡ h ∷ map (λ n. n.1) self.new.queue.items) }
+        ensures first { (ns : List ℕ) × (map (λ n. n.0) self.old.queue.items ≡ ns ++ map (λ n. n.0) self.new.queue.items) }
     {
         let (_, happening) = self.queue.pop_front()?;
         Some(happening)

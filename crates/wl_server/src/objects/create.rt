@@ -53,7 +53,8 @@ impl<T: Drop, U: Drop, C: Drop> Client<T, U, C> {
         version: u32,
         user_data: U,
     ) -> Result<ObjectId, CreateError>
-        ensures { Does self.old (λ p did q. (did ≡ []) × Creates protocol.now id.now p interface version user_data result q) self.new }
+        ensures does { Does self.old (λ p did q. (did ≡ []) × Creates protocol.now id.now p interface version user_data result q) self.new }
+        ensures times { self.new.times ≡ self.old.times }
     {
         if protocol.get(interface).is_none() {
             return Err(CreateError::UnknownInterface);

@@ -5,7 +5,7 @@
 ghost use Rattle.std.specs.Fn.{FnOnceReturnsAtMut};
 ghost use Rattle.std.specs.Prelude.{◌≡◌, ◌<◌, false, Err, None, Ok, Some, MatchOption};
 ghost use Rattle.wl_server.specs.Backend.{Calls};
-ghost use Rattle.wl_server.specs.DataInPlace.{LendsDataIn, LendsDataOf, LendsObjectData};
+ghost use Rattle.wl_server.specs.Plain.DataInPlace.{LendsDataIn, LendsDataOf, LendsObjectData};
 ghost use Rattle.wl_server.specs.Finish.{data_given};
 ghost use Rattle.wl_server.specs.Part.{named};
 ghost use Rattle.wl_server.specs.PartStep.{over};

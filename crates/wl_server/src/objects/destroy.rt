@@ -4,6 +4,7 @@
 //! happened to a client or an object (`Note`).
 
 ghost use Rattle.std.specs.Prelude.{◌≡◌, ◌==◌, if◌then◌else◌, None, option_copied};
+ghost use Rattle.wl_server.specs.Inside.NoteOrder.{NotesInTime};
 ghost use Rattle.wl_server.specs.Backend.{Calls};
 ghost use Rattle.wl_server.specs.Inside.Client.{Does};
 ghost use Rattle.wl_server.specs.Inside.Destruction.{lacks_destroy};
@@ -46,7 +47,8 @@ impl<T: Transport + Drop, U: Drop, C: Drop> Client<T, U, C> {
         numbers: &mut NoteNumbers,
         id: &ObjectId,
     ) -> Result<(), DestroyError>
-        ensures { Does self.old (λ p did q. Destroys T.sends id.now.client p id.now result (lacks_destroy result) did q) self.new }
+        ensures does { Does self.old (λ p did q. Destroys T.sends id.now.client p id.now result (lacks_destroy result) did q) self.new }
+        ensures in_time { NotesInTime self.old.times numbers.old self.new.times numbers.new }
     {
         let alloc = self.alloc();
         let Some(object) = destroyable(&self.objects.map, id) else {

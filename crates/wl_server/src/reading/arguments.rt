@@ -1,21 +1,22 @@
 //! The arguments of a request, and the objects that they name or make.
 
-ghost use Rattle.std.specs.Prelude.{◌≡◌, ◌≢◌, ◌+◌, ◌<◌, false, true, None, Ok, Err, IfOk, MatchResult, length, reverse};
+ghost use Rattle.std.specs.Prelude.{◌≡◌, ◌≢◌, ◌+◌, ◌<◌, ◌∷◌, [], false, true, None, Ok, Err, IfOk, MatchResult, length};
 ghost use Rattle.smallvec.specs.SmallVec.{HasRoomFor};
 ghost use Rattle.wl_wire.specs.Argument.{Matches};
 ghost use Rattle.wl_wire.specs.MessageRows.{next_interface, rest_of};
 ghost use Rattle.wl_server.specs.Requests.{Wrong, allows_null as null_allowed, convert, kinds_after, object_argument};
-ghost use Rattle.wl_server.specs.Inside.Conversion.{CanMake, Converts, EndsWhole, IsNextKind, MakesObject, MakesNew, objects_of, state};
+ghost use Rattle.wl_server.specs.Inside.Conversion.{Appends, CanMake, EndsWhole, IsNextKind, MakesObject, MakesNew, objects_of, state};
 
 use crate::ids::client_id::ClientId;
 use crate::ids::object_id::ObjectId;
 use crate::objects::{ClientObjects, Kept, fresh_object, id_at};
 use crate::reading::response::RequestFault;
 use smallvec::SmallVec;
+use std::mem;
 use wl_link::{InsertError, ObjectMap, SERVER_ID_LIMIT};
 use wl_wire::{
-    ANONYMOUS_INTERFACE, AllowNull, Argument, ArgumentType, INLINE_ARGS, InterfaceId, Token,
-    same_interface_or_anonymous,
+    ANONYMOUS_INTERFACE, AllowNull, Argument, ArgumentType, ByteArray, INLINE_ARGS, InterfaceId,
+    Token, same_interface_or_anonymous,
 };
 
 /// What is left to do while the arguments of a request are converted from left to right.
@@ -127,7 +128,7 @@ fn new_id_argument<U: Drop>(
     objects: &mut ClientObjects<U>,
     progress: &mut Progress<'_>,
     number: u32,
-) -> Result<Argument<ObjectId, Token>, RequestFault>
+) -> Result<ObjectId, RequestFault>
     requires { progress.old.child ≢ None → objects.old.map.reserved ≡ true }
     ensures made { MakesNew client version (state objects.old progress.old) number result (state objects.new progress.new) }
     ensures registries { objects.new.registries ≡ objects.old.registries }
@@ -141,69 +142,80 @@ fn new_id_argument<U: Drop>(
         Some(id) => {
             progress.child = None;
             progress.created = Some(id);
-            Ok(Argument::NewId(id))
+            Ok(id)
         }
         None => Err(RequestFault::InvalidNewId(number)),
     }
 }
 
-/// Converts an argument of a request. `version` is the version of the object that the request was sent to.
+/// Converts an argument of a request, and puts it behind those in `converted`, which has room for it. `version` is the
+/// version of the object that the request was sent to. A text or an array is taken out of the argument.
 fn convert_one<U: Drop>(
     client: ClientId,
     version: u32,
     objects: &mut ClientObjects<U>,
     progress: &mut Progress<'_>,
-    arg: Argument<u32, Token>,
-) -> Result<Argument<ObjectId, Token>, RequestFault>
+    arg: &mut Argument<u32, Token>,
+    converted: &mut SmallVec<Argument<ObjectId, Token>, INLINE_ARGS>,
+) -> Result<(), RequestFault>
     requires can_make { CanMake progress.old objects.old }
-    requires kind { IsNextKind progress.old.kinds.now arg }
-    ensures converts { Converts client version (state objects.old progress.old) arg result (state objects.new progress.new) }
+    requires kind { IsNextKind progress.old.kinds.now arg.old }
+    requires room { HasRoomFor converted.old 1 }
+    ensures appends { Appends client version (state objects.old progress.old) converted.old.items arg.old result (state objects.new progress.new) converted.new.items }
+    ensures capacity { converted.new.capacity ≡ converted.old.capacity }
+    ensures len { IfOk result (λ _. length converted.new.items ≡ length converted.old.items + 1) }
     ensures registries { objects.new.registries ≡ objects.old.registries }
     ensures can_make { IfOk result (λ _. CanMake progress.new objects.new) }
     ensures kinds { progress.new.kinds.now ≡ kinds_after progress.old.kinds.now }
 {
     let allows_null = take_kind(progress);
     match arg {
-        Argument::Int(value) => Ok(Argument::Int(value)),
-        Argument::Uint(value) => Ok(Argument::Uint(value)),
-        Argument::Fixed(value) => Ok(Argument::Fixed(value)),
-        Argument::Str(text) => Ok(Argument::Str(text)),
-        Argument::Array(bytes) => Ok(Argument::Array(bytes)),
-        Argument::Fd(token) => Ok(Argument::Fd(token)),
+        Argument::Int(value) => converted.push_reserved(Argument::Int(*value)),
+        Argument::Uint(value) => converted.push_reserved(Argument::Uint(*value)),
+        Argument::Fixed(value) => converted.push_reserved(Argument::Fixed(*value)),
+        Argument::Str(text) => converted.push_reserved(Argument::Str(text.take())),
+        Argument::Array(bytes) => {
+            let none = ByteArray::new(Vec::new(*converted.allocator()));
+            converted.push_reserved(Argument::Array(mem::replace(bytes, none)));
+        }
+        Argument::Fd(token) => converted.push_reserved(Argument::Fd(*token)),
         Argument::Object(number) => {
             let asked = take_asked(progress);
-            let id = object_argument(client, &objects.map, allows_null, asked, number)?;
-            Ok(Argument::Object(id))
+            let id = object_argument(client, &objects.map, allows_null, asked, *number)?;
+            converted.push_reserved(Argument::Object(id));
         }
-        Argument::NewId(number) => { new_id_argument(client, version, objects, progress, number) }
+        Argument::NewId(number) => {
+            let id = new_id_argument(client, version, objects, progress, *number)?;
+            converted.push_reserved(Argument::NewId(id));
+        }
     }
+    Ok(())
 }
 
-/// Converts the arguments of a request, from left to right, and returns the object that the request makes. `args` has
-/// them in reverse order, and they are taken out of it.
+/// Converts the arguments of a request, from left to right, and returns the object that the request makes. The texts and
+/// the arrays are taken out of them.
 pub fn convert<U: Drop>(
     client: ClientId,
     version: u32,
     objects: &mut ClientObjects<U>,
     progress: &mut Progress<'_>,
-    args: &mut SmallVec<Argument<u32, Token>, INLINE_ARGS>,
+    args: &mut [Argument<u32, Token>],
     converted: &mut SmallVec<Argument<ObjectId, Token>, INLINE_ARGS>,
 ) -> Result<Option<ObjectId>, RequestFault>
     requires can_make { CanMake progress.old objects.old }
-    requires kinds { Matches progress.old.kinds.now (reverse args.old.items) }
-    requires room { HasRoomFor converted.old (length args.old.items) }
+    requires kinds { Matches progress.old.kinds.now args.old }
+    requires room { HasRoomFor converted.old (length args.old) }
     ensures capacity { converted.new.capacity ≡ converted.old.capacity }
     ensures registries { objects.new.registries ≡ objects.old.registries }
     ensures converts { MatchResult result
         (λ created. EndsWhole
-        (convert client version (state objects.old progress.old) converted.old.items (reverse args.old.items))
+        (convert client version (state objects.old progress.old) converted.old.items args.old)
         (objects_of objects.new) created converted.new.items)
-        (λ wrong. convert client version (state objects.old progress.old) converted.old.items (reverse args.old.items)
+        (λ wrong. convert client version (state objects.old progress.old) converted.old.items args.old
         ≡ Wrong wrong (objects_of objects.new)) }
 {
-    while let Some(arg) = args.pop() {
-        let converted_arg = convert_one(client, version, objects, progress, arg)?;
-        converted.push_reserved(converted_arg);
+    for arg in args.iter_mut() {
+        convert_one(client, version, objects, progress, arg, converted)?;
     }
     Ok(progress.created)
 }

@@ -14,7 +14,7 @@ ghost use Rattle.wl_server.specs.Inside.Client.{Does};
 ghost use Rattle.wl_server.specs.Cutting.{CallIsCut};
 ghost use Rattle.wl_server.specs.Finish.{ended_by, FinishesBind, FinishesOpen, FinishesRequest, refusal};
 ghost use Rattle.wl_server.specs.Inside.Finishing.{BindLeaves, DataHeld, EndsSender, RequestLeaves, lacks_finish, part_finished};
-ghost use Rattle.wl_server.specs.Inside.NoteOrder.{one_made};
+ghost use Rattle.wl_server.specs.Inside.NoteOrder.{GivesNumbers, NotesInTime, one_made};
 ghost use Rattle.wl_server.specs.Part.{note_of_end, registries_without};
 ghost use Rattle.wl_server.specs.PartStep.{Asked, over};
 ghost use Rattle.wl_server.specs.Plain.{EndsBind, EndsOpenRequest, ReturnsBindData, ReturnsRequestData};
@@ -103,6 +103,8 @@ fn take_out_made<U: Drop>(
         × (map (λ m. m.1) made.new.queue.items ≡ map (λ m. m.1) made.old.queue.items ++ note_of_end client.now number x) }
     ensures numbers { MatchOption (held objects.old.map.store number) (numbers.new ≡ numbers.old)
         (λ x. numbers.new ≡ (if is_some x.value.user_data then one_made numbers.old else numbers.old)) }
+    ensures in_time { GivesNumbers (map (λ m. m.0) made.old.queue.items) numbers.old.made (map (λ m. m.0) made.new.queue.items) numbers.new.made }
+    ensures waiting { numbers.new.waiting ≡ numbers.old.waiting }
     ensures room { deque_len made.old.queue < deque_capacity made.old.queue → deque_len made.new.queue < deque_capacity made.new.queue }
 {
     let Some(object) = take_out(objects, number) else {
@@ -126,7 +128,8 @@ impl<T: Transport + Drop, U: Drop, C: Drop> Client<T, U, C> {
         sender: &ObjectId,
         is_destructor: bool,
     ) -> Result<Result<(), IoFault>, OutOfMemory>
-        ensures { EndsSender T.sends id.now self.old sender.now is_destructor result self.new }
+        ensures ends { EndsSender T.sends id.now self.old sender.now is_destructor result self.new }
+        ensures in_time { NotesInTime self.old.times numbers.old self.new.times numbers.new }
     {
         let Some(object) = ended_in(&self.objects.map, sender, is_destructor) else {
             return Ok(Ok(()));
@@ -146,7 +149,7 @@ impl<T: Transport + Drop, U: Drop, C: Drop> Client<T, U, C> {
         ensures finished { self.new ≡ record self.old { part = part_finished self.old.part created user_data } }
         ensures back { DataHeld self.new.part.store created user_data result }
     {
-        self.action = None;
+        self.action.close();
         match (created, user_data) {
             (Some(id), Some(user_data)) => { give_if_kept(&mut self.objects.map, &id, user_data) }
             _ => None,
@@ -165,9 +168,13 @@ impl<T: Transport + Drop, U: Drop, C: Drop> Client<T, U, C> {
     ) -> Result<Option<U>, FinishRefused<Option<U>>>
         ensures done { Does self.old (λ p did q. FinishesOpen T.sends id.now p (opened.Request sender.now is_destructor created) user_data (result_and result (Ok tt)) (lacks_finish (result_and result (Ok tt))) did q) self.new }
         ensures back { IfOk result (λ back. DataHeld self.new.part.store created user_data back) }
+        ensures in_time { NotesInTime self.old.times numbers.old self.new.times numbers.new }
     {
         if let Some(error) = refusal_of(self.is_killed, &created, &user_data) {
             return Err(FinishRefused { error, user_data });
+        }
+        if !is_destructor {
+            return Ok(self.finish_action(created, user_data));
         }
         let alloc = self.alloc();
         let Ok(wrote) = self.end_sender(alloc, id, numbers, sender, is_destructor) else {
@@ -188,8 +195,9 @@ impl<T: Transport + Drop, U: Drop, C: Drop> Client<T, U, C> {
     ) -> Result<Option<U>, FinishRefused<Option<U>>>
         ensures done { Does self.old (λ p did q. FinishesRequest T.sends id.now p user_data (result_and result (Ok tt)) (lacks_finish (result_and result (Ok tt))) did q) self.new }
         ensures back { RequestLeaves self.old.part user_data result self.new.part }
+        ensures in_time { NotesInTime self.old.times numbers.old self.new.times numbers.new }
     {
-        let Some(action) = &self.action else {
+        let Some(action) = self.action.get() else {
             let error = FinishError::NoOpenAction;
             return Err(FinishRefused { error, user_data });
         };
@@ -198,10 +206,7 @@ impl<T: Transport + Drop, U: Drop, C: Drop> Client<T, U, C> {
                 sender,
                 is_destructor,
                 created,
-            } => {
-                let (sender, is_destructor, created) = (*sender, *is_destructor, *created);
-                self.end_request(id, numbers, &sender, is_destructor, created, user_data)
-            }
+            } => { self.end_request(id, numbers, &sender, is_destructor, created, user_data) }
             OpenAction::Bind { .. } => {
                 let error = FinishError::WrongKind;
                 Err(FinishRefused { error, user_data })
@@ -213,16 +218,14 @@ impl<T: Transport + Drop, U: Drop, C: Drop> Client<T, U, C> {
     pub fn finish_bind(&mut self, user_data: U) -> Result<Option<U>, FinishRefused<U>>
         ensures done { Does self.old (λ p did q. FinishesBind p user_data (result_and result (Ok tt)) false did q) self.new }
         ensures back { BindLeaves self.old.part user_data result self.new.part }
+        ensures times { self.new.times ≡ self.old.times }
     {
-        let Some(action) = &self.action else {
+        let Some(action) = self.action.get() else {
             let error = FinishError::NoOpenAction;
             return Err(FinishRefused { error, user_data });
         };
         match action {
-            OpenAction::Bind { object } => {
-                let object = *object;
-                Ok(self.finish_action(Some(object), Some(user_data)))
-            }
+            OpenAction::Bind { object } => { Ok(self.finish_action(Some(object), Some(user_data))) }
             OpenAction::Request { .. } => {
                 let error = FinishError::WrongKind;
                 Err(FinishRefused { error, user_data })

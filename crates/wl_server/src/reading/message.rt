@@ -9,6 +9,7 @@ ghost use Rattle.wl_wire.specs.Parse.{IsThere};
 ghost use Rattle.wl_wire.specs.Table.{IsAcceptedTable, holds_zero, message_row};
 ghost use Rattle.wl_link.specs.Store.{held};
 ghost use Rattle.wl_link.specs.declared.object.Object.{Object as ObjectOf};
+ghost use Rattle.wl_server.specs.Inside.NoteOrder.{NotesInTime};
 ghost use Rattle.wl_server.specs.declared.objects.Kept.{Kept as KeptOf};
 ghost use Rattle.wl_server.specs.Reading.{row_asks, row_in};
 ghost use Rattle.wl_wire.specs.declared.argument.Argument.{Argument as Arg};
@@ -27,7 +28,6 @@ use crate::objects::{ClientObjects, Kept};
 use crate::reading::Surroundings;
 use crate::reading::action::{Found, MessageEnd, NoAction, Reading};
 use crate::reading::request::{Sender, request};
-use crate::reading::respond::open_action;
 use crate::reading::response::Response;
 use smallvec::SmallVec;
 use wl_link::{BufferedSocket, ObjectMap, Transport, clear_message};
@@ -200,6 +200,7 @@ impl<T: Transport + Drop, U: Drop, C: Drop> Client<T, U, C> {
         ensures handles { HandlesMessage T.sends T.receives (around_of G.views around.now) self.old reading.old (message_result result found.new args.new.items) self.new reading.new }
         ensures place { INLINE_ARGS ≤ message.new.args.capacity }
         ensures inline { INLINE_ARGS ≤ args.new.capacity }
+        ensures in_time { NotesInTime self.old.times numbers.old self.new.times numbers.new }
     {
         let Some(header) = self.socket.next_header() else {
             return MessageEnd::Lacks;
@@ -227,6 +228,7 @@ impl<T: Transport + Drop, U: Drop, C: Drop> Client<T, U, C> {
         requires inline { INLINE_ARGS ≤ args.old.capacity }
         ensures handles { HandlesMessage T.sends T.receives (around_of G.views around.now) self.old reading.old (message_result result found.new args.new.items) self.new reading.new }
         ensures inline { INLINE_ARGS ≤ args.new.capacity }
+        ensures in_time { NotesInTime self.old.times numbers.old self.new.times numbers.new }
     {
         let read = reading.read;
         let taken = take_request(
@@ -251,7 +253,7 @@ impl<T: Transport + Drop, U: Drop, C: Drop> Client<T, U, C> {
             Response::Syncs(callback) => self.synced(numbers, message, &callback),
             Response::Registers(registry) => self.registered(numbers, around, &registry),
             Response::HandsOut => {
-                self.action = Some(open_action(found));
+                self.action.open_action(found);
                 MessageEnd::Acts
             }
         }
@@ -266,8 +268,9 @@ impl<T: Transport + Drop, U: Drop, C: Drop> Client<T, U, C> {
     ) -> MessageEnd
         requires live { Live self.old.part }
         requires not_taken { NotTaken around.now.protocol.now self.old.part.store self.old.part.link error }
-        ensures { (r : ReadingOf) (f : FoundOf) (args : List (Arg IdParts TokenParts)) → r.read ≤ 0xFFFFFFFFFFFFFFFF
+        ensures handles { (r : ReadingOf) (f : FoundOf) (args : List (Arg IdParts TokenParts)) → r.read ≤ 0xFFFFFFFFFFFFFFFF
             → HandlesMessage T.sends T.receives (around_of G.views around.now) self.old r (message_result result f args) self.new r }
+        ensures in_time { NotesInTime self.old.times numbers.old self.new.times numbers.new }
     {
         match error {
             MessageParseError::MissingData | MessageParseError::MissingFD => MessageEnd::Lacks,

@@ -4,6 +4,7 @@
 
 ghost use Rattle.std.specs.Prelude.{◌≡◌, ◌≤◌, Ok, OnErr, Result, option_map};
 ghost use Rattle.std.specs.Result.{result_and};
+ghost use Rattle.wl_server.specs.Inside.NoteOrder.{NotesInTime};
 ghost use Rattle.wl_server.specs.declared.error.ActionError.{ActionError as ActionErrorOf};
 ghost use Rattle.wl_server.specs.declared.reading.action.Action.{Action as ActionOf};
 ghost use Rattle.wl_server.specs.declared.runs.step.Reply.TheVariants as reply;
@@ -12,7 +13,7 @@ ghost use Rattle.wl_server.specs.Backend.{Calls};
 ghost use Rattle.wl_server.specs.Inside.Client.{Does};
 ghost use Rattle.wl_server.specs.Cutting.{CallIsCut};
 ghost use Rattle.wl_server.specs.PartStep.{Asked, over};
-ghost use Rattle.wl_server.specs.PlainReading.{ReadsClient};
+ghost use Rattle.wl_server.specs.Plain.Reading.{ReadsClient};
 ghost use Rattle.wl_server.specs.Reading.{NextAction, action_content, new_reading};
 ghost use Rattle.wl_server.specs.Room.{HasRoom};
 ghost use Rattle.wl_server.specs.Inside.ReadingLoop.{EndsAs, Fills, Live, Waited, action_of, around_of};
@@ -65,6 +66,7 @@ impl<T: Transport + Drop, U: Drop, C: Drop> Client<T, U, C> {
         ensures waited { Waited T.sends T.receives (around_of G.views around.now) self.old reading.old (option_map (λ r. action_of r found.new args.new.items) result) self.new reading.new }
         ensures place { INLINE_ARGS ≤ message.new.args.capacity }
         ensures inline { INLINE_ARGS ≤ args.new.capacity }
+        ensures in_time { NotesInTime self.old.times numbers.old self.new.times numbers.new }
     {
         // The count of requests starts within its type.
         prove!(reading.read <= usize::MAX);
@@ -81,7 +83,8 @@ impl<T: Transport + Drop, U: Drop, C: Drop> Client<T, U, C> {
     /// Receives once. Returns why the reading ends, if it does. The client is killed with the reason `ConnectionClosed`
     /// by a fault other than `WouldBlock` and `OutOfMemory`.
     fn receive(&mut self, numbers: &mut NoteNumbers) -> Option<NoAction>
-        ensures { Fills T.receives self.old result self.new }
+        ensures fills { Fills T.receives self.old result self.new }
+        ensures in_time { NotesInTime self.old.times numbers.old self.new.times numbers.new }
     {
         let Err(fault) = self.socket.fill_incoming_buffers() else {
             return None;
@@ -121,6 +124,7 @@ impl<T: Transport + Drop, U: Drop, C: Drop> Client<T, U, C> {
         requires inline { INLINE_ARGS ≤ args.old.capacity }
         ensures ends { EndsAs T.sends T.receives (around_of G.views around.now) self.old reading.old (action_of result found.new args.new.items) self.new reading.new }
         ensures place { INLINE_ARGS ≤ message.new.args.capacity }
+        ensures in_time { NotesInTime self.old.times numbers.old self.new.times numbers.new }
     {
         // The count of requests starts within its type.
         prove!(reading.read <= usize::MAX);
@@ -153,9 +157,10 @@ impl<T: Transport + Drop, U: Drop, C: Drop> Client<T, U, C> {
         args: &mut SmallVec<Argument<ObjectId, Token>, INLINE_ARGS>,
     ) -> (Result<(), ActionError>, bool)
         requires { INLINE_ARGS ≤ args.old.capacity }
-        ensures { Does self.old (λ p did q. NextAction T.sends T.receives (around_of G.views around.now) reading.old p (action_of result.0 found.new args.new.items) reading.new result.1 did q) self.new }
+        ensures does { Does self.old (λ p did q. NextAction T.sends T.receives (around_of G.views around.now) reading.old p (action_of result.0 found.new args.new.items) reading.new result.1 did q) self.new }
+        ensures in_time { NotesInTime self.old.times numbers.old self.new.times numbers.new }
     {
-        if self.action.is_some() {
+        if self.action.is_open() {
             return (Err(ActionError::ActionOpen), false);
         }
         if self.is_killed {

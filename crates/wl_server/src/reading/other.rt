@@ -29,7 +29,8 @@ use smallvec::SmallVec;
 use wl_wire::{Argument, INLINE_ARGS, Message, MessageDesc, Token};
 
 /// Converts the arguments of a request, and returns the object that the request makes. `version` is the version of the
-/// object that it was sent to. The arguments are taken out of the message and put into `args`, which has room for them.
+/// object that it was sent to. The arguments are put into `args`, which has room for them, and their texts and arrays are
+/// taken out of the message.
 fn convert_request<U: Drop>(
     client: ClientId,
     version: u32,
@@ -57,20 +58,18 @@ fn convert_request<U: Drop>(
         child: desc.child_interface,
         created: None,
     };
-    // The arguments are taken out from the end, so that the others need not be moved.
-    message.args.reverse();
     convert(
         client,
         version,
         objects,
         &mut progress,
-        &mut message.args,
+        message.args.as_mut_slice(),
         args,
     )
 }
 
 /// Handles a request to an object that is neither a display nor a registry, and returns what is still to be done for it.
-/// Its arguments are taken out of the message. If it is handed out, it is in `found` then, and its arguments are in
+/// What its arguments own is taken out of the message. If it is handed out, it is in `found` then, and its arguments are in
 /// `args`, converted.
 pub fn other_request<'m, U: Drop, G: GlobalHandler<C>, C>(
     around: &Surroundings<'_, G>,

@@ -8,6 +8,7 @@ ghost use Rattle.wl_wire.specs.declared.argument.Argument.{Argument as Arg};
 ghost use Rattle.wl_wire.specs.declared.argument.Token.{Token as TokenParts};
 ghost use Rattle.wl_wire.specs.declared.error.IoFault.TheVariants as io;
 ghost use Rattle.wl_link.specs.Puts.{lacks_memory};
+ghost use Rattle.wl_server.specs.Inside.NoteOrder.{NotesInTime};
 ghost use Rattle.wl_server.specs.declared.notes.DisconnectReason.TheVariants.{ConnectionClosed};
 ghost use Rattle.wl_server.specs.declared.reading.action.Found.{Found as FoundOf};
 ghost use Rattle.wl_server.specs.declared.reading.action.MessageEnd.TheVariants as came;
@@ -17,7 +18,7 @@ ghost use Rattle.wl_server.specs.Globals.{shown};
 ghost use Rattle.wl_server.specs.Ids.{IdParts};
 ghost use Rattle.wl_server.specs.Part.{id_of};
 ghost use Rattle.wl_server.specs.Reading.{breaks, garbled, replies};
-ghost use Rattle.wl_server.specs.Inside.Responses.{HasName, code_of, opened_of, text_of};
+ghost use Rattle.wl_server.specs.Inside.Responses.{HasName, code_of, text_of};
 ghost use Rattle.wl_server.specs.Telling.{Kills, core_of, deletions, done_message, introductions};
 ghost use Rattle.wl_server.specs.Inside.ReadingLoop.{Ended, IsHandled, Live, around_of, message_result};
 
@@ -29,7 +30,7 @@ use crate::ids::object_id::ObjectId;
 use crate::notes::DisconnectReason;
 use crate::notes::queues::NoteNumbers;
 use crate::reading::Surroundings;
-use crate::reading::action::{Found, MessageEnd, NoAction, OpenAction};
+use crate::reading::action::{MessageEnd, NoAction};
 use crate::reading::response::Breach;
 use crate::reading::texts::{bind_text, fault_text, new_id_text, since_text};
 use std::alloc::Global;
@@ -65,28 +66,13 @@ fn breach_error(
     }
 }
 
-/// The open action: what is needed to finish the action that was found.
-pub fn open_action(found: &Found) -> OpenAction
-    ensures { result ≡ opened_of found.now }
-{
-    match found {
-        Found::Request(sender, _, is_destructor, created) => {
-            OpenAction::Request {
-                sender: *sender,
-                is_destructor: *is_destructor,
-                created: *created,
-            }
-        }
-        Found::Bind(_, object) => OpenAction::Bind { object: *object },
-    }
-}
-
 impl<T: Transport + Drop, U: Drop, C: Drop> Client<T, U, C> {
     /// Kills the client with the reason `ConnectionClosed`, because it sent bytes that are no message that it may send.
     #[cold]
     #[inline(never)]
     pub fn garbled(&mut self, numbers: &mut NoteNumbers) -> NoAction
-        ensures { IsHandled T.sends (garbled (core_of self.old.part)) self.old (Ended result) self.new }
+        ensures handled { IsHandled T.sends (garbled (core_of self.old.part)) self.old (Ended result) self.new }
+        ensures in_time { NotesInTime self.old.times numbers.old self.new.times numbers.new }
     {
         self.kill(numbers, DisconnectReason::ConnectionClosed);
         NoAction {
@@ -107,7 +93,8 @@ impl<T: Transport + Drop, U: Drop, C: Drop> Client<T, U, C> {
     ) -> NoAction
         requires live { self.old.part.is_killed ≡ false }
         requires name { HasName breach.now }
-        ensures { IsHandled T.sends (breaks (around_of G.views around.now) (core_of self.old.part) (code_of breach.now) (text_of around.now.protocol.now breach.now)) self.old (Ended result) self.new }
+        ensures handled { IsHandled T.sends (breaks (around_of G.views around.now) (core_of self.old.part) (code_of breach.now) (text_of around.now.protocol.now breach.now)) self.old (Ended result) self.new }
+        ensures in_time { NotesInTime self.old.times numbers.old self.new.times numbers.new }
     {
         let alloc = self.alloc();
         let Ok((code, text)) = breach_error(alloc, around.protocol, breach) else {
@@ -128,10 +115,11 @@ impl<T: Transport + Drop, U: Drop, C: Drop> Client<T, U, C> {
     /// What the handling of a request comes to after the answer was written, with this result. If the write failed, the
     /// client is killed.
     pub fn replied(&mut self, numbers: &mut NoteNumbers, wrote: Result<(), IoFault>) -> MessageEnd
-        ensures { MatchResult wrote
+        ensures replied { MatchResult wrote
             (λ _. (result ≡ came.Continues) × (self.new ≡ self.old))
             (λ f. (result ≡ came.Ends (record { fault = io.Pipe; refused = lacks_memory (Err f) }))
             × Does self.old (λ p did q. Kills p ConnectionClosed did q) self.new) }
+        ensures in_time { NotesInTime self.old.times numbers.old self.new.times numbers.new }
     {
         if wrote.is_ok() {
             return MessageEnd::Continues;
@@ -151,9 +139,10 @@ impl<T: Transport + Drop, U: Drop, C: Drop> Client<T, U, C> {
         registry: &ObjectId,
     ) -> MessageEnd
         requires { Live self.old.part }
-        ensures { (f : FoundOf) (args : List (Arg IdParts TokenParts)) → IsHandled T.sends
+        ensures handled { (f : FoundOf) (args : List (Arg IdParts TokenParts)) → IsHandled T.sends
             (replies (core_of self.old.part) (introductions around.now.protocol.now (id_of registry.now) 0 (shown G.views (around_of G.views around.now).globals around.now.client self.old.part.client_data))
             (Remembered (id_of registry.now) ∷ [])) self.old (message_result result f args) self.new }
+        ensures in_time { NotesInTime self.old.times numbers.old self.new.times numbers.new }
     {
         let alloc = self.alloc();
         let wrote = put_globals(alloc, &mut self.socket, around, &self.data, registry);
@@ -170,9 +159,10 @@ impl<T: Transport + Drop, U: Drop, C: Drop> Client<T, U, C> {
         callback: &ObjectId,
     ) -> MessageEnd
         requires { Live self.old.part }
-        ensures { (f : FoundOf) (args : List (Arg IdParts TokenParts)) → IsHandled T.sends
+        ensures handled { (f : FoundOf) (args : List (Arg IdParts TokenParts)) → IsHandled T.sends
             (replies (core_of self.old.part) (done_message (id_of callback.now) ∷ deletions callback.now.number) [])
             self.old (message_result result f args) self.new }
+        ensures in_time { NotesInTime self.old.times numbers.old self.new.times numbers.new }
     {
         let wrote = put_done(message, &mut self.socket, callback.protocol_id());
         self.replied(numbers, wrote)

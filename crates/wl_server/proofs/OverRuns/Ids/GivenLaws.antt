@@ -99,7 +99,7 @@ same_clients a b same = go (eqb a.slot b.slot) (eqb a.serial b.serial) refl refl
 
 module _ {G : Type 0} where
   -- a change of what the target names, of each id
-  abbrev Changes : (Option (Object (KeptGlobal G)) → Option (Object (KeptGlobal G))) → Globals G → GlobalParts → Globals G → Type 0
+  abbrev pub Changes : (Option (Object (KeptGlobal G)) → Option (Object (KeptGlobal G))) → Globals G → GlobalParts → Globals G → Type 0
   Changes change globals target after = (g : GlobalParts) → global_of after g ≡ cond (same_global target g) (change (global_of globals g)) (global_of globals g)
 
   -- nothing has changed, where the target names none
@@ -140,7 +140,7 @@ module _ {G : Type 0} where
       both false true = refl
       both false false = refl
 
-  disabled_changes : (globals : Globals G) (target : GlobalParts) → Changes (option_map as_disabled) globals target (disabled globals target)
+  pub disabled_changes : (globals : Globals G) (target : GlobalParts) → Changes (option_map as_disabled) globals target (disabled globals target)
   disabled_changes globals target = go (global_of globals target) refl
     where
       go : (o : Option (Object (KeptGlobal G))) → global_of globals target ≡ o → Changes (option_map as_disabled) globals target (disabled_at globals target.name o)
@@ -151,7 +151,7 @@ module _ {G : Type 0} where
           (λ g same z zero. ap (named_at g) (rewritten_here globals.store target.name (as_disabled x) g.name same)
           ∙ ap (λ (b : Bool). cond b None (cond (eqb x.value.serial g.serial) (Some (as_disabled x)) None)) zero)
 
-  freed_changes : (globals : Globals G) (target : GlobalParts) → Changes (λ o. None) globals target (freed globals target)
+  pub freed_changes : (globals : Globals G) (target : GlobalParts) → Changes (λ o. None) globals target (freed globals target)
   freed_changes globals target = go (global_of globals target) refl
     where
       nothing : (z b : Bool) → None ≡ cond z None (cond b (let o : Option (Object (KeptGlobal G)) = None in o) None)
@@ -186,6 +186,15 @@ module _ {G : Type 0} where
             ∙ foreign_at g x (ne_eqb new.serial g.serial (λ is. older (sym is)))
             ∙ sym (ap (named_at g) (ap (held globals.store) same ∙ least.absent) ∙ none_at g)
         | inr other ↦ ap (named_at g) (stored_other globals.store new.name x g.name other)
+      ]
+
+  -- nor does any other id
+  pub created_elsewhere : (globals : Globals G) (i : InterfaceId) (version : ℕ) (handler : G) (new : GlobalParts) → IsNextGlobal globals new → (last : ℕ) (g : GlobalParts)
+      → same_global new g ≡ false → global_of (record { store = stored globals.store new.name (new_global i version new.serial handler); last_serial = last }) g ≡ global_of globals g
+  created_elsewhere globals i version handler new next last g differ =
+      elim (cases_eq g.name new.name) [
+        | inl same ↦ created_other globals i version handler new next last g (λ is. true≢false (sym (same_named new g same ∙ eq-eqb new.serial g.serial (sym is)) ∙ differ))
+        | inr other ↦ ap (named_at g) (stored_other globals.store new.name (new_global i version new.serial handler) g.name other)
       ]
 
 -- ---- a call

@@ -10,7 +10,7 @@ use Rattle.wl_server.specs.Globals.{Offer, global_of}
 use Rattle.wl_server.specs.Ids.{ClientParts, IdParts}
 use Rattle.wl_server.specs.Lookups.{and_then, client_of, global_info_of, id_if, id_if_stored, info_at, live_from, name_if, object_of}
 use Rattle.wl_server.specs.Part.{Part, id_at, named}
-use Rattle.wl_server.specs.Server.{Seen, ServerState, Stored, if_serial, stored_at}
+use Rattle.wl_server.specs.Server.{Seen, ServerState, Stored, if_serial, no_times, stored_at}
 use Rattle.wl_server.proofs.OverRuns.Outcome.WholeLaws.{found}
 use Rattle.wl_server.specs.WholeOutcome.{AnswersAlike, SameServer}
 
@@ -45,7 +45,7 @@ module _ {T U C : Type 0} where
           let there : part_at (if_serial x.serial (Some y)) ≡ Some y.part = rw is refl in
           let part : x.part ≡ y.part = same_Some x.part y.part (sym here ∙ same ∙ there) in
           let serial : x.serial ≡ y.serial = sym (eqb-true y.serial x.serial is) in
-          ap₂ (λ (m : ℕ) (p : Part T U C). id_if_stored n (Some (record { serial = m; part = p; made = x.made }))) serial part
+          ap₂ (λ (m : ℕ) (p : Part T U C). id_if_stored n (Some (record { serial = m; part = p; made = x.made; times = no_times }))) serial part
 
 module _ {T U G C : Type 0} (s t : ServerState T U G C) (same : SameServer s t) where
   slot_one : (k n : ℕ) (a b : Option (Stored T U C)) → stored_at k s.clients ≡ a → stored_at k t.clients ≡ b → id_if_stored n a ≡ id_if_stored n b

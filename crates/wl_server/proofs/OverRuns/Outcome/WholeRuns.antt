@@ -168,11 +168,11 @@ module _ {T U G C : Type 0} where
   same_as_itself (step.Arrive target bytes tokens) = (refl, refl)
   same_as_itself k = refl
 
-  asked_one : (c c' : Call T U G C) (k : Step T U G C) (p q : Reply T U) → c ≡ Asked k p → c' ≡ Asked k q → SameCall c c'
+  pub asked_one : (c c' : Call T U G C) (k : Step T U G C) (p q : Reply T U) → c ≡ Asked k p → c' ≡ Asked k q → SameCall c c'
   asked_one c c' k p q is is' =
       subst (λ (z : Call T U G C). SameCall z c') (sym is) (subst (λ (z : Call T U G C). SameCall (Asked k p) z) (sym is') (same_as_itself k))
 
-  replied_one : (c c' : Call T U G C) (k : Step T U G C) (p q : Reply T U) → c ≡ Asked k p → c' ≡ Asked k q → WholeAnswer c c' → WholeReply p q
+  pub replied_one : (c c' : Call T U G C) (k : Step T U G C) (p q : Reply T U) → c ≡ Asked k p → c' ≡ Asked k q → WholeAnswer c c' → WholeReply p q
   replied_one c c' k p q is is' same =
       let here = subst (λ (z : Call T U G C). WholeAnswer z c') is same in
       subst (λ (z : Call T U G C). WholeAnswer (Asked k p) z) is' here

@@ -3,6 +3,7 @@ use Rattle.std.specs.Vec.{vec_capacity}
 use Rattle.wl_server.specs.Inside.Cleanup.{CleansUp}
 use Rattle.wl_server.specs.Inside.Gathering.{count_leaving}
 use Rattle.wl_server.specs.Inside.Leaving.{collected, given_at}
+use Rattle.wl_server.proofs.CallSteps.Numbering.{numbers_left}
 use Rattle.wl_server.proofs.CleanupSteps.CleanedSlots.{slots_cleaned}
 use Rattle.wl_server.proofs.CleanupSteps.CleaningUp.{cleaned_up, cleanup_starved}
 use Rattle.wl_server.proofs.CleanupSteps.Taken.{none_taken}
@@ -32,8 +33,10 @@ invariant_of-self g c =
     let same = slots_cleaned _ _ _ _ _ _ _ c.clean_up-self-inside.ensures.cleaned in
     let before = c.self.inside.clients.ok.0 in
     let after = c.clean_up-self-inside.new.clients.ok.0 in
-    let within = c.self.invariant.within in
-    record { within = omega (arith, same, before, after, within); taken = none_taken _ }
+    let within = c.self.invariant.0.within in (
+      record { within = omega (arith, same, before, after, within); taken = none_taken _ },
+      numbers_left _ _ _ c.clean_up-self-inside.ensures.first c.self.invariant.1,
+    )
 
 pub returns-in-Ok-clause-plain : goal.returns-in-Ok-clause-plain
 returns-in-Ok-clause-plain g c = cleans_up _ (returns-in-Ok-clause-call g c)

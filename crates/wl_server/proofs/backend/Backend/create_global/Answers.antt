@@ -1,4 +1,4 @@
-use Rattle.std.proofs.Common.{◌≡◌, ◌∙◌, Bool, ℕ, List, Option, Err, Result, ap, false, length, refl, subst, sym, true}
+use Rattle.std.proofs.Common.{◌≡◌, ◌∙◌, Bool, ℕ, List, Option, Err, Result, ap, false, length, refl, subst, sym, true, map}
 use Rattle.std.specs.Prelude.{IfSome, vec_len}
 use Rattle.std.proofs.lemmas.List.{with_items_is}
 use Rattle.wl_wire.specs.declared.interface.InterfaceId.{InterfaceId}
@@ -15,6 +15,7 @@ use Rattle.wl_server.specs.Server.{Stored}
 use Rattle.wl_server.specs.Steps.{lacks_growth}
 use Rattle.wl_server.specs.declared.runs.step.Reply.TheVariants as reply
 use Rattle.wl_server.specs.declared.runs.step.Step.TheVariants as step
+use Rattle.wl_server.specs.Inside.NoteOrder.{AllInTime, times_of}
 use Rattle.wl_server.proofs.CallSteps.Feeling.{IsFelt, felt_call, unfelt_call}
 use Rattle.wl_server.proofs.CleanupSteps.Taken.{slots_felt}
 use Rattle.wl_server.proofs.Plain.Globals.{offers_global}
@@ -56,7 +57,7 @@ returns-in-Ok-clause-call g c =
     subst (λ (xs : List (Option (Stored _ _ _))). AllFeel (HearsNew g.T.Transport.sends g.G.GlobalHandler.views c.self.inside.protocol c.in-Ok.id new)
     c.tell_named-self-inside.result (length xs) xs c.tell_named-self-inside.new.clients) c.deref_mut.ensures.value
     (subst (λ (o : Option (Object (KeptGlobal _))). IfSome o (λ x. AllFeel (HearsNew g.T.Transport.sends g.G.GlobalHandler.views c.self.inside.protocol c.in-Ok.id x)
-    c.tell_named-self-inside.result (length c.deref_mut.result.now) c.deref_mut.result.now c.tell_named-self-inside.new.clients)) c.in-Ok.ensures.kept c.tell_named-self-inside.ensures) in
+    c.tell_named-self-inside.result (length c.deref_mut.result.now) c.deref_mut.result.now c.tell_named-self-inside.new.clients)) c.in-Ok.ensures.kept c.tell_named-self-inside.ensures.felt) in
     let len : length c.tell_named-self-inside.new.clients ≡ vec_len c.self.inside.clients = all.len ∙ sym c.self.inside.clients.ok.0 in
     rw (← c.self.view_is, with_items_is c.self.inside.clients c.tell_named-self-inside.new.clients len)
     (felt_call _ _ _ _ (felt _ _ _ _) (HearsNew g.T.Transport.sends g.G.GlobalHandler.views c.self.inside.protocol c.in-Ok.id new)
@@ -71,9 +72,11 @@ invariant_of-self g c =
     subst (λ (xs : List (Option (Stored _ _ _))). AllFeel (HearsNew g.T.Transport.sends g.G.GlobalHandler.views c.self.inside.protocol c.in-Ok.id new)
     c.tell_named-self-inside.result (length xs) xs c.tell_named-self-inside.new.clients) c.deref_mut.ensures.value
     (subst (λ (o : Option (Object (KeptGlobal _))). IfSome o (λ x. AllFeel (HearsNew g.T.Transport.sends g.G.GlobalHandler.views c.self.inside.protocol c.in-Ok.id x)
-    c.tell_named-self-inside.result (length c.deref_mut.result.now) c.deref_mut.result.now c.tell_named-self-inside.new.clients)) c.in-Ok.ensures.kept c.tell_named-self-inside.ensures) in
+    c.tell_named-self-inside.result (length c.deref_mut.result.now) c.deref_mut.result.now c.tell_named-self-inside.new.clients)) c.in-Ok.ensures.kept c.tell_named-self-inside.ensures.felt) in
     let len : length c.tell_named-self-inside.new.clients ≡ vec_len c.self.inside.clients = all.len ∙ sym c.self.inside.clients.ok.0 in
-    rw (with_items_is c.self.inside.clients c.tell_named-self-inside.new.clients len) (slots_felt _ _ _ _ _ _ all c.self.invariant)
+    let numbers = subst (λ (xs : List (Option (Stored _ _ _))). AllInTime (map times_of xs) c.self.inside.numbers (map times_of c.tell_named-self-inside.new.clients)
+    c.tell_named-self-inside.new.numbers) c.deref_mut.ensures.value c.tell_named-self-inside.ensures.in_time in
+    rw (with_items_is c.self.inside.clients c.tell_named-self-inside.new.clients len) (slots_felt _ _ _ _ _ _ all c.self.invariant.0, numbers.keeps c.self.invariant.1)
 
 pub returns-after-matches-clause-plain : goal.returns-after-matches-clause-plain
 returns-after-matches-clause-plain g c = offers_global _ _ _ _ (returns-after-matches-clause-call g c)

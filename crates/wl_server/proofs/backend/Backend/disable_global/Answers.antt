@@ -1,4 +1,4 @@
-use Rattle.std.proofs.Common.{◌≡◌, ◌∙◌, List, Option, ap, length, refl, subst, sym}
+use Rattle.std.proofs.Common.{◌≡◌, ◌∙◌, List, Option, ap, length, refl, subst, sym, map}
 use Rattle.std.specs.Prelude.{vec_len}
 use Rattle.std.proofs.lemmas.List.{with_items_is}
 use Rattle.wl_link.proofs.Calls.Branches.{at_false, at_true}
@@ -10,6 +10,7 @@ use Rattle.wl_server.specs.Inside.Places.{AllFeel}
 use Rattle.wl_server.specs.Server.{Stored}
 use Rattle.wl_server.specs.declared.runs.step.Reply.TheVariants as reply
 use Rattle.wl_server.specs.declared.runs.step.Step.TheVariants as step
+use Rattle.wl_server.specs.Inside.NoteOrder.{AllInTime, times_of}
 use Rattle.wl_server.proofs.CallSteps.Feeling.{IsFelt, felt_call, unfelt_call}
 use Rattle.wl_server.proofs.CleanupSteps.Taken.{slots_felt}
 use Rattle.wl_server.proofs.Plain.Globals.{disables_global}
@@ -20,9 +21,9 @@ felt id = record { last = refl; client = λ b. tt; order = tt; room = λ b. tt }
 
 pub returns-then-was_enabled-clause-call : goal.returns-then-was_enabled-clause-call
 returns-then-was_enabled-clause-call g c =
-    let len : length c.tell_loss-self-inside.new.clients ≡ vec_len c.self.inside.clients = c.tell_loss-self-inside.ensures.len ∙ c.deref_mut.ensures.len in
+    let len : length c.tell_loss-self-inside.new.clients ≡ vec_len c.self.inside.clients = c.tell_loss-self-inside.ensures.felt.len ∙ c.deref_mut.ensures.len in
     let all = subst (λ (xs : List (Option (Stored _ _ _))). AllFeel (λ id p lacked did q. Hears g.T.Transport.sends p (removals p c.name.result) lacked did q)
-    c.tell_loss-self-inside.result (length xs) xs c.tell_loss-self-inside.new.clients) c.deref_mut.ensures.value c.tell_loss-self-inside.ensures in
+    c.tell_loss-self-inside.result (length xs) xs c.tell_loss-self-inside.new.clients) c.deref_mut.ensures.value c.tell_loss-self-inside.ensures.felt in
     rw (← c.self.view_is, with_items_is c.self.inside.clients c.tell_loss-self-inside.new.clients len)
     (felt_call _ _ _ _ (felt _) (λ id p lacked did q. Hears g.T.Transport.sends p (removals p c.args.id.now.name) lacked did q)
     c.tell_loss-self-inside.result _ c.tell_loss-self-inside.new.clients
@@ -37,10 +38,12 @@ returns-else-was_enabled-clause-call g c = rw (← c.self.view_is)
 
 pub invariant_of-self : goal.invariant_of-self
 invariant_of-self g c =
-    let len : length c.tell_loss-self-inside.new.clients ≡ vec_len c.self.inside.clients = c.tell_loss-self-inside.ensures.len ∙ c.deref_mut.ensures.len in
+    let len : length c.tell_loss-self-inside.new.clients ≡ vec_len c.self.inside.clients = c.tell_loss-self-inside.ensures.felt.len ∙ c.deref_mut.ensures.len in
     let all = subst (λ (xs : List (Option (Stored _ _ _))). AllFeel (λ id p lacked did q. Hears g.T.Transport.sends p (removals p c.name.result) lacked did q)
-    c.tell_loss-self-inside.result (length xs) xs c.tell_loss-self-inside.new.clients) c.deref_mut.ensures.value c.tell_loss-self-inside.ensures in
-    rw (with_items_is c.self.inside.clients c.tell_loss-self-inside.new.clients len) (slots_felt _ _ _ _ _ _ all c.self.invariant)
+    c.tell_loss-self-inside.result (length xs) xs c.tell_loss-self-inside.new.clients) c.deref_mut.ensures.value c.tell_loss-self-inside.ensures.felt in
+    let numbers = subst (λ (xs : List (Option (Stored _ _ _))). AllInTime (map times_of xs) c.self.inside.numbers (map times_of c.tell_loss-self-inside.new.clients)
+    c.tell_loss-self-inside.new.numbers) c.deref_mut.ensures.value c.tell_loss-self-inside.ensures.in_time in
+    rw (with_items_is c.self.inside.clients c.tell_loss-self-inside.new.clients len) (slots_felt _ _ _ _ _ _ all c.self.invariant.0, numbers.keeps c.self.invariant.1)
 
 pub returns-then-was_enabled-clause-plain : goal.returns-then-was_enabled-clause-plain
 returns-then-was_enabled-clause-plain g c = disables_global _ (returns-then-was_enabled-clause-call g c)

@@ -3,6 +3,7 @@ use Rattle.std.specs.Prelude.{option_map}
 use Rattle.std.specs.Result.{result_and}
 use Rattle.wl_wire.specs.declared.error.IoFault.{IoFault}
 use Rattle.wl_link.specs.Exchange.{Queue}
+use Rattle.wl_server.proofs.CallSteps.Numbering.{numbers_set}
 use Rattle.wl_server.proofs.OverRuns.Cut.CuttingLaws.{histories_cut}
 use Rattle.wl_server.specs.declared.error.FinishError.TheVariants as finish
 use Rattle.wl_server.specs.declared.error.FinishRefused.{FinishRefused}
@@ -49,7 +50,7 @@ pub returns-clause-cutting : goal.returns-clause-cutting
 returns-clause-cutting g c = ((returns-clause-finished g c).step, histories_cut _ _ _ _)
 
 pub invariant_of-self-2 : goal.invariant_of-self-2
-invariant_of-self-2 g c = slots_set _ _ _ _ _ c.self.invariant
+invariant_of-self-2 g c = (slots_set _ _ _ _ _ c.self.invariant.0, numbers_set _ _ _ _ _ _ c.in-Some.ensures.value c.finish_request-answer.ensures.in_time c.self.invariant.1)
 
 pub returns-in_default-clause-plain : goal.returns-in_default-clause-plain
 returns-in_default-clause-plain g c = ends_open_request _ _ _ _ _ _ (returns-in_default-clause-finished g c)

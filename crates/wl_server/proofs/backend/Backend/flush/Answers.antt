@@ -1,15 +1,18 @@
-use Rattle.std.proofs.Common.{◌≡◌, Bool, Option, Ok, arith, refl, subst, sym}
+use Rattle.std.proofs.Common.{◌≡◌, Bool, Option, Ok, arith, refl, subst, sym, List}
 use Rattle.wl_server.specs.Inside.Client.{Does}
 use Rattle.wl_server.specs.Felt.{FlushedTo, FlushesLive}
 use Rattle.wl_server.specs.Ids.{ClientParts}
 use Rattle.wl_server.specs.PartStep.{Asked}
 use Rattle.wl_server.specs.declared.runs.step.Reply.TheVariants as reply
 use Rattle.wl_server.specs.declared.runs.step.Step.TheVariants as step
+use Rattle.wl_server.specs.Inside.NoteOrder.{HasNumbers}
+use Rattle.wl_server.proofs.CallSteps.Numbering.{numbers_stay}
 use Rattle.wl_server.proofs.CallSteps.OneClient.{IsOwn, done_to, none_stored}
 use Rattle.wl_server.proofs.CallSteps.Feeling.{IsFelt, felt_call}
 use Rattle.wl_server.proofs.CleanupSteps.Taken.{slots_set, taken_felt}
 use Rattle.wl_server.proofs.Plain.Sending.{flushes_clients}
 use Rattle.wl_server.proofs.backend.Backend.flush.Goals as goal
+use Rattle.wl_server.specs.Server.{NoteTimes}
 
 own : {T U G C : Type 0} (client : Option ClientParts) (answer : _) → IsOwn {T = T} {U = U} {G = G} {C = C} (Asked (step.Flush client) (reply.Flush answer))
 own client answer = record { offer = λ o. refl; last = refl; client = λ b. tt; global = λ o. tt; order = tt; room = λ b. tt; growth = refl }
@@ -21,16 +24,18 @@ pub returns-in_default-clause-call : goal.returns-in_default-clause-call
 returns-in_default-clause-call g c =
     rw (← c.self.view_is, c.in_default.is)
     (felt_call _ _ _ _ (felt _ _) (λ id p lacked did q. FlushesLive g.T.Transport.sends p lacked did q) c.flush_each-self-inside.result _ c.flush_each-self-inside.new.clients.items
-    refl tt refl (λ i l d b a h. (_, refl, (refl, h))) c.flush_each-self-inside.ensures)
+    refl tt refl (λ i l d b a h. (_, refl, (refl, h))) c.flush_each-self-inside.ensures.felt)
 
 pub invariant_of-self : goal.invariant_of-self
 invariant_of-self g c =
-    let all = c.flush_each-self-inside.ensures in
+    let all = c.flush_each-self-inside.ensures.felt in
     let same = all.len in
     let before = c.self.inside.clients.ok.0 in
     let after = c.flush_each-self-inside.new.clients.ok.0 in
-    let within = c.self.invariant.within in
-    record { within = omega (arith, same, before, after, within); taken = taken_felt _ _ _ _ _ all c.self.invariant.taken }
+    let within = c.self.invariant.0.within in (
+      record { within = omega (arith, same, before, after, within); taken = taken_felt _ _ _ _ _ all c.self.invariant.0.taken },
+      subst (λ (ts : List NoteTimes). HasNumbers c.self.inside.numbers ts) (sym c.flush_each-self-inside.ensures.times) c.self.invariant.1,
+    )
 
 pub returns-in_default-stored_mut-clause-call : goal.returns-in_default-stored_mut-clause-call
 returns-in_default-stored_mut-clause-call g c = rw (← c.self.view_is, c.in-Some.is)
@@ -41,13 +46,13 @@ pub returns-clause-call : goal.returns-clause-call
 returns-clause-call g c =
     let does : Does c.in-Some-stored_mut.client.now (λ p did q. FlushedTo g.T.Transport.sends p c.flush-answer.result c.is_out_of_memory-self-inside.result did q) c.flush-answer.new.self =
     subst (λ (l : Bool). Does c.in-Some-stored_mut.client.now (λ p did q. FlushedTo g.T.Transport.sends p c.flush-answer.result l did q) c.flush-answer.new.self)
-    (sym c.is_out_of_memory-self-inside.ensures) c.flush-answer.ensures in
+    (sym c.is_out_of_memory-self-inside.ensures) c.flush-answer.ensures.flushed in
     rw (← c.self.view_is, c.in-Some.is)
     (done_to _ _ _ _ (own _ _) c.in-Some.id (λ i p lacked did q. FlushedTo g.T.Transport.sends p c.flush-answer.result lacked did q) (c.flush-answer.result ≡ Ok tt) (λ i l d b a h. (_, refl, h))
     _ c.in-Some-stored_mut.client.now c.flush-answer.new.self c.is_out_of_memory-self-inside.result refl c.in-Some-stored_mut.ensures.value does)
 
 pub invariant_of-self-2 : goal.invariant_of-self-2
-invariant_of-self-2 g c = slots_set _ _ _ _ _ c.self.invariant
+invariant_of-self-2 g c = (slots_set _ _ _ _ _ c.self.invariant.0, numbers_stay _ _ _ _ _ c.in-Some-stored_mut.ensures.value c.flush-answer.ensures.times c.self.invariant.1)
 
 pub returns-in_default-clause-plain : goal.returns-in_default-clause-plain
 returns-in_default-clause-plain g c = flushes_clients _ _ (returns-in_default-clause-call g c)

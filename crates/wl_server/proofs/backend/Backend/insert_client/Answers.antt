@@ -25,10 +25,13 @@ returns-in-Err-clause-call g c =
 pub invariant_of-self-in-Ok : goal.invariant_of-self-in-Ok
 invariant_of-self-in-Ok g c =
     let (s, is, put) = c.in-Ok.ensures.put in
-    record {
-      within = c.put_new.ensures.slots c.self.invariant.within;
-      taken = subst (λ n. AreTaken (n + 1) c.put_new.new.clients.items) (sym c.slot.ensures) (taken_put _ _ _ s c.in-Some.ensures.next.0 put);
-    }
+    let all = c.put_new.ensures.in_time c.in-Some.ensures.next.0.free in (
+      record {
+        within = c.put_new.ensures.slots c.self.invariant.0.within;
+        taken = subst (λ n. AreTaken (n + 1) c.put_new.new.clients.items) (sym c.slot.ensures) (taken_put _ _ _ s c.in-Some.ensures.next.0 put);
+      },
+      all.keeps c.self.invariant.1,
+    )
 
 pub returns-in_default-clause-plain : goal.returns-in_default-clause-plain
 returns-in_default-clause-plain g c = inserts_client _ _ _ (returns-in_default-clause-call g c)

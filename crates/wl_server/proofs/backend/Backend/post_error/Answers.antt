@@ -2,6 +2,7 @@ use Rattle.std.proofs.Common.{◌≡◌, ◌∙◌, ℕ, List, Option, None, Som
 use Rattle.std.specs.Option.{option_map}
 use Rattle.wl_server.specs.Posted.{PostsOn}
 use Rattle.wl_server.specs.Server.{client_at}
+use Rattle.wl_server.proofs.CallSteps.Numbering.{numbers_set}
 use Rattle.wl_server.proofs.ObjectCalls.Told.{at_slot}
 use Rattle.wl_wire.specs.declared.error.IoFault.{IoFault}
 use Rattle.wl_wire.specs.Table.{InterfaceRow}
@@ -14,6 +15,7 @@ use Rattle.wl_server.specs.declared.runs.step.Step.TheVariants as step
 use Rattle.wl_server.proofs.CallSteps.OneClient.{IsOwn, done_to, none_stored}
 use Rattle.wl_server.proofs.CallSteps.Slots.{Kind, stored_by}
 use Rattle.wl_server.proofs.CleanupSteps.Taken.{slots_set}
+use Rattle.wl_server.proofs.Plain.Errors.{kills_for_error}
 use Rattle.wl_server.proofs.backend.Backend.post_error.Goals as goal
 
 mapped_some : {A B : Type 0} (f : A → B) (o : Option A) → is_some (option_map f o) ≡ is_some o
@@ -38,7 +40,7 @@ returns-clause-call g c = rw (← c.self.view_is)
     c.client-client.ensures c.in-Some.ensures.value c.post_error-self-inside.ensures.does)
 
 pub invariant_of-self-2 : goal.invariant_of-self-2
-invariant_of-self-2 g c = slots_set _ _ _ _ _ c.self.invariant
+invariant_of-self-2 g c = (slots_set _ _ _ _ _ c.self.invariant.0, numbers_set _ _ _ _ _ _ c.in-Some.ensures.value c.post_error-self-inside.ensures.in_time c.self.invariant.1)
 
 pub returns-in_default-clause-exactly : goal.returns-in_default-clause-exactly
 returns-in_default-clause-exactly g c = λ p q before after.
@@ -52,3 +54,9 @@ returns-clause-exactly g c = rw (← c.self.view_is)
     _ c.in-Some.client.now c.post_error-self-inside.new.self
     (λ p did q. PostsError g.T.Transport.sends c.self.inside.protocol p c.args.id.now c.args.code c.args.text c.post_error-self-inside.result did q)
     c.client-client.ensures c.in-Some.ensures.value c.post_error-self-inside.ensures.does c.post_error-self-inside.ensures.exactly)
+
+pub returns-in_default-clause-plain : goal.returns-in_default-clause-plain
+returns-in_default-clause-plain g c = kills_for_error _ _ _ (returns-in_default-clause-call g c)
+
+pub returns-clause-plain : goal.returns-clause-plain
+returns-clause-plain g c = kills_for_error _ _ _ (returns-clause-call g c)

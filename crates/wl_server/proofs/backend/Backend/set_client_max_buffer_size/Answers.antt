@@ -1,13 +1,14 @@
-use Rattle.std.proofs.Common.{◌≡◌, ℕ, List, Some, false, refl, sym, subst}
+use Rattle.std.proofs.Common.{◌≡◌, ℕ, List, Some, false, refl, sym, subst, ap}
 use Rattle.wl_link.specs.Link.{LinkState, LimitSet}
 use Rattle.wl_server.specs.Inside.Client.{Does}
 use Rattle.wl_server.specs.Deeds.{Deed}
 use Rattle.wl_server.specs.Ids.{ClientParts}
 use Rattle.wl_server.specs.Part.{Part, with_link}
 use Rattle.wl_server.specs.PartStep.{Asked, Quietly}
-use Rattle.wl_server.specs.Server.{Stored}
+use Rattle.wl_server.specs.Server.{Stored, no_times}
 use Rattle.wl_server.specs.declared.runs.step.Reply.TheVariants as reply
 use Rattle.wl_server.specs.declared.runs.step.Step.TheVariants as step
+use Rattle.wl_server.proofs.CallSteps.Numbering.{numbers_stay}
 use Rattle.wl_server.proofs.CallSteps.OneClient.{IsOwn, done_to, none_stored}
 use Rattle.wl_server.proofs.CallSteps.Doing.{does_quietly}
 use Rattle.wl_server.proofs.CallSteps.Slots.{Kind}
@@ -24,7 +25,7 @@ own id limit = record { offer = λ o. refl; last = refl; client = λ b. tt; glob
 
 limit_set : {T U C : Type 0} (s : Stored T U C) (limit : ℕ) (before link : LinkState T) → s.part.link ≡ before → LimitSet before (Some limit) link
     → Does s (λ p did q. Quietly false did ((link : LinkState T) × LimitSet p.link (Some limit) link × (q ≡ with_link p link)))
-    (record { serial = s.serial; part = with_link s.part link; made = s.made })
+    (record { serial = s.serial; part = with_link s.part link; made = s.made; times = no_times })
 limit_set {T} {U} {C} s limit before link is set =
     does_quietly s sets (with_link s.part link) (refl, refl, (link, subst (λ (l : LinkState T). LimitSet l (Some limit) link) (sym is) set, refl))
   where
@@ -40,10 +41,10 @@ pub returns-clause-call : goal.returns-clause-call
 returns-clause-call g c = rw (← c.self.view_is)
     (done_to _ _ _ _ (own _ _) c.args.client.now (limits c.args.max_buffer_size) (Unit {0}) (λ i l d b a h. (refl, h))
     _ c.in-Some.stored.now _ false refl c.in-Some.ensures.value
-    (rw (← c.stored.view_is) (limit_set _ c.args.max_buffer_size c.stored.inside.socket c.set_max_buffer_size.new.self refl c.set_max_buffer_size.ensures)))
+    (rw (← c.stored.view_is) (limit_set (record { serial = _; part = _; made = _; times = no_times }) c.args.max_buffer_size c.stored.inside.socket c.set_max_buffer_size.new.self refl c.set_max_buffer_size.ensures)))
 
 pub invariant_of-self-2 : goal.invariant_of-self-2
-invariant_of-self-2 g c = slots_set _ _ _ _ _ c.self.invariant
+invariant_of-self-2 g c = (slots_set _ _ _ _ _ c.self.invariant.0, numbers_stay _ _ _ _ _ c.in-Some.ensures.value (ap (λ (s : Stored _ _ _). s.times) c.stored.view_is) c.self.invariant.1)
 
 pub returns-in_default-clause-plain : goal.returns-in_default-clause-plain
 returns-in_default-clause-plain g c = sets_limit _ _ (returns-in_default-clause-call g c)

@@ -1,4 +1,5 @@
 use Rattle.std.proofs.Common.{◌∙◌, Vec, ap, arith}
+use Rattle.wl_server.proofs.CallSteps.Numbering.{numbers_left}
 use Rattle.wl_server.proofs.CleanupSteps.GatheredSlots.{slots_kept}
 use Rattle.wl_server.proofs.CleanupSteps.TakingNotes.{notes_starved, notes_taken}
 use Rattle.wl_server.proofs.CleanupSteps.Taken.{taken_kept}
@@ -19,11 +20,13 @@ invariant_of-self g c =
     let same = slots_kept _ _ _ _ _ c.gather_made.ensures.gathered c.gather_made.ensures.unchanged in
     let before = c.self.inside.clients.ok.0 in
     let after = c.gather_made.new.clients.ok.0 in
-    let within = c.self.invariant.within in
-    record {
-      within = omega (arith, same, before, after, within);
-      taken = taken_kept _ _ _ _ _ _ c.gather_made.ensures.gathered c.gather_made.ensures.unchanged c.self.invariant.taken;
-    }
+    let within = c.self.invariant.0.within in (
+      record {
+        within = omega (arith, same, before, after, within);
+        taken = taken_kept _ _ _ _ _ _ c.gather_made.ensures.gathered c.gather_made.ensures.unchanged c.self.invariant.0.taken;
+      },
+      numbers_left _ _ _ c.gather_made.ensures.first c.self.invariant.1,
+    )
 
 pub returns-in-Ok-clause-plain : goal.returns-in-Ok-clause-plain
 returns-in-Ok-clause-plain g c = takes_notes _ (returns-in-Ok-clause-call g c)

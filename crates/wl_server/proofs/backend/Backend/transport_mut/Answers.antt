@@ -1,7 +1,8 @@
-use Rattle.std.proofs.Common.{◌≡◌, ◌∙◌, List, Option, None, Some, option_map, sym, ap, inl, inr}
+use Rattle.std.proofs.Common.{◌≡◌, ◌∙◌, List, Option, None, Some, option_map, sym, ap, inl, inr, refl}
 use Rattle.std.proofs.Math.Path.{fun_ext}
 use Rattle.std.specs.Prelude.{slice_set}
 use Rattle.std.specs.Option.{option_map_or}
+use Rattle.wl_server.proofs.CallSteps.Numbering.{numbers_stay}
 use Rattle.wl_server.proofs.OverRuns.Alone.AccountLaws.{is_change}
 use Rattle.wl_server.specs.Backend.{BackendState, IsChange}
 use Rattle.wl_server.specs.Ids.{ClientParts}
@@ -50,4 +51,4 @@ returns g c = (
 )
 
 pub invariant_of-self-lent : goal.invariant_of-self-lent
-invariant_of-self-lent g c = λ w. slots_set _ _ _ _ _ c.self.invariant
+invariant_of-self-lent g c = λ w. (slots_set _ _ _ _ _ c.self.invariant.0, numbers_stay _ _ _ _ _ c.in-Some.ensures.value refl c.self.invariant.1)

@@ -1,10 +1,12 @@
 use Rattle.std.proofs.Common.{◌∙◌, Some, ap, refl}
+use Rattle.wl_server.specs.Server.{Stored}
+use Rattle.wl_server.proofs.CallSteps.Numbering.{numbers_stay}
 use Rattle.wl_server.proofs.CleanupSteps.Taken.{slots_set}
 use Rattle.wl_server.proofs.ObjectCalls.LendingData.{lends_none, lends_stored}
 use Rattle.wl_server.proofs.backend.Backend.with_object_data.Goals as goal
 
 pub invariant_of-self-2 : goal.invariant_of-self-2
-invariant_of-self-2 g c = slots_set _ _ _ _ _ c.self.invariant
+invariant_of-self-2 g c = (slots_set _ _ _ _ _ c.self.invariant.0, numbers_stay _ _ _ _ _ c.in-Some.ensures.value (ap (λ (s : Stored _ _ _). s.times) c.stored.view_is) c.self.invariant.1)
 
 pub returns-in_default : goal.returns-in_default
 returns-in_default g c = record {

@@ -1,12 +1,15 @@
-use Rattle.std.proofs.Common.{◌≡◌, MatchResult, false, refl, subst, sym, true}
+use Rattle.std.proofs.Common.{◌≡◌, MatchResult, false, refl, subst, sym, true, ap}
 use Rattle.wl_link.specs.Store.{Store}
 use Rattle.wl_server.specs.declared.objects.Kept.{Kept}
 use Rattle.wl_server.specs.Inside.Finishing.{DataHeld}
 use Rattle.wl_server.specs.declared.notes.DisconnectReason.TheVariants.{ConnectionClosed}
 use Rattle.wl_server.specs.Inside.Client.{Does}
-use Rattle.wl_server.specs.Server.{Stored}
+use Rattle.wl_server.specs.Server.{NoteTimes, Stored, untimed}
 use Rattle.wl_server.specs.Telling.{Kills}
-use Rattle.wl_server.proofs.Readings.Finishing.{ends_done, ends_starved, request_ends, request_refused, store_unless_written}
+use Rattle.wl_server.specs.Inside.NoteOrder.{NotesInTime}
+use Rattle.wl_server.proofs.CallSteps.Numbering.{in_time_both, in_time_same}
+use Rattle.wl_server.proofs.CallSteps.Doing.{told_untimed}
+use Rattle.wl_server.proofs.Readings.Finishing.{ends_done, ends_none, ends_starved, request_ends, request_refused, store_unless_written}
 use Rattle.wl_server.proofs.client.Client.end_request.Goals as goal
 
 pub returns-in-Some-clause-done : goal.returns-in-Some-clause-done
@@ -19,18 +22,35 @@ returns-in_default-end_sender-clause-done g c =
     request_ends g.T.Transport.sends c.args.id.now c.args.self.now c.args.sender.now c.args.is_destructor c.args.created c.args.user_data _ true c.end_sender.new.self
     (rw (← c.self.view_is) c.in_default.ensures) refl
     (ends_starved g.T.Transport.sends c.args.id.now c.args.self.now c.args.sender.now c.args.is_destructor c.args.created c.args.user_data c.in_default-end_sender.field-0
-    c.end_sender.new.self c.in_default-end_sender.ensures)
+    c.end_sender.new.self c.in_default-end_sender.ensures.ends)
+
+pub returns-then-not-is_destructor-clause-done : goal.returns-then-not-is_destructor-clause-done
+returns-then-not-is_destructor-clause-done g c =
+    request_ends g.T.Transport.sends c.args.id.now c.args.self.now c.args.sender.now c.args.is_destructor c.args.created c.args.user_data _ false c.finish_action.new.self
+    (rw (← c.self.view_is) c.in_default.ensures) refl
+    (ends_none g.T.Transport.sends c.args.id.now c.args.self.now c.args.sender.now c.args.is_destructor c.args.created c.args.user_data c.finish_action.new.self
+    c.if-not-is_destructor.true (ap untimed c.finish_action.ensures.finished))
 
 pub returns-clause-done : goal.returns-clause-done
 returns-clause-done g c =
+    let closed = subst (λ (s : Stored _ _ _). MatchResult c.in-Ok.wrote (λ _. c.kill_unless_written.new.self ≡ s) (λ _. Does s (λ p did q. Kills p ConnectionClosed did q) c.kill_unless_written.new.self))
+    c.finish_action-back.ensures.finished c.kill_unless_written.ensures.closed in
     request_ends g.T.Transport.sends c.args.id.now c.args.self.now c.args.sender.now c.args.is_destructor c.args.created c.args.user_data _ false c.kill_unless_written.new.self
     (rw (← c.self.view_is) c.in_default.ensures) refl
     (ends_done g.T.Transport.sends c.args.id.now c.args.self.now c.args.sender.now c.args.is_destructor c.args.created c.args.user_data c.in-Ok.wrote
-    c.end_sender.new.self c.kill_unless_written.new.self c.in-Ok.ensures
-    (subst (λ (s : Stored _ _ _). MatchResult c.in-Ok.wrote (λ _. c.kill_unless_written.new.self ≡ s) (λ _. Does s (λ p did q. Kills p ConnectionClosed did q) c.kill_unless_written.new.self))
-    c.finish_action-back.ensures.finished c.kill_unless_written.ensures.closed))
+    c.end_sender.new.self c.kill_unless_written.new.self c.in-Ok.ensures.ends
+    (told_untimed _ c.in-Ok.wrote c.kill_unless_written.new.self _ closed))
 
 pub returns-clause-back : goal.returns-clause-back
 returns-clause-back g c =
     subst (λ (x : Store (Kept _)). DataHeld x c.args.created c.args.user_data c.finish_action-back.result)
     (sym (store_unless_written _ c.kill_unless_written.new.self c.in-Ok.wrote c.kill_unless_written.ensures.closed)) c.finish_action-back.ensures.back
+
+pub returns-clause-in_time : goal.returns-clause-in_time
+returns-clause-in_time g c =
+    in_time_both _ _ _ _ _ _ c.end_sender.ensures.in_time
+    (subst (λ (t : NoteTimes). NotesInTime t c.end_sender.new.numbers c.kill_unless_written.new.self.times c.kill_unless_written.new.numbers)
+    (ap (λ (s : Stored _ _ _). s.times) c.finish_action-back.ensures.finished) c.kill_unless_written.ensures.in_time)
+
+pub returns-then-not-is_destructor-clause-in_time : goal.returns-then-not-is_destructor-clause-in_time
+returns-then-not-is_destructor-clause-in_time g c = in_time_same _ _ _ _ (ap (λ (s : Stored _ _ _). s.times) c.finish_action.ensures.finished) refl

@@ -1,10 +1,29 @@
-use Rattle.std.proofs.Common.{ap, map}
+use Rattle.std.proofs.Common.{ap, map, rules, subst, refl, List, ℕ}
+use Rattle.wl_server.specs.declared.notes.Happening.{Happening}
+use Rattle.wl_server.specs.Inside.NoteOrder.{GivesNumbers}
+use Rattle.wl_server.proofs.CallSteps.Numbering.{made_in_time, still_made}
 use Rattle.wl_server.proofs.Readings.Finishing.{ends_taken}
 use Rattle.wl_server.proofs.client.Client.end_sender.Goals as goal
 
-pub returns : goal.returns
-returns g c =
+pub returns-clause-ends : goal.returns-clause-ends
+returns-clause-ends g c =
     rw (← c.self.view_is, c.take_out_made.ensures.serial)
     (ends_taken g.T.Transport.sends c.args.id.now _ c.args.sender.now c.args.is_destructor c.in-Some.object.now c.protocol_id-number.result c.put_delete_id-wrote.result
-    c.put_delete_id-wrote.new.socket _ _ _ _ c.in-Some.ensures c.protocol_id-number.ensures c.put_delete_id-wrote.ensures c.if-is_out_of_memory.ensures
+    c.put_delete_id-wrote.new.socket _ _ _ _ _ c.in-Some.ensures c.protocol_id-number.ensures c.put_delete_id-wrote.ensures c.if-is_out_of_memory.ensures
     c.take_out_made.ensures.removed c.take_out_made.ensures.left (ap (map (λ m. m.1)) c.in_ok-reserve_end.ensures.items))
+
+pub returns-in_err-reserve_end-clause-in_time : goal.returns-in_err-reserve_end-clause-in_time
+returns-in_err-reserve_end-clause-in_time g c = rw (← c.self.view_is) (still_made _ _ _ _ (ap (map (λ m. m.0)) c.reserve_end.ensures.items))
+
+pub returns-then-is_out_of_memory-clause-in_time : goal.returns-then-is_out_of_memory-clause-in_time
+returns-then-is_out_of_memory-clause-in_time g c = rw (← c.self.view_is) (still_made _ _ _ _ (ap (map (λ m. m.0)) c.reserve_end.ensures.items))
+
+pub take_out_made-requires : goal.take_out_made-requires
+take_out_made-requires g c = search rules
+
+pub returns-clause-in_time : goal.returns-clause-in_time
+returns-clause-in_time g c =
+    rw (← c.self.view_is)
+    (made_in_time _ _ _ _ _ _
+    (subst (λ (l : List (ℕ × Happening _)). GivesNumbers (map (λ m. m.0) l) c.args.numbers.now.made (map (λ m. m.0) c.take_out_made.new.made.queue.items) c.take_out_made.new.numbers.made)
+    c.reserve_end.ensures.items c.take_out_made.ensures.in_time) refl c.take_out_made.ensures.waiting)

@@ -1,5 +1,6 @@
 use Rattle.std.proofs.Common.{◌≤◌, ◌∙◌, rules, refl}
 use Rattle.wl_server.specs.Inside.ReadingLoop.{around_of}
+use Rattle.wl_server.proofs.CallSteps.Numbering.{in_time_both, in_time_none}
 use Rattle.wl_server.proofs.Readings.OneMessage.{goes_ends, goes_goes, goes_none}
 use Rattle.wl_server.proofs.client.Client.handle_waiting.Goals as goal
 
@@ -11,6 +12,7 @@ loop-end-init g c =
       inline = c.requires.inline;
       left = refl;
       goes = goes_none g.T.Transport.sends g.T.Transport.receives (around_of g.G.GlobalHandler.views c.args.around.now) c.args.self.now c.args.reading.now within c.requires.live;
+      in_time = in_time_none _ _;
     }
 
 pub loop-end-preserved : goal.loop-end-preserved
@@ -20,6 +22,7 @@ loop-end-preserved g c = record {
   left = c.in-Continues.ensures.handles.1 ∙ c.loop-end.invariant.left;
   goes = goes_goes g.T.Transport.sends g.T.Transport.receives (around_of g.G.GlobalHandler.views c.args.around.now) c.args.self.now c.loop-end.self c.handle_message.new.self c.args.reading.now c.loop-end.reading c.handle_message.new.reading
       c.loop-end.invariant.goes c.in-Continues.ensures.handles.0;
+  in_time = in_time_both _ _ _ _ _ _ c.loop-end.invariant.in_time c.handle_message.ensures.in_time;
 }
 
 pub returns-in-Acts-clause-waited : goal.returns-in-Acts-clause-waited
@@ -31,3 +34,12 @@ pub returns-in-Ends-clause-waited : goal.returns-in-Ends-clause-waited
 returns-in-Ends-clause-waited g c =
     goes_ends g.T.Transport.sends g.T.Transport.receives (around_of g.G.GlobalHandler.views c.args.around.now) c.args.self.now c.loop-end.self c.handle_message.new.self c.args.reading.now c.loop-end.reading c.handle_message.new.reading _
     c.loop-end.invariant.goes c.in-Ends.ensures.handles
+
+pub returns-in-Lacks-clause-in_time : goal.returns-in-Lacks-clause-in_time
+returns-in-Lacks-clause-in_time g c = in_time_both _ _ _ _ _ _ c.loop-end.invariant.in_time c.handle_message.ensures.in_time
+
+pub returns-in-Acts-clause-in_time : goal.returns-in-Acts-clause-in_time
+returns-in-Acts-clause-in_time g c = in_time_both _ _ _ _ _ _ c.loop-end.invariant.in_time c.handle_message.ensures.in_time
+
+pub returns-in-Ends-clause-in_time : goal.returns-in-Ends-clause-in_time
+returns-in-Ends-clause-in_time g c = in_time_both _ _ _ _ _ _ c.loop-end.invariant.in_time c.handle_message.ensures.in_time

@@ -1,5 +1,8 @@
-use Rattle.std.proofs.Common.{None, false, map}
+use Rattle.std.proofs.Common.{false, map, [], ap}
+use Rattle.wl_server.specs.declared.notes.queues.NoteNumbers.{NoteNumbers}
+use Rattle.wl_server.proofs.CallSteps.Numbering.{made_in_time}
 use Rattle.wl_server.proofs.client.Client.new.Goals as goal
+use Rattle.wl_server.specs.Server.{no_times}
 
 pub returns-clause-inserted : goal.returns-clause-inserted
 returns-clause-inserted g c = (
@@ -13,10 +16,16 @@ returns-clause-inserted g c = (
       store = c.in_ok-socket.ensures.objects i;
       last_serial = 0;
       is_killed = false;
-      action = None;
+      action = c.new-2.ensures i;
       registries = c.new.ensures.items i;
-      waiting = map (λ w. w.1) (c.new-2.ensures i);
+      waiting = map (λ w. w.1) (c.new-3.ensures i);
     };
     made = c.in_ok-socket.ensures.notes i;
+    times = no_times;
   },
 )
+
+pub returns-clause-in_time : goal.returns-clause-in_time
+returns-clause-in_time g c =
+    made_in_time [] _ [] _ c.args.numbers.now c.first_parts.new.numbers c.in_ok-socket.ensures.in_time (ap (map (λ w. w.0)) c.new-3.ensures)
+    (ap (λ (n : NoteNumbers). n.waiting) c.in_ok-socket.ensures.numbers)

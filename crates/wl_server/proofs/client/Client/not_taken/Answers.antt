@@ -2,12 +2,12 @@ use Rattle.wl_server.specs.Inside.ReadingLoop.{around_of}
 use Rattle.wl_server.proofs.Readings.OneMessage.{does_ask, front_asks, is_malformed, message_unread}
 use Rattle.wl_server.proofs.client.Client.not_taken.Goals as goal
 
-pub returns-in-Malformed : goal.returns-in-Malformed
-returns-in-Malformed g c r f args within =
+pub returns-in-Malformed-clause-handles : goal.returns-in-Malformed-clause-handles
+returns-in-Malformed-clause-handles g c r f args within =
     message_unread g.T.Transport.sends g.T.Transport.receives (around_of g.G.GlobalHandler.views c.args.around.now) c.args.self.now r c.garbled.result c.garbled.new.self c.requires.live within
-    (is_malformed g.T.Transport.sends g.T.Transport.receives (around_of g.G.GlobalHandler.views c.args.around.now) c.args.self.now (rw c.in-Malformed.is at c.requires.not_taken)) c.garbled.ensures
+    (is_malformed g.T.Transport.sends g.T.Transport.receives (around_of g.G.GlobalHandler.views c.args.around.now) c.args.self.now (rw c.in-Malformed.is at c.requires.not_taken)) c.garbled.ensures.handled
 
-pub returns-in-OutOfMemory : goal.returns-in-OutOfMemory
-returns-in-OutOfMemory g c r f args within =
+pub returns-in-OutOfMemory-clause-handles : goal.returns-in-OutOfMemory-clause-handles
+returns-in-OutOfMemory-clause-handles g c r f args within =
     front_asks g.T.Transport.sends g.T.Transport.receives (around_of g.G.GlobalHandler.views c.args.around.now) c.args.self.now r c.requires.live within
     (does_ask g.T.Transport.sends g.T.Transport.receives (around_of g.G.GlobalHandler.views c.args.around.now) c.args.self.now (rw c.in-OutOfMemory.is at c.requires.not_taken))

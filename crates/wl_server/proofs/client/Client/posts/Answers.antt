@@ -1,7 +1,10 @@
-use Rattle.std.proofs.Common.{◌≡◌, true, false}
+use Rattle.std.proofs.Common.{◌≡◌, ◌∙◌, true, false, ap, subst}
+use Rattle.wl_server.specs.Inside.NoteOrder.{NotesInTime}
+use Rattle.wl_server.proofs.CallSteps.Numbering.{in_time_both}
 use Rattle.wl_server.proofs.ObjectCalls.Posting.{posted_dead, posted_live, posted_starved}
 use Rattle.wl_server.proofs.ObjectCalls.Told.{lacked_exactly, not_live, told_exactly}
 use Rattle.wl_server.proofs.client.Client.posts.Goals as goal
+use Rattle.wl_server.specs.Server.{NoteTimes, Stored}
 
 pub returns-then-self-clause-carried : goal.returns-then-self-clause-carried
 returns-then-self-clause-carried g c =
@@ -54,3 +57,19 @@ pub returns-in-Err-clause-exactly : goal.returns-in-Err-clause-exactly
 returns-in-Err-clause-exactly g c = λ live kept.
     rw c.kill_unless_written.ensures.refused
     (lacked_exactly g.T.Transport.sends c.args.self.now c.kill_unless_written.new.self c.args.id.now.number c.args.code c.args.text c.kill_unless_written.ensures.closed)
+
+pub returns-then-refused-clause-in_time : goal.returns-then-refused-clause-in_time
+returns-then-refused-clause-in_time g c =
+    let same : c.flush_dropped-lacked.new.self.times ≡ c.args.self.now.times =
+    ap (λ (s : Stored _ _ _). s.times) c.flush_dropped-lacked.ensures.rest ∙ ap (λ (s : Stored _ _ _). s.times) c.put_posted-wrote.ensures.rest in
+    in_time_both _ _ _ _ _ _
+    (subst (λ (t : NoteTimes). NotesInTime t c.args.numbers.now c.kill_unless_written-refused.new.self.times c.kill_unless_written-refused.new.numbers) same
+    c.kill_unless_written-refused.ensures.in_time) c.kill.ensures.in_time
+
+pub returns-else-refused-clause-in_time : goal.returns-else-refused-clause-in_time
+returns-else-refused-clause-in_time g c =
+    let same : c.flush_dropped-lacked.new.self.times ≡ c.args.self.now.times =
+    ap (λ (s : Stored _ _ _). s.times) c.flush_dropped-lacked.ensures.rest ∙ ap (λ (s : Stored _ _ _). s.times) c.put_posted-wrote.ensures.rest in
+    in_time_both _ _ _ _ _ _
+    (subst (λ (t : NoteTimes). NotesInTime t c.args.numbers.now c.kill_unless_written-refused.new.self.times c.kill_unless_written-refused.new.numbers) same
+    c.kill_unless_written-refused.ensures.in_time) c.kill.ensures.in_time

@@ -1,5 +1,6 @@
 use Rattle.std.proofs.Common.{◌≡◌, ◌≤◌, ◌-◌, suc, arith, rules, refl}
 use Rattle.wl_server.specs.Inside.ReadingLoop.{around_of}
+use Rattle.wl_server.proofs.CallSteps.Numbering.{in_time_both, in_time_none}
 use Rattle.wl_server.proofs.Readings.OneMessage.{fills_ends, fills_goes, goes_ends, goes_goes, goes_none, goes_within, none_left}
 use Rattle.wl_server.proofs.client.Client.read.Goals as goal
 
@@ -10,6 +11,7 @@ loop-end-init g c =
       place = c.requires.place;
       inline = c.requires.inline;
       goes = goes_none g.T.Transport.sends g.T.Transport.receives (around_of g.G.GlobalHandler.views c.args.around.now) c.args.self.now c.args.reading.now within c.requires.live;
+      in_time = in_time_none _ _;
     }
 
 pub returns-in-Some-clause-ends : goal.returns-in-Some-clause-ends
@@ -29,7 +31,7 @@ returns-in-Some-receive-clause-ends g c =
     let left : c.handle_waiting.new.reading.turns_left ≡ suc (c.handle_waiting.new.reading.turns_left - 1) = omega (arith, c.if-reading-eq0.false) in
     let so = goes_goes g.T.Transport.sends g.T.Transport.receives (around_of g.G.GlobalHandler.views c.args.around.now) c.args.self.now c.loop-end.self c.handle_waiting.new.self c.args.reading.now c.loop-end.reading c.handle_waiting.new.reading c.loop-end.invariant.goes waited.0 in
     goes_ends g.T.Transport.sends g.T.Transport.receives (around_of g.G.GlobalHandler.views c.args.around.now) c.args.self.now c.handle_waiting.new.self c.receive.new.self c.args.reading.now c.handle_waiting.new.reading _ _ so
-    (fills_ends g.T.Transport.sends g.T.Transport.receives (around_of g.G.GlobalHandler.views c.args.around.now) c.handle_waiting.new.self c.handle_waiting.new.reading _ waited.0.live (goes_within g.T.Transport.sends g.T.Transport.receives (around_of g.G.GlobalHandler.views c.args.around.now) c.args.self.now c.handle_waiting.new.self c.args.reading.now c.handle_waiting.new.reading so) waited.2 left refl c.in-Some-receive.end c.receive.new.self c.in-Some-receive.ensures)
+    (fills_ends g.T.Transport.sends g.T.Transport.receives (around_of g.G.GlobalHandler.views c.args.around.now) c.handle_waiting.new.self c.handle_waiting.new.reading _ waited.0.live (goes_within g.T.Transport.sends g.T.Transport.receives (around_of g.G.GlobalHandler.views c.args.around.now) c.args.self.now c.handle_waiting.new.self c.args.reading.now c.handle_waiting.new.reading so) waited.2 left refl c.in-Some-receive.end c.receive.new.self c.in-Some-receive.ensures.fills)
 
 pub loop-end-preserved : goal.loop-end-preserved
 loop-end-preserved g c =
@@ -40,5 +42,16 @@ loop-end-preserved g c =
       place = c.handle_waiting.ensures.place;
       inline = c.handle_waiting.ensures.inline;
       goes = goes_goes g.T.Transport.sends g.T.Transport.receives (around_of g.G.GlobalHandler.views c.args.around.now) c.args.self.now c.handle_waiting.new.self c.receive.new.self c.args.reading.now c.handle_waiting.new.reading _ so
-          (fills_goes g.T.Transport.sends g.T.Transport.receives (around_of g.G.GlobalHandler.views c.args.around.now) c.handle_waiting.new.self c.handle_waiting.new.reading _ waited.0.live (goes_within g.T.Transport.sends g.T.Transport.receives (around_of g.G.GlobalHandler.views c.args.around.now) c.args.self.now c.handle_waiting.new.self c.args.reading.now c.handle_waiting.new.reading so) waited.2 left refl c.receive.new.self c.in_default-receive.ensures);
+          (fills_goes g.T.Transport.sends g.T.Transport.receives (around_of g.G.GlobalHandler.views c.args.around.now) c.handle_waiting.new.self c.handle_waiting.new.reading _ waited.0.live (goes_within g.T.Transport.sends g.T.Transport.receives (around_of g.G.GlobalHandler.views c.args.around.now) c.args.self.now c.handle_waiting.new.self c.args.reading.now c.handle_waiting.new.reading so) waited.2 left refl c.receive.new.self c.in_default-receive.ensures.fills);
+      in_time = in_time_both _ _ _ _ _ _ (in_time_both _ _ _ _ _ _ c.loop-end.invariant.in_time c.handle_waiting.ensures.in_time) c.receive.ensures.in_time;
     }
+
+pub returns-in-Some-clause-in_time : goal.returns-in-Some-clause-in_time
+returns-in-Some-clause-in_time g c = in_time_both _ _ _ _ _ _ c.loop-end.invariant.in_time c.handle_waiting.ensures.in_time
+
+pub returns-then-reading-eq0-clause-in_time : goal.returns-then-reading-eq0-clause-in_time
+returns-then-reading-eq0-clause-in_time g c = in_time_both _ _ _ _ _ _ c.loop-end.invariant.in_time c.handle_waiting.ensures.in_time
+
+pub returns-in-Some-receive-clause-in_time : goal.returns-in-Some-receive-clause-in_time
+returns-in-Some-receive-clause-in_time g c =
+    in_time_both _ _ _ _ _ _ (in_time_both _ _ _ _ _ _ c.loop-end.invariant.in_time c.handle_waiting.ensures.in_time) c.receive.ensures.in_time

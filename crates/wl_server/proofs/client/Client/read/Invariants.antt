@@ -1,4 +1,5 @@
 use Rattle.std.proofs.Common.{◌≤◌}
+use Rattle.wl_server.specs.Inside.NoteOrder.{NotesInTime}
 use Rattle.wl_server.specs.Inside.ReadingLoop.{ReadsOn, around_of}
 use Rattle.wl_server.proofs.client.Client.read.Given as goal
 
@@ -8,6 +9,7 @@ invariant-loop-end g l = record {
   place : 4 ≤ l.message.args.capacity;
   inline : 4 ≤ l.args.capacity;
   goes : ReadsOn g.T.Transport.sends g.T.Transport.receives (around_of g.G.GlobalHandler.views l.fn.around) l.fn.self l.fn.reading l.self l.reading;
+  in_time : NotesInTime l.fn.self.times l.fn.numbers l.self.times l.numbers;
 }
 
 abbrev pub decreases-loop-end : goal.decreases-loop-end

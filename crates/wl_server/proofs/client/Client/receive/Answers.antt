@@ -2,21 +2,22 @@ use Rattle.std.proofs.Common.{refl}
 use Rattle.wl_wire.specs.declared.error.IoFault.TheVariants as fault
 use Rattle.wl_server.proofs.Readings.OneMessage.{fault_fills, fault_stays}
 use Rattle.wl_server.proofs.client.Client.receive.Goals as goal
+use Rattle.wl_server.specs.Server.{no_times}
 
-pub returns-in_default : goal.returns-in_default
-returns-in_default g c = rw (← c.self.view_is) (c.in_default.ensures.filled, c.fill_incoming_buffers.ensures.doubled, refl)
+pub returns-in_default-clause-fills : goal.returns-in_default-clause-fills
+returns-in_default-clause-fills g c = rw (← c.self.view_is) (c.in_default.ensures.filled, c.fill_incoming_buffers.ensures.doubled, refl)
 
-pub returns-in-WouldBlock : goal.returns-in-WouldBlock
-returns-in-WouldBlock g c =
+pub returns-in-WouldBlock-clause-fills : goal.returns-in-WouldBlock-clause-fills
+returns-in-WouldBlock-clause-fills g c =
     rw (← c.self.view_is, c.in-WouldBlock.is)
-    (fault_stays g.T.Transport.receives _ c.fill_incoming_buffers.new.self fault.WouldBlock refl (rw c.in-WouldBlock.is at c.in-Err.ensures.filled) c.fill_incoming_buffers.ensures.doubled)
+    (fault_stays g.T.Transport.receives (record { serial = _; part = _; made = _; times = no_times }) c.fill_incoming_buffers.new.self fault.WouldBlock refl (rw c.in-WouldBlock.is at c.in-Err.ensures.filled) c.fill_incoming_buffers.ensures.doubled)
 
-pub returns-in-OutOfMemory : goal.returns-in-OutOfMemory
-returns-in-OutOfMemory g c =
+pub returns-in-OutOfMemory-clause-fills : goal.returns-in-OutOfMemory-clause-fills
+returns-in-OutOfMemory-clause-fills g c =
     rw (← c.self.view_is, c.in-OutOfMemory.is)
-    (fault_stays g.T.Transport.receives _ c.fill_incoming_buffers.new.self fault.OutOfMemory refl (rw c.in-OutOfMemory.is at c.in-Err.ensures.filled) c.fill_incoming_buffers.ensures.doubled)
+    (fault_stays g.T.Transport.receives (record { serial = _; part = _; made = _; times = no_times }) c.fill_incoming_buffers.new.self fault.OutOfMemory refl (rw c.in-OutOfMemory.is at c.in-Err.ensures.filled) c.fill_incoming_buffers.ensures.doubled)
 
-pub returns-in_default-fault : goal.returns-in_default-fault
-returns-in_default-fault g c =
+pub returns-in_default-fault-clause-fills : goal.returns-in_default-fault-clause-fills
+returns-in_default-fault-clause-fills g c =
     rw (← c.self.view_is)
-    (fault_fills g.T.Transport.receives _ c.kill.new.self c.fill_incoming_buffers.new.self c.in-Err.fault c.in_default-fault.not-WouldBlock c.in_default-fault.not-OutOfMemory c.in-Err.ensures.filled c.fill_incoming_buffers.ensures.doubled c.kill.ensures.killed)
+    (fault_fills g.T.Transport.receives (record { serial = _; part = _; made = _; times = no_times }) c.kill.new.self c.fill_incoming_buffers.new.self c.in-Err.fault c.in_default-fault.not-WouldBlock c.in_default-fault.not-OutOfMemory c.in-Err.ensures.filled c.fill_incoming_buffers.ensures.doubled c.kill.ensures.killed)

@@ -4,8 +4,8 @@ use Rattle.wl_server.specs.Telling.{deletions, done_message}
 use Rattle.wl_server.proofs.Readings.Handling.{none_quiet, replied}
 use Rattle.wl_server.proofs.client.Client.synced.Goals as goal
 
-pub returns : goal.returns
-returns g c f args =
+pub returns-clause-handled : goal.returns-clause-handled
+returns-clause-handled g c f args =
     rw (← c.self.view_is)
     (replied g.T.Transport.sends _ _ c.put_done-wrote.new.socket (done_message (id_of c.args.callback.now) ∷ deletions c.args.callback.now.number) [] c.put_done-wrote.result c.replied.result f args none_quiet
-    (rw (← c.self.view_is) at c.requires) (rw c.protocol_id.ensures at c.put_done-wrote.ensures c.args.callback.now.serial) c.replied.ensures)
+    (rw (← c.self.view_is) at c.requires) (rw c.protocol_id.ensures at c.put_done-wrote.ensures c.args.callback.now.serial) c.replied.ensures.replied)

@@ -3,6 +3,7 @@ use Rattle.std.proofs.lemmas.Option.{slice_get-get_or}
 use Rattle.wl_server.specs.Globals.{shown_as}
 use Rattle.wl_server.specs.Inside.News.{Announced, HearsNew}
 use Rattle.wl_server.specs.Inside.Places.{AllFeel}
+use Rattle.wl_server.proofs.CallSteps.Numbering.{all_both, all_none, set_in_time}
 use Rattle.wl_server.proofs.CallSteps.Feeling.{none_felt, one_more_felt}
 use Rattle.wl_server.proofs.globals.create_global.tell_new.Goals as goal
 
@@ -12,6 +13,7 @@ loop-slot-init g c = record {
   table = ap (λ (a : Announced). a.table) c.new-announcement.ensures;
   global = ap (λ (a : Announced). a.global) c.new-announcement.ensures ∙ ap (λ (n : ℕ). shown_as (n, c.args.global.now)) c.name.ensures;
   ends = refl;
+  in_time = all_none _ _;
 }
 
 pub loop-slot-preserved : goal.loop-slot-preserved
@@ -23,10 +25,11 @@ loop-slot-preserved g c =
       table = ap (λ (a : Announced). a.table) c.tell_new_at-refused.ensures.same ∙ c.loop-slot.invariant.table;
       global = ap (λ (a : Announced). a.global) c.tell_new_at-refused.ensures.same ∙ c.loop-slot.invariant.global;
       ends = refl;
+      in_time = all_both _ _ _ _ _ _ c.loop-slot.invariant.in_time (set_in_time _ _ _ _ _ _ here c.tell_new_at-refused.ensures.in_time);
     }
 
-pub returns : goal.returns
-returns g c =
+pub returns-clause-felt : goal.returns-clause-felt
+returns-clause-felt g c =
     let end : c.loop-slot.slot ≡ length c.args.clients.now = omega (arith, c.loop-slot-test.false, c.loop-slot.auto.slot-end) in
     subst (λ (n : ℕ). AllFeel (HearsNew g.T.Transport.sends g.G.GlobalHandler.views c.args.protocol.now c.args.id.now c.args.global.now) c.loop-slot.refused n c.args.clients.now
     c.loop-slot.clients) end c.loop-slot.invariant.felt

@@ -1,7 +1,8 @@
-use Rattle.std.proofs.Common.{◌≡◌, length}
+use Rattle.std.proofs.Common.{◌≡◌, length, map}
 use Rattle.wl_server.specs.Globals.{shown_as}
 use Rattle.wl_server.specs.Inside.News.{HearsNew}
 use Rattle.wl_server.specs.Inside.Places.{AllFeel}
+use Rattle.wl_server.specs.Inside.NoteOrder.{AllInTime, times_of}
 use Rattle.wl_server.proofs.globals.create_global.tell_new.Given as goal
 
 abbrev pub invariant-loop-slot : goal.invariant-loop-slot
@@ -10,4 +11,5 @@ invariant-loop-slot g l = record {
   table : l.announcement.table ≡ l.protocol;
   global : l.announcement.global ≡ shown_as (l.id.name, l.global);
   ends : l.slot-end ≡ length l.fn.clients;
+  in_time : AllInTime (map times_of l.fn.clients) l.fn.numbers (map times_of l.clients) l.numbers;
 }

@@ -2,23 +2,25 @@ use Rattle.std.proofs.Common.{◌≡◌, ℕ, arith, length, refl, subst}
 use Rattle.std.proofs.lemmas.Option.{slice_get-get_or}
 use Rattle.wl_server.specs.Felt.{Hears, removals}
 use Rattle.wl_server.specs.Inside.Places.{AllFeel}
+use Rattle.wl_server.proofs.CallSteps.Numbering.{all_both, all_none, set_in_time}
 use Rattle.wl_server.proofs.CallSteps.Feeling.{none_felt, one_more_felt}
 use Rattle.wl_server.proofs.globals.remove_global.tell_loss.Goals as goal
 
 pub loop-slot-init : goal.loop-slot-init
-loop-slot-init g c = record { felt = none_felt _ _; ends = refl }
+loop-slot-init g c = record { felt = none_felt _ _; ends = refl; in_time = all_none _ _ }
 
 pub loop-slot-preserved : goal.loop-slot-preserved
 loop-slot-preserved g c =
     let len = c.loop-slot.invariant.felt.len in
     let here = slice_get-get_or c.loop-slot.clients c.loop-slot.slot c.index-clients-slot.result (omega (arith, c.loop-slot-test.true, len)) in
     record {
-      felt = one_more_felt _ _ _ _ _ _ _ _ c.loop-slot.invariant.felt here (c.tell_loss_at-refused.ensures c.loop-slot.slot);
+      felt = one_more_felt _ _ _ _ _ _ _ _ c.loop-slot.invariant.felt here (c.tell_loss_at-refused.ensures.felt c.loop-slot.slot);
       ends = refl;
+      in_time = all_both _ _ _ _ _ _ c.loop-slot.invariant.in_time (set_in_time _ _ _ _ _ _ here c.tell_loss_at-refused.ensures.in_time);
     }
 
-pub returns : goal.returns
-returns g c =
+pub returns-clause-felt : goal.returns-clause-felt
+returns-clause-felt g c =
     let end : c.loop-slot.slot ≡ length c.args.clients.now = omega (arith, c.loop-slot-test.false, c.loop-slot.auto.slot-end) in
     subst (λ (n : ℕ). AllFeel (λ id p lacked did q. Hears g.T.Transport.sends p (removals p c.args.name) lacked did q) c.loop-slot.refused n c.args.clients.now c.loop-slot.clients)
     end c.loop-slot.invariant.felt

@@ -4,9 +4,10 @@ use Rattle.wl_server.specs.Inside.Puts.{Puts}
 use Rattle.wl_server.specs.Telling.{by_object}
 use Rattle.wl_server.proofs.Readings.Hearing.{killed_hears, live_hears}
 use Rattle.wl_server.proofs.globals.remove_global.tell_loss_at.Goals as goal
+use Rattle.wl_server.specs.Server.{no_times}
 
-pub returns-in-Some : goal.returns-in-Some
-returns-in-Some g c = λ slot.
+pub returns-in-Some-clause-felt : goal.returns-in-Some-clause-felt
+returns-in-Some-clause-felt g c = λ slot.
     rw (c.in-Some.is, ← c.client.view_is) (
       c.kill_unless_written.new.self,
       live_hears _ _ _ _ _ _ _ c.if-not-client.true (subst (λ (m : WireMessage). Puts g.T.Transport.sends c.client.inside.socket (map (λ r. by_object r m.opcode m.args) c.client.inside.objects.registries.items) c.put_to_each-answer.result c.put_to_each-answer.new.socket)
@@ -14,5 +15,5 @@ returns-in-Some g c = λ slot.
       refl,
     )
 
-pub returns-in_default : goal.returns-in_default
-returns-in_default g c = λ slot. rw (c.in-Some.is, ← c.client.view_is) (_, killed_hears _ _ _ c.if-not-client.false, refl)
+pub returns-in_default-clause-felt : goal.returns-in_default-clause-felt
+returns-in_default-clause-felt g c = λ slot. rw (c.in-Some.is, ← c.client.view_is) (_, killed_hears _ (record { serial = _; part = _; made = _; times = no_times }) _ c.if-not-client.false, refl)

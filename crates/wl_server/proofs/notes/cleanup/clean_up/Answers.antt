@@ -1,7 +1,9 @@
-use Rattle.std.proofs.Common.{◌∙◌, ◌≤◌, ◌++◌, List, length, append-nil, arith, ap, subst, sym, true}
+use Rattle.std.proofs.Common.{◌∙◌, ◌≤◌, ◌++◌, List, length, append-nil, arith, ap, subst, sym, true, map, Option}
 use Rattle.wl_server.specs.declared.notes.queues.NotePlace.{NotePlace}
-use Rattle.wl_server.specs.Inside.NoteOrder.{IsOrderOf}
+use Rattle.wl_server.specs.Inside.NoteOrder.{AllTakeFirst, IsOrderOf, slot_of, times_of}
+use Rattle.wl_server.specs.Server.{NoteTimes, Stored}
 use Rattle.wl_server.specs.Inside.Leaving.{collected, given_at}
+use Rattle.wl_server.proofs.CallSteps.Numbering.{all_take_both, all_take_leave}
 use Rattle.wl_server.proofs.CleanupSteps.Gathering.{gathers_length}
 use Rattle.wl_server.proofs.CleanupSteps.Idle.{none_flushed, none_given, none_leaves, none_noted}
 use Rattle.wl_server.proofs.CleanupSteps.Rooms.{flushed_counts, flushed_order, gathered_ends, gathered_given}
@@ -13,61 +15,62 @@ returns-then-capacity-eq0-clause-cleaned g c =
     let empty = c.capacity.ensures in
     let zero = c.if-capacity-eq0.true in
     let none : length (collected given_at 0 c.args.clients.now.items) ≤ 0 = omega (arith, fits, empty, zero) in
-    let same = ap length (gathered_given _ _ _ _ c.gather_all.ensures.gathered) in
-    let left : length (collected given_at 0 c.gather_all.new.clients.items) ≤ 0 = omega (arith, none, same) in
+    let same = ap length (gathered_given _ _ _ _ c.gather.ensures.gathered) in
+    let left : length (collected given_at 0 c.gather.new.clients.items) ≤ 0 = omega (arith, none, same) in
     record {
       flushed = c.args.clients.now.items;
-      left = c.gather_all.new.clients.items;
-      told = c.gather_all.new.notes.items;
+      left = c.gather.new.clients.items;
+      told = c.gather.new.notes.items;
       flushes = none_flushed g.T.Transport.sends c.args.clients.now.items none;
-      gathers = c.gather_all.ensures.gathered;
-      all = c.gather_all.ensures.ended;
-      stay = none_leaves 0 c.gather_all.new.clients.items left;
-      noted = sym (append-nil c.gather_all.new.notes.items) ∙ ap (λ l. c.gather_all.new.notes.items ++ l) (sym (none_noted c.gather_all.new.clients.items left));
-      gave = c.requires.none ∙ sym (none_given c.gather_all.new.clients.items left);
+      gathers = c.gather.ensures.gathered;
+      all = c.gather.ensures.ended;
+      in_order = (c.args.memory.now.order.items, c.requires.order, c.gather.ensures.along ∙ ap (λ (l : List NotePlace). map slot_of c.args.notes.now.items ++ map (λ p. p.slot) l) c.deref.ensures.value);
+      stay = none_leaves 0 c.gather.new.clients.items left;
+      noted = sym (append-nil c.gather.new.notes.items) ∙ ap (λ l. c.gather.new.notes.items ++ l) (sym (none_noted c.gather.new.clients.items left));
+      gave = c.requires.none ∙ sym (none_given c.gather.new.clients.items left);
     }
 
-pub gather_all-requires-clause-order : goal.gather_all-requires-clause-order
-gather_all-requires-clause-order g c = subst (λ (l : List NotePlace). IsOrderOf true c.args.clients.now.items l) (sym c.deref.ensures.value) c.requires.order
+pub gather-requires-clause-order : goal.gather-requires-clause-order
+gather-requires-clause-order g c = subst (λ (l : List NotePlace). IsOrderOf true c.args.clients.now.items l) (sym c.deref.ensures.value) c.requires.order
 
-pub gather_all-requires-clause-room : goal.gather_all-requires-clause-room
-gather_all-requires-clause-room g c = let fits = c.requires.notes in omega (arith, fits)
+pub gather-requires-clause-room : goal.gather-requires-clause-room
+gather-requires-clause-room g c = let fits = c.requires.notes in omega (arith, fits)
 
-pub gather_all-requires-2-clause-order : goal.gather_all-requires-2-clause-order
-gather_all-requires-2-clause-order g c =
+pub gather-requires-2-clause-order : goal.gather-requires-2-clause-order
+gather-requires-2-clause-order g c =
     subst (λ (l : List NotePlace). IsOrderOf true c.flush_each-refused.new.clients.items l) (sym c.deref-2.ensures.value)
-    (flushed_order g.T.Transport.sends _ _ _ _ c.flush_each-refused.ensures c.requires.order)
+    (flushed_order g.T.Transport.sends _ _ _ _ c.flush_each-refused.ensures.felt c.flush_each-refused.ensures.times c.requires.order)
 
-pub gather_all-requires-2-clause-room : goal.gather_all-requires-2-clause-room
-gather_all-requires-2-clause-room g c =
-    let same = (flushed_counts g.T.Transport.sends _ _ _ c.flush_each-refused.ensures).0 in
+pub gather-requires-2-clause-room : goal.gather-requires-2-clause-room
+gather-requires-2-clause-room g c =
+    let same = (flushed_counts g.T.Transport.sends _ _ _ c.flush_each-refused.ensures.felt).0 in
     let fits = c.requires.notes in
     omega (arith, same, fits)
 
 pub leave_all-requires-clause-slots : goal.leave_all-requires-clause-slots
 leave_all-requires-clause-slots g c =
-    let len = c.flush_each-refused.ensures.len in
+    let len = c.flush_each-refused.ensures.felt.len in
     let few = c.requires.slots in
-    let gathered = gathers_length _ _ _ _ _ c.gather_all-2.ensures.gathered in
+    let gathered = gathers_length _ _ _ _ _ c.gather-2.ensures.gathered in
     omega (arith, len, few, gathered)
 
 pub leave_all-requires-clause-notes : goal.leave_all-requires-clause-notes
 leave_all-requires-clause-notes g c =
-    let counts = flushed_counts g.T.Transport.sends _ _ _ c.flush_each-refused.ensures in
+    let counts = flushed_counts g.T.Transport.sends _ _ _ c.flush_each-refused.ensures.felt in
     let same = counts.0 in
     let ends = counts.1 in
-    let gathered = ap length (gathered_ends _ _ _ _ c.gather_all-2.ensures.gathered) in
-    let moved = c.gather_all-2.ensures.gathered.count in
-    let room = c.gather_all-2.ensures.capacity in
+    let gathered = ap length (gathered_ends _ _ _ _ c.gather-2.ensures.gathered) in
+    let moved = c.gather-2.ensures.gathered.count in
+    let room = c.gather-2.ensures.capacity in
     let before = c.args.notes.now.ok.0 in
-    let after = c.gather_all-2.new.notes.ok.0 in
+    let after = c.gather-2.new.notes.ok.0 in
     let fits = c.requires.notes in
     omega (arith, same, ends, gathered, moved, room, before, after, fits)
 
 pub leave_all-requires-clause-given : goal.leave_all-requires-clause-given
 leave_all-requires-clause-given g c =
-    let same = (flushed_counts g.T.Transport.sends _ _ _ c.flush_each-refused.ensures).2 in
-    let gathered = ap length (gathered_given _ _ _ _ c.gather_all-2.ensures.gathered) in
+    let same = (flushed_counts g.T.Transport.sends _ _ _ c.flush_each-refused.ensures.felt).2 in
+    let gathered = ap length (gathered_given _ _ _ _ c.gather-2.ensures.gathered) in
     let none = ap length c.requires.none in
     let long = c.args.memory.now.given.ok.0 in
     let fits = c.requires.given in
@@ -76,12 +79,20 @@ leave_all-requires-clause-given g c =
 pub returns-clause-cleaned : goal.returns-clause-cleaned
 returns-clause-cleaned g c = record {
   flushed = c.flush_each-refused.new.clients.items;
-  left = c.gather_all-2.new.clients.items;
-  told = c.gather_all-2.new.notes.items;
-  flushes = c.flush_each-refused.ensures;
-  gathers = c.gather_all-2.ensures.gathered;
-  all = c.gather_all-2.ensures.ended;
+  left = c.gather-2.new.clients.items;
+  told = c.gather-2.new.notes.items;
+  flushes = c.flush_each-refused.ensures.felt;
+  gathers = c.gather-2.ensures.gathered;
+  all = c.gather-2.ensures.ended;
+  in_order = (c.args.memory.now.order.items, c.requires.order, c.gather-2.ensures.along ∙ ap (λ (l : List NotePlace). map slot_of c.args.notes.now.items ++ map (λ p. p.slot) l) c.deref-2.ensures.value);
   stay = c.leave_all.ensures.stay;
   noted = c.leave_all.ensures.noted;
-  gave = c.leave_all.ensures.given ∙ ap (λ l. l ++ collected given_at 0 c.gather_all-2.new.clients.items) c.requires.none;
+  gave = c.leave_all.ensures.given ∙ ap (λ l. l ++ collected given_at 0 c.gather-2.new.clients.items) c.requires.none;
 }
+
+pub returns-clause-first : goal.returns-clause-first
+returns-clause-first g c =
+    all_take_both _ _ _
+    (subst (λ (ts : List NoteTimes). AllTakeFirst ts (map times_of c.gather-2.new.clients.items)) c.flush_each-refused.ensures.times c.gather-2.ensures.first)
+    (subst (λ (xs : List (Option (Stored _ _ _))). AllTakeFirst (map times_of c.gather-2.new.clients.items) (map times_of xs)) (sym c.leave_all.ensures.stay)
+    (all_take_leave c.gather-2.new.clients.items))

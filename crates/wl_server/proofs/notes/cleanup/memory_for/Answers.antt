@@ -1,7 +1,8 @@
-use Rattle.std.proofs.Common.{length, true}
+use Rattle.std.proofs.Common.{length, true, map}
 use Rattle.std.specs.Vec.{vec_capacity, vec_len}
 use Rattle.wl_server.specs.Inside.Gathering.{count_leaving}
 use Rattle.wl_server.specs.Inside.Leaving.{collected, ends_at, given_at}
+use Rattle.wl_server.specs.Inside.NoteOrder.{count_places, times_of}
 use Rattle.wl_server.proofs.CleanupSteps.Asking.{at_most, none_both, none_ends, none_leaving, none_of, on_err, room_of_none, some_of}
 use Rattle.wl_server.proofs.CleanupSteps.Ordering.{none_order}
 use Rattle.wl_server.proofs.notes.cleanup.memory_for.Goals as goal
@@ -42,4 +43,5 @@ pub returns-then-count-eq0-clause-order : goal.returns-then-count-eq0-clause-ord
 returns-then-count-eq0-clause-order g c =
     let none = none_both c.count_work-work.result.gathered c.count_work-work.result.leaving c.saturating_add-count.result c.saturating_add-count.ensures c.if-count-eq0.true in
     let notes = none_of c.count_work-work.result.gathered (count_leaving true c.args.clients.now) none.0 c.count_work-work.ensures.gathered in
-    none_order true c.args.clients.now c.new.result.items c.new.ensures.items (none_leaving true c.args.clients.now notes)
+    let places = none_of c.count_work-work.result.gathered (count_places true (map times_of c.args.clients.now)) none.0 c.count_work-work.ensures.places in
+    none_order true c.args.clients.now c.new.result.items c.new.ensures.items (none_leaving true c.args.clients.now notes) places

@@ -1,6 +1,7 @@
-use Rattle.std.proofs.Common.{◌∙◌, arith}
+use Rattle.std.proofs.Common.{◌∙◌, arith, sym, append-nil, refl}
 use Rattle.std.proofs.lemmas.Option.{slice_get_read}
-use Rattle.wl_server.proofs.CleanupSteps.Gathering.{gathers_at, gathers_more, room_at}
+use Rattle.wl_server.proofs.CallSteps.Numbering.{all_take_both, all_take_none, take_set}
+use Rattle.wl_server.proofs.CleanupSteps.Gathering.{gathers_at, gathers_more, gathers_none, room_at}
 use Rattle.wl_server.proofs.CleanupSteps.Ordering.{along_more, place_left, place_some, place_within, slots_after}
 use Rattle.wl_server.proofs.notes.gather.gather.Goals as goal
 
@@ -40,5 +41,9 @@ loop-place-preserved g c =
           c.index_mut.result.now c.move_note.new.client c.loop-place-test.true c.slot-slot.ensures here c.move_note.ensures.moved c.loop-place.invariant.left;
       along = along_more _ _ _ c.args.order.now c.loop-place.place-index c.slot-slot.result _ c.loop-place-test.true c.slot-slot.ensures c.loop-place.invariant.along
           (slots_after c.args.waits c.loop-place.notes.items c.move_note.new.notes.items c.slot-slot.result _ _ c.move_note.ensures.moved);
+      first = all_take_both _ _ _ c.loop-place.invariant.first (take_set _ _ _ _ here c.move_note.ensures.first);
       capacity = c.move_note.ensures.capacity ∙ c.loop-place.invariant.capacity;
     }
+
+pub loop-place-init : goal.loop-place-init
+loop-place-init g c = record { gathered = gathers_none _ _ _; left = c.requires.order.each; along = sym (append-nil _); first = all_take_none _; capacity = refl }

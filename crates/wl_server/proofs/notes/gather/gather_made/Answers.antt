@@ -1,6 +1,9 @@
-use Rattle.std.proofs.Common.{◌<◌, ◌≤◌, false, subst}
+use Rattle.std.proofs.Common.{◌<◌, ◌≤◌, false, subst, [], map, refl, sym, append-nil}
 use Rattle.std.specs.Vec.{vec_capacity, vec_len}
 use Rattle.wl_server.specs.Inside.Gathering.{count_leaving}
+use Rattle.wl_server.specs.Inside.NoteOrder.{count_places, times_of}
+use Rattle.wl_server.proofs.CleanupSteps.Ordering.{none_order}
+use Rattle.wl_server.proofs.CallSteps.Numbering.{all_take_none}
 use Rattle.wl_server.proofs.CleanupSteps.Asking.{none_leaving, none_of, on_err, positive, room_of}
 use Rattle.wl_server.proofs.notes.gather.gather_made.Goals as goal
 
@@ -27,3 +30,18 @@ gather-requires-clause-room g c =
     let all = subst (λ xs. c.count_notes-count.result < 0xFFFFFFFFFFFFFFFF → count_leaving false xs ≤ c.count_notes-count.result) c.deref.ensures.value c.count_notes-count.ensures.all in
     room_of (vec_len c.reserve.new.self) c.count_notes-count.result (count_leaving false c.args.clients.now.items) (vec_capacity c.reserve.new.self)
     all c.in_ok-reserve.ensures.ok c.reserve.new.self.small
+
+pub returns-then-count-eq0-clause-in_order : goal.returns-then-count-eq0-clause-in_order
+returns-then-count-eq0-clause-in_order g c =
+    let all = subst (λ xs. c.count_notes-count.result < 0xFFFFFFFFFFFFFFFF → count_places false (map times_of xs) ≤ c.count_notes-count.result) c.deref.ensures.value c.count_notes-count.ensures.places in
+    let few = none_of c.count_notes-count.result (count_places false (map times_of c.args.clients.now.items)) c.if-count-eq0.true all in
+    ([], none_order false c.args.clients.now.items [] refl (returns-then-count-eq0-clause-ended g c) few, sym (append-nil _))
+
+pub returns-then-count-eq0-clause-first : goal.returns-then-count-eq0-clause-first
+returns-then-count-eq0-clause-first g c = all_take_none _
+
+pub returns-in_err-order-clause-first : goal.returns-in_err-order-clause-first
+returns-in_err-order-clause-first g c = all_take_none _
+
+pub returns-in_err-reserve-clause-first : goal.returns-in_err-reserve-clause-first
+returns-in_err-reserve-clause-first g c = all_take_none _

@@ -1,17 +1,24 @@
-use Rattle.std.proofs.Common.{◌∙◌, arith, refl}
+use Rattle.std.proofs.Common.{◌∙◌, arith, refl, ap, ◌++◌, map}
 use Rattle.std.proofs.lemmas.Option.{slice_get_read}
-use Rattle.wl_server.proofs.CleanupSteps.Ordering.{placed_all, placed_more, placed_none, places_moved}
+use Rattle.wl_server.specs.Inside.NoteOrder.{all_places, times_of}
+use Rattle.wl_server.proofs.CleanupSteps.Ordering.{placed_all, placed_more, placed_none, placed_so_far, placed_whole, places_moved}
 use Rattle.wl_server.proofs.notes.gather.order_of.Goals as goal
 
 pub loop-slot-init : goal.loop-slot-init
-loop-slot-init g c = record { placed = placed_none c.args.waits c.args.clients.now c.in_ok-order.order.items c.in_ok-order.ensures.items; ends = refl }
+loop-slot-init g c = record {
+  placed = placed_none c.args.waits c.args.clients.now c.in_ok-order.order.items c.in_ok-order.ensures.items;
+  numbers = ap (λ l. l ++ all_places c.args.waits 0 (map times_of c.args.clients.now)) c.in_ok-order.ensures.items;
+  ends = refl;
+}
 
 pub loop-slot-preserved : goal.loop-slot-preserved
 loop-slot-preserved g c =
     let here = slice_get_read c.args.clients.now _ c.loop-slot.slot c.index-clients-slot.result refl c.loop-slot-test.true c.index-clients-slot.is in
     record {
       placed = placed_more c.args.waits c.args.clients.now c.loop-slot.slot c.index-clients-slot.result c.loop-slot.order.items c.put_places_at.new.order.items here
-          c.loop-slot.invariant.placed c.in_ok-put_places_at.ensures;
+          c.loop-slot.invariant.placed c.in_ok-put_places_at.ensures.counted;
+      numbers = placed_so_far c.args.waits c.args.clients.now c.loop-slot.slot c.index-clients-slot.result c.loop-slot.order.items c.put_places_at.new.order.items here
+          c.loop-slot.invariant.numbers c.in_ok-put_places_at.ensures.placed;
       ends = refl;
     }
 
@@ -20,4 +27,6 @@ returns g c = record {
   rise = c.put_in_order.ensures.rise;
   each = λ k. places_moved k c.loop-slot.order.items c.put_in_order.new.order.items c.put_in_order.ensures.moved
       ∙ placed_all c.args.waits c.args.clients.now c.loop-slot.slot c.loop-slot.order.items (omega (arith, c.loop-slot-test.false)) c.loop-slot.invariant.placed k;
+  numbers = placed_whole c.args.waits c.args.clients.now c.loop-slot.slot c.loop-slot.order.items c.put_in_order.new.order.items (omega (arith, c.loop-slot-test.false)) c.loop-slot.invariant.numbers
+      c.put_in_order.ensures.moved;
 }

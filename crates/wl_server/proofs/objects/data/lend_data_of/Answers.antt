@@ -1,7 +1,7 @@
 use Rattle.std.proofs.Common.{◌≡◌, Some, refl}
 use Rattle.wl_link.specs.declared.object.Object.{Object}
 use Rattle.wl_server.specs.declared.objects.Kept.{Kept}
-use Rattle.wl_server.specs.DataInPlace.{LendsDataOf}
+use Rattle.wl_server.specs.Plain.DataInPlace.{LendsDataOf}
 use Rattle.wl_server.specs.Part.{with_user_data}
 use Rattle.wl_server.proofs.objects.data.lend_data_of.Goals as goal
 

@@ -1,5 +1,4 @@
-use Rattle.std.proofs.Common.{◌≡◌, length, reverse}
-use Rattle.smallvec.specs.SmallVec.{HasRoomFor}
+use Rattle.std.proofs.Common.{◌≡◌, ◌+◌, ◌-◌, ◌≤◌, drop, length}
 use Rattle.wl_wire.specs.Argument.{Matches}
 use Rattle.wl_server.specs.Requests.{convert}
 use Rattle.wl_server.specs.Inside.Conversion.{CanMake, state}
@@ -9,13 +8,11 @@ use Rattle.wl_server.proofs.reading.arguments.convert.Given as goal
 abbrev pub invariant-loop-arg : goal.invariant-loop-arg
 invariant-loop-arg g l = record {
   can_make : CanMake l.progress l.objects;
-  kinds : Matches l.progress.kinds.now (reverse l.args.items);
+  same : drop l.arg-index l.args ≡ drop l.arg-index l.fn.args;
+  kinds : Matches l.progress.kinds.now (drop l.arg-index l.fn.args);
   registries : l.objects.registries ≡ l.fn.objects.registries;
   capacity : l.converted.capacity ≡ l.fn.converted.capacity;
-  room : HasRoomFor l.converted (length l.args.items);
-  left : convert l.fn.client l.fn.version (state l.objects l.progress) l.converted.items (reverse l.args.items)
-      ≡ convert l.fn.client l.fn.version (state l.fn.objects l.fn.progress) l.fn.converted.items (reverse l.fn.args.items);
+  room : length l.converted.items + (length l.args - l.arg-index) ≤ l.converted.capacity;
+  left : convert l.fn.client l.fn.version (state l.objects l.progress) l.converted.items (drop l.arg-index l.fn.args)
+      ≡ convert l.fn.client l.fn.version (state l.fn.objects l.fn.progress) l.fn.converted.items l.fn.args;
 }
-
-abbrev pub decreases-loop-arg : goal.decreases-loop-arg
-decreases-loop-arg g l = length l.args.items

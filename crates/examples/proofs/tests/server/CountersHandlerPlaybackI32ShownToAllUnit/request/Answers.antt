@@ -3,4 +3,4 @@ use Rattle.wl_server.proofs.Dispatches.Joining.{reached_by, reached_then}
 use Rattle.examples.proofs.tests.server.CountersHandlerPlaybackI32ShownToAllUnit.request.Goals as goal
 
 pub returns-clause-reached : goal.returns-clause-reached
-returns-clause-reached c = reached_then (reached_by c.set_object_data.ensures.call refl) c.send_event.ensures refl
+returns-clause-reached c = reached_then (reached_by c.set_object_data.ensures.call refl) c.send_event.ensures.call refl

@@ -11,7 +11,7 @@ pub returns-in-DestroyObject : goal.returns-in-DestroyObject
 returns-in-DestroyObject g c = rw c.in-DestroyObject.is (over_script g.G.GlobalHandler.views _ _ _ _ c.destroy_object.ensures.call)
 
 pub returns-in-SendEvent : goal.returns-in-SendEvent
-returns-in-SendEvent g c = rw c.in-SendEvent.is (over_script g.G.GlobalHandler.views _ _ _ _ c.send_event.ensures)
+returns-in-SendEvent g c = rw c.in-SendEvent.is (over_script g.G.GlobalHandler.views _ _ _ _ c.send_event.ensures.call)
 
 pub returns-in-PostError : goal.returns-in-PostError
 returns-in-PostError g c = rw c.in-PostError.is (over_script g.G.GlobalHandler.views _ _ _ _ c.post_error.ensures.call)

@@ -1,4 +1,4 @@
-use Rattle.std.proofs.Common.{◌≡◌, Bool, Err, Result, List, [], refl, subst}
+use Rattle.std.proofs.Common.{◌≡◌, Bool, Err, Result, List, [], refl, subst, ap}
 use Rattle.wl_link.specs.Script.{Script}
 use Rattle.wl_server.specs.declared.error.ScriptError.{ScriptError}
 use Rattle.wl_server.specs.declared.error.ScriptError.TheVariants as refused
@@ -10,7 +10,8 @@ use Rattle.wl_server.specs.Ids.{ClientParts, same_client}
 use Rattle.wl_server.specs.Moves.{ScriptMoves, nothing_taken}
 use Rattle.wl_server.specs.PartStep.{Asked, OfClient, PartStep, WithTransport, lacks_move, over_scripts}
 use Rattle.wl_server.specs.Inside.Scripting.{Scripts, move_of, reply_to, step_of}
-use Rattle.wl_server.specs.Server.{Seen, ServerState, Stored}
+use Rattle.wl_server.specs.Server.{Seen, ServerState, Stored, no_times}
+use Rattle.wl_server.proofs.CallSteps.Numbering.{numbers_stay}
 use Rattle.wl_server.proofs.CallSteps.OneClient.{IsOwn, done_to, held_by, none_stored}
 use Rattle.wl_server.proofs.CallSteps.Moved.{moved}
 use Rattle.wl_server.proofs.CallSteps.Slots.{Kind}
@@ -54,10 +55,10 @@ returns g c =
     rw (← c.self.view_is, c.lacks_memory-self-inside.ensures)
     (done_to (over_scripts g.G.GlobalHandler.views) before (step_of c.args.id.now c.args.call) (reply_to c.args.call answer) (own _ _ _) c.args.id.now (scripts c.args.call answer)
     (nothing_taken answer ≡ Err refused.InvalidId) (to g.G.GlobalHandler.views before c.args.id.now c.args.call answer)
-    _ c.in-Some.client.now _ (lacks_move (nothing_taken answer)) refl c.in-Some.ensures.value (does c.args.id.now c.args.call _ _ answer
+    _ c.in-Some.client.now _ (lacks_move (nothing_taken answer)) refl c.in-Some.ensures.value (does c.args.id.now c.args.call c.in-Some.client.now (record { serial = _; part = _; made = _; times = no_times }) answer
     (rw (← c.client.view_is)
-    (moved _ (λ t t'. ScriptMoves t (move_of c.args.call) (nothing_taken answer) t') c.make_move-answer.new.script
+    (moved (record { serial = _; part = _; made = _; times = no_times }) (λ t t'. ScriptMoves t (move_of c.args.call) (nothing_taken answer) t') c.make_move-answer.new.script
     (subst (λ (t : Script). ScriptMoves t (move_of c.args.call) (nothing_taken answer) c.make_move-answer.new.script) c.transport_mut.ensures.value c.make_move-answer.ensures)))))
 
 pub invariant_of-self-2 : goal.invariant_of-self-2
-invariant_of-self-2 g c = slots_set _ _ _ _ _ c.self.invariant
+invariant_of-self-2 g c = (slots_set _ _ _ _ _ c.self.invariant.0, numbers_stay _ _ _ _ _ c.in-Some.ensures.value (ap (λ (s : Stored _ _ _). s.times) c.client.view_is) c.self.invariant.1)

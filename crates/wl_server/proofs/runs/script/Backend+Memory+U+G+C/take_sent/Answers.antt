@@ -9,7 +9,8 @@ use Rattle.wl_server.specs.Ids.{ClientParts}
 use Rattle.wl_server.specs.Moves.{Moved, ScriptMoves, TakeSent, taken}
 use Rattle.wl_server.specs.PartStep.{Asked, WithTransport, lacks_move}
 use Rattle.wl_server.specs.Inside.Scripting.{Scripts}
-use Rattle.wl_server.specs.Server.{Stored}
+use Rattle.wl_server.specs.Server.{Stored, no_times}
+use Rattle.wl_server.proofs.CallSteps.Numbering.{numbers_stay}
 use Rattle.wl_server.proofs.CallSteps.OneClient.{IsOwn, done_to, none_stored}
 use Rattle.wl_server.proofs.CallSteps.Moved.{moved}
 use Rattle.wl_server.proofs.CallSteps.Slots.{Kind}
@@ -39,10 +40,10 @@ returns g c =
     let rest : ◌≡◌ {A = Script} c.take_sent.new.self (record c.client.inside.socket.transport { sent = [] }) = c.take_sent.ensures.rest ∙ ap emptied c.transport_mut.ensures.value in
     rw (← c.self.view_is)
     (done_to _ _ _ _ (own _ _) c.args.id.now (takes (taken (Ok c.take_sent.result))) _ (λ i l d b a h. (_, refl, h))
-    _ c.in-Some.client.now _ false refl c.in-Some.ensures.value (does c.args.id.now _ _ _ refl
+    _ c.in-Some.client.now _ false refl c.in-Some.ensures.value (does c.args.id.now c.in-Some.client.now (record { serial = _; part = _; made = _; times = no_times }) _ refl
     (rw (← c.client.view_is)
-    (moved _ (λ t t'. ScriptMoves t TakeSent (taken (Ok c.take_sent.result)) t') c.take_sent.new.self
+    (moved (record { serial = _; part = _; made = _; times = no_times }) (λ t t'. ScriptMoves t TakeSent (taken (Ok c.take_sent.result)) t') c.take_sent.new.self
     (ap (λ (l : List Queue). let r : Moved = Ok l in r) sent, rest)))))
 
 pub invariant_of-self-2 : goal.invariant_of-self-2
-invariant_of-self-2 g c = slots_set _ _ _ _ _ c.self.invariant
+invariant_of-self-2 g c = (slots_set _ _ _ _ _ c.self.invariant.0, numbers_stay _ _ _ _ _ c.in-Some.ensures.value (ap (λ (s : Stored _ _ _). s.times) c.client.view_is) c.self.invariant.1)

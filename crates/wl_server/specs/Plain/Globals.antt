@@ -10,16 +10,17 @@ use Rattle.wl_server.specs.declared.globals.KeptGlobal.{KeptGlobal}
 use Rattle.wl_server.specs.declared.notes.DisconnectReason.TheVariants.{ConnectionClosed}
 use Rattle.wl_server.specs.declared.notes.Happening.TheVariants.{Disconnected}
 use Rattle.wl_server.specs.Backend.{BackendState}
+use Rattle.wl_server.specs.GivenOnce.{same_global}
 use Rattle.wl_server.specs.Globals.{as_disabled, global_of, new_global}
 use Rattle.wl_server.specs.Ids.{ClientParts, GlobalParts}
 use Rattle.wl_server.specs.Part.{with_link}
 use Rattle.wl_server.specs.Plain.{ObjectsStay, as_killed}
-use Rattle.wl_server.specs.PlainCalls.{ClientsStay}
+use Rattle.wl_server.specs.Plain.Calls.{ClientsStay}
 use Rattle.wl_server.specs.Server.{Seen, seen}
 
 module _ {T U C : Type 0} where
-  -- A client was told of a global, or nothing. Only its link may differ. Or it could not be told: then it is killed, which is
-  -- noted.
+  -- A client was told of a global, or was told nothing: only its link may differ. Or it could not be told: then it is killed,
+  -- which is noted.
   abbrev pub IsToldOrKilled : Seen T U C → Seen T U C → Type 0
   IsToldOrKilled before after =
       MatchOption before.part (after ≡ before)
@@ -33,28 +34,35 @@ module _ {T U G C : Type 0} where
   abbrev pub global_in : BackendState T U G C → GlobalParts → Option (Object (KeptGlobal G))
   global_in b id = global_of b.server.offer.globals id
 
-  -- each client was told, or killed, and no object has changed
-  pub record TellsClients (before after : BackendState T U G C) : Type 0 where
+  -- each id but this one names the global that it named before
+  abbrev pub OtherGlobalsStay : BackendState T U G C → GlobalParts → BackendState T U G C → Type 0
+  OtherGlobalsStay before id after = (other : GlobalParts) → same_global id other ≡ false → global_in after other ≡ global_in before other
+
+  -- Each client may have been told of a global, or killed since it could not be told. No object has changed.
+  pub record MayBeTold (before after : BackendState T U G C) : Type 0 where
     pub each : (id : ClientParts) → IsToldOrKilled (seen id before.server) (seen id after.server)
     pub objects : ObjectsStay before after
 
-  -- The answer is the id of the new global, which is enabled and has this interface, version and handler. Or nothing has
-  -- changed.
-  abbrev pub CreatedAs : BackendState T U G C → InterfaceId → ℕ → G → Result GlobalParts GlobalError → BackendState T U G C → Type 0
-  CreatedAs before i version handler (Ok g) after = global_in after g ≡ Some (new_global i version g.serial handler)
-  CreatedAs before i version handler (Err e) after = (after.server.offer ≡ before.server.offer) × ClientsStay before after
+  -- The answer is the id of the new global, which is enabled and has this interface, version and handler. It named none
+  -- before, and each other id names what it named. Or nothing has changed.
+  abbrev pub GlobalCreatedAs : BackendState T U G C → InterfaceId → ℕ → G → Result GlobalParts GlobalError → BackendState T U G C → Type 0
+  GlobalCreatedAs before i version handler (Ok g) after =
+      (global_in before g ≡ None) × (global_in after g ≡ Some (new_global i version g.serial handler)) × OtherGlobalsStay before g after
+  GlobalCreatedAs before i version handler (Err e) after = (after.server.offer ≡ before.server.offer) × ClientsStay before after
 
   pub record OffersGlobal (before : BackendState T U G C) (i : InterfaceId) (version : ℕ) (handler : G) (answer : Result GlobalParts GlobalError)
       (after : BackendState T U G C) : Type 0 where
-    pub global : CreatedAs before i version handler answer after
-    pub clients : TellsClients before after
+    pub global : GlobalCreatedAs before i version handler answer after
+    pub clients : MayBeTold before after
 
-  -- The global is disabled, if it is kept.
+  -- The global is disabled, if it is kept. The others stay.
   pub record DisablesGlobal (before : BackendState T U G C) (id : GlobalParts) (after : BackendState T U G C) : Type 0 where
     pub global : global_in after id ≡ option_map as_disabled (global_in before id)
-    pub clients : TellsClients before after
+    pub others : OtherGlobalsStay before id after
+    pub clients : MayBeTold before after
 
-  -- The id names no global any longer.
+  -- The id names no global any longer. The others stay.
   pub record RemovesGlobal (before : BackendState T U G C) (id : GlobalParts) (after : BackendState T U G C) : Type 0 where
     pub global : global_in after id ≡ None
-    pub clients : TellsClients before after
+    pub others : OtherGlobalsStay before id after
+    pub clients : MayBeTold before after

@@ -1,0 +1,336 @@
+-- The numbers in time of notes: how they rise, and how a call that makes notes keeps them in order.
+use Rattle.std.proofs.Common.{◌≡◌, ◌≢◌, ◌∙◌, ℕ, zero, suc, ◌+◌, ◌<◌, ◌≤◌, Bool, true, false, List, [], ◌∷◌, ◌++◌, map, Option, None, Some, is_some, refl, sym, ap, subst, arith, append_assoc, append-nil}
+use mathlib.Core.Logic.{inl, inr}
+use Rattle.std.specs.Option.{option_map, option_map_or}
+use Rattle.std.specs.Prelude.{◌⊎◌, ◌==◌, Contains, if◌then◌else◌, slice_get, slice_set}
+use Rattle.std.proofs.lemmas.Bool.{eqb-true, false≢true}
+use Rattle.std.proofs.lemmas.List.Elements.{Contains-append_cases, Contains-append_right}
+use Rattle.wl_server.specs.declared.notes.queues.NoteNumbers.{NoteNumbers}
+use Rattle.wl_server.specs.Ids.{ClientParts}
+use Rattle.wl_server.specs.Inside.Inserting.{IsPut}
+use Rattle.wl_server.specs.Inside.Leaving.{all_staying, staying}
+use Rattle.wl_server.specs.Inside.NoteOrder.{AllInTime, AllTakeFirst, AreInTime, GivesNumbers, HasNumbers, NotesInTime, RiseWithin, TakesFirst, last_number, number_after, times_at, times_of}
+use Rattle.wl_server.specs.Server.{NoteTimes, Stored, client_at, no_times, stored_at}
+use Rattle.wl_server.proofs.CallSteps.Slots.{get_set_other, get_set_same, other_of, slot_of_client}
+
+-- ---- numbers that rise
+
+rise_lower : (low mid : ℕ) (ns : List ℕ) (next : ℕ) → low ≤ mid → RiseWithin mid ns next → RiseWithin low ns next
+rise_lower low mid [] next less is = omega (arith, less, is)
+rise_lower low mid (n ∷ ns) next less (first, rest) = (omega (arith, less, first), rest)
+
+rise_higher : (low : ℕ) (ns : List ℕ) (next next' : ℕ) → next ≤ next' → RiseWithin low ns next → RiseWithin low ns next'
+rise_higher low [] next next' more is = omega (arith, more, is)
+rise_higher low (n ∷ ns) next next' more (first, rest) = (first, rise_higher (n + 1) ns next next' more rest)
+
+rise_append : (low : ℕ) (ns : List ℕ) (mid : ℕ) (ms : List ℕ) (next : ℕ) → RiseWithin low ns mid → RiseWithin mid ms next → RiseWithin low (ns ++ ms) next
+rise_append low [] mid ms next is more = rise_lower low mid ms next is more
+rise_append low (n ∷ ns) mid ms next (first, rest) more = (first, rise_append (n + 1) ns mid ms next rest more)
+
+rise_last : (low : ℕ) (ns ms : List ℕ) (next : ℕ) → RiseWithin low (ns ++ ms) next → RiseWithin low ms next
+rise_last low [] ms next is = is
+rise_last low (n ∷ ns) ms next (first, rest) = rise_lower low (n + 1) ms next (omega (arith, first)) (rise_last (n + 1) ns ms next rest)
+
+pub rise_up : (low : ℕ) (ns : List ℕ) (next : ℕ) → RiseWithin low ns next → low ≤ next
+rise_up low [] next is = is
+rise_up low (n ∷ ns) next (first, rest) = let more = rise_up (n + 1) ns next rest in omega (arith, first, more)
+
+among : (low : ℕ) (ns : List ℕ) (next n : ℕ) → RiseWithin low ns next → Contains ns n → (low ≤ n) × (n < next)
+among low [] next n is (k, below, at) = absurd (omega (arith, below))
+among low (m ∷ ns) next n (first, rest) (zero, below, at) =
+    let up = rise_up (m + 1) ns next rest in (omega (arith, first, at), omega (arith, up, at))
+among low (m ∷ ns) next n (first, rest) (suc k, below, at) =
+    let more = among (m + 1) ns next n rest (k, omega (arith, below), at) in (omega (arith, first, more.0), more.1)
+
+-- ---- numbers that are given
+
+pub gives_none : (ns : List ℕ) (next : ℕ) → GivesNumbers ns next ns next
+gives_none ns next = record { more = []; behind = sym (append-nil ns); rise = λ below. omega arith }
+
+-- others got numbers meanwhile
+gives_past : (ns : List ℕ) (next next' : ℕ) → (next' < last_number → next ≤ next') → GivesNumbers ns next ns next'
+gives_past ns next next' up = record { more = []; behind = sym (append-nil ns); rise = up }
+
+pub gives_one : (ns ns' : List ℕ) (next next' : ℕ) → ns' ≡ ns ++ next ∷ [] → next' ≡ number_after next → GivesNumbers ns next ns' next'
+gives_one ns ns' next next' is after = record { more = next ∷ []; behind = is; rise = λ below. (omega arith, omega (arith, after, below)) }
+
+gives_both : (ns ms ks : List ℕ) (a b c : ℕ) → GivesNumbers ns a ms b → GivesNumbers ms b ks c → GivesNumbers ns a ks c
+gives_both ns ms ks a b c one two = record {
+  more = one.more ++ two.more;
+  behind = two.behind ∙ (ap (λ (l : List ℕ). l ++ two.more) one.behind ∙ append_assoc ns one.more two.more);
+  rise = λ below.
+      let second = two.rise below in
+      let up = rise_up b two.more c second in
+      rise_append a one.more b two.more c (one.rise (omega (arith, up, below))) second;
+}
+
+-- ---- the notes of one client
+
+pub in_time_none : (t : NoteTimes) (n : NoteNumbers) → NotesInTime t n t n
+in_time_none t n = record { made = gives_none t.made n.made; waiting = gives_none t.waiting n.waiting }
+
+pub in_time_both : (t u v : NoteTimes) (a b c : NoteNumbers) → NotesInTime t a u b → NotesInTime u b v c → NotesInTime t a v c
+in_time_both t u v a b c one two = record {
+  made = gives_both t.made u.made v.made a.made b.made c.made one.made two.made;
+  waiting = gives_both t.waiting u.waiting v.waiting a.waiting b.waiting c.waiting one.waiting two.waiting;
+}
+
+pub in_time_same : (t u : NoteTimes) (a b : NoteNumbers) → u ≡ t → b ≡ a → NotesInTime t a u b
+in_time_same t u a b same none =
+    subst (λ (x : NoteTimes). NotesInTime t a x b) (sym same) (subst (λ (n : NoteNumbers). NotesInTime t a t n) (sym none) (in_time_none t a))
+
+-- a note was made, or notes were that were not
+pub made_in_time : (ms ms' ws ws' : List ℕ) (a b : NoteNumbers) → GivesNumbers ms a.made ms' b.made → ws' ≡ ws → b.waiting ≡ a.waiting
+    → NotesInTime (record { made = ms; waiting = ws }) a (record { made = ms'; waiting = ws' }) b
+made_in_time ms ms' ws ws' a b gives same none = record {
+  made = gives;
+  waiting = subst (λ (l : List ℕ). GivesNumbers ws a.waiting l b.waiting) (sym same)
+      (subst (λ (n : ℕ). GivesNumbers ws a.waiting ws n) (sym none) (gives_none ws a.waiting));
+}
+
+-- a note waits
+pub waits_in_time : (ms ms' ws ws' : List ℕ) (a b : NoteNumbers) → GivesNumbers ws a.waiting ws' b.waiting → ms' ≡ ms → b.made ≡ a.made
+    → NotesInTime (record { made = ms; waiting = ws }) a (record { made = ms'; waiting = ws' }) b
+waits_in_time ms ms' ws ws' a b gives same none = record {
+  waiting = gives;
+  made = subst (λ (l : List ℕ). GivesNumbers ms a.made l b.made) (sym same)
+      (subst (λ (n : ℕ). GivesNumbers ms a.made ms n) (sym none) (gives_none ms a.made));
+}
+
+-- nothing was noted
+pub still_made : (ms ms' ws : List ℕ) (a : NoteNumbers) → ms' ≡ ms → NotesInTime (record { made = ms; waiting = ws }) a (record { made = ms'; waiting = ws }) a
+still_made ms ms' ws a same = made_in_time ms ms' ws ws a a (subst (λ (l : List ℕ). GivesNumbers ms a.made l a.made) (sym same) (gives_none ms a.made)) refl refl
+
+pub still_waits : (ms ws ws' : List ℕ) (a : NoteNumbers) → ws' ≡ ws → NotesInTime (record { made = ms; waiting = ws }) a (record { made = ms; waiting = ws' }) a
+still_waits ms ws ws' a same = waits_in_time ms ms ws ws' a a (subst (λ (l : List ℕ). GivesNumbers ws a.waiting l a.waiting) (sym same) (gives_none ws a.waiting)) refl refl
+
+-- ---- the slots
+
+get_map : {A B : Type 0} (f : A → B) (xs : List A) (k : ℕ) → slice_get (map f xs) k ≡ option_map f (slice_get xs k)
+get_map f [] k = refl
+get_map f (x ∷ xs) zero = refl
+get_map f (x ∷ xs) (suc k) = get_map f xs k
+
+module _ {T U C : Type 0} where
+  abbrev pub time_in : Option (Option (Stored T U C)) → NoteTimes
+  time_in o = option_map_or (λ t. t) (option_map times_of o) no_times
+
+  pub times_in : (clients : List (Option (Stored T U C))) (k : ℕ) → times_at k (map times_of clients) ≡ time_in (slice_get clients k)
+  times_in clients k = ap (λ (o : Option NoteTimes). option_map_or (λ t. t) o no_times) (get_map times_of clients k)
+
+  pub times_there : (clients : List (Option (Stored T U C))) (k : ℕ) (x : Option (Stored T U C)) → slice_get clients k ≡ Some x → times_at k (map times_of clients) ≡ times_of x
+  times_there clients k x here = times_in clients k ∙ ap time_in here
+
+  times_none : (clients : List (Option (Stored T U C))) (k : ℕ) → stored_at k clients ≡ None → times_at k (map times_of clients) ≡ no_times
+  times_none clients k none = times_in clients k ∙ at (slice_get clients k) none
+    where
+      at : (o : Option (Option (Stored T U C))) → option_map_or (λ s. s) o None ≡ None → time_in o ≡ no_times
+      at None is = refl
+      at (Some None) is = refl
+      at (Some (Some s)) is = absurd (false≢true (sym (ap is_some is)))
+
+  times_same : (clients clients' : List (Option (Stored T U C))) (k : ℕ) → slice_get clients' k ≡ slice_get clients k
+      → times_at k (map times_of clients') ≡ times_at k (map times_of clients)
+  times_same clients clients' k same = times_in clients' k ∙ (ap time_in same ∙ sym (times_in clients k))
+
+-- ---- the notes of all clients
+
+module _ (of : NoteTimes → List ℕ) where
+  -- one client got numbers, and the others have theirs
+  changed : (ts ts' : List NoteTimes) (i next next' : ℕ) → ((k : ℕ) → k ≢ i → times_at k ts' ≡ times_at k ts)
+      → GivesNumbers (of (times_at i ts)) next (of (times_at i ts')) next' → next' < last_number → AreInTime of next ts → AreInTime of next' ts'
+  changed ts ts' i next next' others gives below is = record {
+    rise = λ k. rise_at k (k == i) refl;
+    apart = λ j k n a b. differ j k n (old_or_new j n (j == i) refl a) (old_or_new k n (k == i) refl b);
+  }
+    where
+      more : RiseWithin next gives.more next'
+      more = gives.rise below
+
+      up : next ≤ next'
+      up = rise_up next gives.more next' more
+
+      rise_at : (k : ℕ) (b : Bool) → (k == i) ≡ b → RiseWithin 0 (of (times_at k ts')) next'
+      rise_at k true same =
+          subst (λ (n : ℕ). RiseWithin 0 (of (times_at n ts')) next') (sym (eqb-true k i same))
+          (subst (λ (l : List ℕ). RiseWithin 0 l next') (sym gives.behind) (rise_append 0 (of (times_at i ts)) next gives.more next' (is.rise i) more))
+      rise_at k false other =
+          subst (λ (t : NoteTimes). RiseWithin 0 (of t) next') (sym (others k (other_of k i other)))
+          (rise_higher 0 (of (times_at k ts)) next next' up (is.rise k))
+
+      -- a number that is there was there, or is new
+      old_or_new : (k n : ℕ) (b : Bool) → (k == i) ≡ b → Contains (of (times_at k ts')) n → Contains (of (times_at k ts)) n ⊎ ((k ≡ i) × (next ≤ n))
+      old_or_new k n true same has =
+          let at = eqb-true k i same in
+          from (subst (λ (m : ℕ). (Contains (of (times_at m ts)) n → Contains (of (times_at k ts)) n)) at (λ h. h))
+          (Contains-append_cases (of (times_at i ts)) gives.more n
+          (subst (λ (l : List ℕ). Contains l n) gives.behind (subst (λ (m : ℕ). Contains (of (times_at m ts')) n) at has)))
+        where
+          from : (Contains (of (times_at i ts)) n → Contains (of (times_at k ts)) n) → Contains (of (times_at i ts)) n ⊎ Contains gives.more n
+              → Contains (of (times_at k ts)) n ⊎ ((k ≡ i) × (next ≤ n))
+          from back (inl old) = inl (back old)
+          from back (inr new) = inr (eqb-true k i same, (among next gives.more next' n more new).0)
+      old_or_new k n false other has = inl (subst (λ (t : NoteTimes). Contains (of t) n) (others k (other_of k i other)) has)
+
+      differ : (j k n : ℕ) → Contains (of (times_at j ts)) n ⊎ ((j ≡ i) × (next ≤ n)) → Contains (of (times_at k ts)) n ⊎ ((k ≡ i) × (next ≤ n)) → j ≡ k
+      differ j k n (inl a) (inl b) = is.apart j k n a b
+      differ j k n (inl a) (inr (at, high)) =
+          let old = among 0 (of (times_at j ts)) next n (is.rise j) a in absurd (omega (arith, high, old.1))
+      differ j k n (inr (at, high)) (inl b) =
+          let old = among 0 (of (times_at k ts)) next n (is.rise k) b in absurd (omega (arith, high, old.1))
+      differ j k n (inr (at, high)) (inr (at', high')) = at ∙ sym at'
+
+  -- the first numbers of clients are gone
+  fewer : (ts ts' : List NoteTimes) (next : ℕ) → ((k : ℕ) → (gone : List ℕ) × (of (times_at k ts) ≡ gone ++ of (times_at k ts'))) → AreInTime of next ts → AreInTime of next ts'
+  fewer ts ts' next first is = record {
+    rise = λ k. (
+        let (gone, same) = first k in
+        rise_last 0 gone (of (times_at k ts')) next (subst (λ (l : List ℕ). RiseWithin 0 l next) same (is.rise k)));
+    apart = λ j k n a b. is.apart j k n (had j n a) (had k n b);
+  }
+    where
+      had : (k n : ℕ) → Contains (of (times_at k ts')) n → Contains (of (times_at k ts)) n
+      had k n has =
+          let (gone, same) = first k in
+          subst (λ (l : List ℕ). Contains l n) (sym same) (Contains-append_right gone (of (times_at k ts')) n has)
+
+pub all_none : (ts : List NoteTimes) (a : NoteNumbers) → AllInTime ts a ts a
+all_none ts a = record { each = λ k. in_time_none (times_at k ts) a; keeps = λ has. has }
+
+pub all_both : (ts us vs : List NoteTimes) (a b c : NoteNumbers) → AllInTime ts a us b → AllInTime us b vs c → AllInTime ts a vs c
+all_both ts us vs a b c one two = record {
+  each = λ k. in_time_both (times_at k ts) (times_at k us) (times_at k vs) a b c (one.each k) (two.each k);
+  keeps = λ has. two.keeps (one.keeps has);
+}
+
+-- one client got numbers
+all_but : (ts ts' : List NoteTimes) (i : ℕ) (a b : NoteNumbers) → ((k : ℕ) → k ≢ i → times_at k ts' ≡ times_at k ts)
+    → NotesInTime (times_at i ts) a (times_at i ts') b → AllInTime ts a ts' b
+all_but ts ts' i a b others gives = record {
+  each = λ k. at k (k == i) refl;
+  keeps = λ has. record {
+    made = λ below. changed (λ t. t.made) ts ts' i a.made b.made others gives.made below (has.made (let up = up_made below in omega (arith, up, below)));
+    waiting = λ below. changed (λ t. t.waiting) ts ts' i a.waiting b.waiting others gives.waiting below (has.waiting (let up = up_waiting below in omega (arith, up, below)));
+  };
+}
+  where
+    up_made : b.made < last_number → a.made ≤ b.made
+    up_made below = rise_up a.made gives.made.more b.made (gives.made.rise below)
+
+    up_waiting : b.waiting < last_number → a.waiting ≤ b.waiting
+    up_waiting below = rise_up a.waiting gives.waiting.more b.waiting (gives.waiting.rise below)
+
+    at : (k : ℕ) (b' : Bool) → (k == i) ≡ b' → NotesInTime (times_at k ts) a (times_at k ts') b
+    at k true same = subst (λ (n : ℕ). NotesInTime (times_at n ts) a (times_at n ts') b) (sym (eqb-true k i same)) gives
+    at k false other = subst (λ (t : NoteTimes). NotesInTime (times_at k ts) a t b) (sym (others k (other_of k i other))) (record {
+      made = gives_past (times_at k ts).made a.made b.made up_made;
+      waiting = gives_past (times_at k ts).waiting a.waiting b.waiting up_waiting;
+    })
+
+module _ {T U C : Type 0} where
+  -- the client of a slot was written
+  pub set_in_time : (clients : List (Option (Stored T U C))) (i : ℕ) (x x' : Option (Stored T U C)) (a b : NoteNumbers) → slice_get clients i ≡ Some x
+      → NotesInTime (times_of x) a (times_of x') b → AllInTime (map times_of clients) a (map times_of (slice_set clients i x')) b
+  set_in_time clients i x x' a b here gives =
+      all_but (map times_of clients) (map times_of (slice_set clients i x')) i a b
+      (λ k differ. times_same clients (slice_set clients i x') k (get_set_other clients i k x' (λ e. differ (sym e))))
+      (subst (λ (t : NoteTimes). NotesInTime t a (times_at i (map times_of (slice_set clients i x'))) b) (sym (times_there clients i x here))
+      (subst (λ (t : NoteTimes). NotesInTime (times_of x) a t b) (sym (times_there (slice_set clients i x') i x' (get_set_same clients i x x' here))) gives))
+
+  -- a client was put at a slot that had none
+  pub put_in_time : (clients clients' : List (Option (Stored T U C))) (i : ℕ) (s : Stored T U C) (a b : NoteNumbers) → stored_at i clients ≡ None → IsPut clients i s clients'
+      → NotesInTime no_times a s.times b → AllInTime (map times_of clients) a (map times_of clients') b
+  put_in_time clients clients' i s a b none (here, others) gives =
+      all_but (map times_of clients) (map times_of clients') i a b (λ k differ. times_same clients clients' k (others k differ))
+      (subst (λ (t : NoteTimes). NotesInTime t a (times_at i (map times_of clients')) b) (sym (times_none clients i none))
+      (subst (λ (t : NoteTimes). NotesInTime no_times a t b) (sym (times_there clients' i (Some s) here)) gives))
+
+  -- the numbers that a server has, after its client of an id was written
+  pub numbers_set : (clients : List (Option (Stored T U C))) (id : ClientParts) (s s' : Stored T U C) (a b : NoteNumbers) → Some s ≡ client_at id clients
+      → NotesInTime s.times a s'.times b → HasNumbers a (map times_of clients) → HasNumbers b (map times_of (slice_set clients id.slot (Some s')))
+  numbers_set clients id s s' a b is gives has =
+      let all = set_in_time clients id.slot (Some s) (Some s') a b (slot_of_client clients id s is).0 gives in all.keeps has
+
+  -- the same where no note was made
+  pub numbers_stay : (clients : List (Option (Stored T U C))) (id : ClientParts) (s s' : Stored T U C) (a : NoteNumbers) → Some s ≡ client_at id clients
+      → s'.times ≡ s.times → HasNumbers a (map times_of clients) → HasNumbers a (map times_of (slice_set clients id.slot (Some s')))
+  numbers_stay clients id s s' a is same has = numbers_set clients id s s' a a is (in_time_same s.times s'.times a a same refl) has
+
+-- a new server
+pub no_numbers : (n : NoteNumbers) → HasNumbers n []
+no_numbers n = record { made = λ below. none (λ t. t.made) n.made refl; waiting = λ below. none (λ t. t.waiting) n.waiting refl }
+  where
+    none : (of : NoteTimes → List ℕ) (next : ℕ) → of no_times ≡ [] → AreInTime of next []
+    none of next empty = record {
+      rise = λ k. subst (λ (l : List ℕ). RiseWithin 0 l next) (sym empty) (omega arith);
+      apart = λ j k m a b. absurd (nothing m (subst (λ (l : List ℕ). Contains l m) empty a));
+    }
+      where
+        nothing : (m : ℕ) → Contains [] m → ⊥
+        nothing m (k, below, at) = omega (arith, below)
+
+-- ---- notes that are taken
+
+pub takes_none : (t : NoteTimes) → TakesFirst t t
+takes_none t = record { made = []; waiting = []; of_made = refl; of_waiting = refl }
+
+pub took : (ms ms' ws ws' : List ℕ) → (ns : List ℕ) × (ms ≡ ns ++ ms') → (ns : List ℕ) × (ws ≡ ns ++ ws')
+    → TakesFirst (record { made = ms; waiting = ws }) (record { made = ms'; waiting = ws' })
+took ms ms' ws ws' (ns, made) (ns', waiting) = record { made = ns; waiting = ns'; of_made = made; of_waiting = waiting }
+
+-- none were taken
+pub took_none : (ms : List ℕ) → (ns : List ℕ) × (ms ≡ ns ++ ms)
+took_none ms = ([], refl)
+
+pub takes_all : (t : NoteTimes) → TakesFirst t no_times
+takes_all t = record { made = t.made; waiting = t.waiting; of_made = sym (append-nil t.made); of_waiting = sym (append-nil t.waiting) }
+
+pub takes_both : (t u v : NoteTimes) → TakesFirst t u → TakesFirst u v → TakesFirst t v
+takes_both t u v one two = record {
+  made = one.made ++ two.made;
+  waiting = one.waiting ++ two.waiting;
+  of_made = one.of_made ∙ (ap (λ (l : List ℕ). one.made ++ l) two.of_made ∙ sym (append_assoc one.made two.made v.made));
+  of_waiting = one.of_waiting ∙ (ap (λ (l : List ℕ). one.waiting ++ l) two.of_waiting ∙ sym (append_assoc one.waiting two.waiting v.waiting));
+}
+
+pub all_take_none : (ts : List NoteTimes) → AllTakeFirst ts ts
+all_take_none ts k = takes_none (times_at k ts)
+
+pub all_take_both : (ts us vs : List NoteTimes) → AllTakeFirst ts us → AllTakeFirst us vs → AllTakeFirst ts vs
+all_take_both ts us vs one two k = takes_both (times_at k ts) (times_at k us) (times_at k vs) (one k) (two k)
+
+pub numbers_left : (ts ts' : List NoteTimes) (a : NoteNumbers) → AllTakeFirst ts ts' → HasNumbers a ts → HasNumbers a ts'
+numbers_left ts ts' a first has = record {
+  made = λ below. fewer (λ t. t.made) ts ts' a.made (λ k. ((first k).made, (first k).of_made)) (has.made below);
+  waiting = λ below. fewer (λ t. t.waiting) ts ts' a.waiting (λ k. ((first k).waiting, (first k).of_waiting)) (has.waiting below);
+}
+
+module _ {T U C : Type 0} where
+  pub take_set : (clients : List (Option (Stored T U C))) (i : ℕ) (x x' : Option (Stored T U C)) → slice_get clients i ≡ Some x
+      → TakesFirst (times_of x) (times_of x') → AllTakeFirst (map times_of clients) (map times_of (slice_set clients i x'))
+  take_set clients i x x' here first k = at (k == i) refl
+    where
+      at : (b : Bool) → (k == i) ≡ b → TakesFirst (times_at k (map times_of clients)) (times_at k (map times_of (slice_set clients i x')))
+      at true same =
+          subst (λ (n : ℕ). TakesFirst (times_at n (map times_of clients)) (times_at n (map times_of (slice_set clients i x')))) (sym (eqb-true k i same))
+          (subst (λ (t : NoteTimes). TakesFirst t (times_at i (map times_of (slice_set clients i x')))) (sym (times_there clients i x here))
+          (subst (λ (t : NoteTimes). TakesFirst (times_of x) t) (sym (times_there (slice_set clients i x') i x' (get_set_same clients i x x' here))) first))
+      at false other =
+          subst (λ (t : NoteTimes). TakesFirst (times_at k (map times_of clients)) t)
+          (sym (times_same clients (slice_set clients i x') k (get_set_other clients i k x' (λ e. other_of k i other (sym e))))) (takes_none (times_at k (map times_of clients)))
+
+  -- killed clients are gone with what is left of their notes
+  pub all_take_leave : (clients : List (Option (Stored T U C))) → AllTakeFirst (map times_of clients) (map times_of (all_staying clients))
+  all_take_leave clients k =
+      subst (λ (t : NoteTimes). TakesFirst t (times_at k (map times_of (all_staying clients)))) (sym (times_in clients k))
+      (subst (λ (t : NoteTimes). TakesFirst (time_in (slice_get clients k)) t)
+      (sym (times_in (all_staying clients) k ∙ ap time_in (get_map staying clients k))) (at (slice_get clients k)))
+    where
+      leaves : (b : Bool) (s : Stored T U C) → TakesFirst s.times (times_of (if b then None else Some s))
+      leaves true s = takes_all s.times
+      leaves false s = takes_none s.times
+
+      at : (o : Option (Option (Stored T U C))) → TakesFirst (time_in o) (time_in (option_map staying o))
+      at None = takes_none no_times
+      at (Some None) = takes_none no_times
+      at (Some (Some s)) = leaves s.part.is_killed s

@@ -1,0 +1,529 @@
+-- An event that the program sends.
+use Rattle.std.proofs.Common.{◌≡◌, ℕ, Bool, true, false, cond, List, [], ◌∷◌, ◌++◌, append-nil, map, Option, None, Some, is_some, Result, Ok, Err, refl, sym, ap, subst, ◌∙◌, true≢false}
+use mathlib.Core.Logic.{inl, inr}
+use Rattle.std.specs.Prelude.{◌⊎◌, ◌≢◌, MatchBool, MatchResult, option_map}
+use Rattle.wl_wire.specs.declared.argument.Token.{Token}
+use Rattle.wl_wire.specs.declared.error.IoFault.{IoFault}
+use Rattle.wl_wire.specs.declared.error.IoFault.TheVariants as fault
+use Rattle.wl_wire.specs.declared.message.Message.{Message}
+use Rattle.wl_wire.specs.Table.{InterfaceRow}
+use Rattle.wl_link.proofs.Calls.Branches.{either_option}
+use Rattle.wl_link.specs.declared.object.Object.{Object}
+use Rattle.wl_link.specs.Exchange.{Queue, Sending}
+use Rattle.wl_link.specs.Identity.{Id}
+use Rattle.wl_link.specs.Link.{LinkState}
+use Rattle.wl_link.specs.Reader.{Verdict}
+use Rattle.wl_link.specs.Store.{Store, removed}
+use Rattle.wl_server.specs.declared.error.EventError.{EventError}
+use Rattle.wl_server.specs.declared.error.EventError.TheVariants as refused
+use Rattle.wl_server.specs.declared.notes.DisconnectReason.TheVariants.{ConnectionClosed}
+use Rattle.wl_server.specs.declared.notes.Happening.{Happening}
+use Rattle.wl_server.specs.declared.notes.Happening.TheVariants.{Disconnected}
+use Rattle.wl_server.specs.declared.objects.Kept.{Kept}
+use Rattle.wl_server.specs.declared.runs.step.Reply.{Reply}
+use Rattle.wl_server.specs.declared.runs.step.Reply.TheVariants as reply
+use Rattle.wl_server.specs.declared.runs.step.Step.TheVariants as step
+use Rattle.wl_server.specs.Backend.{BackendState, Calls}
+use Rattle.wl_server.specs.Deeds.{Deed, Sent, left_if, notes_in}
+use Rattle.wl_server.specs.Events.{SendsEvent, SendsGranted, SentAs, SessionMessage, ends_closed, ends_sender, event_check, session_content}
+use Rattle.wl_server.specs.Identified.{waiting_of}
+use Rattle.wl_server.specs.Ids.{ClientParts, IdParts, same_client}
+use Rattle.wl_server.specs.Inside.Carried.{told_notes}
+use Rattle.wl_server.specs.Lookups.{and_then, client_of}
+use Rattle.wl_server.specs.Part.{Part, id_of, named, note_of_end, same_id}
+use Rattle.wl_server.specs.PartStep.{OfClient, World}
+use Rattle.wl_server.specs.Plain.{IsUnchanged, client_in, killed_in, notes_made_in}
+use Rattle.wl_server.specs.Plain.Events.{ChecksTo, EmitsEvent, EventIsPut, EventSentAs}
+use Rattle.wl_server.specs.Server.{Seen, seen}
+use Rattle.wl_server.specs.Telling.{Core, Did, Tells, Told, core_of, end_deeds}
+use Rattle.wl_server.proofs.OverRuns.Moves.MovesOfCalls.{granted_named}
+use Rattle.wl_server.proofs.Plain.Base.{ids_differ, keeps, nothing_new, of_each, one_value, other_stays, own, same_is, unchanged}
+use Rattle.wl_server.proofs.Plain.Naming.{names_so, removed_named, removed_others}
+use Rattle.wl_server.proofs.Plain.Verdicts.{IsStarved, IsTold, told_ended, told_nothing, told_starved}
+
+by_choice : {P Q : Type 0} (b : Bool) → MatchBool b P Q → ((b ≡ true) × P) ⊎ ((b ≡ false) × Q)
+by_choice true p = inl (refl, p)
+by_choice false q = inr (refl, q)
+
+by_result : {A E : Type 0} {P : A → Type 0} {Q : E → Type 0} (r : Result A E) → MatchResult r P Q → ((x : A) × (r ≡ Ok x) × P x) ⊎ ((e : E) × (r ≡ Err e) × Q e)
+by_result (Ok x) p = inl (x, refl, p)
+by_result (Err e) q = inr (e, refl, q)
+
+split_bool : (b : Bool) → (b ≡ true) ⊎ (b ≡ false)
+split_bool true = inl refl
+split_bool false = inr refl
+
+-- sends are no notes
+behind_sends : {U : Type 0} (es : List Sending) (rest : List (Deed U)) → notes_in (map Sent es ++ rest) ≡ notes_in rest
+behind_sends [] rest = refl
+behind_sends (e ∷ es) rest = behind_sends es rest
+
+-- nor is what is told of an object that left
+left_silent : {U : Type 0} (kept : Bool) (id : Id) (u : Option U) → told_notes (cond kept [] (map Did (left_if id u))) ≡ []
+left_silent true id u = refl
+left_silent false id None = refl
+left_silent false id (Some u) = refl
+
+-- ---- what the client becomes
+
+module _ {T U C : Type 0} (client : ClientParts) (p : Part T U C) (m : SessionMessage) (x : Object (Kept U)) where
+  abbrev store_after : Bool → Store (Kept U)
+  store_after ends = cond ends (removed p.store m.sender.number) p.store
+
+  abbrev waiting_after : Bool → List (Happening U)
+  waiting_after ends = p.waiting ++ cond ends (note_of_end client m.sender.number x) []
+
+  -- it lives on, or is closed down
+  abbrev Told' : List (Deed U) → Part T U C → Type 0
+  Told' did q = ((q.is_killed ≡ false) × (notes_in did ≡ [])) ⊎ ((q.is_killed ≡ true) × (notes_in did ≡ Disconnected ConnectionClosed ∷ []))
+
+  record IsPut (ends : Bool) (did : List (Deed U)) (q : Part T U C) : Type 0 where
+    store_is : q.store ≡ store_after ends
+    waiting_is : q.waiting ≡ waiting_after ends
+    told : Told' did q
+
+  -- memory was refused: all but the link is as it was
+  record IsKept (did : List (Deed U)) (q : Part T U C) : Type 0 where
+    core_is : core_of q ≡ core_of p
+    silent : notes_in did ≡ []
+
+  module _ (sends : T → Queue → Result ℕ IoFault → T → Type 0) (live : p.is_killed ≡ false) where
+    abbrev verdict : Bool → Verdict (Core U C) (Told U)
+    verdict ends = ends_sender client (core_of p) m x ends
+
+    -- what a core has of the client after the event was put
+    abbrev Has : Bool → Core U C → Type 0
+    Has ends c = (c.store ≡ store_after ends) × (c.waiting ≡ waiting_after ends)
+
+    has : (ends : Bool) → Has ends (verdict ends).core
+    has true = (refl, refl)
+    has false = (refl, sym (append-nil p.waiting))
+
+    quiet : (ends : Bool) (c : Core U C) → told_notes ((verdict ends).events c) ≡ []
+    quiet true c = left_silent (is_some (named c.store m.sender)) (id_of m.sender) x.value.user_data
+    quiet false c = refl
+
+    closing : (b : Bool) → b ≡ false → notes_in {U = U} (end_deeds (cond b None (Some ConnectionClosed))) ≡ Disconnected ConnectionClosed ∷ []
+    closing false is = refl
+    closing true is = absurd (true≢false is)
+
+    -- the verdict's own core, or that core closed down
+    lives : (ends : Bool) → (verdict ends).core.is_killed ≡ false
+    lives true = live
+    lives false = live
+
+    fresh : (ends : Bool) → (verdict ends).core.ended ≡ None
+    fresh true = refl
+    fresh false = refl
+
+    put_live : (ends : Bool) (did : List (Deed U)) (q : Part T U C) → IsTold (verdict ends) did q → IsPut ends did q
+    put_live ends did q t =
+        elim t.core_is [
+          | inl all ↦
+              record {
+                store_is = ap (λ (y : Part T U C). y.store) t.part_is ∙ ap (λ (c : Core U C). c.store) all ∙ (has ends).0;
+                waiting_is = ap (λ (y : Part T U C). y.waiting) t.part_is ∙ ap (λ (c : Core U C). c.waiting) all ∙ (has ends).1;
+                told =
+                    inl (
+                      ap (λ (y : Part T U C). y.is_killed) t.part_is ∙ ap (λ (c : Core U C). c.is_killed) all ∙ lives ends,
+                      t.notes_are ∙ ap (λ (l : List (Happening U)). l ++ notes_in (end_deeds t.core.ended)) (quiet ends t.core)
+                          ∙ ap (λ (c : Core U C). notes_in {U = U} (end_deeds c.ended)) all ∙ ap (λ (o : Option _). notes_in {U = U} (end_deeds o)) (fresh ends),
+                    );
+              }
+          | inr (some, closes) ↦
+              record {
+                store_is = ap (λ (y : Part T U C). y.store) t.part_is ∙ ap (λ (c : Core U C). c.store) closes ∙ (has ends).0;
+                waiting_is = ap (λ (y : Part T U C). y.waiting) t.part_is ∙ ap (λ (c : Core U C). c.waiting) closes ∙ (has ends).1;
+                told =
+                    inr (
+                      ap (λ (y : Part T U C). y.is_killed) t.part_is ∙ ap (λ (c : Core U C). c.is_killed) closes,
+                      t.notes_are ∙ ap (λ (l : List (Happening U)). l ++ notes_in (end_deeds t.core.ended)) (quiet ends t.core)
+                          ∙ ap (λ (c : Core U C). notes_in {U = U} (end_deeds c.ended)) closes
+                          ∙ ap (λ (o : Option _). notes_in {U = U} (end_deeds (cond (verdict ends).core.is_killed o (Some ConnectionClosed)))) (fresh ends)
+                          ∙ closing (verdict ends).core.is_killed (lives ends),
+                    );
+              }
+        ]
+
+    put_starved : (ends : Bool) → (verdict ends).starved.store ≡ (verdict ends).core.store → (did : List (Deed U)) (q : Part T U C) → IsStarved (verdict ends) did q → IsPut ends did q
+    put_starved true same did q t = record {
+      store_is = ap (λ (y : Part T U C). y.store) t.part_is;
+      waiting_is = ap (λ (y : Part T U C). y.waiting) t.part_is;
+      told =
+          inr (
+            ap (λ (y : Part T U C). y.is_killed) t.part_is,
+            t.notes_are ∙ ap (λ (l : List (Happening U)). l ++ notes_in (end_deeds (verdict true).starved.ended)) (quiet true (verdict true).starved) ∙ closing p.is_killed live,
+          );
+    }
+    put_starved false same did q t = record {
+      store_is = ap (λ (y : Part T U C). y.store) t.part_is;
+      waiting_is = ap (λ (y : Part T U C). y.waiting) t.part_is ∙ sym (append-nil p.waiting);
+      told = inr (ap (λ (y : Part T U C). y.is_killed) t.part_is, t.notes_are ∙ closing p.is_killed live);
+    }
+
+    flushes_none : (ends : Bool) → (verdict ends).flushes ≡ false
+    flushes_none true = refl
+    flushes_none false = refl
+
+    lasts : (ends : Bool) (c : Core U C) → (verdict ends).last c ≡ c
+    lasts true c = refl
+    lasts false c = refl
+
+    starved_same : (ends : Bool) → (verdict ends).starved.store ≡ (verdict ends).core.store
+    starved_same true = refl
+    starved_same false = refl
+
+    was_put : (ends : Bool) (link : LinkState T) (lacked : Bool) (did : List (Deed U)) (q : Part T U C) → Tells sends (verdict ends) link lacked did q → IsPut ends did q
+    was_put ends link lacked did q h =
+        elim (split_bool lacked) [
+          | inl lacks ↦ put_starved ends (starved_same ends) did q (told_starved sends (verdict ends) (flushes_none ends) link lacked did q lacks h)
+          | inr calm ↦ put_live ends did q (told_ended sends (verdict ends) (lasts ends) link lacked did q calm h)
+        ]
+
+    -- the event could not be put: the client is closed down
+    was_closed : (ends : Bool) (link : LinkState T) (lacked : Bool) (did : List (Deed U)) (q : Part T U C) → Tells sends (ends_closed client (core_of p) m x ends) link lacked did q
+        → IsPut ends did q
+    was_closed true link lacked did q h =
+        let calm : lacked ≡ false = told_nothing sends (ends_closed client (core_of p) m x true) refl refl refl link lacked did q h in
+        let t : IsTold (ends_closed client (core_of p) m x true) did q = told_ended sends (ends_closed client (core_of p) m x true) (λ c. refl) link lacked did q calm h in
+        elim t.core_is [
+          | inl all ↦
+              record {
+                store_is = ap (λ (y : Part T U C). y.store) t.part_is ∙ ap (λ (c : Core U C). c.store) all;
+                waiting_is = ap (λ (y : Part T U C). y.waiting) t.part_is ∙ ap (λ (c : Core U C). c.waiting) all;
+                told =
+                    inr (
+                      ap (λ (y : Part T U C). y.is_killed) t.part_is ∙ ap (λ (c : Core U C). c.is_killed) all,
+                      t.notes_are ∙ ap (λ (l : List (Happening U)). l ++ notes_in (end_deeds t.core.ended)) (quiet true t.core)
+                          ∙ ap (λ (c : Core U C). notes_in {U = U} (end_deeds c.ended)) all ∙ closing p.is_killed live,
+                    );
+              }
+          | inr (some, closes) ↦ absurd (some refl)
+        ]
+    was_closed false link lacked did q h =
+        let calm : lacked ≡ false = told_nothing sends (ends_closed client (core_of p) m x false) refl refl refl link lacked did q h in
+        let t : IsTold (ends_closed client (core_of p) m x false) did q = told_ended sends (ends_closed client (core_of p) m x false) (λ c. refl) link lacked did q calm h in
+        elim t.core_is [
+          | inl all ↦
+              record {
+                store_is = ap (λ (y : Part T U C). y.store) t.part_is ∙ ap (λ (c : Core U C). c.store) all;
+                waiting_is = ap (λ (y : Part T U C). y.waiting) t.part_is ∙ ap (λ (c : Core U C). c.waiting) all ∙ sym (append-nil p.waiting);
+                told =
+                    inr (
+                      ap (λ (y : Part T U C). y.is_killed) t.part_is ∙ ap (λ (c : Core U C). c.is_killed) all,
+                      t.notes_are ∙ ap (λ (c : Core U C). notes_in {U = U} (end_deeds c.ended)) all ∙ closing p.is_killed live,
+                    );
+              }
+          | inr (some, closes) ↦ absurd (some refl)
+        ]
+
+    -- ---- by the answer
+
+    abbrev Comes : Bool → Result (Unit {0}) EventError → List (Deed U) → Part T U C → Type 0
+    Comes ends (Ok _) did q = IsPut ends did q
+    Comes ends (Err refused.OutOfMemory) did q = IsKept did q
+    Comes ends (Err e) did q = ⊥
+
+    put_noted : (ends : Bool) (did rest : List (Deed U)) (q : Part T U C) → notes_in did ≡ notes_in rest → IsPut ends rest q → IsPut ends did q
+    put_noted ends did rest q same r = record {
+      store_is = r.store_is;
+      waiting_is = r.waiting_is;
+      told = elim r.told [
+        | inl (alive, none) ↦ inl (alive, same ∙ none)
+        | inr (dead, one) ↦ inr (dead, same ∙ one)
+      ];
+    }
+
+    granted_comes : (ends : Bool) (answer : Result (Unit {0}) EventError) (lacked : Bool) (did : List (Deed U)) (q : Part T U C)
+        → SendsGranted sends client p m x ends answer lacked did q → Comes ends answer did q
+    granted_comes ends answer lacked did q (inl (asks, is, lacks, none, same)) =
+        subst (λ (r : Result (Unit {0}) EventError). Comes ends r did q) (sym is) (record { core_is = ap core_of same; silent = ap notes_in none })
+    granted_comes ends answer lacked did q (inr (es, rest, wrote, link, by, sent, did_so)) = at wrote sent
+      where
+        behind : notes_in did ≡ notes_in rest
+        behind = ap notes_in did_so ∙ behind_sends es rest
+
+        closed : Tells sends (ends_closed client (core_of p) m x ends) link lacked rest q → answer ≡ Ok tt → Comes ends answer did q
+        closed h is =
+            subst (λ (r : Result (Unit {0}) EventError). Comes ends r did q) (sym is) (put_noted ends did rest q behind (was_closed ends link lacked rest q h))
+
+        at : (wrote : Result (Unit {0}) IoFault) → SentAs sends client p m x ends wrote link answer lacked rest q → Comes ends answer did q
+        at (Ok u) (more, tells, is, put) =
+            subst (λ (r : Result (Unit {0}) EventError). Comes ends r did q) (sym is)
+            (put_noted ends did more q (behind ∙ ap notes_in put) (was_put ends link lacked more q tells))
+        at (Err fault.OutOfMemory) (is, lacks, none, same) =
+            subst (λ (r : Result (Unit {0}) EventError). Comes ends r did q) (sym is) (record { core_is = ap core_of same; silent = behind ∙ ap notes_in none })
+        at (Err fault.WouldBlock) (tells, is) = closed tells is
+        at (Err fault.Pipe) (tells, is) = closed tells is
+        at (Err fault.TooBig) (tells, is) = closed tells is
+        at (Err fault.Proto) (tells, is) = closed tells is
+        at (Err fault.InvalidInput) (tells, is) = closed tells is
+        at (Err (fault.Other n)) (tells, is) = closed tells is
+
+    never_so : (ends : Bool) (answer : Result (Unit {0}) EventError) (e : EventError) → answer ≡ Err e → e ≢ refused.OutOfMemory → (did : List (Deed U)) (q : Part T U C)
+        → Comes ends answer did q → ⊥
+    never_so ends answer e err other did q comes = at e other (subst (λ (r : Result (Unit {0}) EventError). Comes ends r did q) err comes)
+      where
+        at : (e : EventError) → e ≢ refused.OutOfMemory → Comes ends (Err e) did q → ⊥
+        at refused.OutOfMemory other h = other refl
+        at refused.InvalidId other h = h
+        at refused.UnknownOpcode other h = h
+        at refused.BadSignature other h = h
+        at refused.NullObject other h = h
+        at refused.NullNewId other h = h
+        at refused.ForeignObject other h = h
+        at refused.WrongInterface other h = h
+
+    come_others : (ends : Bool) (answer : Result (Unit {0}) EventError) (did : List (Deed U)) (q : Part T U C) → named p.store m.sender ≡ Some x → (other : IdParts)
+        → same_id (id_of m.sender) (id_of other) ≡ false → Comes ends answer did q → named q.store other ≡ named p.store other
+    come_others ends (Ok u) did q name other differ put = ap (λ (st : Store (Kept U)). named st other) put.store_is ∙ at ends
+      where
+        at : (b : Bool) → named (cond b (removed p.store m.sender.number) p.store) other ≡ named p.store other
+        at true = removed_others p.store m.sender x (names_so p.store m.sender x name) other differ
+        at false = refl
+    come_others ends (Err refused.OutOfMemory) did q name other differ kept = ap (λ (c : Core U C). named c.store other) kept.core_is
+    come_others ends (Err refused.InvalidId) did q name other differ h = absurd h
+    come_others ends (Err refused.UnknownOpcode) did q name other differ h = absurd h
+    come_others ends (Err refused.BadSignature) did q name other differ h = absurd h
+    come_others ends (Err refused.NullObject) did q name other differ h = absurd h
+    come_others ends (Err refused.NullNewId) did q name other differ h = absurd h
+    come_others ends (Err refused.ForeignObject) did q name other differ h = absurd h
+    come_others ends (Err refused.WrongInterface) did q name other differ h = absurd h
+
+same_error : (a b : EventError) → ◌≡◌ {A = Result (Unit {0}) EventError} (Err a) (Err b) → a ≡ b
+same_error a b is = cc
+
+not_ok : (e : EventError) → ◌≡◌ {A = Result (Unit {0}) EventError} (Err e) (Ok tt) → ⊥
+not_ok e is = absurd cc
+
+-- ---- of one client
+
+module _ {T U C : Type 0} (sends : T → Queue → Result ℕ IoFault → T → Type 0) (client : ClientParts) (table : List InterfaceRow) (m : SessionMessage) where
+  abbrev Does : Result (Unit {0}) EventError → Bool → List (Deed U) → Part T U C → Part T U C → Type 0
+  Does answer lacked did p q = SendsEvent sends client table p m answer lacked did q
+
+  -- what the call is of a client that is stored
+  record IsDropped (p : Part T U C) (answer : Result (Unit {0}) EventError) (did : List (Deed U)) (q : Part T U C) : Type 0 where
+    dead : p.is_killed ≡ true
+    ok : answer ≡ Ok tt
+    none : did ≡ []
+    same : q ≡ p
+
+  record IsRefusedFor (p : Part T U C) (answer : Result (Unit {0}) EventError) (did : List (Deed U)) (q : Part T U C) : Type 0 where
+    live : p.is_killed ≡ false
+    e : EventError
+    checked : event_check client p.store table m ≡ Err e
+    answer_is : answer ≡ Err e
+    none : did ≡ []
+    same : q ≡ p
+
+  record IsGranted (p : Part T U C) (answer : Result (Unit {0}) EventError) (did : List (Deed U)) (q : Part T U C) : Type 0 where
+    live : p.is_killed ≡ false
+    x : Object (Kept U)
+    ends : Bool
+    checked : event_check client p.store table m ≡ Ok (x, ends)
+    comes : Comes client p m x sends live ends answer did q
+
+  comes_to : (answer : Result (Unit {0}) EventError) (lacked : Bool) (did : List (Deed U)) (p q : Part T U C) → Does answer lacked did p q
+      → IsDropped p answer did q ⊎ (IsRefusedFor p answer did q ⊎ IsGranted p answer did q)
+  comes_to answer lacked did p q h =
+      elim (by_choice p.is_killed h) [
+        | inl (dead, (is, calm, none, same)) ↦ inl (record { dead = dead; ok = is; none = none; same = same })
+        | inr (live, checked) ↦
+            elim (by_result (event_check client p.store table m) checked) [
+              | inl (g, is, granted) ↦
+                  inr (inr (record { live = live; x = g.0; ends = g.1; checked = is; comes = granted_comes client p m g.0 sends live g.1 answer lacked did q granted }))
+              | inr (e, is, (answered, calm, none, same)) ↦
+                  inr (inl (record { live = live; e = e; checked = is; answer_is = answered; none = none; same = same }))
+            ]
+      ]
+
+  -- a refusal changes nothing
+  refused_same : (answer : Result (Unit {0}) EventError) (e : EventError) → answer ≡ Err e → e ≢ refused.OutOfMemory → (b : Bool) (s t : Seen T U C) (lacked : Bool) (did : List (Deed U))
+      → OfClient b s (Does answer lacked did) (answer ≡ Err refused.InvalidId) lacked did t → t ≡ s
+  refused_same answer e err other false s t lacked did (calm, none, same) = same
+  refused_same answer e err other true s t lacked did h =
+      elim (either_option s.part h) [
+        | inl (none, (is, (calm, nothing, same))) ↦ same
+        | inr (p, there, (q, does, same)) ↦
+            elim (comes_to answer lacked did p q does) [
+              | inl d ↦ nothing_new s t p q did there d.same (ap notes_in d.none) same
+              | inr (inl r) ↦ nothing_new s t p q did there r.same (ap notes_in r.none) same
+              | inr (inr g) ↦ absurd (never_so client p m g.x sends g.live g.ends answer e err other did q g.comes)
+            ]
+      ]
+
+  -- an event to a killed client changes nothing
+  dropped_same : (answer : Result (Unit {0}) EventError) (b : Bool) (s t : Seen T U C) (lacked : Bool) (did : List (Deed U)) → (b ≡ true → (p : Part T U C) → s.part ≡ Some p → p.is_killed ≡ true)
+      → OfClient b s (Does answer lacked did) (answer ≡ Err refused.InvalidId) lacked did t → t ≡ s
+  dropped_same answer false s t lacked did dead (calm, none, same) = same
+  dropped_same answer true s t lacked did dead h =
+      elim (either_option s.part h) [
+        | inl (none, (is, (calm, nothing, same))) ↦ same
+        | inr (p, there, (q, does, same)) ↦
+            elim (comes_to answer lacked did p q does) [
+              | inl d ↦ nothing_new s t p q did there d.same (ap notes_in d.none) same
+              | inr (inl r) ↦ nothing_new s t p q did there r.same (ap notes_in r.none) same
+              | inr (inr g) ↦ absurd (true≢false (sym (dead refl p there) ∙ g.live))
+            ]
+      ]
+
+  -- another id of the client names what it named
+  others_stay : (answer : Result (Unit {0}) EventError) (lacked : Bool) (did : List (Deed U)) (p q : Part T U C) → Does answer lacked did p q → (other : IdParts)
+      → same_id (id_of m.sender) (id_of other) ≡ false → named q.store other ≡ named p.store other
+  others_stay answer lacked did p q does other differ =
+      elim (comes_to answer lacked did p q does) [
+        | inl d ↦ ap (λ (y : Part T U C). named y.store other) d.same
+        | inr (inl r) ↦ ap (λ (y : Part T U C). named y.store other) r.same
+        | inr (inr g) ↦
+            come_others client p m g.x sends g.live g.ends answer did q (granted_named client p.store table m (g.x, g.ends) g.checked) other differ g.comes
+      ]
+
+-- ---- the call
+
+module _ {T U G C : Type 0} (w : World T G C) (before after : BackendState T U G C) (message : Message IdParts Token) where
+  abbrev m : SessionMessage
+  m = session_content message
+
+  abbrev client : ClientParts
+  client = message.sender_id.client
+
+  abbrev Of : Result (Unit {0}) EventError → ClientParts → Bool → List (Deed U) → Type 0
+  Of answer id lacked did =
+      OfClient (same_client client id) (seen id before.server) (Does w.sends id before.server.offer.table m answer lacked did) (answer ≡ Err refused.InvalidId) lacked did (seen id after.server)
+
+  module _ (answer : Result (Unit {0}) EventError) (call : Calls w before (step.SendEvent message) (reply.SendEvent answer) after) where
+    event_each : (id : ClientParts) → (lacked : Bool) × (did : List (Deed U)) × Of answer id lacked did
+    event_each id =
+        let (lacked, did, (r, is, h)) = of_each call id in
+        (lacked, did, subst (λ (a : Result (Unit {0}) EventError). Of a id lacked did) (sym (inside r is)) h)
+      where
+        inside : (r : Result (Unit {0}) EventError) → ◌≡◌ {A = Reply T U} (reply.SendEvent answer) (reply.SendEvent r) → answer ≡ r
+        inside r is = cc
+
+    unchanged_by : ((id : ClientParts) (lacked : Bool) (did : List (Deed U)) → Of answer id lacked did → seen id after.server ≡ seen id before.server) → IsUnchanged before after
+    unchanged_by same = unchanged call refl refl (λ id. let (lacked, did, h) = event_each id in same id lacked did h)
+
+    -- it was refused
+    was_refused : (e : EventError) → answer ≡ Err e → e ≢ refused.OutOfMemory
+        → (((client_in before client ≡ None) × (e ≡ refused.InvalidId)) ⊎ ChecksTo before m (Err e)) × IsUnchanged before after
+    was_refused e err other = (
+      why,
+      unchanged_by (λ id lacked did h. refused_same w.sends id before.server.offer.table m answer e err other (same_client client id) _ _ lacked did h),
+    )
+      where
+        why : ((client_in before client ≡ None) × (e ≡ refused.InvalidId)) ⊎ ChecksTo before m (Err e)
+        why =
+            let (lacked, did, h) = event_each client in
+            elim (either_option (client_of before.server client) (own client _ _ _ lacked did _ h)) [
+              | inl (none, (is, rest)) ↦ inl (none, same_error e refused.InvalidId (sym err ∙ is))
+              | inr (p, there, (q, does, same)) ↦
+                  elim (comes_to w.sends client before.server.offer.table m answer lacked did p q does) [
+                    | inl d ↦ absurd (not_ok e (sym err ∙ d.ok))
+                    | inr (inl r) ↦
+                        inr (p, there, r.live, r.checked ∙ ap (λ (x : EventError). let y : Result (Object (Kept U) × Bool) EventError = Err x in y) (same_error r.e e (sym r.answer_is ∙ err)))
+                    | inr (inr g) ↦ absurd (never_so client p m g.x w.sends g.live g.ends answer e err other did q g.comes)
+                  ]
+            ]
+
+    lacked_memory : answer ≡ Err refused.OutOfMemory
+        → (option_map core_of (client_in after client) ≡ option_map core_of (client_in before client)) × (notes_made_in after client ≡ notes_made_in before client)
+    lacked_memory err =
+        let (lacked, did, h) = event_each client in
+        elim (either_option (client_of before.server client) (own client _ _ _ lacked did _ h)) [
+          | inl (none, (is, (calm, nothing, same))) ↦
+              (ap (λ (x : Seen T U C). option_map core_of x.part) same, ap (λ (x : Seen T U C). x.made) same)
+          | inr (p, there, (q, does, same)) ↦
+              elim (comes_to w.sends client before.server.offer.table m answer lacked did p q does) [
+                | inl d ↦ absurd (not_ok refused.OutOfMemory (sym err ∙ d.ok))
+                | inr (inl r) ↦ kept p q did there same (ap core_of r.same) (ap notes_in r.none)
+                | inr (inr g) ↦
+                    let k : IsKept client p m g.x did q = subst (λ (a : Result (Unit {0}) EventError). Comes client p m g.x w.sends g.live g.ends a did q) err g.comes in
+                    kept p q did there same k.core_is k.silent
+              ]
+        ]
+      where
+        kept : (p q : Part T U C) (did : List (Deed U)) → client_of before.server client ≡ Some p
+            → seen client after.server ≡ record { part = Some q; made = (seen client before.server).made ++ notes_in did } → core_of q ≡ core_of p → notes_in did ≡ []
+            → (option_map core_of (client_in after client) ≡ option_map core_of (client_in before client)) × (notes_made_in after client ≡ notes_made_in before client)
+        kept p q did there same core silent = (
+          ap (λ (x : Seen T U C). option_map core_of x.part) same ∙ ap Some core ∙ sym (ap (option_map core_of) there),
+          ap (λ (x : Seen T U C). x.made) same ∙ ap (λ (l : List (Happening U)). (seen client before.server).made ++ l) silent ∙ append-nil _,
+        )
+
+    was_sent : answer ≡ Ok tt
+        → ((killed_in before client ≡ Some true) × IsUnchanged before after)
+        ⊎ ((x : Object (Kept U)) × (ends : Bool) × ChecksTo before m (Ok (x, ends)) × EventIsPut before m.sender x ends after)
+    was_sent ok =
+        let (lacked, did, h) = event_each client in
+        elim (either_option (client_of before.server client) (own client _ _ _ lacked did _ h)) [
+          | inl (none, (is, rest)) ↦ absurd (not_ok refused.InvalidId (sym is ∙ ok))
+          | inr (p, there, (q, does, same)) ↦
+              elim (comes_to w.sends client before.server.offer.table m answer lacked did p q does) [
+                | inl d ↦
+                    inl (
+                      ap (option_map (λ (y : Part T U C). y.is_killed)) there ∙ ap Some d.dead,
+                      unchanged_by (λ id lacked' did' h'.
+                          dropped_same w.sends id before.server.offer.table m answer (same_client client id) _ _ lacked' did'
+                          (λ about r here. ap (λ (y : Part T U C). y.is_killed) (one_value (client_of before.server id) here (of_same id about p there)) ∙ d.dead) h'),
+                    )
+                | inr (inl r) ↦ absurd (not_ok r.e (sym r.answer_is ∙ ok))
+                | inr (inr g) ↦
+                    let put : IsPut client p m g.x g.ends did q = subst (λ (a : Result (Unit {0}) EventError). Comes client p m g.x w.sends g.live g.ends a did q) ok g.comes in
+                    let name : named p.store m.sender ≡ Some g.x = granted_named client p.store before.server.offer.table m (g.x, g.ends) g.checked in
+                    inr (g.x, g.ends, (p, there, g.live, g.checked), event_put p q g.x g.ends did there same name put)
+              ]
+        ]
+      where
+        of_same : (id : ClientParts) → same_client client id ≡ true → (p : Part T U C) → client_of before.server client ≡ Some p → client_of before.server id ≡ Some p
+        of_same id about p there = subst (λ (i : ClientParts). client_of before.server i ≡ Some p) (same_is client id about) there
+
+        event_put : (p q : Part T U C) (x : Object (Kept U)) (ends : Bool) (did : List (Deed U)) → client_of before.server client ≡ Some p
+            → seen client after.server ≡ record { part = Some q; made = (seen client before.server).made ++ notes_in did } → named p.store m.sender ≡ Some x
+            → IsPut client p m x ends did q → EventIsPut before m.sender x ends after
+        event_put p q x ends did there same name put = record {
+          was = ap (λ (o : Option (Part T U C)). and_then o (λ y. named y.store m.sender)) there ∙ name;
+          object = ap (λ (s : Seen T U C). and_then s.part (λ y. named y.store m.sender)) same ∙ ap (λ (st : Store (Kept U)). named st m.sender) put.store_is ∙ at_sender ends;
+          waiting =
+              ap (λ (s : Seen T U C). waiting_of s.part) same ∙ put.waiting_is
+              ∙ ap (λ (l : List (Happening U)). l ++ cond ends (note_of_end client m.sender.number x) []) (sym (ap waiting_of there));
+          told = elim put.told [
+            | inl (alive, none) ↦
+                inl (
+                  ap (λ (s : Seen T U C). option_map (λ (y : Part T U C). y.is_killed) s.part) same ∙ ap Some alive,
+                  ap (λ (s : Seen T U C). s.made) same ∙ ap (λ (l : List (Happening U)). (seen client before.server).made ++ l) none ∙ append-nil _,
+                )
+            | inr (dead, one) ↦
+                inr (
+                  ap (λ (s : Seen T U C). option_map (λ (y : Part T U C). y.is_killed) s.part) same ∙ ap Some dead,
+                  ap (λ (s : Seen T U C). s.made) same ∙ ap (λ (l : List (Happening U)). (seen client before.server).made ++ l) one,
+                )
+          ];
+        }
+          where
+            at_sender : (b : Bool) → named (cond b (removed p.store m.sender.number) p.store) m.sender ≡ cond b None (Some x)
+            at_sender true = removed_named p.store m.sender
+            at_sender false = name
+
+    sent_as : (a : Result (Unit {0}) EventError) → answer ≡ a → EventSentAs before m a after
+    sent_as (Ok u) is = was_sent is
+    sent_as (Err refused.OutOfMemory) is = lacked_memory is
+    sent_as (Err refused.InvalidId) is = was_refused refused.InvalidId is (λ e. cc)
+    sent_as (Err refused.UnknownOpcode) is = was_refused refused.UnknownOpcode is (λ e. cc)
+    sent_as (Err refused.BadSignature) is = was_refused refused.BadSignature is (λ e. cc)
+    sent_as (Err refused.NullObject) is = was_refused refused.NullObject is (λ e. cc)
+    sent_as (Err refused.NullNewId) is = was_refused refused.NullNewId is (λ e. cc)
+    sent_as (Err refused.ForeignObject) is = was_refused refused.ForeignObject is (λ e. cc)
+    sent_as (Err refused.WrongInterface) is = was_refused refused.WrongInterface is (λ e. cc)
+
+    pub emits_event : EmitsEvent before m answer after
+    emits_event = record {
+      event = sent_as answer refl;
+      objects = λ other differ.
+          let (lacked, did, h) = event_each other.client in
+          keeps (same_client client other.client) _ _ _ lacked did _ (λ x. and_then x (λ p. named p.store other))
+          (λ about p q does. others_stay w.sends other.client before.server.offer.table m answer lacked did p q does other (ids_differ (same_client client other.client) about differ)) h;
+      clients = λ other differ. let (lacked, did, h) = event_each other in other_stays (same_client client other) _ _ _ lacked did _ differ h;
+      stored = λ id.
+          let (lacked, did, h) = event_each id in keeps (same_client client id) _ _ _ lacked did _ (λ x. is_some x) (λ about p q r. refl) h;
+    }
