@@ -82,7 +82,7 @@ some_piece : (input : List ℕ) → 0 < length (pieces input)
 some_piece input = let count = length-slice_split (λ (b : ℕ). b == 10) input in omega (arith, count)
 
 -- behind a piece that others follow nothing is dropped
-goes_on : (line : Line) (rest : List Line) → 0 < length rest → whole_lines (line ∷ rest) ≡ line ∷ whole_lines rest
+pub goes_on : (line : Line) (rest : List Line) → 0 < length rest → whole_lines (line ∷ rest) ≡ line ∷ whole_lines rest
 goes_on line [] some = absurd (omega arith)
 goes_on line (next ∷ rest) some = refl
 

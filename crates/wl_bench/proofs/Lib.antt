@@ -1,6 +1,7 @@
 mod FirstAnswer
 mod FirstSync
 mod HexWords
+pub mod Feeds
 mod InputLines
 mod Lines
 mod Making
@@ -10,7 +11,7 @@ mod OneOutcome
 mod Others
 mod Places
 mod Rows
-mod SameRecords
+pub mod SameRecords
 pub mod RunLines
 mod Sharing
 mod Slots

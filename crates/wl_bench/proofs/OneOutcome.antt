@@ -2,12 +2,14 @@
 use Rattle.std.proofs.Common.{◌≡◌, ◌∙◌, ℕ, ◌+◌, ◌++◌, Bool, true, false, List, [], ◌∷◌, length, map, Option, None, Some, Result, Ok, Err, Vec, Global, refl, sym, ap, subst, append-nil, true≢false, arith}
 use Rattle.std.specs.List.{flat_map}
 use Rattle.std.specs.Option.{option_map_or}
-use Rattle.std.specs.Prelude.{⊤}
+use Rattle.std.specs.Prelude.{⊤, option_map}
 use Rattle.std.specs.String.{string_bytes}
 use Rattle.std.proofs.lemmas.List.{length-append, length-map}
 use Rattle.std.proofs.lemmas.Option.{same_Some}
-use Rattle.wl_link.specs.Runs.{AllSame}
-use Rattle.wl_link.specs.Script.{Script}
+use Rattle.wl_link.specs.Runs.{AllSame, entries}
+use Rattle.wl_link.specs.Script.{Script, ScriptReceives, ScriptSends}
+use Rattle.wl_link.proofs.Calls.OneScript.{script_receives_function, script_sends_function}
+use Rattle.wl_wire.specs.declared.error.IoFault.{IoFault}
 use Rattle.wl_server.specs.declared.error.ActionError.{ActionError}
 use Rattle.wl_server.specs.declared.globals.handler.ShownToAll.{ShownToAll}
 use Rattle.wl_server.specs.declared.notes.Note.{Note}
@@ -15,24 +17,27 @@ use Rattle.wl_server.specs.declared.reading.action.Action.{Action}
 use Rattle.wl_server.specs.declared.runs.step.Reply.TheVariants as reply
 use Rattle.wl_server.specs.declared.runs.step.Step.TheVariants as step
 use Rattle.wl_server.specs.Deeds.{Deed, Handed}
+use Rattle.wl_server.specs.DispatchOutcome.{IsDeterministic, SameBackend}
 use Rattle.wl_server.specs.Globals.{Offer}
 use Rattle.wl_server.specs.Ids.{ClientParts, GlobalParts}
 use Rattle.wl_server.specs.Moves.{Moved, taken}
-use Rattle.wl_server.specs.PartStep.{Asked, Call, PartStep}
+use Rattle.wl_server.specs.PartStep.{Asked, Call, PartStep, over}
 use Rattle.wl_server.specs.Reading.{action_content}
+use Rattle.wl_server.specs.Runs.{Performs}
 use Rattle.wl_server.specs.Server.{Seen, notes_of, seen}
 use Rattle.wl_server.specs.Steps.{lacks_growth}
 use Rattle.wl_server.specs.WholeOutcome.{SameServer, WholeReply}
-use Rattle.wl_server.proofs.OverRuns.Outcome.MoveLaws.{scripts_determined}
+use Rattle.wl_server.proofs.OverRuns.Outcome.DispatchLaws.{dispatches_one}
+use Rattle.wl_server.proofs.OverRuns.Outcome.MoveLaws.{scripts_determined, transport_determined}
 use Rattle.wl_server.proofs.OverRuns.Outcome.WholeLaws.{ample_by}
 use Rattle.wl_server.proofs.OverRuns.Outcome.WholeRuns.{performance_one}
 use Rattle.wl_bench.specs.declared.bench.Seat.{Seat}
 use Rattle.wl_bench.specs.declared.command.ClientCommand.{ClientCommand}
 use Rattle.wl_bench.specs.declared.command.Command.{Command}
 use Rattle.wl_bench.specs.declared.command.Command.TheVariants.{Insert, Client, Dispatch, Create, Disable, Remove, Flush, Cleanup, Notes}
-use Rattle.wl_bench.specs.Answers.{Line, action_text, answer_lines, fault_text, note_lines, record_lines, records_lines, sent_lines, share_lines, taken_out_lines}
-use Rattle.wl_bench.specs.Bench.{BenchReply, BenchServer, BenchState, BenchStep, Does, DoesFor, DoesForAll, Makes, all_latest, bench_world, client_calls, client_of, clients_after, empty_script, global_of, globals_after, heard_by, interface_of, latest, opened_by, printed, seat_told, shared_call, take_step, with_latest}
-use Rattle.wl_bench.specs.OneOutcome.{IsNoDispatch, LookSame, PrintSame, TellSameNotes}
+use Rattle.wl_bench.specs.Answers.{Line, action_text, answer_lines, dispatched_text, fault_text, note_lines, record_lines, records_lines, sent_lines, share_lines, taken_out_lines}
+use Rattle.wl_bench.specs.Bench.{BenchBackend, BenchReply, BenchServer, BenchState, BenchStep, Dispatches, Does, DoesDispatch, DoesFor, DoesForAll, Makes, all_clients, all_latest, bench_world, client_calls, client_of, clients_after, empty_script, global_of, globals_after, heard_by, interface_of, latest, line_answers, line_handler, opened_by, printed, seat_told, shared_call, take_step, with_latest}
+use Rattle.wl_bench.specs.OneOutcome.{LookSame, PrintSame, TellSameNotes}
 use Rattle.wl_bench.proofs.Others.{calls_stay, last_speaks, speaks, step_of}
 
 abbrev BenchSeen : Type 0
@@ -66,7 +71,7 @@ makes_one s t x y calls heard p q ps qs same (earlier, count, told, run) (earlie
 -- ---- what is printed of replies that are the same
 
 -- the reply tells no notes
-abbrev tells : BenchReply → Bool
+abbrev pub tells : BenchReply → Bool
 tells (reply.TakeNotes r) = false
 tells _ = true
 
@@ -171,7 +176,7 @@ globals_same l p q same = ap (λ (z : BenchReply). globals_after z l) (same any)
 
 -- ---- a command about a client
 
-speaks_tells : (p : BenchReply) → speaks p ≡ true → tells p ≡ true
+pub speaks_tells : (p : BenchReply) → speaks p ≡ true → tells p ≡ true
 speaks_tells (reply.TakeNotes r) some = absurd (true≢false (sym some))
 speaks_tells p some = refl
 
@@ -237,7 +242,7 @@ abbrev FirstIs : BenchServer → BenchStep → BenchReply → Type 0
 FirstIs a s p =
     (z : BenchSeen) × (lacked : Bool) × (did : List (Deed ℕ)) × PartStep bench_world any a.offer s p (seen any a) lacked did z × (lacks_growth (Asked s p) ≡ false)
 
-first_told : (s : BenchStep) (heard : List ClientParts) (p : BenchReply) (ps : List BenchReply) (a x : BenchServer) → Makes a (s ∷ []) heard p ps x → FirstIs a s p
+pub first_told : (s : BenchStep) (heard : List ClientParts) (p : BenchReply) (ps : List BenchReply) (a x : BenchServer) → Makes a (s ∷ []) heard p ps x → FirstIs a s p
 first_told s heard p ps a x ([], count, told, (mid, (entry, call, refused, one), run)) = (
   seen any mid,
   entry.lacks any,
@@ -248,13 +253,13 @@ first_told s heard p ps a x ([], count, told, (mid, (entry, call, refused, one),
 first_told s heard p ps a x (e ∷ earlier, count, told, run) = absurd (omega (arith, count))
 
 -- a command that is one step, and takes no notes
-abbrev IsQuiet : Command → Type 0
+abbrev pub IsQuiet : Command → Type 0
 IsQuiet (Client slot command) = ⊥
 IsQuiet (Dispatch slots) = ⊥
 IsQuiet Notes = ⊥
 IsQuiet command = ⊤
 
-quiet_tells : (command : Command) → IsQuiet command → (b : BenchState) (a : BenchServer) (s : BenchStep) (p : BenchReply) → shared_call b command ≡ Some s → FirstIs a s p
+pub quiet_tells : (command : Command) → IsQuiet command → (b : BenchState) (a : BenchServer) (s : BenchStep) (p : BenchReply) → shared_call b command ≡ Some s → FirstIs a s p
     → tells p ≡ true
 quiet_tells Insert is b a s p call first =
     let here : FirstIs a (step.InsertClient empty_script tt) p = subst (λ (k : BenchStep). FirstIs a k p) (sym (same_Some (step.InsertClient empty_script tt) s call)) first in
@@ -367,30 +372,90 @@ notes_printed a b out out' made =
       notes_same made.p made.q here.0 there.0 here.1 there.1 made.same,
     )
 
+-- ---- a dispatch
+
+-- the handler of a dispatch makes no call, and its answers are functions
+line_deterministic : IsDeterministic line_answers
+line_deterministic = record {
+  requests = λ h h1 h2 a b x y client sender opcode args created u v same so so'.
+      (so.0 ∙ sym so'.0, so.1 ∙ sym so'.1, kept a b x y same so.2 so'.2);
+  binds = λ h h1 h2 a b x y client global object u v same so so'. (so.0 ∙ sym so'.0, so.1 ∙ sym so'.1, kept a b x y same so.2 so'.2);
+}
+  where
+    kept : (a b x y : BenchBackend) → SameBackend a b → x ≡ a → y ≡ b → SameServer x.server y.server
+    kept a b x y same is is' =
+        subst (λ (z : BenchBackend). SameServer z.server y.server) (sym is) (subst (λ (z : BenchBackend). SameServer a.server z.server) (sym is') same.server)
+
+same_count : (n m : ℕ) → ◌≡◌ {A = Result ℕ IoFault} (Ok n) (Ok m) → n ≡ m
+same_count n m same = cc
+
+dispatches_same : (s t x y : BenchServer) (n : ℕ) (clients : List ClientParts) (count count' : ℕ) → SameServer s t → Dispatches s n clients count x
+    → Dispatches t n clients count' y → (count ≡ count') × SameServer x y
+dispatches_same s t x y n clients count count' same (h, does) (h', does') =
+    let one = dispatches_one (over ScriptSends ScriptReceives (λ _ _ _ _. true))
+    (transport_determined ScriptSends ScriptReceives (λ _ _ _ _. true) script_sends_function script_receives_function) line_answers line_deterministic clients (line_handler n) h h' s t
+    (record { server = x; refused = false }) (record { server = y; refused = false }) (Ok count) (Ok count') same does does' refl refl
+    in
+    (same_count count count' one.0, one.2)
+
+same_clients : (xs ys : List ClientParts) → map Some xs ≡ map Some ys → xs ≡ ys
+same_clients [] [] same = refl
+same_clients [] (y ∷ ys) same = let n = ap length same in absurd (omega (arith, n))
+same_clients (x ∷ xs) [] same = let n = ap length same in absurd (omega (arith, n))
+same_clients (x ∷ xs) (y ∷ ys) same =
+    let first : x ≡ y = cc in
+    let tail : map Some xs ≡ map Some ys = cc in
+    let rest = same_clients xs ys tail in
+    cc
+
+-- the clients that were inserted last at the slots
+abbrev clients_at : List ℕ → List (Option Seat) → List (Option ClientParts)
+clients_at slots l = map (λ (slot : ℕ). option_map client_of (latest slot l)) slots
+
+dispatch_same : (a b x y : BenchState) (n : ℕ) (slots : List ℕ) (out out' : List Line) → LookSame a b → DoesDispatch a n slots out x → DoesDispatch b n slots out' y
+    → (out ≡ out') × LookSame x y
+dispatch_same a b x y n slots out out' look (clients, are, count, mid, does, taken, (told, run), printed_is, kept, globals)
+    (clients', are', count', mid', does', taken', (told', run'), printed_is', kept', globals') =
+    let named = same_clients clients clients' (are ∙ (ap (clients_at slots) look.clients ∙ sym are')) in
+    let there = subst (λ (l : List ClientParts). Dispatches b.server n l count' mid') (sym named) does' in
+    let one = dispatches_same a.server b.server mid mid' n clients count count' look.server does there in
+    let heard : all_clients a ≡ all_clients b = ap every_client look.clients in
+    let steps = length-map (all_clients a) take_step in
+    let told_there : length taken' ≡ length (all_clients a) = told' ∙ ap length (sym heard) in
+    let run_there = subst (λ (l : List ClientParts). Performs bench_world mid' (entries (map take_step l) taken') y.server) (sym heard) run' in
+    let took = performance_one bench_world (scripts_determined (λ _ _ _ _. true)) mid mid' x.server y.server (map take_step (all_clients a)) taken taken'
+    (told ∙ sym steps) (told_there ∙ sym steps) one.1 run run_there in (
+      printed_is
+          ∙ (ap (λ (k : ℕ). dispatched_text k ∷ records_lines (all_clients a) taken) one.0
+          ∙ (ap (λ (l : List Line). dispatched_text count' ∷ l) (records_same (all_clients a) taken taken' took.0)
+          ∙ (ap (λ (l : List ClientParts). dispatched_text count' ∷ records_lines l taken') heard ∙ sym printed_is'))),
+      record { server = took.1; clients = kept ∙ (look.clients ∙ sym kept'); globals = globals ∙ (look.globals ∙ sym globals') },
+    )
+
 -- ---- a command
 
-pub command_one : (a b x y : BenchState) (n : ℕ) (command : Command) (out out' : List Line) → IsNoDispatch command → LookSame a b → Does a n command out x
-    → Does b n command out' y → PrintSame command out out' × LookSame x y
-command_one a b x y n (Client slot c) out out' is look does does' = client_one a b x y n slot c out out' look does does'
-command_one a b x y n (Dispatch slots) out out' is look does does' = absurd is
-command_one a b x y n Insert out out' is look does does' =
+pub command_one : (a b x y : BenchState) (n : ℕ) (command : Command) (out out' : List Line) → LookSame a b → Does a n command out x → Does b n command out' y
+    → PrintSame command out out' × LookSame x y
+command_one a b x y n (Client slot c) out out' look does does' = client_one a b x y n slot c out out' look does does'
+command_one a b x y n (Dispatch slots) out out' look does does' = dispatch_same a b x y n slots.items out out' look does does'
+command_one a b x y n Insert out out' look does does' =
     let made = made_same a b x y Insert out out' look does does' in
     (quiet_printed a b Insert out out' tt made.0, made.1)
-command_one a b x y n (Create name version) out out' is look does does' =
+command_one a b x y n (Create name version) out out' look does does' =
     let made = made_same a b x y (Create name version) out out' look does does' in
     (quiet_printed a b (Create name version) out out' tt made.0, made.1)
-command_one a b x y n (Disable name) out out' is look does does' =
+command_one a b x y n (Disable name) out out' look does does' =
     let made = made_same a b x y (Disable name) out out' look does does' in
     (quiet_printed a b (Disable name) out out' tt made.0, made.1)
-command_one a b x y n (Remove name) out out' is look does does' =
+command_one a b x y n (Remove name) out out' look does does' =
     let made = made_same a b x y (Remove name) out out' look does does' in
     (quiet_printed a b (Remove name) out out' tt made.0, made.1)
-command_one a b x y n Flush out out' is look does does' =
+command_one a b x y n Flush out out' look does does' =
     let made = made_same a b x y Flush out out' look does does' in
     (quiet_printed a b Flush out out' tt made.0, made.1)
-command_one a b x y n Cleanup out out' is look does does' =
+command_one a b x y n Cleanup out out' look does does' =
     let made = made_same a b x y Cleanup out out' look does does' in
     (quiet_printed a b Cleanup out out' tt made.0, made.1)
-command_one a b x y n Notes out out' is look does does' =
+command_one a b x y n Notes out out' look does does' =
     let made = made_same a b x y Notes out out' look does does' in
     (notes_printed a b out out' made.0, made.1)

@@ -25,7 +25,7 @@ use Rattle.wl_bench.specs.declared.command.Command.TheVariants.{Insert, Client, 
 use Rattle.wl_bench.specs.Answers.{Line}
 use Rattle.wl_bench.specs.Bench.{BenchReply, BenchServer, BenchState, BenchStep, Does, DoesDispatch, DoesFor, DoesForAll, Makes, accept_step, bench_world, client_calls}
 use Rattle.wl_bench.specs.Commands.{AskSame, AskSameOfClient, IsLine}
-use Rattle.wl_bench.specs.OneOutcome.{AreSettled, IsNoDispatch, IsSettled, LookSame, OfSameLines, PrintSame}
+use Rattle.wl_bench.specs.OneOutcome.{AreSettled, IsSettled, LookSame, OfSameLines, PrintSame}
 use Rattle.wl_bench.specs.Record.{Leads, Recorded}
 use Rattle.wl_bench.proofs.OneCommand.{one_of_line}
 use Rattle.wl_bench.proofs.OneOutcome.{command_one, create_call}
@@ -130,12 +130,7 @@ does_as b y n c d out same does = absurd same
 
 -- ---- records
 
-settled_no_dispatch : (c : Command) → IsSettled c → IsNoDispatch c
-settled_no_dispatch (Dispatch slots) is = is
-settled_no_dispatch c is = tt
-
 settled_prints : (c : Command) (out out' : List Line) → IsSettled c → PrintSame c out out' → out ≡ out'
-settled_prints (Dispatch slots) out out' is same = absurd is
 settled_prints Notes out out' is same = absurd is
 settled_prints c out out' is same = same
 
@@ -155,7 +150,7 @@ records_one a b x y (t ∷ all) (u ∷ all') look settled same (c, line, mid, do
     let ask = one_of_line t.line c d line (subst (λ (l : Line). IsLine d l) (sym same.1) line') in
     let other : Does b t.number c u.answer mid' = subst (λ (m : ℕ). Does b m c u.answer mid') (sym same.0) (does_as b mid' u.number c d u.answer ask does') in
     let is = settled.0 c line in
-    let one = command_one a b mid mid' t.number c t.answer u.answer (settled_no_dispatch c is) look does other in
+    let one = command_one a b mid mid' t.number c t.answer u.answer look does other in
     let rest = records_one mid mid' x y all all' one.1 settled.1 same.2 leads leads' in
     let first = recorded_same t u same.0 same.1 (settled_prints c t.answer u.answer is one.0) in
     (ap (λ (r : Recorded). r ∷ all) first ∙ ap (λ (l : List Recorded). u ∷ l) rest.0, rest.1)

@@ -5,7 +5,7 @@ use Rattle.wl_server.specs.Ids.{ClientParts}
 use Rattle.wl_server.specs.Server.{notes_of}
 use Rattle.wl_server.specs.WholeOutcome.{SameServer}
 use Rattle.wl_bench.specs.declared.command.Command.{Command}
-use Rattle.wl_bench.specs.declared.command.Command.TheVariants.{Dispatch, Notes}
+use Rattle.wl_bench.specs.declared.command.Command.TheVariants.{Notes}
 use Rattle.wl_bench.specs.Answers.{Line, note_lines}
 use Rattle.wl_bench.specs.Bench.{BenchState}
 use Rattle.wl_bench.specs.Commands.{IsLine}
@@ -16,11 +16,6 @@ pub record LookSame (a b : BenchState) : Type 0 where
   pub server : SameServer a.server b.server
   pub clients : a.clients ≡ b.clients
   pub globals : a.globals ≡ b.globals
-
--- a command that is no dispatch
-abbrev pub IsNoDispatch : Command → Type 0
-IsNoDispatch (Dispatch slots) = ⊥
-IsNoDispatch command = ⊤
 
 -- the lines of notes, which are the same but for the order between the notes of two clients
 abbrev pub TellSameNotes : List Line → List Line → Type 0
@@ -35,9 +30,8 @@ PrintSame command out out' = out ≡ out'
 
 -- ---- records
 
--- a command that prints the same whenever it is carried out: no dispatch, and it takes no notes
+-- a command whose lines have one order: it takes no notes
 abbrev pub IsSettled : Command → Type 0
-IsSettled (Dispatch slots) = ⊥
 IsSettled Notes = ⊥
 IsSettled command = ⊤
 

@@ -10,7 +10,7 @@
 //! | which lines are commands | `command`, `words` | `Commands` |
 //! | what a command does, and what it prints | `bench`, `latest`, `table`, `answer` | `Bench`, `Table`, `Answers` |
 //! | runs and records | `commands`, `stop` | `Record` |
-//! | a law of commands | `laws` | `Apart` |
+//! | laws of commands | `laws` | `Apart`, `OneOutcome` |
 #![tactic(auto)]
 
 mod answer;

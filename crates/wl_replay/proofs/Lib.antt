@@ -1,2 +1,4 @@
 mod Recordings
+mod Compared
+mod SameAgain
 mod Rows
