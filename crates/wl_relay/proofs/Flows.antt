@@ -1,13 +1,14 @@
 -- What is taken out of a link over a mailbox was the first that was to be sent.
-use Rattle.std.specs.Prelude.{◌≡◌, ℕ, ◌<◌, Bool, true, false, List, [], ◌++◌, length, drop, ◌==◌, if◌then◌else◌, Result}
-use Rattle.std.proofs.Common.{ap, arith, refl, sym, ◌∙◌}
-use Rattle.std.proofs.lemmas.Bool.{ne_eqb}
+use Rattle.std.specs.Prelude.{◌≡◌, ℕ, zero, suc, ◌<◌, Bool, true, false, List, [], ◌∷◌, ◌++◌, length, nat_le, take, ◌==◌, if◌then◌else◌, Option, None, Some, Result, Ok, Err}
+use Rattle.std.proofs.Common.{ap, arith, inl, inr, refl, subst, sym, ◌∙◌}
+use Rattle.std.proofs.lemmas.Bool.{MatchBool-at_false, eqb-true, ne_eqb}
 use Rattle.std.proofs.lemmas.List.{drop_all}
 use Rattle.wl_wire.specs.declared.argument.Token.{Token}
 use Rattle.wl_wire.specs.declared.error.IoFault.{IoFault}
-use Rattle.wl_link.specs.Exchange.{Queue, joined, nothing}
-use Rattle.wl_link.specs.Link.{LinkState, Flushed, with_transport}
-use Rattle.wl_link.specs.Mailbox.{MailboxState, MailboxSends, behind}
+use Rattle.wl_link.specs.Exchange.{Chain, Queue, Sending, joined, nothing}
+use Rattle.wl_link.specs.Link.{LinkState, AfterSend, Flushed, Flushes, left_of, offer_of, offer_size, with_transport}
+use Rattle.wl_link.specs.Mailbox.{MailboxState, MailboxSends, answer_under, behind, has_room}
+use Rattle.wl_link.specs.MailboxLink.{still_to_send}
 use Rattle.wl_link.proofs.Calls.MailboxLinkLaws.{flush_keeps_all}
 use Rattle.wl_link.proofs.Calls.QueueLaws.{queue_is}
 use Rattle.wl_relay.specs.Flow.{GivesOut}
@@ -38,3 +39,56 @@ flushed_gives_nothing before after answer flushed =
 
 pub gives_after : (before mid after : LinkState MailboxState) (out : Queue) → GivesOut before nothing mid → GivesOut mid out after → GivesOut before out after
 gives_after before mid after out one two = (two.0 ∙ one.0, two.1 ∙ one.1)
+
+-- ---- a flush that is done leaves no bytes
+
+answers_all : (send_fault : Option IoFault) (room : Bool) (offered n : ℕ) → Ok n ≡ answer_under send_fault room offered → n ≡ offered
+answers_all None true offered n e = cc
+answers_all None false offered n e = absurd cc
+answers_all (Some fault) room offered n e = absurd cc
+
+takes_all : (before after : MailboxState) (offer : Queue) (n : ℕ) → MailboxSends before offer (Ok n) after → n ≡ length offer.bytes
+takes_all before after offer n (inl s) = answers_all before.send_fault (has_room before offer) (length offer.bytes) n s.0
+takes_all before after offer n (inr s) = let e = s.0 in absurd cc
+
+some_taken : (k : ℕ) (bs : List ℕ) → 0 < k → length (take k bs) ≡ 0 → bs ≡ []
+some_taken zero bs some none = absurd (omega arith)
+some_taken (suc k) [] some none = refl
+some_taken (suc k) (b ∷ bs) some none = absurd (omega (arith, none))
+
+offers_some : (tokens : List Token) → 0 < offer_size tokens
+offers_some tokens = elim (nat_le (length tokens) 28) as (λ b. 0 < (if b then 4096 else 1)) [ true ↦ omega arith | false ↦ omega arith ]
+
+drained : (es : List Sending) (m m' : MailboxState) (q q' : Queue) (answer : Result (Unit {0}) IoFault)
+    → Chain MailboxSends m es m' → Flushes q es answer q' → answer ≡ Ok tt → q'.bytes ≡ []
+drained [] m m' q q' answer chain flushes done = ap (λ (x : Queue). x.bytes) flushes.1 ∙ flushes.0
+drained (e ∷ es) m m' q q' answer chain flushes done =
+    at e.answer refl (λ n more. drained es chain.0 m' (left_of n q) q' answer chain.2 more done)
+  where
+    counted : (n : ℕ) (z : Bool) → (n == 0) ≡ z → e.answer ≡ Ok n
+        → AfterSend (Ok n) (es ≡ []) (q' ≡ q) (q' ≡ left_of 0 q) answer (λ k. Flushes (left_of k q) es answer q')
+        → (Flushes (left_of n q) es answer q' → q'.bytes ≡ []) → q'.bytes ≡ []
+    counted n false is answered after others = others (MatchBool-at_false _ _ is after)
+    counted n true is answered after others =
+        let all : n ≡ length (offer_of q).bytes
+        = takes_all m chain.0 e.offer n (subst (λ (x : Result ℕ IoFault). MailboxSends m e.offer x chain.0) answered chain.1) ∙ ap (λ (x : Queue). length x.bytes) flushes.1 in
+        absurd (flushes.0 (some_taken (offer_size q.tokens) q.bytes (offers_some q.tokens) (sym all ∙ eqb-true n 0 is)))
+
+    at : (a : Result ℕ IoFault) → e.answer ≡ a → ((n : ℕ) → Flushes (left_of n q) es answer q' → q'.bytes ≡ []) → q'.bytes ≡ []
+    at (Err fault) is others =
+        let ended = subst (λ (x : Result ℕ IoFault). AfterSend x (es ≡ []) (q' ≡ q) (q' ≡ left_of 0 q) answer (λ n. Flushes (left_of n q) es answer q')) is flushes.2 in
+        let refused : answer ≡ Err fault = ended.2 in
+        absurd cc
+    at (Ok n) is others =
+        counted n (n == 0) refl is
+        (subst (λ (x : Result ℕ IoFault). AfterSend x (es ≡ []) (q' ≡ q) (q' ≡ left_of 0 q) answer (λ k. Flushes (left_of k q) es answer q')) is flushes.2)
+        (others n)
+
+-- then nothing was to be sent, if nothing waits in the mailbox after it
+pub nothing_to_send : (before after : LinkState MailboxState) (answer : Result (Unit {0}) IoFault) → Flushed MailboxSends before answer after
+    → answer ≡ Ok tt → after.transport.waiting.bytes ≡ [] → (still_to_send before).bytes ≡ []
+nothing_to_send before after answer f done empty =
+    let kept = flush_keeps_all before after answer f in
+    ap (λ (q : Queue). q.bytes) (sym kept.0)
+    ∙ ap (λ (bs : List ℕ). bs ++ after.outgoing.bytes) empty
+    ∙ drained f.0 before.transport after.transport before.outgoing after.outgoing answer f.1.0 f.1.1 done

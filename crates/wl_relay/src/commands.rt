@@ -25,14 +25,6 @@ fn push_parcel(line: &mut String, bytes: &[u8], tokens: &[Token]) -> Result<(), 
     Ok(())
 }
 
-/// The word for a side.
-fn name_of(side: Side) -> &'static str {
-    match side {
-        Side::Client => "client",
-        Side::Server => "server",
-    }
-}
-
 /// The line of what is to be sent to a side.
 fn sent_line(
     alloc: Global,
@@ -40,7 +32,7 @@ fn sent_line(
     bytes: &[u8],
     tokens: &[Token],
 ) -> Result<String, AllocError> {
-    let mut line = format!(in alloc; "to {} ", name_of(side))?;
+    let mut line = format!(in alloc; "to {} ", side.name())?;
     push_parcel(&mut line, bytes, tokens)?;
     line.push_str("\n")?;
     Ok(line)
@@ -150,10 +142,10 @@ fn carry_out<W: Write>(
     writer: &mut W,
 ) -> Result<bool, Stop> {
     let (bytes, tokens) = (arrival.bytes.as_slice(), arrival.tokens.as_slice());
-    match relay.arrive(alloc, arrival.side, bytes, tokens) {
+    match relay.arrive(arrival.side, bytes, tokens) {
         Ok(()) => {}
         Err(ArriveError::TooManyTokens) => return Ok(false),
-        Err(ArriveError::Failed) => return Err(Stop::Failed),
+        Err(ArriveError::OutOfMemory) => return Err(Stop::Failed),
     }
     write_answer(alloc, relay, mode, writer)?;
     Ok(true)

@@ -1,17 +1,20 @@
 //! What is handed on from one link to the other, message by message.
 
-ghost use Rattle.std.specs.Prelude.{◌≡◌, true, OnOk};
+ghost use Rattle.std.specs.Prelude.{◌≡◌, true, false, [], IfOk, OnOk};
+ghost use Rattle.wl_wire.specs.Message.{content};
+ghost use Rattle.wl_wire.specs.Parse.{IsThere, opcode_of, sender_of};
+ghost use Rattle.wl_link.specs.MailboxLink.{still_to_read};
 ghost use Rattle.wl_relay.specs.Flow.{Kept, KeptUnlessChanged};
+ghost use Rattle.wl_relay.specs.Inside.Passing.{HandedAs, IsQuiet, PassesUnknown, ReadsAs, ReadsUpTo, TellsFault, is_change};
+ghost use Rattle.wl_relay.specs.Log.{GrowsLog, known};
 
 use crate::notes::{
-    Edit, Found, Notes, described, edit_of, follows, log_fault, log_message, log_unknown,
-    note_objects,
+    Edit, Found, Notes, described, edit_of, follows, log_fault, log_message, note_objects,
+    unknown_line,
 };
 use crate::side::{Fault, Mode, Side};
-use crate::stop::Stop;
-use std::alloc::Global;
-use wl_link::{BufferedSocket, HandOnError, Mailbox, MessagePlace, clear_message};
-use wl_wire::{Argument, ArgumentType, IoFault, MessageParseError, Protocol};
+use wl_link::{BufferedSocket, HandOnError, Mailbox, clear_message};
+use wl_wire::{Argument, ArgumentType, IoFault, MessageParseError, OutOfMemory, Protocol};
 
 /// A link over a mailbox.
 pub type Link = BufferedSocket<Mailbox>;
@@ -28,45 +31,52 @@ pub enum Passed {
 }
 
 /// Hands on the first message as it is, under this signature.
-fn hand_on(signature: &[ArgumentType], from: &mut Link, to: &mut Link) -> Result<Passed, Stop>
-    ensures { OnOk result (Kept from.old to.old from.new to.new) }
+fn hand_on(
+    signature: &[ArgumentType],
+    from: &mut Link,
+    to: &mut Link,
+) -> Result<Passed, OutOfMemory>
+    ensures kept { OnOk result (Kept from.old to.old from.new to.new) }
+    ensures handed { IfOk result (λ passed. HandedAs signature.now from.old passed from.new) }
 {
     match from.hand_on(signature, to) {
         Ok(()) => Ok(Passed::One),
         Err(HandOnError::MissingData | HandOnError::MissingFD) => Ok(Passed::Nothing),
         Err(HandOnError::Malformed) => Ok(Passed::Fault(Fault::Malformed)),
-        Err(HandOnError::NoRoom | HandOnError::OutOfMemory) => Err(Stop::Failed),
+        // The links have no limit, so that there is always room.
+        Err(HandOnError::NoRoom | HandOnError::OutOfMemory) => Err(OutOfMemory),
     }
 }
 
 /// Hands on all that was received, whether it can be read or not.
-fn hand_on_rest(from: &mut Link, to: &mut Link) -> Result<(), Stop>
+fn hand_on_rest(from: &mut Link, to: &mut Link) -> Result<(), OutOfMemory>
     ensures { OnOk result (Kept from.old to.old from.new to.new) }
 {
     match from.hand_on_rest(to) {
         Ok(()) => Ok(()),
-        Err(_) => Err(Stop::Failed),
+        Err(_) => Err(OutOfMemory),
     }
 }
 
 /// Hands on the first message of an object that is not known. In a log that is as it should be.
 fn pass_unknown(
-    alloc: Global,
     notes: &mut Notes,
     side: Side,
     sender: u32,
     opcode: u16,
     from: &mut Link,
     to: &mut Link,
-) -> Result<Passed, Stop>
-    ensures { OnOk result (KeptUnlessChanged notes.old.has_changed from.old to.old notes.new.has_changed from.new to.new) }
+) -> Result<Passed, OutOfMemory>
+    ensures kept { OnOk result (KeptUnlessChanged notes.old.has_changed from.old to.old notes.new.has_changed from.new to.new) }
+    ensures told { IfOk result (λ passed. PassesUnknown side sender opcode (known notes.old) from.old passed (known notes.new) from.new) }
 {
     if notes.mode == Mode::HandOn {
         return Ok(Passed::Fault(Fault::Malformed));
     }
+    let line = unknown_line(*notes.log.allocator(), side, sender, opcode)?;
     let passed = hand_on(&[], from, to)?;
     if passed == Passed::One {
-        log_unknown(alloc, notes, side, sender, opcode)?;
+        notes.log.push(line)?;
     }
     Ok(passed)
 }
@@ -76,15 +86,16 @@ fn take_first(
     notes: &mut Notes,
     signature: &[ArgumentType],
     from: &mut Link,
-    place: &mut MessagePlace,
-) -> Result<(), Stop>
-    ensures { notes.new.has_changed ≡ true }
+) -> Result<(), OutOfMemory>
+    ensures changed { notes.new.has_changed ≡ true }
+    ensures quiet { IsQuiet true (known notes.old) (known notes.new) }
+    ensures taken { OnOk result (HandedAs signature.now from.old Passed.One from.new) }
 {
     notes.has_changed = true;
-    match from.read_with_signature(signature, &mut place.message) {
-        Ok(()) => Ok(()),
-        Err(_) => Err(Stop::Failed),
-    }
+    let Ok(()) = from.read_with_signature(signature, &mut notes.place.message) else {
+        return Err(OutOfMemory);
+    };
+    Ok(())
 }
 
 /// Drops the first message.
@@ -92,12 +103,14 @@ fn drop_first(
     notes: &mut Notes,
     signature: &[ArgumentType],
     from: &mut Link,
-    place: &mut MessagePlace,
-) -> Result<Passed, Stop>
-    ensures { notes.new.has_changed ≡ true }
+) -> Result<Passed, OutOfMemory>
+    ensures changed { notes.new.has_changed ≡ true }
+    ensures quiet { IsQuiet true (known notes.old) (known notes.new) }
+    ensures taken { IfOk result (λ passed. HandedAs signature.now from.old passed from.new) }
+    ensures one { IfOk result (λ passed. passed ≡ Passed.One) }
 {
-    take_first(notes, signature, from, place)?;
-    clear_message(&mut place.message);
+    take_first(notes, signature, from)?;
+    clear_message(&mut notes.place.message);
     Ok(Passed::One)
 }
 
@@ -108,18 +121,21 @@ fn lower_first(
     version: u32,
     from: &mut Link,
     to: &mut Link,
-    place: &mut MessagePlace,
-) -> Result<Passed, Stop>
-    ensures { notes.new.has_changed ≡ true }
+) -> Result<Passed, OutOfMemory>
+    ensures changed { notes.new.has_changed ≡ true }
+    ensures quiet { IsQuiet true (known notes.old) (known notes.new) }
+    ensures taken { IfOk result (λ passed. HandedAs signature.now from.old passed from.new) }
+    ensures one { IfOk result (λ passed. passed ≡ Passed.One) }
 {
-    take_first(notes, signature, from, place)?;
-    let _old = place.message.args.pop();
-    place.message.args.push(Argument::Uint(version))?;
-    let written = to.write_message(&place.message);
-    clear_message(&mut place.message);
+    take_first(notes, signature, from)?;
+    let message = &mut notes.place.message;
+    let _old = message.args.pop();
+    message.args.push(Argument::Uint(version))?;
+    let written = to.write_message(message);
+    clear_message(message);
     match written {
         Ok(()) => Ok(Passed::One),
-        Err(_) => Err(Stop::Failed),
+        Err(_) => Err(OutOfMemory),
     }
 }
 
@@ -127,93 +143,94 @@ fn lower_first(
 fn pass_known(
     table: &Protocol,
     notes: &mut Notes,
-    side: Side,
     found: Found,
     from: &mut Link,
     to: &mut Link,
-    place: &mut MessagePlace,
-) -> Result<Passed, Stop>
-    ensures { OnOk result (KeptUnlessChanged notes.old.has_changed from.old to.old notes.new.has_changed from.new to.new) }
+) -> Result<Passed, OutOfMemory>
+    ensures kept { OnOk result (KeptUnlessChanged notes.old.has_changed from.old to.old notes.new.has_changed from.new to.new) }
+    ensures quiet { OnOk result (IsQuiet false (known notes.old) (known notes.new)) }
+    ensures handed { IfOk result (λ passed. HandedAs found.entry.desc.now.signature.items from.old passed from.new) }
 {
     let fault = note_objects(
         table,
         notes.mode,
         &mut notes.objects,
-        side,
         found,
-        &place.message,
+        &notes.place.message,
     )?;
-    clear_message(&mut place.message);
+    clear_message(&mut notes.place.message);
     match fault {
         Some(fault) => Ok(Passed::Fault(fault)),
         None => hand_on(found.desc.signature.as_slice(), from, to),
     }
 }
 
-/// Logs the first message, which was looked at, and hands it on, unless it is an announcement that is dropped.
-fn pass_peeked(
-    alloc: Global,
+/// Hands on the first message, which was looked at and logged, unless it is an announcement that is dropped.
+fn pass_logged(
     table: &Protocol,
     notes: &mut Notes,
-    side: Side,
     found: Found,
+    edit: Edit,
     from: &mut Link,
     to: &mut Link,
-    place: &mut MessagePlace,
-) -> Result<Passed, Stop>
-    ensures { OnOk result (KeptUnlessChanged notes.old.has_changed from.old to.old notes.new.has_changed from.new to.new) }
+) -> Result<Passed, OutOfMemory>
+    ensures kept { OnOk result (KeptUnlessChanged notes.old.has_changed from.old to.old notes.new.has_changed from.new to.new) }
+    ensures quiet { OnOk result (IsQuiet (is_change edit) (known notes.old) (known notes.new)) }
+    ensures handed { IfOk result (λ passed. HandedAs found.entry.desc.now.signature.items from.old passed from.new) }
 {
-    let edit = edit_of(table, notes.mode, side, found.interface, &place.message);
-    log_message(alloc, table, notes, side, found, &place.message, edit)?;
     let signature = found.desc.signature.as_slice();
     match edit {
-        Edit::Nothing => pass_known(table, notes, side, found, from, to, place),
-        Edit::Drop => drop_first(notes, signature, from, place),
-        Edit::Lower(version) => lower_first(notes, signature, version, from, to, place),
+        Edit::Nothing => pass_known(table, notes, found, from, to),
+        Edit::Drop => drop_first(notes, signature, from),
+        Edit::Lower(version) => lower_first(notes, signature, version, from, to),
     }
 }
 
-/// Hands on the first message that waits on a link, if it is there whole.
+/// Logs the first message that waits on a link, and hands it on, if it is there whole.
 fn pass_one(
-    alloc: Global,
     table: &Protocol,
     notes: &mut Notes,
     side: Side,
     from: &mut Link,
     to: &mut Link,
-    place: &mut MessagePlace,
-) -> Result<Passed, Stop>
-    ensures { OnOk result (KeptUnlessChanged notes.old.has_changed from.old to.old notes.new.has_changed from.new to.new) }
+) -> Result<Passed, OutOfMemory>
+    ensures kept { OnOk result (KeptUnlessChanged notes.old.has_changed from.old to.old notes.new.has_changed from.new to.new) }
+    ensures reads { IfOk result (λ passed. ReadsAs table.now side (known notes.old) (still_to_read from.old) passed (known notes.new) (still_to_read from.new)) }
 {
     let Some((sender, opcode)) = from.next_header() else {
         return Ok(Passed::Nothing);
     };
     let Some(found) = described(table, &notes.objects, side, sender, opcode) else {
-        return pass_unknown(alloc, notes, side, sender, opcode, from, to);
+        return pass_unknown(notes, side, sender, opcode, from, to);
     };
-    match from.peek(found.desc.signature.as_slice(), &mut place.message) {
-        Ok(()) => pass_peeked(alloc, table, notes, side, found, from, to, place),
-        Err(MessageParseError::MissingData | MessageParseError::MissingFD) => Ok(Passed::Nothing),
-        Err(MessageParseError::Malformed) => Ok(Passed::Fault(Fault::Malformed)),
-        Err(MessageParseError::OutOfMemory) => Err(Stop::Failed),
+    match from.peek(found.desc.signature.as_slice(), &mut notes.place.message) {
+        Ok(()) => {}
+        Err(MessageParseError::MissingData | MessageParseError::MissingFD) => {
+            return Ok(Passed::Nothing);
+        }
+        Err(MessageParseError::Malformed) => return Ok(Passed::Fault(Fault::Malformed)),
+        Err(MessageParseError::OutOfMemory) => return Err(OutOfMemory),
     }
+    let message = &notes.place.message;
+    let edit = edit_of(table, notes.mode, found, message);
+    log_message(&mut notes.log, table, &notes.objects, found, message, edit)?;
+    pass_logged(table, notes, found, edit, from, to)
 }
 
 /// Hands on each message that waits whole on a link, up to the first that cannot be read.
 fn pass(
-    alloc: Global,
     table: &Protocol,
     notes: &mut Notes,
     side: Side,
     from: &mut Link,
     to: &mut Link,
-    place: &mut MessagePlace,
-) -> Result<Option<Fault>, Stop>
-    ensures { OnOk result (KeptUnlessChanged notes.old.has_changed from.old to.old notes.new.has_changed from.new to.new) }
+) -> Result<Option<Fault>, OutOfMemory>
+    ensures kept { OnOk result (KeptUnlessChanged notes.old.has_changed from.old to.old notes.new.has_changed from.new to.new) }
+    ensures reads { IfOk result (λ fault. ReadsUpTo table.now side (known notes.old) (still_to_read from.old) fault (known notes.new) (still_to_read from.new)) }
 {
     let [most, _, _, _] = from.waiting();
     for _ in 0..most {
-        match pass_one(alloc, table, notes, side, from, to, place)? {
+        match pass_one(table, notes, side, from, to)? {
             Passed::One => (),
             Passed::Nothing => return Ok(None),
             Passed::Fault(fault) => return Ok(Some(fault)),
@@ -224,36 +241,37 @@ fn pass(
 
 /// Hands on what was received, and no longer reads what comes from the side.
 fn give_up(
-    alloc: Global,
     notes: &mut Notes,
     side: Side,
     fault: Fault,
     from: &mut Link,
     to: &mut Link,
-) -> Result<(), Stop>
-    ensures { OnOk result (KeptUnlessChanged notes.old.has_changed from.old to.old notes.new.has_changed from.new to.new) }
+) -> Result<(), OutOfMemory>
+    ensures kept { OnOk result (KeptUnlessChanged notes.old.has_changed from.old to.old notes.new.has_changed from.new to.new) }
+    ensures told { OnOk result (TellsFault side fault (known notes.old) (known notes.new)) }
 {
-    log_fault(alloc, notes, side, fault)?;
+    if follows(notes, side) {
+        log_fault(notes, side, fault)?;
+    }
     hand_on_rest(from, to)
 }
 
 /// Hands on what was received: message by message, as long as the side is read.
 fn follow(
-    alloc: Global,
     table: &Protocol,
     notes: &mut Notes,
     side: Side,
     from: &mut Link,
     to: &mut Link,
-    place: &mut MessagePlace,
-) -> Result<(), Stop>
-    ensures { OnOk result (KeptUnlessChanged notes.old.has_changed from.old to.old notes.new.has_changed from.new to.new) }
+) -> Result<(), OutOfMemory>
+    ensures kept { OnOk result (KeptUnlessChanged notes.old.has_changed from.old to.old notes.new.has_changed from.new to.new) }
+    ensures logged { OnOk result (GrowsLog table.now side (known notes.old) (still_to_read from.old) (known notes.new) (still_to_read from.new)) }
 {
     if !follows(notes, side) {
         return hand_on_rest(from, to);
     }
-    match pass(alloc, table, notes, side, from, to, place)? {
-        Some(fault) => give_up(alloc, notes, side, fault, from, to),
+    match pass(table, notes, side, from, to)? {
+        Some(fault) => give_up(notes, side, fault, from, to),
         None => Ok(()),
     }
 }
@@ -270,53 +288,51 @@ enum Received {
 }
 
 /// Receives once.
-fn fill(from: &mut Link, to: &Link) -> Result<Received, Stop>
-    ensures { OnOk result (Kept from.old to.now from.new to.now) }
+fn fill(from: &mut Link, to: &Link) -> Result<Received, OutOfMemory>
+    ensures kept { OnOk result (Kept from.old to.now from.new to.now) }
+    ensures same { still_to_read from.new ≡ still_to_read from.old }
 {
     match from.fill_incoming_buffers() {
         Ok(()) => Ok(Received::Some),
         Err(IoFault::WouldBlock) => Ok(Received::All),
         Err(IoFault::Pipe) => Ok(Received::Full),
-        Err(_) => Err(Stop::Failed),
+        // A mailbox that is open has no fault of its own.
+        Err(_) => Err(OutOfMemory),
     }
 }
 
 /// Receives once, and hands on what can be handed on. Answers whether something came.
 fn receive_once(
-    alloc: Global,
     table: &Protocol,
     notes: &mut Notes,
     side: Side,
     from: &mut Link,
     to: &mut Link,
-    place: &mut MessagePlace,
-) -> Result<bool, Stop>
-    ensures { OnOk result (KeptUnlessChanged notes.old.has_changed from.old to.old notes.new.has_changed from.new to.new) }
+) -> Result<bool, OutOfMemory>
+    ensures kept { OnOk result (KeptUnlessChanged notes.old.has_changed from.old to.old notes.new.has_changed from.new to.new) }
+    ensures logged { OnOk result (GrowsLog table.now side (known notes.old) (still_to_read from.old) (known notes.new) (still_to_read from.new)) }
 {
     match fill(from, to)? {
         Received::All => return Ok(false),
-        Received::Full => {
-            give_up(alloc, notes, side, Fault::MissingDescriptor, from, to)?;
-        }
-        Received::Some => follow(alloc, table, notes, side, from, to, place)?,
+        Received::Full => give_up(notes, side, Fault::MissingDescriptor, from, to)?,
+        Received::Some => follow(table, notes, side, from, to)?,
     }
     Ok(true)
 }
 
 /// Receives all that is in the mailbox, and hands on what can be handed on.
 pub fn receive(
-    alloc: Global,
     table: &Protocol,
     notes: &mut Notes,
     side: Side,
     from: &mut Link,
     to: &mut Link,
-    place: &mut MessagePlace,
-) -> Result<(), Stop>
-    ensures { OnOk result (KeptUnlessChanged notes.old.has_changed from.old to.old notes.new.has_changed from.new to.new) }
+) -> Result<(), OutOfMemory>
+    ensures kept { OnOk result (KeptUnlessChanged notes.old.has_changed from.old to.old notes.new.has_changed from.new to.new) }
+    ensures logged { OnOk result (GrowsLog table.now side (known notes.old) (still_to_read from.old) (known notes.new) (still_to_read from.new)) }
 {
     for _ in 0..u64::MAX {
-        if !receive_once(alloc, table, notes, side, from, to, place)? {
+        if !receive_once(table, notes, side, from, to)? {
             return Ok(());
         }
     }

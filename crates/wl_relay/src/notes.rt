@@ -1,13 +1,17 @@
 //! What the relay knows: the objects of the session, and the log.
 
-ghost use Rattle.std.specs.Prelude.{◌≡◌, IfOk, false};
+ghost use Rattle.std.specs.Prelude.{◌≡◌, ◌++◌, ◌∷◌, [], map, IfOk, OnOk, MatchOption, IsTrue, false, true};
+ghost use Rattle.std.specs.String.{string_bytes};
+ghost use Rattle.wl_wire.specs.Message.{content};
+ghost use Rattle.wl_wire.specs.Table.{message_row};
+ghost use Rattle.wl_relay.specs.Log.{IsKnown, IsUnknown, arrow, edit_text, fault_line, follows, known, message_line, stopped, unknown_line, unknown_text};
+ghost use Rattle.wl_relay.specs.declared.side.Mode.TheVariants.{Log};
 
 use crate::side::{Fault, Mode, Side};
-use crate::stop::Stop;
 use std::alloc::{AllocError, Global};
-use wl_link::{InsertError, Object, ObjectMap};
+use wl_link::{InsertError, MessagePlace, Object, ObjectMap};
 use wl_wire::{
-    ANONYMOUS_INTERFACE, Argument, InterfaceId, Message, MessageDesc, Protocol, Token,
+    ANONYMOUS_INTERFACE, Argument, InterfaceId, Message, MessageDesc, OutOfMemory, Protocol, Token,
     WL_DISPLAY_INTERFACE, WL_REGISTRY_INTERFACE, push_message,
 };
 
@@ -26,11 +30,15 @@ pub struct Notes {
     pub follows_client: bool,
     /// Whether what comes from the server is read.
     pub follows_server: bool,
+    /// The place that the first message of a side is read into.
+    pub place: MessagePlace,
 }
 
-/// An object's interface and version, and what the table has of a message of it.
+/// What is known of a message: the side from which it came, its object's interface and version, and what the table has of it.
 #[derive(Clone, Copy)]
 pub struct Found<'t> {
+    /// The side that sent it.
+    pub side: Side,
     /// The interface of the object.
     pub interface: InterfaceId,
     /// The version of the object.
@@ -52,8 +60,11 @@ pub enum Edit {
 
 impl Notes {
     /// Of a session that begins: the display is its only object.
-    pub fn new(alloc: Global, mode: Mode) -> Result<Self, Stop>
-        ensures { IfOk result (λ notes. notes.has_changed ≡ false) }
+    pub fn new(alloc: Global, mode: Mode) -> Result<Self, OutOfMemory>
+        ensures unchanged { IfOk result (λ notes. notes.has_changed ≡ false) }
+        ensures follows { IfOk result (λ notes. (notes.follows_client ≡ true) × (notes.follows_server ≡ true)) }
+        ensures log { IfOk result (λ notes. notes.log.items ≡ []) }
+        ensures mode { IfOk result (λ notes. notes.mode ≡ mode) }
     {
         let mut objects = ObjectMap::new(alloc);
         put_object(&mut objects, 1, WL_DISPLAY_INTERFACE, 1)?;
@@ -64,12 +75,15 @@ impl Notes {
             has_changed: false,
             follows_client: true,
             follows_server: true,
+            place: MessagePlace::new(alloc),
         })
     }
 }
 
 /// Whether what comes from the side is read.
-pub fn follows(notes: &Notes, side: Side) -> bool {
+pub fn follows(notes: &Notes, side: Side) -> bool
+    ensures { result ≡ follows side (known notes.now) }
+{
     match side {
         Side::Client => notes.follows_client,
         Side::Server => notes.follows_server,
@@ -83,13 +97,18 @@ pub fn described<'t>(
     side: Side,
     sender: u32,
     opcode: u16,
-) -> Option<Found<'t>> {
+) -> Option<Found<'t>>
+    ensures known { MatchOption result (IsUnknown table.now objects.now.store side sender opcode)
+        (λ found. IsKnown table.now objects.now.store side sender opcode (record { interface = found.interface; version = found.version; value = tt }) (message_row found.desc.now)) }
+    ensures side { MatchOption result (Unit {0}) (λ found. found.side ≡ side) }
+{
     let object = objects.find(sender)?;
     let desc = match side {
         Side::Client => table.request(object.interface, opcode)?,
         Side::Server => table.event(object.interface, opcode)?,
     };
     Some(Found {
+        side,
         interface: object.interface,
         version: object.version,
         desc,
@@ -102,7 +121,7 @@ fn put_object(
     number: u32,
     interface: InterfaceId,
     version: u32,
-) -> Result<Option<Fault>, Stop> {
+) -> Result<Option<Fault>, OutOfMemory> {
     let _old = objects.remove(number);
     let object = Object {
         interface,
@@ -112,7 +131,7 @@ fn put_object(
     match objects.insert_at(number, object) {
         Ok(()) => Ok(None),
         Err(InsertError::NotFree) => Ok(Some(Fault::NewId)),
-        Err(InsertError::OutOfMemory) => Err(Stop::Failed),
+        Err(InsertError::OutOfMemory) => Err(OutOfMemory),
     }
 }
 
@@ -131,7 +150,7 @@ fn note_bind(
     mode: Mode,
     objects: &mut ObjectMap<()>,
     args: &[Argument<u32, Token>],
-) -> Result<Option<Fault>, Stop> {
+) -> Result<Option<Fault>, OutOfMemory> {
     let [
         _,
         Argument::Str(Some(name)),
@@ -160,7 +179,7 @@ fn note_child(
     child: InterfaceId,
     version: u32,
     args: &[Argument<u32, Token>],
-) -> Result<Option<Fault>, Stop> {
+) -> Result<Option<Fault>, OutOfMemory> {
     for arg in args {
         if let Argument::NewId(number) = arg {
             return put_object(objects, *number, child, version);
@@ -174,15 +193,17 @@ pub fn note_objects(
     table: &Protocol,
     mode: Mode,
     objects: &mut ObjectMap<()>,
-    side: Side,
     found: Found,
     message: &Message<u32, Token>,
-) -> Result<Option<Fault>, Stop> {
+) -> Result<Option<Fault>, OutOfMemory> {
     let args = message.args.as_slice();
-    if side == Side::Client && found.interface == WL_REGISTRY_INTERFACE {
+    if found.side == Side::Client && found.interface == WL_REGISTRY_INTERFACE {
         return note_bind(table, mode, objects, args);
     }
-    if side == Side::Server && found.interface == WL_DISPLAY_INTERFACE && message.opcode == 1 {
+    if found.side == Side::Server
+        && found.interface == WL_DISPLAY_INTERFACE
+        && message.opcode == 1
+    {
         note_deleted(objects, args);
         return Ok(None);
     }
@@ -204,17 +225,16 @@ fn edit_of_global(table: &Protocol, name: &[u8], version: u32) -> Edit {
 }
 
 /// What is done with a message.
-pub fn edit_of(
-    table: &Protocol,
-    mode: Mode,
-    side: Side,
-    interface: InterfaceId,
-    message: &Message<u32, Token>,
-) -> Edit {
-    if mode == Mode::Log || side == Side::Client || interface != WL_REGISTRY_INTERFACE {
+pub fn edit_of(table: &Protocol, mode: Mode, found: Found, message: &Message<u32, Token>) -> Edit
+    ensures { mode ≡ Log → result ≡ Edit.Nothing }
+{
+    if mode == Mode::Log {
         return Edit::Nothing;
     }
-    if message.opcode != 0 {
+    if found.side == Side::Client
+        || found.interface != WL_REGISTRY_INTERFACE
+        || message.opcode != 0
+    {
         return Edit::Nothing;
     }
     match message.args.as_slice() {
@@ -226,7 +246,9 @@ pub fn edit_of(
 }
 
 /// Appends what is done with a message, if it is not handed on as it is.
-fn push_edit(line: &mut String, edit: Edit) -> Result<(), AllocError> {
+fn push_edit(line: &mut String, edit: Edit) -> Result<(), AllocError>
+    ensures { OnOk result (string_bytes line.new ≡ string_bytes line.old ++ edit_text edit) }
+{
     match edit {
         Edit::Nothing => Ok(()),
         Edit::Drop => line.push_str(" [dropped]"),
@@ -235,62 +257,74 @@ fn push_edit(line: &mut String, edit: Edit) -> Result<(), AllocError> {
 }
 
 /// The line of a message that begins: requests begin with an arrow.
-fn new_line(alloc: Global, side: Side) -> Result<String, AllocError> {
+fn new_line(alloc: Global, side: Side) -> Result<String, AllocError>
+    ensures { IfOk result (λ line. string_bytes line ≡ arrow side) }
+{
     match side {
         Side::Client => String::from_str(alloc, " -> "),
         Side::Server => Ok(String::new(alloc)),
     }
 }
 
-/// Appends the text of a message to the log.
+/// Appends the line of a message to the log.
 pub fn log_message(
-    alloc: Global,
+    log: &mut Vec<String>,
     table: &Protocol,
-    notes: &mut Notes,
-    side: Side,
+    objects: &ObjectMap<()>,
     found: Found,
     message: &Message<u32, Token>,
     edit: Edit,
-) -> Result<(), Stop>
-    ensures { notes.new.has_changed ≡ notes.old.has_changed }
+) -> Result<(), OutOfMemory>
+    ensures { OnOk result (map string_bytes log.new.items ≡ map string_bytes log.old.items
+        ++ message_line table.now objects.now.store found.entry.side found.entry.interface (message_row found.entry.desc.now) (content message.now) edit ∷ []) }
 {
-    let mut line = new_line(alloc, side)?;
+    let mut line = new_line(*log.allocator(), found.side)?;
     push_message(
         &mut line,
         table,
-        &notes.objects,
+        objects,
         found.interface,
         found.desc,
         message,
     )?;
     push_edit(&mut line, edit)?;
-    Ok(notes.log.push(line)?)
+    Ok(log.push(line)?)
 }
 
-/// Appends a message to the log that was not read.
-pub fn log_unknown(
+/// Appends the number and the opcode of a message that was not read.
+fn push_unknown(line: &mut String, sender: u32, opcode: u16) -> Result<(), AllocError>
+    ensures { OnOk result (string_bytes line.new ≡ string_bytes line.old ++ unknown_text sender opcode) }
+{
+    write!(line, "[unknown]@{sender}.[{opcode}]")
+}
+
+/// The line of a message that was not read.
+pub fn unknown_line(
     alloc: Global,
-    notes: &mut Notes,
     side: Side,
     sender: u32,
     opcode: u16,
-) -> Result<(), Stop>
-    ensures { notes.new.has_changed ≡ notes.old.has_changed }
+) -> Result<String, OutOfMemory>
+    ensures { IfOk result (λ line. string_bytes line ≡ unknown_line side sender opcode) }
 {
     let mut line = new_line(alloc, side)?;
-    write!(line, "[unknown]@{sender}.[{opcode}]")?;
-    Ok(notes.log.push(line)?)
+    push_unknown(&mut line, sender, opcode)?;
+    Ok(line)
+}
+
+/// The line that says that what comes from the side is no longer read, and why.
+fn fault_line(alloc: Global, side: Side, fault: Fault) -> Result<String, AllocError>
+    ensures { IfOk result (λ line. string_bytes line ≡ fault_line side fault) }
+{
+    let (name, reason) = (side.name(), fault.name());
+    format!(in alloc; "[{name} is no longer read: {reason}]")
 }
 
 /// Appends to the log that what comes from the side is no longer read, and why.
-pub fn log_fault(alloc: Global, notes: &mut Notes, side: Side, fault: Fault) -> Result<(), Stop>
-    ensures { notes.new.has_changed ≡ notes.old.has_changed }
+pub fn log_fault(notes: &mut Notes, side: Side, fault: Fault) -> Result<(), OutOfMemory>
+    ensures { OnOk result (known notes.new ≡ stopped side fault (known notes.old)) }
 {
-    let name = match side {
-        Side::Client => "client",
-        Side::Server => "server",
-    };
-    let line = format!(in alloc; "[{name} is no longer read: {}]", fault.name())?;
+    let line = fault_line(*notes.log.allocator(), side, fault)?;
     match side {
         Side::Client => notes.follows_client = false,
         Side::Server => notes.follows_server = false,

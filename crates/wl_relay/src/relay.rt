@@ -1,26 +1,30 @@
 //! The relay: a link to each side, and what it knows of the session.
 
-ghost use Rattle.std.specs.Prelude.{◌≡◌, ◌<◌, Err, IfOk, OnErr, OnOk, MatchOption, length};
+ghost use Rattle.std.specs.Prelude.{◌≡◌, ◌≢◌, ◌<◌, [], Err, IfOk, OnErr, OnOk, MatchOption, length, map};
+ghost use Rattle.std.specs.String.{string_bytes};
 ghost use Rattle.wl_link.specs.Exchange.{nothing};
-ghost use Rattle.wl_relay.specs.Flow.{Arrives, Begins, GivesOut, PutsIn, TakesOut};
+ghost use Rattle.wl_link.specs.MailboxLink.{still_to_send};
+ghost use Rattle.wl_relay.specs.Flow.{Arrives, Begins, GivesOut, Logged, LogsRead, PutsIn, TakesLog, TakesOut, to_send};
 ghost use Rattle.wl_relay.specs.declared.relay.ArriveError.TheVariants.{TooManyTokens};
 
 use crate::follow::{Link, receive};
 use crate::notes::Notes;
 use crate::side::{Mode, Side};
-use crate::stop::Stop;
 use std::alloc::Global;
 use std::marker::Model;
-use wl_link::{BufferedSocket, Mailbox, MailboxError, MessagePlace};
-use wl_wire::{IoFault, Protocol, Token};
+use thiserror::Error;
+use wl_link::{BufferedSocket, Mailbox, MailboxError};
+use wl_wire::{IoFault, OutOfMemory, Protocol, Token};
 
 /// Why the relay did not take what came.
-#[derive(Clone, Copy, Debug, PartialEq, Eq)]
+#[derive(Clone, Copy, Debug, PartialEq, Eq, Error)]
 pub enum ArriveError {
     /// More than 28 tokens came, with those that wait for their first byte.
+    #[error("more than 28 tokens came")]
     TooManyTokens,
-    /// Memory failed. The relay is of no more use.
-    Failed,
+    /// There was no memory. The relay is of no more use.
+    #[error("out of memory")]
+    OutOfMemory,
 }
 
 /// A relay between a client and a server.
@@ -28,22 +32,28 @@ pub enum ArriveError {
 /// The program puts in what came from a side ([`arrive`](Relay::arrive)), and takes out what is to be sent to a side
 /// ([`next_send`](Relay::next_send)). As long as the relay has dropped and lowered no announcement, what goes to each side is what
 /// came from the other: the same bytes and tokens in the same order, however they are cut.
+///
+/// Each message that it hands on, drops or lowers has a line in its log, in the order in which the messages came
+/// ([`take_log`](Relay::take_log)).
 #[derive(Drop)]
 pub struct Relay {
     table: Protocol,
     notes: Notes,
     client: Link,
     server: Link,
-    place: MessagePlace,
 }
 
 impl Model for Relay {
-    ghost use Rattle.wl_link.specs.Exchange.{nothing};
+    ghost use Rattle.std.specs.Coded.{codes};
+    ghost use Rattle.wl_link.specs.ObjectMap.{store_code};
     ghost use Rattle.wl_relay.specs.Flow.{RelayState};
+    ghost use Rattle.wl_relay.specs.Log.{known};
 
     ghost Value = { RelayState };
 
-    ghost view = { λ r. record { client = r.client; server = r.server; has_changed = r.notes.has_changed } };
+    ghost coded = { Prim.hlevel (codes, store_code) };
+
+    ghost view = { λ r. record { client = r.client; server = r.server; table = r.table; known = known r.notes } };
 }
 
 /// What came arrives in the mailbox of the link.
@@ -54,14 +64,15 @@ fn put_in(link: &mut Link, bytes: &[u8], tokens: &[Token]) -> Result<(), ArriveE
     match link.transport_mut().arrive(bytes, tokens) {
         Ok(()) => Ok(()),
         Err(MailboxError::TooManyTokens) => Err(ArriveError::TooManyTokens),
-        Err(MailboxError::OutOfMemory) => Err(ArriveError::Failed),
+        Err(MailboxError::OutOfMemory) => Err(ArriveError::OutOfMemory),
     }
 }
 
 /// Takes out what waits in the mailbox of the link: all of its bytes, of which there are some, with the tokens.
-fn take_out(alloc: Global, link: &mut Link) -> Result<(Vec<u8>, Vec<Token>), Stop>
+fn take_out(alloc: Global, link: &mut Link) -> Result<(Vec<u8>, Vec<Token>), OutOfMemory>
     requires { 0 < length link.old.transport.waiting.bytes }
-    ensures { IfOk result (λ out. GivesOut link.old (record { bytes = out.0.items; tokens = out.1.items }) link.new) }
+    ensures given { IfOk result (λ out. GivesOut link.old (record { bytes = out.0.items; tokens = out.1.items }) link.new) }
+    ensures some { IfOk result (λ out. out.0.items ≢ []) }
 {
     let bytes = Vec::from_slice(alloc, link.transport().bytes())?;
     let tokens = Vec::from_slice(alloc, link.transport().tokens())?;
@@ -70,25 +81,30 @@ fn take_out(alloc: Global, link: &mut Link) -> Result<(Vec<u8>, Vec<Token>), Sto
 }
 
 /// Sends into the mailbox what waits on the link, and takes it out; `None` if nothing waits.
-fn send(alloc: Global, link: &mut Link) -> Result<Option<(Vec<u8>, Vec<Token>)>, Stop>
-    ensures { IfOk result (λ out. MatchOption out (GivesOut link.old nothing link.new)
+fn send(alloc: Global, link: &mut Link) -> Result<Option<(Vec<u8>, Vec<Token>)>, OutOfMemory>
+    ensures given { IfOk result (λ out. MatchOption out (GivesOut link.old nothing link.new)
         (λ x. GivesOut link.old (record { bytes = x.0.items; tokens = x.1.items }) link.new)) }
+    ensures none { IfOk result (λ out. MatchOption out ((still_to_send link.old).bytes ≡ []) (λ x. x.0.items ≢ [])) }
 {
-    match link.flush() {
-        Ok(()) | Err(IoFault::WouldBlock) => {}
-        Err(_) => return Err(Stop::Failed),
-    }
+    let flushed = link.flush();
     if link.transport().bytes().is_empty() {
-        return Ok(None);
+        // A mailbox in which nothing waits takes what a send offers, if there is memory.
+        return match flushed {
+            Ok(()) => Ok(None),
+            Err(_) => Err(OutOfMemory),
+        };
     }
-    Ok(Some(take_out(alloc, link)?))
+    match flushed {
+        Ok(()) | Err(IoFault::WouldBlock) => Ok(Some(take_out(alloc, link)?)),
+        Err(_) => Err(OutOfMemory),
+    }
 }
 
 impl Relay {
-    /// A relay of a session that begins, with this table of interfaces. Nothing is on its way yet. It fails only if there is no
-    /// memory.
-    pub fn new(alloc: Global, table: Protocol, mode: Mode) -> Result<Self, Stop>
-        ensures { IfOk result (λ relay. Begins relay) }
+    /// A relay of a session that begins, with this table of interfaces. Nothing is on its way yet, and the log is empty.
+    pub fn new(alloc: Global, table: Protocol, mode: Mode) -> Result<Self, OutOfMemory>
+        ensures begins { IfOk result (λ relay. Begins relay) }
+        ensures made { IfOk result (λ relay. (relay.table ≡ table) × (relay.known.mode ≡ mode)) }
     {
         let notes = Notes::new(alloc, mode)?;
         let client = BufferedSocket::new(alloc, Mailbox::new(alloc), None)?;
@@ -98,72 +114,67 @@ impl Relay {
             notes,
             client,
             server,
-            place: MessagePlace::new(alloc),
         })
     }
 
-    /// Takes what came from one side, and hands on and logs what is whole.
+    /// Takes what came from one side, and logs and hands on what is whole.
     ///
-    /// `TooManyTokens` changes nothing. After `Failed` the relay is of no more use.
-    pub fn arrive(
-        &mut self,
-        alloc: Global,
-        side: Side,
-        bytes: &[u8],
-        tokens: &[Token],
-    ) -> Result<(), ArriveError>
+    /// The log gains a line for each message that is read, in their order. A message that cannot be read ends the reading of that
+    /// side: the log gains a line that says why, and what the side sends is handed on without lines from then on.
+    ///
+    /// `TooManyTokens` changes nothing. After `OutOfMemory` the relay is of no more use.
+    pub fn arrive(&mut self, side: Side, bytes: &[u8], tokens: &[Token]) -> Result<(), ArriveError>
         ensures arrived { OnOk result (Arrives side (record { bytes = bytes.now; tokens = tokens.now }) self.old self.new) }
+        ensures logged { OnOk result (Logged side (record { bytes = bytes.now; tokens = tokens.now }) self.old self.new) }
         ensures refused { result ≡ Err TooManyTokens → self.new ≡ self.old }
     {
         match side {
             Side::Client => put_in(&mut self.client, bytes, tokens)?,
             Side::Server => put_in(&mut self.server, bytes, tokens)?,
         }
-        match self.receive_from(alloc, side) {
+        match self.receive_from(side) {
             Ok(()) => Ok(()),
-            Err(_) => Err(ArriveError::Failed),
+            Err(_) => Err(ArriveError::OutOfMemory),
         }
     }
 
     /// Receives what is in the mailbox of a side, and hands it on.
-    fn receive_from(&mut self, alloc: Global, side: Side) -> Result<(), Stop>
-        ensures { OnOk result (Arrives side nothing self.old self.new) }
+    fn receive_from(&mut self, side: Side) -> Result<(), OutOfMemory>
+        ensures arrived { OnOk result (Arrives side nothing self.old self.new) }
+        ensures logged { OnOk result (LogsRead side self.old self.new) }
     {
         match side {
             Side::Client => {
                 receive(
-                    alloc,
                     &self.table,
                     &mut self.notes,
                     side,
                     &mut self.client,
                     &mut self.server,
-                    &mut self.place,
                 )
             }
             Side::Server => {
                 receive(
-                    alloc,
                     &self.table,
                     &mut self.notes,
                     side,
                     &mut self.server,
                     &mut self.client,
-                    &mut self.place,
                 )
             }
         }
     }
 
-    /// Takes out the next that is to be sent to a side: bytes, and the tokens that go with the first of them, at most 28. `None`
-    /// if nothing is to be sent.
+    /// Takes out the next that is to be sent to a side: bytes, of which there are some, and the tokens that go with the first of
+    /// them, at most 28. It is `None` if no bytes are to be sent, and only then.
     pub fn next_send(
         &mut self,
         alloc: Global,
         side: Side,
-    ) -> Result<Option<(Vec<u8>, Vec<Token>)>, Stop>
-        ensures { IfOk result (λ out. MatchOption out (TakesOut side nothing self.old self.new)
+    ) -> Result<Option<(Vec<u8>, Vec<Token>)>, OutOfMemory>
+        ensures taken { IfOk result (λ out. MatchOption out (TakesOut side nothing self.old self.new)
             (λ x. TakesOut side (record { bytes = x.0.items; tokens = x.1.items }) self.old self.new)) }
+        ensures none { IfOk result (λ out. MatchOption out ((to_send side self.old).bytes ≡ []) (λ x. x.0.items ≢ [])) }
     {
         match side {
             Side::Client => send(alloc, &mut self.client),
@@ -171,16 +182,16 @@ impl Relay {
         }
     }
 
-    /// Takes the lines of the log out.
+    /// Takes the lines of the log out, in their order.
     pub fn take_log(&mut self, alloc: Global) -> Vec<String>
-        ensures { self.new ≡ self.old }
+        ensures { TakesLog (map string_bytes result.items) self.old self.new }
     {
         std::mem::replace(&mut self.notes.log, Vec::new(alloc))
     }
 
     /// Whether an announcement was dropped, or its version lowered.
     pub fn has_changed(&self) -> bool
-        ensures { result ≡ self.now.has_changed }
+        ensures { result ≡ self.now.known.has_changed }
     {
         self.notes.has_changed
     }

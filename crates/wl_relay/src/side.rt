@@ -1,5 +1,8 @@
 //! The two sides of a relay, what it does with what it hands on, and why it no longer follows a side.
 
+ghost use Rattle.std.specs.Prelude.{◌≡◌};
+ghost use Rattle.wl_relay.specs.Log.{fault_name, side_name};
+
 /// Where something comes from, or goes to.
 #[derive(Clone, Copy, Debug, PartialEq, Eq)]
 pub enum Side {
@@ -7,6 +10,18 @@ pub enum Side {
     Client,
     /// The server.
     Server,
+}
+
+impl Side {
+    /// The word for it.
+    pub fn name(self) -> &'static str
+        ensures { result.now ≡ side_name self }
+    {
+        match self {
+            Side::Client => "client",
+            Side::Server => "server",
+        }
+    }
 }
 
 /// What the relay does with the announcements of globals.
@@ -34,7 +49,9 @@ pub enum Fault {
 
 impl Fault {
     /// The word for it in the log.
-    pub fn name(self) -> &'static str {
+    pub fn name(self) -> &'static str
+        ensures { result.now ≡ fault_name self }
+    {
         match self {
             Fault::Malformed => "malformed",
             Fault::NewId => "new-id",

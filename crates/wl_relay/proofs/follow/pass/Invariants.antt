@@ -1,6 +1,12 @@
--- Both directions have what they had, unless an announcement was dropped or lowered.
+-- Both directions have what they had, unless an announcement was dropped or lowered; and the messages that were read have their lines.
+use Rattle.wl_link.specs.MailboxLink.{still_to_read}
 use Rattle.wl_relay.specs.Flow.{KeptUnlessChanged}
+use Rattle.wl_relay.specs.Inside.Passing.{ReadsOn}
+use Rattle.wl_relay.specs.Log.{known}
 use Rattle.wl_relay.proofs.follow.pass.Given as goal
 
 abbrev pub invariant-loop : goal.invariant-loop
-invariant-loop l = KeptUnlessChanged l.fn.notes.has_changed l.fn.from l.fn.to l.notes.has_changed l.from l.to
+invariant-loop l = record {
+  kept : KeptUnlessChanged l.fn.notes.has_changed l.fn.from l.fn.to l.notes.has_changed l.from l.to;
+  reads : ReadsOn l.table l.side (known l.fn.notes) (still_to_read l.fn.from) (known l.notes) (still_to_read l.from);
+}

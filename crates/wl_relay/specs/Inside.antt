@@ -1,0 +1,2 @@
+-- What the contracts of functions inside the crate name.
+pub mod Passing
