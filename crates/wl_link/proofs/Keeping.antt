@@ -1,7 +1,7 @@
 -- The places of the two ranges, and the store that they keep.
-use Rattle.std.proofs.Common.{◌≡◌, ◌≢◌, ◌⊎◌, ℕ, zero, suc, ◌+◌, ◌-◌, ◌<◌, ◌≤◌, Bool, true, false, true≢false, cond, ◌&&◌, eqb, nat_le, T, List, [], ◌∷◌, ◌++◌, length, set, get_or-set_other, Option, None, Some, is_some, refl, sym, ap, ap₂, ◌∙◌, subst, arith, nat_cmp, is_lt, Less, append-nil, Result, Ok, Err, MatchOption}
+use Rattle.std.proofs.Common.{◌≡◌, ◌≢◌, ◌⊎◌, ℕ, zero, suc, ◌+◌, ◌-◌, ◌<◌, ◌≤◌, Bool, true, false, true≢false, cond, ◌&&◌, eqb, nat_le, nat_lt, T, List, [], ◌∷◌, ◌++◌, length, set, get_or-set_other, Option, None, Some, is_some, not, refl, sym, ap, ap₂, ◌∙◌, subst, arith, nat_cmp, is_lt, Less, append-nil, Result, Ok, Err, MatchOption}
 use mathlib.Core.Logic.{inl, inr}
-use Rattle.std.proofs.lemmas.Bool.{eq-eqb, ne_eqb, lt-leb, le-leb, lt-ltb, cases_eq, cases_lt}
+use Rattle.std.proofs.lemmas.Bool.{and_from, and_parts, eq-eqb, ne_eqb, lt-leb, le-leb, lt-ltb, le-ltb, ltb-true, cases_eq, cases_lt}
 use Rattle.std.proofs.lemmas.List.{get_or_past}
 use Rattle.std.proofs.lemmas.Grind.{get_or-set_at}
 use Rattle.std.specs.Option.{option_or}
@@ -11,14 +11,14 @@ use Rattle.std.specs.Ordering.{eq_by_cmp}
 use Rattle.std.specs.FinMap as map
 use Rattle.std.specs.FinMap.Entries.{below_all}
 use Rattle.wl_link.specs.declared.object.Object.{Object}
-use Rattle.wl_link.specs.Store.{Store, Range, client_range, server_range, is_server_number, unused_after, empty_store, held, first_unused, is_free, stored, removed, rewritten, IsLeastAbsent, IsFull, IsWalk}
+use Rattle.wl_link.specs.Store.{Store, Range, client_range, server_range, is_server_number, unused_after, empty_store, held, first_unused, is_free, is_vacant, stored, removed, rewritten, IsLeastAbsent, IsFull, IsWalk}
 use Rattle.wl_link.specs.declared.object_map.InsertError.{InsertError}
 use Rattle.wl_link.specs.declared.object_map.InsertError.TheVariants as insert
 use Rattle.wl_link.specs.declared.object_map.NewError.{NewError}
 use Rattle.wl_link.specs.declared.object_map.NewError.TheVariants as new
 use Rattle.wl_link.specs.ObjectMap.{InsertsAt, InsertsNew, NextNew, InsertionsGive, Lends}
-use Rattle.wl_link.proofs.Ids.StoreLaws.{walk_of_entries}
-use Rattle.wl_link.specs.Inside.PlaceList.{place, put_len, SetsPlace, is_free_place, PutsAt, PutsNew, LendsAt, IsFirstFree, entries_from, store_of, Within}
+use Rattle.wl_link.proofs.Ids.StoreLaws.{removed_here, removed_other, stored_other, walk_of_entries}
+use Rattle.wl_link.specs.Inside.PlaceList.{place, free_flag, put_len, SetsPlace, is_free_place, PutsAt, PutsNew, LendsAt, IsFirstFree, entries_from, store_of, Within}
 
 -- ---- tests on numbers
 
@@ -294,6 +294,61 @@ same_bound k at n len e =
       | inl h ↦ lt-leb n (k + len) (omega arith) ∙ sym (lt-leb at len h)
       | inr h ↦ le-leb n (k + len) (omega arith) ∙ sym (le-leb at len h)
     ]
+
+below_bound : (k at n len : ℕ) → n ≡ k + at → nat_lt n (k + len) ≡ nat_lt at len
+below_bound k at n len e =
+    elim (cases_lt at len) [
+      | inl h ↦ lt-ltb n (k + len) (omega arith) ∙ sym (lt-ltb at len h)
+      | inr h ↦ le-ltb n (k + len) (omega arith) ∙ sym (le-ltb at len h)
+    ]
+
+module _ {D : Type 0} (c s : List (Option (Object D))) (w : Within c s) where
+  pub vacant_nowhere : (n : ℕ) → n ≡ 0 → is_vacant (store_of c s) n ≡ false
+  vacant_nowhere n e = rw e refl
+
+  pub vacant_client : (n at : ℕ) → n ≡ client_range.first + at → n < client_range.end → is_vacant (store_of c s) n ≡ free_flag c at
+  vacant_client n at e h =
+      rw (held_client c s w n at e h, is_client n h, lt-ltb 0 n (omega arith), below_bound client_range.first at n (length c) e) refl
+
+  pub vacant_server : (n at : ℕ) → n ≡ server_range.first + at → is_vacant (store_of c s) n ≡ free_flag s at
+  vacant_server n at e =
+      rw (held_server c s w n at e, is_server n at e, lt-ltb 0 n (omega arith), below_bound server_range.first at n (length s) e) refl
+
+-- a number that was in use before and is free
+module _ {D : Type 0} (store : Store D) (n : ℕ) (vacant : is_vacant store n ≡ true) where
+  parts : (nat_lt 0 n ≡ true) × (nat_lt n (first_unused store n) ≡ true) × (not (is_some (held store n)) ≡ true)
+  parts =
+      let p = and_parts (nat_lt 0 n && nat_lt n (first_unused store n)) (not (is_some (held store n))) vacant in
+      let q = and_parts (nat_lt 0 n) (nat_lt n (first_unused store n)) p.0 in
+      (q.0, q.1, p.1)
+
+  pub vacant_is_free : is_free store n ≡ true
+  vacant_is_free =
+      let below : n < first_unused store n = ltb-true n (first_unused store n) parts.1 in
+      and_from (not (is_some (held store n))) _ parts.2
+      (and_from (nat_lt 0 n) _ parts.0 (le-leb n (first_unused store n) (omega (arith, below))))
+
+  none_held : (o : Option (Object D)) → not (is_some o) ≡ true → o ≡ None
+  none_held None e = refl
+  none_held (Some x) e = absurd (true≢false (sym e))
+
+  unused_stays : (b : Bool) (clients servers : ℕ) → n < cond b servers clients
+      → (cond b clients (unused_after clients n) ≡ clients) × (cond b (unused_after servers n) servers ≡ servers)
+  unused_stays true clients servers h = (refl, rw (ne_eqb n servers (λ e. omega arith)) refl)
+  unused_stays false clients servers h = (rw (ne_eqb n clients (λ e. omega arith)) refl, refl)
+
+  -- so an object that is put there and taken out again leaves the store as it was
+  pub vacant_stays : (x : Object D) → removed (stored store n x) n ≡ store
+  vacant_stays x =
+      let below : n < first_unused store n = ltb-true n (first_unused store n) parts.1 in
+      let unused = unused_stays (is_server_number n) store.client_unused store.server_unused below in
+      same_store (removed (stored store n x) n) store
+      (map.same_map nat_cmp_total map.nat_cmp-IsAntisymmetric (removed (stored store n x) n).objects store.objects (λ m. same m (cases_eq m n)))
+      unused.0 unused.1
+    where
+      same : (m : ℕ) → (m ≡ n) ⊎ (m ≢ n) → held (removed (stored store n x) n) m ≡ held store m
+      same m (inl e) = removed_here (stored store n x) n m e ∙ sym (ap (held store) e ∙ none_held (held store n) parts.2)
+      same m (inr e) = removed_other (stored store n x) n m e ∙ stored_other store n x m e
 
 module _ {D : Type 0} (c s : List (Option (Object D))) (w : Within c s) where
   pub free_client : (n at : ℕ) → n ≡ client_range.first + at → n < client_range.end → is_free (store_of c s) n ≡ is_free_place c at

@@ -1,5 +1,5 @@
 -- Handing on what was received, as it is, to another link.
-use Rattle.std.specs.Prelude.{◌≡◌, ◌≢◌, ℕ, ◌<◌, ◌≤◌, ◌⊎◌, false, true, List, [], length, take, Result, Ok, Err}
+use Rattle.std.specs.Prelude.{◌≡◌, ℕ, ◌+◌, ◌<◌, ◌≤◌, ◌⊎◌, false, true, List, length, take, Result, Ok, Err}
 use Rattle.wl_wire.specs.declared.argument.ArgumentType.{ArgumentType}
 use Rattle.wl_wire.specs.declared.error.MessageParseError.TheVariants as errors
 use Rattle.wl_wire.specs.Parse.{IsThere, length_of, fd_count, RefusesMessage}
@@ -12,9 +12,11 @@ use Rattle.wl_link.specs.Link.{LinkState, Grown, Wants, after_first, has_room, n
 abbrev pub NoMemoryToGrow : {S : Type 0} → LinkState S → ℕ → LinkState S → Type 0
 NoMemoryToGrow to more to' = (to' ≡ to) × Wants to.limit (needed to more) to.outgoing_capacity
 
--- The buffer has grown as far as it may, and has room for so many more bytes; but there is no memory for the tokens.
-abbrev pub NoMemoryForTokens : {S : Type 0} → LinkState S → ℕ → LinkState S → Type 0
-NoMemoryForTokens to more to' = Grown to more to' × (has_room to' more ≡ true)
+-- The buffer has grown as far as it may, and has room for so many more bytes; but there is no memory for the tokens. There are
+-- some, and with those that wait they would be more than 28.
+abbrev pub NoMemoryForTokens : {S : Type 0} → LinkState S → ℕ → ℕ → LinkState S → Type 0
+NoMemoryForTokens to more count to' =
+    Grown to more to' × (has_room to' more ≡ true) × (0 < count) × (28 < length to.outgoing.tokens + count)
 
 -- the message at the front, under this signature: its bytes and its tokens
 abbrev pub first_of : List ArgumentType → Queue → Queue
@@ -26,7 +28,7 @@ module _ {S R : Type 0} where
   RoomMade from to grown = Grown to (length_of from.incoming.bytes) grown
 
   -- Each reason comes on its own condition, in this order. Nothing is handed on; the buffer of the other link may have grown.
-  -- Memory is wanted only to double that buffer, and for the tokens of a message that has some.
+  -- Memory is wanted only to double that buffer, and for the tokens of a message that has some, if more than 28 would wait.
   abbrev pub RefusesHandOn : List ArgumentType → LinkState R → LinkState S → HandOnError → LinkState S → Type 0
   RefusesHandOn signature from to hand.MissingData to' =
       RefusesMessage from.incoming.bytes signature from.incoming.tokens errors.MissingData × (to' ≡ to)
@@ -38,7 +40,7 @@ module _ {S R : Type 0} where
   RefusesHandOn signature from to hand.OutOfMemory to' =
       IsThere from.incoming.bytes signature from.incoming.tokens
       × (NoMemoryToGrow to (length_of from.incoming.bytes) to'
-      ⊎ (NoMemoryForTokens to (length_of from.incoming.bytes) to' × (0 < fd_count signature)))
+      ⊎ NoMemoryForTokens to (length_of from.incoming.bytes) (fd_count signature) to')
 
   -- The message at the front leaves one link, and stands after what waits to be sent on the other, byte for byte.
   abbrev pub HandsOn : List ArgumentType → LinkState R → LinkState S → Result (Unit {0}) HandOnError → LinkState R → LinkState S → Type 0
@@ -50,7 +52,7 @@ module _ {S R : Type 0} where
   HandsOn signature from to (Err e) from' to' = (from' ≡ from) × RefusesHandOn signature from to e to'
 
   -- All that was received leaves one link, and stands after what waits to be sent on the other; or it stays, if the other link may
-  -- not have so much, or for want of memory: to double its buffer, or for tokens, if some were received.
+  -- not have so much, or for want of memory: to double its buffer, or for tokens, if some were received and more than 28 would wait.
   abbrev pub HandsOnRest : LinkState R → LinkState S → Result (Unit {0}) HandOnError → LinkState R → LinkState S → Type 0
   HandsOnRest from to (Ok _) from' to' =
       (from' ≡ with_incoming from from.transport nothing)
@@ -61,7 +63,7 @@ module _ {S R : Type 0} where
   HandsOnRest from to (Err hand.OutOfMemory) from' to' =
       (from' ≡ from)
       × (NoMemoryToGrow to (length from.incoming.bytes) to'
-      ⊎ (NoMemoryForTokens to (length from.incoming.bytes) to' × (from.incoming.tokens ≢ [])))
+      ⊎ NoMemoryForTokens to (length from.incoming.bytes) (length from.incoming.tokens) to')
   HandsOnRest from to (Err _) from' to' = ⊥
 
   -- What waits to be sent on one link, followed by what was received on the other, stays as it was.

@@ -7,6 +7,7 @@ use Rattle.std.specs.Prelude.{◌≡◌, ◌≢◌, ℕ, zero, suc, ◌+◌, ◌
 use Rattle.std.specs.Int.{IsPowerOfTwo}
 use Rattle.std.specs.Option.{option_copied}
 use Rattle.std.specs.Borrow.{Bor}
+use Rattle.wl_wire.specs.declared.argument.Argument.TheVariants as arg
 use Rattle.wl_wire.specs.declared.argument.ArgumentType.{ArgumentType}
 use Rattle.wl_wire.specs.declared.argument.Token.{Token}
 use Rattle.wl_wire.specs.declared.error.IoFault.{IoFault}
@@ -16,6 +17,7 @@ use Rattle.wl_wire.specs.declared.error.MessageParseError.TheVariants as errors
 use Rattle.wl_wire.specs.declared.message.Message.{Message}
 use Rattle.wl_wire.specs.Message.{WireMessage, content, size, spelling, tokens}
 use Rattle.wl_wire.specs.Parse.{IsWhole, length_of, sender_of, opcode_of, fd_count, IsInline, ReadsMessage, RefusesMessage}
+use Rattle.wl_link.specs.declared.number_message.NumberMessage.{NumberMessage}
 use Rattle.wl_link.specs.Exchange.{Queue, Sending, Chain, joined, nothing}
 
 -- what contracts see of a link
@@ -156,6 +158,10 @@ Flushed sends before answer after = (es : List Sending) × FlushedBy sends befor
 -- a message's bytes, and its tokens
 abbrev pub spelled : WireMessage → Queue
 spelled m = record { bytes = spelling m; tokens = tokens m.args }
+
+-- the message with one number as a message
+abbrev pub number_message : NumberMessage → WireMessage
+number_message m = record { sender = m.sender_id; opcode = m.opcode; args = arg.Uint m.number ∷ [] }
 
 -- a buffer of that size has too little room, and may be doubled
 abbrev pub Wants : Option ℕ → ℕ → ℕ → Type 0

@@ -49,6 +49,10 @@ module _ {D : Type 0} where
   abbrev pub is_free : Store D → ℕ → Bool
   is_free store n = not (is_some (held store n)) && (nat_lt 0 n && nat_le n (first_unused store n))
 
+  -- the number was in use before, and holds no object
+  abbrev pub is_vacant : Store D → ℕ → Bool
+  is_vacant store n = (nat_lt 0 n && nat_lt n (first_unused store n)) && not (is_some (held store n))
+
   -- the store with an object put at a number
   abbrev pub stored : Store D → ℕ → Object D → Store D
   stored store n x = record {

@@ -1,11 +1,14 @@
 //! A buffer of bytes that wait to be read or sent.
 
-ghost use Rattle.std.specs.Prelude.{◌≡◌, ◌≢◌, ◌↔◌, ◌+◌, ◌++◌, ◌-◌, ◌<◌, ◌≤◌, ◌^◌, [], length, take, drop, slice_range, Err, IfOk, IsTrue, OnOk, OnErr};
+ghost use Rattle.std.specs.Prelude.{◌≡◌, ◌≢◌, ◌↔◌, ◌+◌, ◌*◌, ◌++◌, ◌-◌, ◌<◌, ◌≤◌, ◌^◌, [], length, take, drop, slice_range, Err, IfOk, IsTrue, OnOk, OnErr};
+ghost use Rattle.std.specs.List.{flat_map};
 ghost use Rattle.std.specs.VecDeque.{deque_capacity, deque_len};
 ghost use Rattle.wl_wire.specs.MapIds.{numbered};
-ghost use Rattle.wl_wire.specs.Message.{IsMessage, size, tokens};
+ghost use Rattle.wl_wire.specs.Message.{IsMessage, size, spelling, tokens};
+ghost use Rattle.wl_link.specs.Link.{number_message};
 ghost use Rattle.wl_link.specs.Inside.WaitingBytes.{waits, beside, arrived, Received, Appended};
 
+use crate::number_message::{NUMBER_MESSAGE_SIZE, NumberMessage, put_numbers};
 use crate::token_queue::TokenQueue;
 use crate::transport::Transport;
 use std::alloc::Global;
@@ -193,6 +196,17 @@ impl Buffer {
         self.end = end - start + bytes.len();
     }
 
+    /// Appends the messages to the bytes that wait. The buffer must have room for them.
+    pub fn append_numbers(&mut self, messages: &[NumberMessage])
+        requires { length self.old.bytes + 12 * length messages.now ≤ self.old.size }
+        ensures { self.new ≡ waits (self.old.bytes ++ flat_map (λ m. spelling (number_message m)) messages.now) self.old.size }
+    {
+        let (start, end) = (self.start, self.end);
+        self.start = 0;
+        append_numbers_at_front(messages, &mut self.storage, start, end);
+        self.end = end - start + NUMBER_MESSAGE_SIZE * messages.len();
+    }
+
     /// Receives into all of the buffer that is free. The bytes that come are appended to those that wait. Returns how many
     /// they are.
     ///
@@ -305,6 +319,18 @@ fn append_at_front(bytes: &[u8], storage: &mut [u8], start: usize, end: usize)
     move_to_front(storage, start, end);
     let count = end - start;
     storage[count..count + bytes.len()].copy_from_slice(bytes);
+}
+
+/// Moves the bytes from `start` to `end` to the front, and writes the messages after them.
+fn append_numbers_at_front(messages: &[NumberMessage], storage: &mut [u8], start: usize, end: usize)
+    requires ordered { start ≤ end }
+    requires within { end ≤ length storage.old }
+    requires room { end - start + 12 * length messages.now ≤ length storage.old }
+    ensures { slice_range storage.new 0 (end - start + 12 * length messages.now)
+        ≡ slice_range storage.old start end ++ flat_map (λ m. spelling (number_message m)) messages.now }
+{
+    move_to_front(storage, start, end);
+    put_numbers(storage, end - start, messages);
 }
 
 /// Moves the bytes from `start` to `end` to the front, and receives after them. Returns how many bytes came.

@@ -9,6 +9,7 @@
 //! |---|---|---|
 //! | of a `BufferedSocket` | `buffered_socket` | `Link`, `NothingLost` |
 //! | of a `MessagePlace`, into which messages are read, and `clear_message` | `message_place` | none |
+//! | of `NumberMessage`, a message of one number | `number_message` | `Link` |
 //! | of a `Transport`, and of `Memory`, the transport by script | `transport`, `memory` | `Exchange`, `Script` |
 //! | of `Mailbox`, the transport into which the program puts what it received | `mailbox` | `Mailbox` |
 //! | of an `ObjectMap`, and of `AllObjects` and `IntoObjects`, the walks over it | `object_map`, `all_objects`, `into_objects` | `Store`, `ObjectMap` |
@@ -35,6 +36,7 @@ mod limit;
 mod mailbox;
 mod memory;
 mod message_place;
+mod number_message;
 mod object;
 mod object_map;
 mod parcel;
@@ -49,6 +51,7 @@ pub use limit::{DEFAULT_MAX_BUFFER_SIZE, INCOMING_LIMIT};
 pub use mailbox::{Ending, Mailbox, MailboxError};
 pub use memory::{ArriveError, Memory};
 pub use message_place::{MessagePlace, clear_message};
+pub use number_message::NumberMessage;
 pub use object::Object;
 pub use object_map::{InsertError, NewError, ObjectMap, SERVER_ID_LIMIT};
 pub use transport::{MAX_BYTES_OUT, MAX_FDS_OUT, Transport};

@@ -1,9 +1,10 @@
 //! The objects of a session by their numbers.
 
-ghost use Rattle.std.specs.Prelude.{◌≡◌, ◌+◌, ◌<◌, ◌≤◌, false, true, Err, OnOk, OnErr, IfSome, IsSome, MatchOption, option_copied};
+ghost use Rattle.std.specs.Prelude.{◌≡◌, ◌+◌, ◌<◌, ◌≤◌, false, true, Err, OnOk, OnErr, IfSome, IsSome, IsTrue, MatchOption, option_copied};
 ghost use Rattle.std.specs.Fn.{FnOnceReturnsAtMut};
 ghost use Rattle.std.specs.FinMap as map;
-ghost use Rattle.wl_link.specs.Store.{client_range, server_range, empty_store, first_unused, held, is_free, removed, IsWalk};
+ghost use Rattle.wl_link.specs.declared.object.Object.{Object as ObjectOf};
+ghost use Rattle.wl_link.specs.Store.{client_range, server_range, empty_store, first_unused, held, is_free, is_vacant, removed, stored, IsWalk};
 ghost use Rattle.wl_link.specs.ObjectMap.{InsertsAt, InsertsNew, NextNew, InsertionsGive, WordsRead, Lends};
 ghost use Rattle.wl_link.specs.Inside.PlaceList.{IsPlaceOf};
 ghost use Rattle.wl_link.specs.declared.object_map.InsertError.TheVariants as insert;
@@ -147,6 +148,21 @@ impl<Data: Drop> ObjectMap<Data> {
             Place::Nowhere => None,
             Place::Client(at) => self.clients.find(at),
             Place::Server(at) => self.servers.find(at),
+        }
+    }
+
+    /// Whether the number was in use before and holds no object now. It allocates nothing.
+    ///
+    /// So an object put at this number and taken out again leaves the objects, and the first unused numbers, as they were.
+    pub fn is_vacant(&self, number: u32) -> bool
+        ensures vacant { result ≡ is_vacant self.now.store number }
+        ensures free { IsTrue result → is_free self.now.store number ≡ true }
+        ensures stays { IsTrue result → (x : ObjectOf Data) → removed (stored self.now.store number x) number ≡ self.now.store }
+    {
+        match place_of(number) {
+            Place::Nowhere => false,
+            Place::Client(at) => self.clients.is_vacant(at),
+            Place::Server(at) => self.servers.is_vacant(at),
         }
     }
 

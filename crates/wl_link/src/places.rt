@@ -4,7 +4,7 @@
 
 ghost use Rattle.std.specs.Prelude.{◌≡◌, ◌+◌, ◌<◌, ◌≤◌, [], length, true, false, None, Some, Err, OnOk, OnErr, IsSome, option_copied};
 ghost use Rattle.std.specs.Fn.{FnOnceReturnsAtMut};
-ghost use Rattle.wl_link.specs.Inside.PlaceList.{place, put_len, has_place_capacity, IsKnown, SetsPlace, PutsAt, PutsNew, LendsAt, IsFirstFree, ShowsFree, WordsReadIn, ReadsFew, entries_from};
+ghost use Rattle.wl_link.specs.Inside.PlaceList.{place, free_flag, put_len, has_place_capacity, IsKnown, SetsPlace, PutsAt, PutsNew, LendsAt, IsFirstFree, ShowsFree, WordsReadIn, ReadsFew, entries_from};
 ghost use Rattle.wl_link.specs.declared.object_map.InsertError.TheVariants as insert;
 ghost use Rattle.wl_link.specs.declared.object_map.NewError.TheVariants as new;
 
@@ -47,6 +47,16 @@ impl<Data: Drop> Places<Data> {
         match self.slots.get(at) {
             Some(slot) => slot.as_ref(),
             None => None,
+        }
+    }
+
+    /// Whether there is such a place, and it has no object.
+    pub(crate) fn is_vacant(&self, at: usize) -> bool
+        ensures { result ≡ free_flag self.now.slots.items at }
+    {
+        match self.slots.get(at) {
+            Some(slot) => slot.is_none(),
+            None => false,
         }
     }
 

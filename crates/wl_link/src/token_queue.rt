@@ -1,6 +1,6 @@
 //! The tokens that wait to be sent. A *token* is a number that stands for a file descriptor.
 
-ghost use Rattle.std.specs.Prelude.{◌≡◌, ◌≢◌, ◌↔◌, ◌<◌, ◌≤◌, ◌++◌, [], Err, length, take, drop, IfOk, OnOk, OnErr};
+ghost use Rattle.std.specs.Prelude.{◌≡◌, ◌≢◌, ◌↔◌, ◌+◌, ◌<◌, ◌≤◌, ◌++◌, [], Err, length, take, drop, IfOk, OnOk, OnErr};
 ghost use Rattle.std.specs.VecDeque.{deque_capacity};
 ghost use Rattle.wl_wire.specs.MapIds.{numbered};
 ghost use Rattle.wl_wire.specs.Message.{IsMessage, size, spelling, tokens};
@@ -75,7 +75,7 @@ impl TokenQueue {
     }
 
     /// Takes `count` tokens off the front of the other queue, which has them, and appends them to this one. If there is no
-    /// memory for them, nothing is changed. For no tokens none is needed.
+    /// memory for them, nothing is changed. Memory is refused only if more than 28 tokens would wait, and never for none.
     pub fn append_from(
         &mut self,
         tokens: &mut VecDeque<Token>,
@@ -86,6 +86,7 @@ impl TokenQueue {
         ensures taken { OnOk result (tokens.new.items ≡ drop count tokens.old.items) }
         ensures unchanged { OnErr result ((self.new ≡ self.old) × (tokens.new.items ≡ tokens.old.items)) }
         ensures some { OnErr result (0 < count) }
+        ensures many { OnErr result (28 < length self.old + count) }
         ensures capacity { deque_capacity tokens.new ≡ deque_capacity tokens.old }
     {
         if count == 0 {

@@ -173,8 +173,8 @@ fn tell_handed(log: &mut String, answer: Result<(), HandOnError>) -> Result<(), 
 
 /// Tells what was received and not read.
 fn tell_taken(log: &mut String, from: &mut Link) -> Result<(), Fail> {
-    let (bytes, mut tokens) = from.take_received()?;
-    tell_bytes(log, &bytes, tokens.make_contiguous())?;
+    let (bytes, tokens) = from.take_received()?;
+    tell_bytes(log, &bytes, &tokens)?;
     Ok(writeln!(log, "")?)
 }
 

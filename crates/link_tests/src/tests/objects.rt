@@ -27,6 +27,8 @@ enum Act {
     Remove(u32),
     /// Looks for the object of this number.
     Find(u32),
+    /// Asks whether this number was in use and is free.
+    IsVacant(u32),
     /// Lends the object, in whose place the second number is written.
     With(u32, u32),
     /// How many words the last search for a number read.
@@ -128,6 +130,12 @@ fn find(log: &mut String, map: &ObjectMap<u32>, number: u32) -> Result<(), Fail>
     tell_value(log, "find", number, found)
 }
 
+/// Tells whether the number was in use and is free.
+fn is_vacant(log: &mut String, map: &ObjectMap<u32>, number: u32) -> Result<(), Fail> {
+    let vacant = map.is_vacant(number);
+    Ok(writeln!(log, "vacant {number:x}: {vacant}")?)
+}
+
 /// Lends the object, and tells the value that it had and whether the closure was called.
 fn with(log: &mut String, map: &mut ObjectMap<u32>, number: u32, value: u32) -> Result<(), Fail> {
     let mut called = false;
@@ -183,6 +191,7 @@ fn perform(log: &mut String, map: &mut ObjectMap<u32>, act: Act) -> Result<(), F
         Act::NextClient => next_client(log, map),
         Act::Remove(number) => remove(log, map, number),
         Act::Find(number) => find(log, map, number),
+        Act::IsVacant(number) => is_vacant(log, map, number),
         Act::With(number, value) => with(log, map, number, value),
         Act::Fill(last) => fill(log, map, last),
         Act::WordsRead => words_read(log, map),
@@ -208,7 +217,7 @@ struct Row {
 }
 
 /// Calls of a new map, and what they tell.
-static ROWS: [Row; 8] = [
+static ROWS: [Row; 9] = [
     Row {
         name: "numbers are taken, freed and taken again",
         acts: &[
@@ -245,6 +254,25 @@ static ROWS: [Row; 8] = [
             Act::All,
         ],
         told: "all:\nserver new: ff000000\ninsert at ff000001: done\nclient new: 1\nclient new: 2\nremove ff000000: 1\nall: 1=3 2=4 ff000001=2\n",
+    },
+    Row {
+        name: "a number is vacant once its object is gone",
+        acts: &[
+            Act::Fill(2),
+            Act::ServerNew(7),
+            Act::IsVacant(0),
+            Act::IsVacant(2),
+            Act::IsVacant(3),
+            Act::IsVacant(0xFF00_0000),
+            Act::IsVacant(0xFF00_0001),
+            Act::Remove(2),
+            Act::Remove(0xFF00_0000),
+            Act::IsVacant(1),
+            Act::IsVacant(2),
+            Act::IsVacant(3),
+            Act::IsVacant(0xFF00_0000),
+        ],
+        told: "insert at 2: done\nserver new: ff000000\nvacant 0: false\nvacant 2: false\nvacant 3: false\nvacant ff000000: false\nvacant ff000001: false\nremove 2: 1\nremove ff000000: 7\nvacant 1: false\nvacant 2: true\nvacant 3: false\nvacant ff000000: true\n",
     },
     Row {
         name: "an object is lent and written to",

@@ -18,7 +18,7 @@ const THREE_MESSAGES: [u8; 52] = [
 const THREE_TOKENS: [Token; 3] = [Token(1), Token(0), Token(2)];
 
 /// Runs over a script, and what they tell.
-static ROWS: [Row; 8] = [
+static ROWS: [Row; 9] = [
     Row {
         name: "three messages in one chunk",
         cues: &[Cue::Arrive(&THREE_MESSAGES, &THREE_TOKENS)],
@@ -93,6 +93,28 @@ static ROWS: [Row; 8] = [
         limit: None,
         acts: &[Act::Fill, Act::Read, Act::Tell(Fact::Waiting)],
         told: "receive: done\nread: 42, 3: array 01 02 03\nwaiting: 0, 0, 0, 0\n0 sends recorded\n",
+    },
+    Row {
+        name: "a word is looked at, and messages are skipped",
+        cues: &[Cue::Arrive(
+            &[
+                1, 0, 0, 0, 0, 0, 12, 0, 2, 0, 0, 0, 42, 0, 0, 0, 1, 0, 8, 0, 1, 0, 0, 0, 0, 0, 12,
+                0, 3, 0, 0,
+            ],
+            &[Token(1)],
+        )],
+        limit: None,
+        acts: &[
+            Act::Fill,
+            Act::Tell(Fact::NextWord),
+            Act::Skip,
+            Act::Tell(Fact::NextWord),
+            Act::Skip,
+            Act::Tell(Fact::NextWord),
+            Act::Skip,
+            Act::Tell(Fact::Waiting),
+        ],
+        told: "receive: done\nnext word: 2\nskip: done\nnext word: none\nskip: done\nnext word: none\nskip: none\nwaiting: 11, 1, 0, 0\n0 sends recorded\n",
     },
     Row {
         name: "five arguments are read",

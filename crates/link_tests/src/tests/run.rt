@@ -6,7 +6,7 @@ use std::alloc::Global;
 use std::test::Fail;
 use test_kit::log::row_tells;
 use test_kit::message::{Arg, message, push, tell_bytes, tell_message};
-use wl_link::{BufferedSocket, Transport};
+use wl_link::{BufferedSocket, NumberMessage, Transport};
 use wl_wire::{AllowNull, ArgumentType, IoFault, Message, MessageParseError, Token};
 
 /// A call of a link.
@@ -16,6 +16,8 @@ pub enum Act {
     Write((u32, u16), &'static [Arg]),
     /// Writes a message of so many descriptors, and of no bytes but its header.
     WriteDescriptors(usize),
+    /// Writes two messages of one number each, if there is room for both.
+    WriteNumbers(&'static [NumberMessage; 2]),
     /// Sends what waits.
     Flush,
     /// Receives once.
@@ -24,6 +26,8 @@ pub enum Act {
     Read,
     /// Reads, with no signature known for any message.
     ReadUnknown,
+    /// Takes a message off, if one is there to its end.
+    Skip,
     /// Receives so many times.
     FillEach(usize),
     /// Receives and reads so many times, and tells the messages that were there to their end.
@@ -41,6 +45,8 @@ pub enum Act {
 pub enum Fact {
     /// What was received and not read, and what was written and not sent: bytes and tokens.
     Waiting,
+    /// The word after the first header, if it is all that follows.
+    NextWord,
     /// The sizes of the incoming and the outgoing buffer.
     Storage,
     /// The bytes and tokens of each send that is recorded.
@@ -128,6 +134,19 @@ fn write_descriptors<T: Transport>(
     tell_answer(log, "write", link.write_message(&message))
 }
 
+/// Writes the messages, if there is room for both.
+fn write_numbers<T: Transport>(
+    log: &mut String,
+    link: &mut BufferedSocket<T>,
+    messages: &[NumberMessage; 2],
+) -> Result<(), Fail> {
+    if !link.has_room(24) {
+        return Ok(writeln!(log, "write numbers: no room")?);
+    }
+    link.write_numbers(messages);
+    Ok(writeln!(log, "write numbers: done")?)
+}
+
 /// Sends what waits.
 fn flush<T: Transport>(log: &mut String, link: &mut BufferedSocket<T>) -> Result<(), Fail> {
     tell_answer(log, "flush", link.flush())
@@ -169,6 +188,15 @@ fn read<T>(log: &mut String, link: &mut BufferedSocket<T>) -> Result<(), Fail> {
 fn read_unknown<T>(log: &mut String, link: &mut BufferedSocket<T>) -> Result<(), Fail> {
     let read = link.read_one_message(|_, _| None);
     tell_read(log, &read)
+}
+
+/// Takes a message off, if one is there to its end.
+fn skip<T>(log: &mut String, link: &mut BufferedSocket<T>) -> Result<(), Fail> {
+    if link.front().is_none() {
+        return Ok(writeln!(log, "skip: none")?);
+    }
+    link.skip_message();
+    Ok(writeln!(log, "skip: done")?)
 }
 
 /// Tells the message after the number of its receive, unless it is not there to its end.
@@ -217,6 +245,15 @@ fn waiting<T>(log: &mut String, link: &BufferedSocket<T>) -> Result<(), Fail> {
     Ok(())
 }
 
+/// Tells the word after the first header, if it is all that follows.
+fn next_word<T>(log: &mut String, link: &BufferedSocket<T>) -> Result<(), Fail> {
+    let written = match link.next_word() {
+        Some(word) => writeln!(log, "next word: {word}"),
+        None => writeln!(log, "next word: none"),
+    };
+    Ok(written?)
+}
+
 /// Tells the sizes of both buffers.
 fn storage<T>(log: &mut String, link: &BufferedSocket<T>) -> Result<(), Fail> {
     let [incoming, outgoing] = link.storage();
@@ -252,6 +289,7 @@ fn tell_sizes(log: &mut String, sends: &[(Vec<u8>, Vec<Token>)]) -> Result<(), F
 fn tell<T: Record>(log: &mut String, link: &BufferedSocket<T>, fact: Fact) -> Result<(), Fail> {
     match fact {
         Fact::Waiting => waiting(log, link),
+        Fact::NextWord => next_word(log, link),
         Fact::Storage => storage(log, link),
         Fact::Sent => tell_sends(log, link.transport().sends()),
         Fact::SendSizes => tell_sizes(log, link.transport().sends()),
@@ -273,10 +311,12 @@ fn perform<T: Transport + Record>(
     match act {
         Act::Write(header, args) => write(log, link, header, args),
         Act::WriteDescriptors(count) => write_descriptors(log, link, count),
+        Act::WriteNumbers(messages) => write_numbers(log, link, messages),
         Act::Flush => flush(log, link),
         Act::Fill => fill(log, link),
         Act::Read => read(log, link),
         Act::ReadUnknown => read_unknown(log, link),
+        Act::Skip => skip(log, link),
         Act::FillEach(count) => fill_each(link, count),
         Act::FillAndRead(count) => fill_and_read_each(log, link, count),
         Act::SetLimit(bytes) => {

@@ -6,14 +6,28 @@ use super::transports::{OneByte, Refusing};
 use std::test::Fail;
 use test_kit::log::tells;
 use test_kit::message::Arg;
-use wl_link::DEFAULT_MAX_BUFFER_SIZE;
+use wl_link::{DEFAULT_MAX_BUFFER_SIZE, NumberMessage};
 use wl_wire::IoFault;
 
 /// Writes a message of 12 bytes and one token.
 const WRITE_WITH_TOKEN: Act = Act::Write((42, 0), &[Arg::Uint(3), Arg::Fd(4)]);
 
+/// Writes the two answers to a sync with the new id 2.
+const WRITE_NUMBERS: Act = Act::WriteNumbers(&[
+    NumberMessage {
+        sender_id: 2,
+        opcode: 0,
+        number: 0,
+    },
+    NumberMessage {
+        sender_id: 1,
+        opcode: 1,
+        number: 2,
+    },
+]);
+
 /// Runs over a script, and what they tell.
-static ROWS: [Row; 5] = [
+static ROWS: [Row; 7] = [
     Row {
         name: "three messages in one flush",
         cues: &[],
@@ -27,6 +41,33 @@ static ROWS: [Row; 5] = [
             Act::Tell(Fact::SendSizes),
         ],
         told: "write: done\nwrite: done\nwrite: done\nflush: done\n1 sends\n2a 00 00 00 00 00 20 00 2a 00 00 00 0e 00 00 00 49 20 6c 69 6b 65 20 74 72 61 69 6e 73 00 00 00 2a 00 00 00 01 00 08 00 2a 00 00 00 02 00 0c 00 03 00 00 00, fd 1, fd 0, fd 2\nsends: 52 + 3\n1 sends recorded\n",
+    },
+    Row {
+        name: "two numbers behind the rest of a message",
+        cues: &[Cue::Accept(5), Cue::AcceptFault(IoFault::Other(5))],
+        limit: None,
+        acts: &[
+            Act::Write((1, 0), &[Arg::NewId(2)]),
+            Act::Flush,
+            Act::TakeSent,
+            WRITE_NUMBERS,
+            Act::Tell(Fact::Waiting),
+            Act::Flush,
+            Act::Tell(Fact::Sent),
+        ],
+        told: "write: done\nflush: os error 5\n1 sends\n01 00 00 00 00\nwrite numbers: done\nwaiting: 0, 0, 31, 0\nflush: done\n1 sends\n00 0c 00 02 00 00 00 02 00 00 00 00 00 0c 00 00 00 00 00 01 00 00 00 01 00 0c 00 02 00 00 00\n1 sends recorded\n",
+    },
+    // The buffer has 4096 bytes: the array takes all but 16 of them.
+    Row {
+        name: "no room for two numbers",
+        cues: &[],
+        limit: Some(DEFAULT_MAX_BUFFER_SIZE),
+        acts: &[
+            Act::Write((42, 0), &[Arg::Ones(4068)]),
+            WRITE_NUMBERS,
+            Act::Tell(Fact::Waiting),
+        ],
+        told: "write: done\nwrite numbers: no room\nwaiting: 0, 0, 4080, 0\n0 sends recorded\n",
     },
     Row {
         name: "fault ends a flush",

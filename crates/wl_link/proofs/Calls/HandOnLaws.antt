@@ -26,7 +26,7 @@ module _ {R S : Type 0} (signature : List ArgumentType) (from from' : LinkState 
   same_outgoing hand.Malformed r = ap (λ (l : LinkState S). l.outgoing) r.2
   same_outgoing hand.MissingFD r = ap (λ (l : LinkState S). l.outgoing) r.1
   same_outgoing hand.NoRoom r = ap (λ (l : LinkState S). l.outgoing) r.1.1
-  same_outgoing hand.OutOfMemory r = elim r.1 [ inl same ↦ ap (λ (l : LinkState S). l.outgoing) same.0 | inr grown ↦ ap (λ (l : LinkState S). l.outgoing) grown.0.0.1 ]
+  same_outgoing hand.OutOfMemory r = elim r.1 [ inl same ↦ ap (λ (l : LinkState S). l.outgoing) same.0 | inr grown ↦ ap (λ (l : LinkState S). l.outgoing) grown.0.1 ]
 
   pub carries : (answer : Result (Unit {0}) HandOnError) → HandsOn signature from to answer from' to' → Carries from to from' to'
   carries (Ok u) h =

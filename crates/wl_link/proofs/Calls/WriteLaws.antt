@@ -10,7 +10,7 @@ use Rattle.wl_wire.specs.declared.error.IoFault.TheVariants as fault
 use Rattle.wl_wire.specs.Message.{WireMessage, size}
 use Rattle.wl_link.specs.Exchange.{Queue}
 use Rattle.wl_link.specs.Inside.WaitingBytes.{Appended, Waiting, beside, waits, write_answer_of}
-use Rattle.wl_link.specs.Link.{LinkState, Wants, Grows, Grown, Put, Placed, Wrote, Flushed, has_room, ignoring, needed}
+use Rattle.wl_link.specs.Link.{LinkState, Wants, Grows, Grown, Put, Placed, Wrote, WroteBy, Flushed, has_room, ignoring, needed}
 
 not_wanted : (limit : Option ℕ) (needed size : ℕ) → needed ≤ size → ¬ (Wants limit needed size)
 not_wanted None needed size le wants = omega arith
@@ -26,17 +26,19 @@ room_stays limit needed size le = record {
 
 module _ {T : Type 0} (sends : T → Queue → Result ℕ IoFault → T → Type 0) (before after : LinkState T) (m : WireMessage)
     (answer : Result (Unit {0}) IoFault) where
-  -- where the storage has room
+  -- where the storage has room, nothing is sent
+  pub wrote_by_none : size m ≤ 65535 → needed before (size m) ≤ before.outgoing_capacity → Put before m answer after
+      → WroteBy sends before m [] answer after
+  wrote_by_none small room put =
+      rw (le-leb (size m) 65535 small)
+      (inr (
+        before,
+        (room_stays before.limit (needed before (size m)) before.outgoing_capacity room, refl),
+        rw (le-leb (needed before (size m)) before.outgoing_capacity room) (refl, put),
+      ))
+
   pub wrote_at_once : size m ≤ 65535 → needed before (size m) ≤ before.outgoing_capacity → Put before m answer after → Wrote sends before m answer after
-  wrote_at_once small room put = (
-    [],
-    rw (le-leb (size m) 65535 small)
-        (inr (
-          before,
-          (room_stays before.limit (needed before (size m)) before.outgoing_capacity room, refl),
-          rw (le-leb (needed before (size m)) before.outgoing_capacity room) (refl, put),
-        )),
-  )
+  wrote_at_once small room put = ([], wrote_by_none small room put)
 
   pub wrote_too_long : 65535 < size m → answer ≡ Err fault.TooBig → after ≡ before → Wrote sends before m answer after
   wrote_too_long long refused same = ([], rw (lt-leb (size m) 65535 long) (refl, refused, same))

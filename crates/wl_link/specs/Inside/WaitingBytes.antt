@@ -1,5 +1,5 @@
 -- Bytes that wait in a buffer, as the functions inside the link say it.
-use Rattle.std.specs.Prelude.{◌≡◌, ℕ, ◌≢◌, ◌+◌, ◌-◌, ◌*◌, ◌<◌, ◌≤◌, ◌&&◌, List, [], ◌++◌, length, nat_le, nat_lt, if◌then◌else◌, Option, Result, Ok, Err}
+use Rattle.std.specs.Prelude.{◌≡◌, ℕ, ◌+◌, ◌-◌, ◌*◌, ◌<◌, ◌≤◌, ◌&&◌, List, ◌++◌, length, nat_le, nat_lt, if◌then◌else◌, Option, Result, Ok, Err}
 use Rattle.wl_wire.specs.declared.error.MessageWriteError.{MessageWriteError}
 use Rattle.wl_wire.specs.declared.error.MessageWriteError.TheVariants as errors
 use Rattle.wl_wire.specs.Message.{WireMessage, size, spelling, tokens as tokens_of}

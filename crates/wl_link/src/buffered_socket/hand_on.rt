@@ -13,7 +13,7 @@ ghost use Rattle.wl_link.specs.Link.{has_room, with_incoming, with_outgoing};
 ghost use Rattle.wl_link.specs.Inside.WaitingBytes.{beside};
 
 use crate::buffered_socket::BufferedSocket;
-use crate::transport::MAX_FDS_OUT;
+use std::alloc::Global;
 use std::collections::VecDeque;
 use thiserror::Error;
 use wl_wire::{
@@ -81,18 +81,22 @@ impl<T> BufferedSocket<T> {
         peek_into(alloc, bytes, signature, &mut self.fds_in, message)
     }
 
-    /// Takes out all that was received and not read yet: the bytes and the tokens. If there is no memory for the bytes, or for
-    /// the queue of the tokens that come next, nothing is changed.
-    pub fn take_received(&mut self) -> Result<(Vec<u8>, VecDeque<Token>), OutOfMemory>
+    /// Takes out all that was received and not read yet: the bytes and the tokens. They are copied into lists of their size, and
+    /// the link keeps its own memory.
+    ///
+    /// The error is `OutOfMemory` if there is no memory for these lists. It changes nothing, and comes only if bytes or tokens
+    /// wait.
+    pub fn take_received(&mut self) -> Result<(Vec<u8>, Vec<Token>), OutOfMemory>
         ensures taken { IfOk result (λ x. (x.0.items ≡ self.old.incoming.bytes) × (x.1.items ≡ self.old.incoming.tokens)) }
         ensures left { OnOk result (self.new ≡ with_incoming self.old self.old.transport nothing) }
         ensures unchanged { OnErr result (self.new ≡ self.old) }
+        ensures memory { OnErr result (self.old.incoming ≢ nothing) }
     {
         let alloc = *self.fds_in.allocator();
-        let bytes = Vec::from_slice(alloc, self.incoming.bytes())?;
-        let empty = VecDeque::with_capacity(alloc, 2 * MAX_FDS_OUT)?;
+        let bytes = copy_of(alloc, self.incoming.bytes())?;
+        let tokens = copy_of(alloc, self.fds_in.make_contiguous())?;
         self.incoming.consume(bytes.len());
-        let tokens = std::mem::replace(&mut self.fds_in, empty);
+        self.fds_in.clear();
         Ok((bytes, tokens))
     }
 
@@ -107,7 +111,7 @@ impl<T> BufferedSocket<T> {
     /// - `MissingFD` if fewer tokens wait than the signature has file descriptors;
     /// - `OutOfMemory` if the buffer has too little room and may be doubled, and there is no memory for it;
     /// - `NoRoom` if the buffer has too little room;
-    /// - `OutOfMemory` if the message has tokens, and there is no memory for them.
+    /// - `OutOfMemory` if the message has tokens, more than 28 would wait with them, and there is no memory for them.
     pub fn hand_on<S>(
         &mut self,
         signature: &[ArgumentType],
@@ -147,9 +151,12 @@ impl<T> BufferedSocket<T> {
     /// Takes all that was received and not read, and appends it to what waits to be sent on the other link, whether it is whole
     /// messages or not.
     ///
-    /// Nothing is sent. The buffer of the other link is doubled if need be, as its limit allows. The error is `NoRoom` if the
-    /// buffer has too little room, and `OutOfMemory` if there is no memory to double it, or for the tokens, if there are some.
-    /// After an error both links have what they had.
+    /// Nothing is sent. The buffer of the other link is doubled if need be, as its limit allows. The errors are decided in this
+    /// order, and after each both links have what they had:
+    ///
+    /// - `OutOfMemory` if the buffer has too little room and may be doubled, and there is no memory for it;
+    /// - `NoRoom` if the buffer has too little room;
+    /// - `OutOfMemory` if there are tokens, more than 28 would wait with them, and there is no memory for them.
     pub fn hand_on_rest<S>(&mut self, to: &mut BufferedSocket<S>) -> Result<(), HandOnError>
         ensures handed { HandsOnRest self.old to.old result self.new to.new }
         ensures carried { Carries self.old to.old self.new to.new }
@@ -183,10 +190,21 @@ impl<T> BufferedSocket<T> {
         ensures taken { OnOk result (tokens.new.items ≡ drop count tokens.old.items) }
         ensures unchanged { OnErr result ((self.new ≡ self.old) × (tokens.new.items ≡ tokens.old.items)) }
         ensures some { OnErr result (0 < count) }
+        ensures many { OnErr result (28 < length self.old.outgoing.tokens + count) }
         ensures capacity { deque_capacity tokens.new ≡ deque_capacity tokens.old }
     {
         self.fds_out.append_from(tokens, count)?;
         self.outgoing.append(bytes);
         Ok(())
     }
+}
+
+/// A list of these elements. For none it takes no memory.
+fn copy_of<E: Copy>(alloc: Global, items: &[E]) -> Result<Vec<E>, OutOfMemory>
+    ensures items { IfOk result (λ copy. copy.items ≡ items.now) }
+    ensures some { OnErr result (items.now ≢ []) }
+{
+    let mut copy = Vec::with_capacity(alloc, items.len())?;
+    copy.extend_from_slice(items)?;
+    Ok(copy)
 }

@@ -1,7 +1,5 @@
-use Rattle.std.proofs.Common.{arith, drop, length}
+use Rattle.std.proofs.Common.{arith}
 use Rattle.std.proofs.lemmas.List.{length-drop}
-use Rattle.wl_wire.specs.MapIds.{numbered}
-use Rattle.wl_link.specs.Link.{TokensAsk}
 use Rattle.wl_link.proofs.Writing.{queued_behind}
 use Rattle.wl_link.proofs.token_queue.TokenQueue.write.Goals as goal
 
