@@ -1,14 +1,18 @@
--- What a program finds after a call: what it did to an object, the open event or the notes, and that all else is as before.
--- All is said in the words of the look-ups.
+-- What a program finds after it ended an event, sent a request or read the next event: what has become of the objects, of the
+-- open event and of the notes. It is said in the words of the look-ups.
 --
--- A contract that cites one of these has another clause beside it, `call`, which says all that the call does, as a step. What
--- stands here follows from that clause, and can be used without it.
-use Rattle.std.specs.Prelude.{◌≡◌, ◌⊎◌, ℕ, List, Bool, true, false, ◌==◌, ◌&&◌, if◌then◌else◌, Option, None, Some, IsSome, is_some, Result, Ok, Err, MatchOption}
+-- The clause `plain` of `finish_event`, of `send_request` and of `next_event`, and of their variants, cites one of these. Another
+-- clause beside it, `call`, says all that the call does, as a step. What stands here follows from that clause, and can be used
+-- without it.
+use Rattle.std.specs.Prelude.{◌≡◌, ◌⊎◌, ℕ, List, [], ◌∷◌, Bool, true, false, ◌==◌, ◌&&◌, if◌then◌else◌, Option, None, Some, IsSome, is_some, Result, Ok, Err, MatchOption}
+use Rattle.wl_wire.specs.declared.argument.Argument.{Argument}
+use Rattle.wl_wire.specs.declared.argument.Argument.TheVariants as arg
+use Rattle.wl_wire.specs.declared.argument.Token.{Token}
 use Rattle.wl_wire.specs.declared.error.IoFault.{IoFault}
 use Rattle.wl_wire.specs.MessageRows.{creates, event_row, matches, request_row}
 use Rattle.wl_wire.specs.Table.{MessageRow}
 use Rattle.wl_link.specs.declared.object.Object.{Object}
-use Rattle.wl_link.specs.Store.{held}
+use Rattle.wl_link.specs.Store.{Store, held}
 use Rattle.wl_client.specs.declared.error.EventError.{EventError}
 use Rattle.wl_client.specs.declared.error.EventError.TheVariants as no_event
 use Rattle.wl_client.specs.declared.error.FinishError.{FinishError}
@@ -109,22 +113,35 @@ module _ {T U : Type 0} where
   SendsRequest before m u spec (Err refused.OutOfMemory) after = core_of after ≡ core_of before
   SendsRequest before m u spec (Err e) after = after ≡ before
 
+-- ---- a reading
+
+-- the new id among the arguments of an event, which has one at most
+abbrev pub new_id_in : List (Argument IdParts Token) → Option IdParts
+new_id_in [] = None
+new_id_in (arg.NewId id ∷ args) = Some id
+new_id_in (_ ∷ args) = new_id_in args
+
 module _ {U : Type 0} where
-  -- ---- a reading
+  -- The object of this id is new: its number had no object before, but for one that the client had destroyed. It is of this
+  -- version and of the interface that the table names, and has no data yet.
+  abbrev pub IsMade : Store (Kept U) → MessageRow → ℕ → Store (Kept U) → IdParts → Type 0
+  IsMade before row version after id =
+      (alive (held before id.number) ≡ None) × (row.child_interface ≡ Some id.interface)
+      × (held after id.number ≡ Some (fresh_object id.interface version id.serial None))
 
   -- The event is open from now on. Its sender is a kept object that the client has not destroyed, and the table has the event
-  -- for the interface of that object. An object that the event made is new, of the sender's version, and has no data yet.
-  pub record EventIsOpen (m : SessionMessage) (after : Core U) : Type 0 where
+  -- for the interface of that object. It has a new id among its arguments exactly if it makes an object by the table, and then
+  -- that is the id of the object, which is new and of the sender's version.
+  pub record EventIsOpen (before : Core U) (m : SessionMessage) (after : Core U) : Type 0 where
     pub sender : Object (Kept U)
     pub row : MessageRow
-    pub created : Option IdParts
     pub holds : held after.store m.sender.number ≡ Some sender
     pub sender_is : m.sender ≡ id_at m.sender.number sender
     pub live : sender.value.client_destroyed ≡ false
     pub event : event_row after.table sender.interface m.opcode ≡ Some row
-    pub opened : after.open_event ≡ Some (record { sender = m.sender; is_destructor = row.is_destructor; created = created })
-    pub made : MatchOption created (Unit {0})
-        (λ id. (row.child_interface ≡ Some id.interface) × (held after.store id.number ≡ Some (fresh_object id.interface sender.version id.serial None)))
+    pub opened : after.open_event ≡ Some (record { sender = m.sender; is_destructor = row.is_destructor; created = new_id_in m.args })
+    pub makes : is_some (new_id_in m.args) ≡ creates row
+    pub made : MatchOption (new_id_in m.args) (Unit {0}) (IsMade before.store row sender.version after.store)
     pub error : after.error ≡ None
 
   -- the session has no error, and no event is open
@@ -143,7 +160,8 @@ module _ {T U : Type 0} where
   -- An event is handed out, and open. Or there is none: the session had an error before or has one now, an event was open
   -- before, or nothing more can be read now.
   abbrev pub ReadsEvent : SessionState T U → Result SessionMessage EventError → SessionState T U → Type 0
-  ReadsEvent before (Ok m) after = CanRead (core_of before) × EventIsOpen m (core_of after) × KeepsRest (core_of before) (core_of after)
+  ReadsEvent before (Ok m) after =
+      CanRead (core_of before) × EventIsOpen (core_of before) m (core_of after) × KeepsRest (core_of before) (core_of after)
   ReadsEvent before (Err no_event.Failed) after =
       (IsSome before.error × (after ≡ before)) ⊎ (CanRead (core_of before) × HasFailed (core_of after) × KeepsRest (core_of before) (core_of after))
   ReadsEvent before (Err no_event.EventOpen) after = (before.error ≡ None) × IsSome before.open_event × (after ≡ before)

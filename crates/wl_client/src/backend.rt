@@ -95,7 +95,7 @@ fn first_objects<U: Drop>(alloc: Global) -> Result<ObjectMap<Kept<U>>, OutOfMemo
     }
 }
 
-/// Whether memory was refused to a growth of the table that was answered so.
+/// Whether new interfaces were refused for want of memory.
 fn lacks_memory(answer: &Result<(), TableError>) -> bool
     ensures { result ≡ refused_growth answer.now }
 {

@@ -3,7 +3,7 @@
 ghost use Rattle.std.specs.Prelude.{◌≡◌, IsSome, MatchOption, MatchResult};
 ghost use Rattle.wl_client.specs.Session.{alive, core_of, named, with_core};
 ghost use Rattle.wl_client.specs.Cutting.{CutsFinish};
-ghost use Rattle.wl_client.specs.Finish.{Finishes, with_data_for, with_dead};
+ghost use Rattle.wl_client.specs.Finish.{Finishes, refusal, with_data_for, with_dead};
 ghost use Rattle.wl_client.specs.Plain.{EndsEvent};
 ghost use Rattle.wl_client.specs.Accounts.{Calls};
 ghost use Rattle.wl_client.specs.Steps.{CallOf, refused_finish};
@@ -17,6 +17,17 @@ use crate::object_id::ObjectId;
 use crate::objects::{give_data, named_in, note_end};
 use wl_link::Transport;
 use wl_wire::OutOfMemory;
+
+/// Why an event that made this object cannot be ended with these data, if memory is not refused.
+fn refusal<U>(created: &Option<ObjectId>, user_data: &Option<U>) -> Option<FinishError>
+    ensures { result ≡ refusal created.now user_data.now }
+{
+    match (created.is_some(), user_data.is_some()) {
+        (true, false) => Some(FinishError::MissingObjectData),
+        (false, true) => Some(FinishError::UnexpectedData),
+        _ => None,
+    }
+}
 
 impl<T: Transport + Drop, U: Drop> Backend<T, U> {
     /// Ends the event that `next_event` handed out. If the event made an object, the object gets this user data.
@@ -52,12 +63,7 @@ impl<T: Drop, U: Drop> Backend<T, U> {
             let error = FinishError::NoOpenEvent;
             return Err(FinishRefused { error, user_data });
         };
-        let refusal = match (event.created.is_some(), user_data.is_some()) {
-            (true, false) => Some(FinishError::MissingObjectData),
-            (false, true) => Some(FinishError::UnexpectedData),
-            _ => None,
-        };
-        if let Some(error) = refusal {
+        if let Some(error) = refusal(&event.created, &user_data) {
             return Err(FinishRefused { error, user_data });
         }
         if event.is_destructor && self.end_object(&event.sender).is_err() {

@@ -128,7 +128,8 @@ pub fn histories_are_joined<T: Transport, U>()
 /// What a program does to the transport by script through `Backend::transport_mut` is a step, if it is one call of `Memory`.
 ///
 /// The premise of each clause is what the contract of that call says of the transport. So in a history the step may stand
-/// for the change of the transport (`instead`): what is proved of runs over scripts then holds of it.
+/// for the change of the transport that the program made of the session as it was (`instead`): what is proved of runs over
+/// scripts then holds of it.
 pub fn calls_of_a_script_are_steps<U>()
     ensures arrive { (before : SessionState Script U) (bytes : Vec ℕ Global) (tokens : Vec Token Global) (answer : Result (Unit {0}) ArriveError) (t : Script) →
         Arrives before.link.transport (record { bytes = bytes.items; tokens = tokens.items }) answer t →
@@ -145,9 +146,9 @@ pub fn calls_of_a_script_are_steps<U>()
     ensures take_sent { (before : SessionState Script U) (sent : Vec (Vec ℕ Global × Vec Token Global) Global) (t : Script) →
         map parcel sent.items ≡ before.link.transport.sent → t ≡ record before.link.transport { sent = [] } →
         StepOf before step.TakeSent (reply.TakeSent sent) false (over_transport before t) }
-    ensures instead { (begun after : SessionState Script U) (earlier later : List (Deed Script U)) (t : Script) (e : Entry U) →
-        ((mid : SessionState Script U) → History StepOf begun earlier mid → StepOf mid e.step e.answer e.refused (over_transport mid t)) →
-        History StepOf begun (earlier ++ Changed t ∷ later) after → History StepOf begun (earlier ++ Called e ∷ later) after }
+    ensures instead { (begun mid after : SessionState Script U) (earlier later : List (Deed Script U)) (t : Script) (e : Entry U) →
+        History StepOf begun earlier mid → StepOf mid e.step e.answer e.refused (over_transport mid t) →
+        History StepOf mid (Changed t ∷ later) after → History StepOf begun (earlier ++ Called e ∷ later) after }
 {}
 
 /// If memory is not refused, each step over the transport by script has one outcome, and so has each run.

@@ -2,7 +2,8 @@
 //!
 //! A program makes a [`Backend`] from its table of interfaces and a transport. It sends requests with `send_request` and
 //! `flush`. It reads events with `next_event`, and ends each with `finish_event`. It learns with `take_notes` which objects
-//! were destroyed. The page of this crate, `README.md`, has an example, and the order in which refusals are decided.
+//! were destroyed. The page of this crate, `README.md`, has an example. The documentation of each call says which errors it
+//! returns, and in which order they are looked for.
 //!
 //! The `requires` and `ensures` lines of a function are its *contract*: what the caller has to see to, and what is proved
 //! of each call. `specs/Session` says what a session holds. The contract of most calls is one relation between the session

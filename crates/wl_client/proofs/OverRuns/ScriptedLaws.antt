@@ -62,10 +62,11 @@ module _ {U : Type 0} where
   take_sent_step before sent t taken becomes = (sent, refl, refl, taken, ap (over_transport before) becomes)
 
   -- a step stands for a change of the transport that it makes
-  pub step_instead : (begun after : SessionState Script U) (earlier later : List (Deed Script U)) (t : Script) (e : Entry U)
-      → ((mid : SessionState Script U) → History StepOf begun earlier mid → StepOf mid e.step e.answer e.refused (over_transport mid t))
-      → History StepOf begun (earlier ++ Changed t ∷ later) after → History StepOf begun (earlier ++ Called e ∷ later) after
-  step_instead begun after [] later t e by (mid, same, leads) =
-      (mid, subst (λ (s : SessionState Script U). StepOf begun e.step e.answer e.refused s) (sym same) (by begun refl), leads)
-  step_instead begun after (d ∷ earlier) later t e by (mid, first, leads) =
-      (mid, first, step_instead mid after earlier later t e (λ s h. by s (mid, first, h)) leads)
+  pub step_instead : (begun mid after : SessionState Script U) (earlier later : List (Deed Script U)) (t : Script) (e : Entry U)
+      → History StepOf begun earlier mid → StepOf mid e.step e.answer e.refused (over_transport mid t)
+      → History StepOf mid (Changed t ∷ later) after → History StepOf begun (earlier ++ Called e ∷ later) after
+  step_instead begun mid after [] later t e here by (next, same, leads) =
+      let there = subst (λ (s : SessionState Script U). StepOf mid e.step e.answer e.refused s) (sym same) by in
+      (next, subst (λ (s : SessionState Script U). StepOf s e.step e.answer e.refused next) here there, leads)
+  step_instead begun mid after (d ∷ earlier) later t e (first, one, rest) by leads =
+      (first, one, step_instead first mid after earlier later t e rest by leads)

@@ -1,27 +1,41 @@
 -- What is known of an event that is handed out, and of the object that it made.
-use Rattle.std.proofs.Common.{◌≡◌, ◌≢◌, ℕ, Bool, true, false, not, cond, List, [], ◌∷◌, ◌++◌, Option, None, Some, is_some, Result, Ok, Err, MatchOption, refl, sym, ap, subst, ◌∙◌, true≢false}
-use Rattle.std.specs.Prelude.{◌&&◌, ◌==◌, ◌+◌}
+use Rattle.std.proofs.Common.{◌≡◌, ◌≢◌, ℕ, Bool, true, false, not, cond, eqb, List, [], ◌∷◌, ◌++◌, Option, None, Some, is_some, Result, Ok, Err, MatchOption, refl, sym, ap, ap₂, subst, ◌∙◌, true≢false}
+use mathlib.Core.Logic.{inl, inr}
+use Rattle.std.specs.List.{list_any}
+use Rattle.std.specs.Prelude.{◌&&◌, ◌||◌, ◌==◌, ◌+◌, IsSome, length, nat_le, option_map}
 use Rattle.wl_wire.specs.declared.argument.Argument.{Argument}
 use Rattle.wl_wire.specs.declared.argument.Argument.TheVariants as arg
+use Rattle.wl_wire.specs.declared.argument.ArgumentType.{ArgumentType}
+use Rattle.wl_wire.specs.declared.argument.ArgumentType.TheVariants as kind
 use Rattle.wl_wire.specs.declared.argument.Token.{Token}
+use Rattle.wl_wire.specs.declared.error.IoFault.{IoFault}
 use Rattle.wl_wire.specs.declared.interface.InterfaceId.{InterfaceId}
-use Rattle.wl_wire.specs.Argument.{WireArgument}
+use Rattle.wl_wire.specs.Argument.{WireArgument, kind_of, type_of}
 use Rattle.wl_wire.specs.Message.{WireMessage}
-use Rattle.wl_wire.specs.MessageRows.{event_row, next_interface}
-use Rattle.wl_wire.specs.Table.{InterfaceRow, MessageRow}
-use Rattle.wl_link.proofs.Ids.StoreLaws.{removed_other, stored_here, stored_other}
+use Rattle.wl_wire.specs.MessageRows.{creates, event_row, next_interface}
+use Rattle.wl_wire.specs.Parse.{opcode_of, sender_of}
+use Rattle.wl_wire.specs.Reading.{Reads}
+use Rattle.wl_wire.specs.Table.{InterfaceRow, MessageRow, is_new_id}
+use Rattle.wl_wire.proofs.Spelling.CursorLaws.{piece_fits}
+use Rattle.wl_link.proofs.Calls.Branches.{either_bool}
+use Rattle.wl_link.proofs.Ids.StoreLaws.{held_rewritten, removed_other, stored_here, stored_other}
 use Rattle.wl_link.specs.declared.object.Object.{Object}
+use Rattle.wl_link.specs.Exchange.{Queue}
 use Rattle.wl_link.specs.Identity.{Objects}
-use Rattle.wl_link.specs.Store.{Store, held, is_free, is_server_number, removed}
+use Rattle.wl_link.specs.Link.{LinkState, ReadFound}
+use Rattle.wl_link.specs.Reader.{ReaderState, ReadsAs}
+use Rattle.wl_link.specs.Store.{Store, held, is_free, is_server_number, removed, rewritten, stored}
 use Rattle.wl_client.specs.declared.event.OpenEvent.{OpenEvent}
 use Rattle.wl_client.specs.declared.objects.Kept.{Kept}
 use Rattle.wl_client.specs.declared.protocol_error.EventFault.{EventFault}
 use Rattle.wl_client.specs.declared.protocol_error.EventFault.TheVariants as wrong
-use Rattle.wl_client.specs.Events.{Converted, Converting, DisplayEvent, Deletes, Fails, Outcome, Unreadable, Whole, Wrong, convert, convert_one, display_event, going_on, is_destroyed, is_valid_new, made_object, object_argument, start, vacated, with_new_argument, with_new_at, with_object_argument}
-use Rattle.wl_client.specs.Handling.{Breaks, Handling, HandsOut, Swallows, event_of, handling, of_converted, of_display, of_event, opened_of, row_in}
+use Rattle.wl_client.specs.Events.{Converted, Converting, DisplayEvent, Deletes, Fails, Outcome, Unreadable, Whole, Wrong, after_delete, convert, convert_one, deleted, display_event, going_on, is_destroyed, is_valid_new, made_object, object_argument, start, vacated, with_new_argument, with_new_at, with_object_argument}
+use Rattle.wl_client.specs.Handling.{Breaks, Handling, HandsOut, Swallows, event_of, handling, of_converted, of_display, of_event, opened_of, row_in, signature_in}
 use Rattle.wl_client.specs.ObjectId.{IdParts}
+use Rattle.wl_client.specs.Plain.{IsMade, new_id_in}
+use Rattle.wl_client.specs.Reading.{client}
 use Rattle.wl_client.specs.Requests.{SessionMessage}
-use Rattle.wl_client.specs.Session.{fresh_object, id_at, last_possible_serial}
+use Rattle.wl_client.specs.Session.{Core, alive, id_at, last_possible_serial, with_flags}
 
 both : (a b : Bool) → (a && b) ≡ true → (a ≡ true) × (b ≡ true)
 both true b is = (refl, is)
@@ -34,44 +48,116 @@ holds_none (Some x) is = absurd (true≢false (sym is))
 none_some : {A : Type 0} {x : A} → None ≡ Some x → ⊥
 none_some e = true≢false (sym (ap is_some e))
 
--- ---- the arguments of an event of the object `x`, which the number `k` holds
+pub none_unless : {A : Type 0} (o : Option A) → (IsSome o → ⊥) → o ≡ None
+none_unless None never = refl
+none_unless (Some x) never = absurd (never refl)
 
-module _ {U : Type 0} (x : Object (Kept U)) (row : MessageRow) (k : ℕ) (live : x.value.client_destroyed ≡ false) where
-  -- the object that was made so far, if any, is the one that the table names
-  abbrev MadeSo : Option IdParts → Option InterfaceId → Store (Kept U) → Type 0
-  MadeSo None child store = child ≡ row.child_interface
-  MadeSo (Some id) child store =
-      (child ≡ None) × (row.child_interface ≡ Some id.interface)
-      × (held store id.number ≡ Some (made_object x.version x.value.client_destroyed id.interface id.serial))
+or_true : (a : Bool) → true ≡ (a || true)
+or_true true = refl
+or_true false = refl
 
-  record SoFar (c : Converting U) : Type 0 where
-    receiver : held c.objects.store k ≡ Some x
-    made : MadeSo c.created c.child c.objects.store
+or_false : (a : Bool) → a ≡ (a || false)
+or_false true = refl
+or_false false = refl
 
-  abbrev HoldsOfOne : Converted U → Type 0
-  HoldsOfOne (Ok next) = SoFar next.1
-  HoldsOfOne (Err w) = Unit {0}
+or_both : (a b c : Bool) → ((a || b) || c) ≡ (a || (b || c))
+or_both true b c = refl
+or_both false b c = refl
 
-  abbrev HoldsOf : Outcome U → Type 0
-  HoldsOf (Whole c args) = SoFar c
-  HoldsOf (Wrong w objects) = Unit {0}
+-- ---- new ids among arguments
 
-  named_by : (created : Option IdParts) (child : Option InterfaceId) (store : Store (Kept U)) (i : InterfaceId) → MadeSo created child store → child ≡ Some i
-      → row.child_interface ≡ Some i
-  named_by None child store i made is = sym made ∙ is
-  named_by (Some id) child store i made is = absurd (none_some (sym made.0 ∙ is))
+abbrev is_new : {Id Fd : Type 0} → Argument Id Fd → Bool
+is_new a = is_new_id (type_of a)
+
+new_of_kind : (k : ArgumentType) → is_new_id (kind_of k) ≡ is_new_id k
+new_of_kind kind.NewId = refl
+new_of_kind _ = refl
+
+new_in_both : (signature : List ArgumentType) (args : List WireArgument) (payload : List ℕ) (fds : List Token) → Reads signature args payload fds
+    → list_any is_new_id signature ≡ list_any is_new args
+unfolding Reads
+new_in_both [] [] payload fds r = refl
+new_in_both (k ∷ signature) (a ∷ args) payload fds r =
+    ap₂ (λ (x y : Bool). x || y) (sym (new_of_kind k) ∙ ap is_new_id (piece_fits k a r.0 r.5).0) (new_in_both signature args r.1 r.2 r.6)
+new_in_both _ _ payload fds r = absurd r
+
+-- behind the arguments comes one more
+new_behind : (done : List (Argument IdParts Token)) (b : Argument IdParts Token) → new_id_in (b ∷ []) ≡ None
+    → new_id_in (done ++ b ∷ []) ≡ new_id_in done
+new_behind [] b none = none
+new_behind (arg.NewId id ∷ done) b none = refl
+new_behind (_ ∷ done) b none = new_behind done b none
+
+new_first : (done : List (Argument IdParts Token)) (id : IdParts) → new_id_in done ≡ None → new_id_in (done ++ arg.NewId id ∷ []) ≡ Some id
+new_first [] id none = refl
+new_first (arg.NewId other ∷ done) id none = absurd (none_some (sym none))
+new_first (_ ∷ done) id none = new_first done id none
+
+-- ---- a message that was read
+
+no_error : {A E : Type 0} {x : A} {e : E} → ◌≡◌ {A = Result A E} (Ok x) (Err e) → ⊥
+no_error is = true≢false (ap is_fine is)
+  where
+    is_fine : {A E : Type 0} → Result A E → Bool
+    is_fine (Ok x) = true
+    is_fine (Err e) = false
+
+module _ {T U : Type 0} (sends : T → Queue → Result ℕ IoFault → T → Type 0) (p : ReaderState T (Core U)) (m : WireMessage) (link : LinkState T) where
+  -- it makes an object by the table exactly if one of its arguments is a new number
+  pub makes_new : ReadsAs sends client p (Ok m) link → (row : MessageRow) → row_in p.core.table (held p.core.store m.sender) m.opcode ≡ Some row
+      → creates row ≡ list_any is_new m.args
+  makes_new read row has =
+      elim (either_bool (nat_le 8 (length p.link.incoming.bytes)) read) [
+        | inl (found, is, h) ↦ at found is h
+        | inr (none, same) ↦ absurd (no_error none)
+      ]
+    where
+      at : (found : Option (List ArgumentType))
+          → found ≡ signature_in p.core.table p.core.store (sender_of p.link.incoming.bytes) (opcode_of p.link.incoming.bytes)
+          → ReadFound found p.link (Ok m) link → creates row ≡ list_any is_new m.args
+      at None is (none, same) = absurd (no_error none)
+      at (Some signature) is (message, after) =
+          let by_sender : signature_in p.core.table p.core.store m.sender m.opcode ≡ Some signature =
+          ap₂ (λ (n opcode : ℕ). signature_in p.core.table p.core.store n opcode) message.sender message.opcode ∙ sym is in
+          let same : Some row.signature ≡ Some signature = sym (ap (option_map (λ (r : MessageRow). r.signature)) has) ∙ by_sender in
+          ap (list_any is_new_id) (of_some row.signature signature same) ∙ new_in_both signature m.args _ _ message.args
+        where
+          of_some : (a b : List ArgumentType) → Some a ≡ Some b → a ≡ b
+          of_some a b e = cc
+
+-- ---- objects that the client has not destroyed
+
+module _ {U : Type 0} where
+  alive_is : (o : Option (Object (Kept U))) → IsSome (alive o) → (x : Object (Kept U)) × (o ≡ Some x) × (x.value.client_destroyed ≡ false)
+  alive_is None is = absurd (true≢false (sym is))
+  alive_is (Some x) is = at x.value.client_destroyed refl is
+    where
+      at : (b : Bool) → x.value.client_destroyed ≡ b → IsSome (cond b None (Some x))
+          → (y : Object (Kept U)) × (Some x ≡ Some y) × (y.value.client_destroyed ≡ false)
+      at true e none = absurd (true≢false (sym none))
+      at false e some = (x, refl, e)
+
+  -- their numbers still have one each
+  abbrev pub Stay : Store (Kept U) → Store (Kept U) → Type 0
+  Stay s t = (k : ℕ) → IsSome (alive (held s k)) → IsSome (alive (held t k))
+
+  -- so a number that has none had none
+  pub had_none : (s t : Store (Kept U)) (n : ℕ) → Stay s t → alive (held t n) ≡ None → alive (held s n) ≡ None
+  had_none s t n stay none = none_unless (alive (held s n)) (λ is. true≢false (sym (stay n is) ∙ ap is_some none))
 
   -- a number that is vacated is another one's
-  vacated_elsewhere : (store : Store (Kept U)) (n : ℕ) → k ≢ n → held (vacated store n) k ≡ held store k
-  vacated_elsewhere store n differ = at (is_destroyed (held store n))
+  vacated_elsewhere : (store : Store (Kept U)) (k n : ℕ) → k ≢ n → held (vacated store n) k ≡ held store k
+  vacated_elsewhere store k n differ = at (is_destroyed (held store n))
     where
       at : (b : Bool) → held (cond b (removed store n) store) k ≡ held store k
       at true = removed_other store n k differ
       at false = refl
 
-  -- the number of the receiver is not free
-  other_number : (objects : Objects (Kept U)) (n : ℕ) → held objects.store k ≡ Some x → is_valid_new objects n ≡ true → k ≢ n
-  other_number objects n holds valid same = none_some (sym (holds_none (held objects.store k) (subst (λ (s : Store (Kept U)). not (is_some (held s k)) ≡ true) stays free)) ∙ holds)
+  -- the number of such an object is not free
+  other_number : (objects : Objects (Kept U)) (k n : ℕ) (x : Object (Kept U)) → x.value.client_destroyed ≡ false → held objects.store k ≡ Some x
+      → is_valid_new objects n ≡ true → k ≢ n
+  other_number objects k n x live holds valid same =
+      none_some (sym (holds_none (held objects.store k) (subst (λ (s : Store (Kept U)). not (is_some (held s k)) ≡ true) stays free)) ∙ holds)
     where
       second : (is_free (vacated objects.store n) n && not (objects.last_serial == last_possible_serial)) ≡ true
       second = (both (is_server_number n) _ valid).1
@@ -88,117 +174,258 @@ module _ {U : Type 0} (x : Object (Kept U)) (row : MessageRow) (k : ℕ) (live :
       stays : vacated objects.store k ≡ objects.store
       stays = ap (λ (b : Bool). cond b (removed objects.store k) objects.store) (ap is_destroyed holds ∙ live)
 
-  one : (c : Converting U) (a : WireArgument) → SoFar c → HoldsOfOne (convert_one x.version x.value.client_destroyed c a)
-  one c (arg.Int z) so = so
-  one c (arg.Uint n) so = so
-  one c (arg.Fixed z) so = so
-  one c (arg.Str text) so = so
-  one c (arg.Array bytes) so = so
-  one c (arg.Fd token) so = so
-  one c (arg.Object n) so = at (object_argument c.objects.store (next_interface c.asked) n)
+  -- a new object takes a number that had none
+  new_number : (objects : Objects (Kept U)) (n : ℕ) → is_valid_new objects n ≡ true → alive (held objects.store n) ≡ None
+  new_number objects n valid =
+      none_unless (alive (held objects.store n))
+      (λ is. let (x, there, live) = alive_is (held objects.store n) is in other_number objects n n x live there valid refl)
+
+  stay_by_new : (objects : Objects (Kept U)) (n : ℕ) (y : Object (Kept U)) → is_valid_new objects n ≡ true
+      → Stay objects.store (stored (vacated objects.store n) n y)
+  stay_by_new objects n y valid k is =
+      let (x, there, live) = alive_is (held objects.store k) is in
+      let apart = other_number objects k n x live there valid in
+      subst (λ (o : Option (Object (Kept U))). IsSome (alive o))
+      (sym (stored_other (vacated objects.store n) n y k apart ∙ vacated_elsewhere objects.store k n apart)) is
+
+  stay_by_deletion : (store : Store (Kept U)) (n : ℕ) → Stay store (deleted store n)
+  stay_by_deletion store n = at (held store n) refl
     where
-      at : (r : Result IdParts EventFault) → HoldsOfOne (with_object_argument c r)
-      at (Ok id) = record { receiver = so.receiver; made = so.made }
+      at : (o : Option (Object (Kept U))) → held store n ≡ o → Stay store (after_delete store n o)
+      at None e k is = is
+      at (Some y) e k is = go y.value.client_destroyed refl k is
+        where
+          go : (b : Bool) → y.value.client_destroyed ≡ b → Stay store (cond b (removed store n) (rewritten store n (with_flags false true y)))
+          go true over k is =
+              let (z, there, live) = alive_is (held store k) is in
+              let apart : k ≢ n = λ same. true≢false (sym over ∙ ap is_destroyed (sym e ∙ ap (held store) (sym same) ∙ there) ∙ live) in
+              subst (λ (o : Option (Object (Kept U))). IsSome (alive o)) (sym (removed_other store n k apart)) is
+          go false lives k is =
+              subst (λ (o : Option (Object (Kept U))). IsSome (alive o)) (sym (held_rewritten store n (with_flags false true y) k)) (here (eqb k n))
+            where
+              here : (b : Bool) → IsSome (alive (cond b (Some (with_flags false true y)) (held store k)))
+              here true = refl
+              here false = is
+
+-- the arguments of an event leave them
+module _ {U : Type 0} (version : ℕ) (destroyed : Bool) (first : Store (Kept U)) where
+  abbrev StayByOne : Converted U → Type 0
+  StayByOne (Ok next) = Stay first next.1.objects.store
+  StayByOne (Err w) = Unit {0}
+
+  abbrev StayBy : Outcome U → Type 0
+  StayBy (Whole c args) = Stay first c.objects.store
+  StayBy (Wrong w objects) = Unit {0}
+
+  stay_by_one : (c : Converting U) (a : WireArgument) → Stay first c.objects.store → StayByOne (convert_one version destroyed c a)
+  stay_by_one c (arg.Object n) so = at (object_argument c.objects.store (next_interface c.asked) n)
+    where
+      at : (r : Result IdParts EventFault) → StayByOne (with_object_argument c r)
+      at (Ok id) = so
       at (Err w) = tt
-  one c (arg.NewId n) so = new c.child refl
+  stay_by_one c (arg.NewId n) so = new c.child
+    where
+      valid : (i : InterfaceId) (b : Bool) → is_valid_new c.objects n ≡ b
+          → StayByOne (cond b (Ok (with_new_at version destroyed c n i)) (Err (wrong.InvalidNewId n i)))
+      valid i false free = tt
+      valid i true free = λ k is. stay_by_new c.objects n (made_object version destroyed i (c.objects.last_serial + 1)) free k (so k is)
+
+      new : (o : Option InterfaceId) → StayByOne (with_new_argument version destroyed c n o)
+      new None = tt
+      new (Some i) = valid i (is_valid_new c.objects n) refl
+  stay_by_one c _ so = so
+
+  stay_by_all : (c : Converting U) (done : List (Argument IdParts Token)) (args : List WireArgument) → Stay first c.objects.store
+      → StayBy (convert version destroyed c done args)
+  stay_by_all c done [] so = so
+  stay_by_all c done (a ∷ args) so =
+      at (convert_one version destroyed c a) (stay_by_one c a so) (λ next holds. stay_by_all next.1 (done ++ next.0 ∷ []) args holds)
+    where
+      at : (r : Converted U) → StayByOne r
+          → ((next : Argument IdParts Token × Converting U) → Stay first next.1.objects.store
+          → StayBy (convert version destroyed next.1 (done ++ next.0 ∷ []) args))
+          → StayBy (going_on r c.objects (λ b next. convert version destroyed next (done ++ b ∷ []) args))
+      at (Ok next) holds again = again next holds
+      at (Err w) holds again = tt
+
+-- ---- the arguments of an event of the object `x`, which the number `k` holds
+
+module _ {U : Type 0} (first : Store (Kept U)) (x : Object (Kept U)) (row : MessageRow) (k : ℕ) (live : x.value.client_destroyed ≡ false) where
+  -- the object that was made so far, if any, is the one that the table names, and its number had none before
+  abbrev MadeSo : Option IdParts → Option InterfaceId → Store (Kept U) → Type 0
+  MadeSo None child store = child ≡ row.child_interface
+  MadeSo (Some id) child store =
+      (child ≡ None) × (alive (held first id.number) ≡ None) × (row.child_interface ≡ Some id.interface)
+      × (held store id.number ≡ Some (made_object x.version x.value.client_destroyed id.interface id.serial))
+
+  record SoFar (c : Converting U) (done : List (Argument IdParts Token)) : Type 0 where
+    receiver : held c.objects.store k ≡ Some x
+    stay : Stay first c.objects.store
+    named : c.created ≡ new_id_in done
+    made : MadeSo c.created c.child c.objects.store
+
+  abbrev HoldsOfOne : Converting U → List (Argument IdParts Token) → WireArgument → Converted U → Type 0
+  HoldsOfOne c done a (Ok next) = SoFar next.1 (done ++ next.0 ∷ []) × (is_some next.1.created ≡ (is_some c.created || is_new a))
+  HoldsOfOne c done a (Err w) = Unit {0}
+
+  abbrev HoldsOf : Converting U → List WireArgument → Outcome U → Type 0
+  HoldsOf c args (Whole d all) = SoFar d all × (is_some d.created ≡ (is_some c.created || list_any is_new args))
+  HoldsOf c args (Wrong w objects) = Unit {0}
+
+  named_by : (created : Option IdParts) (child : Option InterfaceId) (store : Store (Kept U)) (i : InterfaceId) → MadeSo created child store → child ≡ Some i
+      → (created ≡ None) × (row.child_interface ≡ Some i)
+  named_by None child store i made is = (refl, sym made ∙ is)
+  named_by (Some id) child store i made is = absurd (none_some (sym made.0 ∙ is))
+
+  -- an argument that makes nothing
+  passed : (c : Converting U) (done : List (Argument IdParts Token)) (asked : List InterfaceId) (b : Argument IdParts Token)
+      → new_id_in (b ∷ []) ≡ None → SoFar c done
+      → SoFar (record c { asked = asked }) (done ++ b ∷ []) × (is_some c.created ≡ (is_some c.created || false))
+  passed c done asked b none so = (
+    record { receiver = so.receiver; stay = so.stay; named = so.named ∙ sym (new_behind done b none); made = so.made },
+    or_false (is_some c.created),
+  )
+
+  one : (c : Converting U) (done : List (Argument IdParts Token)) (a : WireArgument) → SoFar c done
+      → HoldsOfOne c done a (convert_one x.version x.value.client_destroyed c a)
+  one c done (arg.Int z) so = passed c done c.asked (arg.Int z) refl so
+  one c done (arg.Uint n) so = passed c done c.asked (arg.Uint n) refl so
+  one c done (arg.Fixed z) so = passed c done c.asked (arg.Fixed z) refl so
+  one c done (arg.Str text) so = passed c done c.asked (arg.Str text) refl so
+  one c done (arg.Array bytes) so = passed c done c.asked (arg.Array bytes) refl so
+  one c done (arg.Fd token) so = passed c done c.asked (arg.Fd token) refl so
+  one c done (arg.Object n) so = at (object_argument c.objects.store (next_interface c.asked) n)
+    where
+      at : (r : Result IdParts EventFault) → HoldsOfOne c done (arg.Object n) (with_object_argument c r)
+      at (Ok id) = passed c done _ (arg.Object id) refl so
+      at (Err w) = tt
+  one c done (arg.NewId n) so = new c.child refl
     where
       valid : (i : InterfaceId) → c.child ≡ Some i → (b : Bool) → is_valid_new c.objects n ≡ b
-          → HoldsOfOne (cond b (Ok (with_new_at x.version x.value.client_destroyed c n i)) (Err (wrong.InvalidNewId n i)))
+          → HoldsOfOne c done (arg.NewId n) (cond b (Ok (with_new_at x.version x.value.client_destroyed c n i)) (Err (wrong.InvalidNewId n i)))
       valid i is false free = tt
       valid i is true free =
           let y = made_object x.version x.value.client_destroyed i (c.objects.last_serial + 1) in
-          let apart = other_number c.objects n so.receiver free in
-          record {
-            receiver = stored_other (vacated c.objects.store n) n y k apart ∙ vacated_elsewhere c.objects.store n apart ∙ so.receiver;
-            made = (refl, named_by c.created c.child c.objects.store i so.made is, stored_here (vacated c.objects.store n) n y n refl);
-          }
+          let apart = other_number c.objects k n x live so.receiver free in
+          let (none, named) = named_by c.created c.child c.objects.store i so.made is in (
+            record {
+              receiver = stored_other (vacated c.objects.store n) n y k apart ∙ vacated_elsewhere c.objects.store k n apart ∙ so.receiver;
+              stay = λ j some. stay_by_new c.objects n y free j (so.stay j some);
+              named = sym (new_first done (id_at n y) (sym so.named ∙ none));
+              made = (
+                refl,
+                had_none first c.objects.store n so.stay (new_number c.objects n free),
+                named,
+                stored_here (vacated c.objects.store n) n y n refl,
+              );
+            },
+            or_true (is_some c.created),
+          )
 
-      new : (o : Option InterfaceId) → c.child ≡ o → HoldsOfOne (with_new_argument x.version x.value.client_destroyed c n o)
+      new : (o : Option InterfaceId) → c.child ≡ o → HoldsOfOne c done (arg.NewId n) (with_new_argument x.version x.value.client_destroyed c n o)
       new None is = tt
       new (Some i) is = valid i is (is_valid_new c.objects n) refl
 
-  all : (c : Converting U) (done : List (Argument IdParts Token)) (args : List WireArgument) → SoFar c → HoldsOf (convert x.version x.value.client_destroyed c done args)
-  all c done [] so = so
+  all : (c : Converting U) (done : List (Argument IdParts Token)) (args : List WireArgument) → SoFar c done
+      → HoldsOf c args (convert x.version x.value.client_destroyed c done args)
+  all c done [] so = (so, or_false (is_some c.created))
   all c done (a ∷ args) so =
-      at (convert_one x.version x.value.client_destroyed c a) (one c a so) (λ next holds. all next.1 (done ++ next.0 ∷ []) args holds)
+      at (convert_one x.version x.value.client_destroyed c a) (one c done a so) (λ next holds. all next.1 (done ++ next.0 ∷ []) args holds)
     where
-      at : (r : Converted U) → HoldsOfOne r
-          → ((next : Argument IdParts Token × Converting U) → SoFar next.1 → HoldsOf (convert x.version x.value.client_destroyed next.1 (done ++ next.0 ∷ []) args))
-          → HoldsOf (going_on r c.objects (λ b next. convert x.version x.value.client_destroyed next (done ++ b ∷ []) args))
-      at (Ok next) holds again = again next holds
+      behind : (next : Argument IdParts Token × Converting U) → is_some next.1.created ≡ (is_some c.created || is_new a) → (o : Outcome U)
+          → HoldsOf next.1 args o
+          → HoldsOf c (a ∷ args) o
+      behind next is (Whole d all') (so', new) =
+          (so', new ∙ ap (λ (b : Bool). b || list_any is_new args) is ∙ or_both (is_some c.created) (is_new a) (list_any is_new args))
+      behind next is (Wrong w objects) h = tt
+
+      at : (r : Converted U) → HoldsOfOne c done a r
+          → ((next : Argument IdParts Token × Converting U) → SoFar next.1 (done ++ next.0 ∷ [])
+          → HoldsOf next.1 args (convert x.version x.value.client_destroyed next.1 (done ++ next.0 ∷ []) args))
+          → HoldsOf c (a ∷ args) (going_on r c.objects (λ b next. convert x.version x.value.client_destroyed next (done ++ b ∷ []) args))
+      at (Ok next) (holds, new) again =
+          behind next new (convert x.version x.value.client_destroyed next.1 (done ++ next.0 ∷ []) args) (again next holds)
       at (Err w) holds again = tt
 
 -- ---- an event
 
 module _ {U : Type 0} (table : List InterfaceRow) where
-  pub record Opens (m : SessionMessage) (event : OpenEvent) (objects : Objects (Kept U)) : Type 0 where
+  pub record Opens (first : Store (Kept U)) (m : SessionMessage) (event : OpenEvent) (objects : Objects (Kept U)) : Type 0 where
     pub sender : Object (Kept U)
     pub row : MessageRow
-    pub created : Option IdParts
     pub holds : held objects.store m.sender.number ≡ Some sender
     pub sender_is : m.sender ≡ id_at m.sender.number sender
     pub live : sender.value.client_destroyed ≡ false
     pub has : event_row table sender.interface m.opcode ≡ Some row
-    pub event_is : event ≡ record { sender = m.sender; is_destructor = row.is_destructor; created = created }
-    pub made : MatchOption created (Unit {0})
-        (λ id. (row.child_interface ≡ Some id.interface) × (held objects.store id.number ≡ Some (fresh_object id.interface sender.version id.serial None)))
+    pub event_is : event ≡ record { sender = m.sender; is_destructor = row.is_destructor; created = new_id_in m.args }
+    pub makes : is_some (new_id_in m.args) ≡ creates row
+    pub made : MatchOption (new_id_in m.args) (Unit {0}) (IsMade first row sender.version objects.store)
 
-  abbrev pub OpensIn : Handling U → Type 0
-  OpensIn (Swallows objects) = Unit {0}
-  OpensIn (HandsOut m event objects) = Opens m event objects
-  OpensIn (Breaks e objects) = Unit {0}
+  abbrev pub OpensIn : Store (Kept U) → Handling U → Type 0
+  OpensIn first (Swallows objects) = Stay first objects.store
+  OpensIn first (HandsOut m event objects) = Opens first m event objects
+  OpensIn first (Breaks e objects) = Unit {0}
 
-  module _ (objects : Objects (Kept U)) (m : WireMessage) where
-    of_display_none : (d : DisplayEvent) → OpensIn (of_display table objects d)
+  module _ (objects : Objects (Kept U)) (m : WireMessage)
+      (makes : (row : MessageRow) → row_in table (held objects.store m.sender) m.opcode ≡ Some row → creates row ≡ list_any is_new m.args) where
+    of_display_none : (d : DisplayEvent) → OpensIn objects.store (of_display table objects d)
     of_display_none (Fails code n text) = tt
-    of_display_none (Deletes n) = tt
+    of_display_none (Deletes n) = stay_by_deletion objects.store n
     of_display_none Unreadable = tt
 
     made_new : (x : Object (Kept U)) (row : MessageRow) (live : x.value.client_destroyed ≡ false) (created : Option IdParts) (child : Option InterfaceId) (store : Store (Kept U))
-        → MadeSo x row m.sender live created child store
-        → MatchOption created (Unit {0})
-        (λ id. (row.child_interface ≡ Some id.interface) × (held store id.number ≡ Some (fresh_object id.interface x.version id.serial None)))
+        → MadeSo objects.store x row m.sender live created child store → MatchOption created (Unit {0}) (IsMade objects.store row x.version store)
     made_new x row live None child store made = tt
     made_new x row live (Some id) child store made = (
       made.1,
-      made.2 ∙ ap (λ (b : Bool). Some (made_object x.version b id.interface id.serial)) live,
+      made.2,
+      made.3 ∙ ap (λ (b : Bool). Some (made_object x.version b id.interface id.serial)) live,
     )
 
     converted : (x : Object (Kept U)) (row : MessageRow) → held objects.store m.sender ≡ Some x → event_row table x.interface m.opcode ≡ Some row
-        → (b : Bool) → x.value.client_destroyed ≡ b → (outcome : Outcome U)
-        → ((live : x.value.client_destroyed ≡ false) → HoldsOf x row m.sender live outcome)
-        → OpensIn (of_converted table objects m x row outcome)
-    converted x row holds has b is (Wrong w after) so = tt
-    converted x row holds has true is (Whole c args) so =
-        subst (λ (b : Bool). OpensIn (cond b (Swallows c.objects) (HandsOut (event_of m x args) (opened_of m x row c.created) c.objects))) (sym is) tt
-    converted x row holds has false is (Whole c args) so =
-        let kept = so is in
-        subst (λ (b : Bool). OpensIn (cond b (Swallows c.objects) (HandsOut (event_of m x args) (opened_of m x row c.created) c.objects))) (sym is)
+        → creates row ≡ list_any is_new m.args → (b : Bool) → x.value.client_destroyed ≡ b → (outcome : Outcome U)
+        → StayBy x.version x.value.client_destroyed objects.store outcome
+        → ((live : x.value.client_destroyed ≡ false) → HoldsOf objects.store x row m.sender live (start objects row) m.args outcome)
+        → OpensIn objects.store (of_converted table objects m x row outcome)
+    converted x row holds has fits b is (Wrong w after) stay so = tt
+    converted x row holds has fits true is (Whole c args) stay so =
+        subst (λ (b : Bool). OpensIn objects.store (cond b (Swallows c.objects) (HandsOut (event_of m x args) (opened_of m x row c.created) c.objects)))
+        (sym is) stay
+    converted x row holds has fits false is (Whole c args) stay so =
+        let (kept, new) = so is in
+        subst (λ (b : Bool). OpensIn objects.store (cond b (Swallows c.objects) (HandsOut (event_of m x args) (opened_of m x row c.created) c.objects)))
+        (sym is)
         (record {
           sender = x;
           row = row;
-          created = c.created;
           holds = kept.receiver;
           sender_is = refl;
           live = is;
           has = has;
-          event_is = refl;
-          made = made_new x row is c.created c.child c.objects.store kept.made;
+          event_is = ap (λ (o : Option IdParts). opened_of m x row o) kept.named;
+          makes = ap is_some (sym kept.named) ∙ new ∙ sym fits;
+          made =
+              subst (λ (o : Option IdParts). MatchOption o (Unit {0}) (IsMade objects.store row x.version c.objects.store)) kept.named
+              (made_new x row is c.created c.child c.objects.store kept.made);
         })
 
-    event : (o : Option (Object (Kept U))) → held objects.store m.sender ≡ o → (r : Option MessageRow) → row_in table o m.opcode ≡ r → OpensIn (of_event table objects m o r)
+    event : (o : Option (Object (Kept U))) → held objects.store m.sender ≡ o → (r : Option MessageRow) → row_in table o m.opcode ≡ r
+        → OpensIn objects.store (of_event table objects m o r)
     event None is None has = tt
     event None is (Some row) has = tt
     event (Some x) is None has = tt
     event (Some x) is (Some row) has =
-        converted x row is has x.value.client_destroyed refl _
-        (λ live. all x row m.sender live (start objects row) [] m.args (record { receiver = is; made = refl }))
+        converted x row is has (makes row (ap (λ (o : Option (Object (Kept U))). row_in table o m.opcode) is ∙ has)) x.value.client_destroyed refl _
+        (stay_by_all x.version x.value.client_destroyed objects.store (start objects row) [] m.args (λ k some. some))
+        (λ live.
+        all objects.store x row m.sender live (start objects row) [] m.args
+        (record { receiver = is; stay = λ k some. some; named = refl; made = refl }))
 
-    pub opens : OpensIn (handling table objects m)
+    pub opens : OpensIn objects.store (handling table objects m)
     opens = at (m.sender == 1)
       where
         at : (b : Bool)
-            → OpensIn (cond b (of_display table objects (display_event m.opcode m.args))
+            → OpensIn objects.store (cond b (of_display table objects (display_event m.opcode m.args))
             (of_event table objects m (held objects.store m.sender) (row_in table (held objects.store m.sender) m.opcode)))
         at true = of_display_none (display_event m.opcode m.args)
         at false = event (held objects.store m.sender) refl (row_in table (held objects.store m.sender) m.opcode) refl

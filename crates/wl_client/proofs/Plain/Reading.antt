@@ -1,5 +1,5 @@
 -- A reading: what it hands out, and what the session is after it.
-use Rattle.std.proofs.Common.{◌≡◌, ◌⊎◌, ℕ, Bool, true, false, List, [], ◌∷◌, ◌++◌, map, Option, None, Some, IsSome, is_none, is_some, Result, Ok, Err, ◌&&◌, MatchBool, MatchResult, refl, sym, ap, ap₂, subst, ◌∙◌, true≢false}
+use Rattle.std.proofs.Common.{◌≡◌, ◌⊎◌, ℕ, Bool, true, false, List, [], ◌∷◌, ◌++◌, map, Option, None, Some, IsSome, is_none, is_some, Result, Ok, Err, ◌&&◌, MatchBool, MatchOption, MatchResult, refl, sym, ap, ap₂, subst, ◌∙◌, true≢false}
 use mathlib.Core.Logic.{inl, inr}
 use Rattle.wl_wire.specs.declared.error.IoFault.{IoFault}
 use Rattle.wl_wire.specs.declared.error.IoFault.TheVariants as fault
@@ -9,6 +9,7 @@ use Rattle.wl_link.specs.Identity.{Objects}
 use Rattle.wl_link.specs.Link.{LinkState, counted_answer, count_of}
 use Rattle.wl_link.specs.Puts.{Said, lacks_memory}
 use Rattle.wl_link.specs.Reader.{CarriesOut, Given, Gives, Halts, HandedOut, Handled, ReaderState, Reads, Received, Turn, Unread, Verdict, came_to, given_first, put_and_gave, stops, with_link}
+use Rattle.wl_link.specs.Store.{Store}
 use Rattle.wl_client.specs.declared.error.EventError.{EventError}
 use Rattle.wl_client.specs.declared.error.WaylandError.{WaylandError}
 use Rattle.wl_client.specs.declared.event.OpenEvent.{OpenEvent}
@@ -16,11 +17,12 @@ use Rattle.wl_client.specs.declared.objects.Kept.{Kept}
 use Rattle.wl_client.specs.declared.protocol_error.EventFault.TheVariants as wrong
 use Rattle.wl_client.specs.Events.{error_of}
 use Rattle.wl_client.specs.Handling.{Breaks, Handling, HandsOut, Swallows, handed, handling}
-use Rattle.wl_client.specs.Plain.{CanRead, EventIsOpen, HasFailed, KeepsRest, ReadsEvent}
+use Rattle.wl_client.specs.Plain.{CanRead, EventIsOpen, HasFailed, IsMade, KeepsRest, ReadsEvent, new_id_in}
 use Rattle.wl_client.specs.Reading.{NextEvent, answered, client, core_after, event_in, faulted, objects_in, reader_state_of, reads_on, receives_allowed, starved_to, verdict}
+use Rattle.wl_client.specs.ObjectId.{IdParts}
 use Rattle.wl_client.specs.Requests.{SessionMessage}
 use Rattle.wl_client.specs.Session.{Core, SessionState, core_of}
-use Rattle.wl_client.proofs.Plain.Opening.{Opens, OpensIn, opens}
+use Rattle.wl_client.proofs.Plain.Opening.{Opens, OpensIn, Stay, had_none, makes_new, opens}
 
 when_true : {P : Type 0} (Q : Type 0) (b : Bool) → b ≡ true → MatchBool b P Q → P
 when_true Q true is h = h
@@ -33,15 +35,43 @@ when_false P false is h = h
 -- ---- what a reading comes to
 
 module _ {U : Type 0} where
-  abbrev CameTo : Option IoFault → List (Given SessionMessage) → Core U → Type 0
-  CameTo (Some fault.WouldBlock) gave d = (gave ≡ []) × CanRead d
-  CameTo (Some fault.OutOfMemory) gave d = (gave ≡ []) × CanRead d
-  CameTo (Some f) gave d = (gave ≡ []) × HasFailed d
-  CameTo None gave d = ((m : SessionMessage) × (gave ≡ HandedOut m ∷ []) × EventIsOpen m d) ⊎ ((gave ≡ []) × HasFailed d)
+  abbrev CameTo : Core U → Option IoFault → List (Given SessionMessage) → Core U → Type 0
+  CameTo c (Some fault.WouldBlock) gave d = (gave ≡ []) × CanRead d
+  CameTo c (Some fault.OutOfMemory) gave d = (gave ≡ []) × CanRead d
+  CameTo c (Some f) gave d = (gave ≡ []) × HasFailed d
+  CameTo c None gave d = ((m : SessionMessage) × (gave ≡ HandedOut m ∷ []) × EventIsOpen c m d) ⊎ ((gave ≡ []) × HasFailed d)
+
+  -- what was new later was new before
+  opened_before : (b c d : Core U) (m : SessionMessage) → Stay b.store c.store → EventIsOpen c m d → EventIsOpen b m d
+  opened_before b c d m stay o = record {
+    sender = o.sender;
+    row = o.row;
+    holds = o.holds;
+    sender_is = o.sender_is;
+    live = o.live;
+    event = o.event;
+    opened = o.opened;
+    makes = o.makes;
+    made = at (new_id_in m.args) o.made;
+    error = o.error;
+  }
+    where
+      at : (n : Option IdParts) → MatchOption n (Unit {0}) (IsMade c.store o.row o.sender.version d.store)
+          → MatchOption n (Unit {0}) (IsMade b.store o.row o.sender.version d.store)
+      at None made = tt
+      at (Some id) (free, named, there) = (had_none b.store c.store id.number stay free, named, there)
+
+  came_before : (b c d : Core U) (stopped : Option IoFault) (gave : List (Given SessionMessage)) → Stay b.store c.store → CameTo c stopped gave d
+      → CameTo b stopped gave d
+  came_before b c d (Some fault.WouldBlock) gave stay came = came
+  came_before b c d (Some fault.OutOfMemory) gave stay came = came
+  came_before b c d (Some _) gave stay came = came
+  came_before b c d None gave stay (inl (m, is, o)) = inl (m, is, opened_before b c d m stay o)
+  came_before b c d None gave stay (inr failed) = inr failed
 
   record Ended (c : Core U) (out : Gives SessionMessage) (d : Core U) : Type 0 where
     kept : KeepsRest c d
-    came : CameTo out.stopped out.gave d
+    came : CameTo c out.stopped out.gave d
 
   live_on : (c : Core U) → CanRead c → reads_on c ≡ true
   live_on c live = ap₂ (λ (e : Option WaylandError) (o : Option OpenEvent). is_none e && is_none o) live.0 live.1
@@ -61,7 +91,7 @@ module _ {U : Type 0} where
       never false = refl
 
   -- a receive that failed
-  faulted_so : (c : Core U) → CanRead c → (f : IoFault) → CameTo (Some f) [] (faulted c f) × KeepsRest c (faulted c f)
+  faulted_so : (c : Core U) → CanRead c → (f : IoFault) → CameTo c (Some f) [] (faulted c f) × KeepsRest c (faulted c f)
   faulted_so c live fault.WouldBlock = ((refl, live), (refl, refl))
   faulted_so c live fault.OutOfMemory = ((refl, live), (refl, refl))
   faulted_so c live _ = ((refl, (refl, live.1)), (refl, refl))
@@ -89,17 +119,20 @@ module _ {T U : Type 0} (sends : T → Queue → Result ℕ IoFault → T → Ty
       (out rest : Gives SessionMessage) (split : out ≡ given_first first lacked rest) (more : Reads sends client receives left mid turns rest after)
       (again : CanRead mid.core → Ended mid.core rest after.core) where
     -- the message did nothing more, and the reading goes on
-    goes_on : (o : Objects (Kept U)) → first ≡ [] → mid.core ≡ core_after c (Swallows o) → Ended c out after.core
-    goes_on o none is =
+    goes_on : (o : Objects (Kept U)) → Stay c.store o.store → first ≡ [] → mid.core ≡ core_after c (Swallows o) → Ended c out after.core
+    goes_on o stay none is =
         let rec = again (ap (λ (d : Core U). d.error) is ∙ live.0, ap (λ (d : Core U). d.open_event) is ∙ live.1) in
         subst (λ (g : Gives SessionMessage). Ended c g after.core) (sym (split ∙ ap (λ (f : List (Given SessionMessage)). given_first f lacked rest) none))
         (record {
           kept = (rec.kept.0 ∙ ap (λ (d : Core U). d.table) is, rec.kept.1 ∙ ap (λ (d : Core U). d.notes) is);
-          came = rec.came;
+          came =
+              came_before c mid.core after.core rest.stopped rest.gave
+              (subst (λ (s : Store (Kept U)). Stay c.store s) (sym (ap (λ (d : Core U). d.store) is)) stay) rec.came;
         })
 
     -- the reading ends here
-    ends_at : (gave : List (Given SessionMessage)) → first ≡ gave → reads_on mid.core ≡ false → KeepsRest c mid.core → CameTo None (gave ++ []) mid.core → Ended c out after.core
+    ends_at : (gave : List (Given SessionMessage)) → first ≡ gave → reads_on mid.core ≡ false → KeepsRest c mid.core
+        → CameTo c None (gave ++ []) mid.core → Ended c out after.core
     ends_at gave is off kept came =
         let (rest_is, same) = stopped left mid after turns rest more off in
         subst (λ (p : ReaderState T (Core U)). Ended c out p.core) (sym same)
@@ -113,31 +146,32 @@ module _ {T U : Type 0} (sends : T → Queue → Result ℕ IoFault → T → Ty
         ends_at [] none (failed_off mid.core failed) (ap (λ (d : Core U). d.table) is, ap (λ (d : Core U). d.notes) is)
         (inr (refl, (failed, ap (λ (d : Core U). d.open_event) is ∙ live.1)))
 
-    hands : (m : SessionMessage) (event : OpenEvent) (o : Objects (Kept U)) → Opens c.table m event o → first ≡ HandedOut m ∷ []
+    hands : (m : SessionMessage) (event : OpenEvent) (o : Objects (Kept U)) → Opens c.table c.store m event o → first ≡ HandedOut m ∷ []
         → mid.core ≡ record c { store = o.store; last_serial = o.last_serial; open_event = Some event } → Ended c out after.core
     hands m event o so is same =
         ends_at (HandedOut m ∷ []) is (opened_off mid.core event (ap (λ (d : Core U). d.open_event) same)) (ap (λ (d : Core U). d.table) same, ap (λ (d : Core U). d.notes) same)
         (inl (
           m,
           refl,
-          subst (λ (d : Core U). EventIsOpen m d) (sym same)
+          subst (λ (d : Core U). EventIsOpen c m d) (sym same)
               (record {
                 sender = so.sender;
                 row = so.row;
-                created = so.created;
                 holds = so.holds;
                 sender_is = so.sender_is;
                 live = so.live;
                 event = so.has;
                 opened = ap Some so.event_is;
+                makes = so.makes;
                 made = so.made;
                 error = live.0;
               }),
         ))
 
-    handled : (h : Handling U) → OpensIn c.table h → first ≡ map HandedOut (handed h) → (mid.core ≡ core_after c h) ⊎ (mid.core ≡ starved_to c h) → Ended c out after.core
-    handled (Swallows o) so is (inl came) = goes_on o is came
-    handled (Swallows o) so is (inr came) = goes_on o is came
+    handled : (h : Handling U) → OpensIn c.table c.store h → first ≡ map HandedOut (handed h)
+        → (mid.core ≡ core_after c h) ⊎ (mid.core ≡ starved_to c h) → Ended c out after.core
+    handled (Swallows o) so is (inl came) = goes_on o so is came
+    handled (Swallows o) so is (inr came) = goes_on o so is came
     handled (HandsOut m event o) so is (inl came) = hands m event o so is came
     handled (HandsOut m event o) so is (inr came) = hands m event o so is came
     handled (Breaks e o) so is (inl came) = fails o _ is came
@@ -174,7 +208,7 @@ module _ {T U : Type 0} (sends : T → Queue → Result ℕ IoFault → T → Ty
       let h = handling p.core.table (objects_in p.core) m in
       let so = carries p.core h link es first lacked mid (subst (λ (w : Verdict (Core U) SessionMessage). CarriesOut sends client w link es first lacked mid) is carried) in
       handled p.core live left first lacked mid after turns out rest split more (λ on. reads_end left mid after turns rest more on) h
-      (opens p.core.table (objects_in p.core) m) so.0 so.1
+      (opens p.core.table (objects_in p.core) m (makes_new sends p m link read)) so.0 so.1
   reads_end left p after (Unread es ∷ turns) out (on, (v, link, first, lacked, mid, rest, (read, same, is), carried, split, more)) live =
       let h : Handling U = Breaks (error_of p.core.table wrong.Malformed) (objects_in p.core) in
       let so = carries p.core h link es first lacked mid (subst (λ (w : Verdict (Core U) SessionMessage). CarriesOut sends client w link es first lacked mid) is carried) in
@@ -182,7 +216,7 @@ module _ {T U : Type 0} (sends : T → Queue → Result ℕ IoFault → T → Ty
 
   -- the answer, by how the reading ended
   answers_so : (s after : SessionState T U) → CanRead (core_of s) → KeepsRest (core_of s) (core_of after) → (stopped : Option IoFault) (gave : List (Given SessionMessage))
-      → CameTo stopped gave (core_of after) → ReadsEvent s (answered stopped gave) after
+      → CameTo (core_of s) stopped gave (core_of after) → ReadsEvent s (answered stopped gave) after
   answers_so s after live kept (Some fault.WouldBlock) gave came = (live, came.1, kept)
   answers_so s after live kept (Some fault.OutOfMemory) gave came = (live, came.1, kept)
   answers_so s after live kept (Some _) gave came = inr (live, came.1, kept)
