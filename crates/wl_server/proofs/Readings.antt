@@ -9,3 +9,4 @@ pub mod Opened
 pub mod Handling
 pub mod Requesting
 pub mod OneMessage
+pub mod Syncing

@@ -2,6 +2,7 @@
 pub mod Conversion
 pub mod ReadingLoop
 pub mod Responses
+pub mod Syncing
 pub mod Client
 pub mod Lookup
 pub mod Puts

@@ -13,6 +13,7 @@ pub mod Reading
 pub mod ReadingEnds
 pub mod Felt
 pub mod Server
+pub mod NoteOrder
 pub mod Moves
 pub mod PartStep
 pub mod Steps
@@ -24,7 +25,6 @@ pub mod Next
 pub mod Posted
 -- ---- laws of runs
 pub mod Outcome
-pub mod WholeOutcome
 pub mod HandedIds
 pub mod Identified
 pub mod Named
@@ -43,7 +43,6 @@ pub mod Histories
 -- ---- dispatches
 pub mod Reached
 pub mod Dispatch
-pub mod DispatchOutcome
 -- ---- what callers use
 pub mod Plain
 -- ---- what the functions inside promise each other

@@ -3,6 +3,8 @@
 -- If the answers of a transport follow from its value, and memory is not refused, then a client's own calls, and those
 -- that all clients feel, have one outcome. The law is about one client, since a server's value may differ in what no
 -- client sees, such as the order in which the notes of two clients stand.
+pub mod Whole
+pub mod Dispatches
 use Rattle.std.specs.Prelude.{◌≡◌, Bool, true, false, List, [], ◌∷◌, ◌++◌, Ok}
 use Rattle.wl_wire.specs.Table.{InterfaceRow, interface_rows}
 use Rattle.wl_link.specs.Exchange.{Queue}

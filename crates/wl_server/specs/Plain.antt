@@ -1,8 +1,8 @@
 -- What a program finds after a call: what it did to one object, one client or the notes, and that the others are as before.
 -- All is said in the words of the look-ups.
 --
--- A contract that cites one of these has another clause beside it, `call` or `finished`, which says all that the call does,
--- as a step. What stands here follows from that clause, and can be used without it.
+-- A contract that cites one of these has another clause beside it, `call`, which says all that the call does, as a step.
+-- What stands here follows from that clause, and can be used without it.
 pub mod Reading
 pub mod Events
 pub mod Globals
@@ -41,7 +41,7 @@ use Rattle.wl_server.specs.PartStep.{share_of}
 use Rattle.wl_server.specs.Server.{notes_of, seen}
 use Rattle.wl_server.specs.Steps.{RiseBySlot}
 use Rattle.wl_server.specs.Telling.{core_of}
-use Rattle.wl_server.specs.WholeOutcome.{SameServer}
+use Rattle.wl_server.specs.Outcome.Whole.{HoldsSame}
 
 -- the ids have the same client, number and serial
 abbrev pub same_object : IdParts → IdParts → Bool
@@ -101,7 +101,7 @@ module _ {T U G C : Type 0} where
 
   -- nothing has changed; only whether memory was refused may differ
   abbrev pub IsUnchanged : BackendState T U G C → BackendState T U G C → Type 0
-  IsUnchanged before after = SameServer after.server before.server
+  IsUnchanged before after = HoldsSame after.server before.server
 
   -- all that is held of each other client is as before
   abbrev pub OtherClientsStay : BackendState T U G C → ClientParts → BackendState T U G C → Type 0

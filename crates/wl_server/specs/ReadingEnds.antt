@@ -1,16 +1,17 @@
 -- How a reading of a client ends: with an action of the message that its last turn found at the front, or for one of a few
--- reasons.
-use Rattle.std.specs.Prelude.{◌≡◌, ◌⊎◌, ℕ, List, [], ◌∷◌, ◌++◌, map, Bool, true, false, Option, None, Some, IsSome, Result, Ok, Err}
+-- reasons, two of which speak of that message, too.
+use Rattle.std.specs.Prelude.{◌≡◌, ◌⊎◌, ℕ, List, [], ◌∷◌, ◌++◌, map, Bool, true, false, Option, None, Some, IsSome, is_some, Result, Ok, Err, MatchOption}
 use Rattle.wl_wire.specs.declared.argument.Argument.{Argument}
 use Rattle.wl_wire.specs.declared.argument.Argument.TheVariants as arg
 use Rattle.wl_wire.specs.declared.argument.ArgumentType.{ArgumentType}
 use Rattle.wl_wire.specs.declared.argument.Token.{Token}
 use Rattle.wl_wire.specs.declared.error.IoFault.{IoFault}
 use Rattle.wl_wire.specs.declared.error.IoFault.TheVariants as fault
+use Rattle.wl_wire.specs.declared.error.MessageParseError.TheVariants as parse
 use Rattle.wl_wire.specs.declared.interface.InterfaceId.{InterfaceId}
-use Rattle.wl_wire.specs.MessageRows.{fits, next_interface, request_row, rest_of}
+use Rattle.wl_wire.specs.MessageRows.{creates, fits, next_interface, request_row, rest_of}
 use Rattle.wl_wire.specs.Message.{WireMessage}
-use Rattle.wl_wire.specs.Table.{MessageRow, registry_id}
+use Rattle.wl_wire.specs.Table.{MessageRow, display_id, registry_id}
 use Rattle.wl_link.specs.declared.object.Object.{Object}
 use Rattle.wl_link.specs.Exchange.{Queue, Sending}
 use Rattle.wl_link.specs.Link.{FilledBy, LinkState, ReceiveAsks, count_of, counted_answer}
@@ -33,6 +34,12 @@ use Rattle.wl_server.specs.Telling.{Core, Told}
 
 -- ---- the arguments of a request that is handed out
 
+-- the new id among the arguments of a request, which has one at most
+abbrev pub new_id_in : List (Argument IdParts Token) → Option IdParts
+new_id_in [] = None
+new_id_in (arg.NewId id ∷ args) = Some id
+new_id_in (_ ∷ args) = new_id_in args
+
 module _ {U : Type 0} (client : ClientParts) (store : Store (Kept U)) where
   -- the id is the null one, which may stand here; or that of the kept object of its number, whose interface fits the one
   -- that is asked for
@@ -47,6 +54,20 @@ module _ {U : Type 0} (client : ClientParts) (store : Store (Kept U)) where
   ObjectsFit kinds asked (arg.Object id ∷ args) =
       IsFit (allows_null kinds) (next_interface asked) id × ObjectsFit (kinds_after kinds) (rest_of asked) args
   ObjectsFit kinds asked (_ ∷ args) = ObjectsFit (kinds_after kinds) asked args
+
+  -- the client has the object of this id, of this version and of the interface that the table names for the message; it has no
+  -- data yet
+  abbrev pub HasMade : MessageRow → ℕ → IdParts → Type 0
+  HasMade row version id =
+      (id.client ≡ client) × (row.child_interface ≡ Some id.interface)
+      × (held store id.number ≡ Some (fresh_object id.interface version id.serial None))
+
+  -- A request of these arguments, to an object of this version, made an object exactly if it does by the table. Then the new id
+  -- among the arguments is the id of the object.
+  pub record MakesItsObject (row : MessageRow) (version : ℕ) (args : List (Argument IdParts Token)) (created : Option IdParts) : Type 0 where
+    pub new_id : created ≡ new_id_in args
+    pub by_table : is_some created ≡ creates row
+    pub is_held : MatchOption created (Unit {0}) (HasMade row version)
 
 -- ---- the last turn
 
@@ -66,6 +87,18 @@ module _ {U C : Type 0} where
   LeavesClient fault.WouldBlock end = (end.is_killed ≡ false) × (end.ended ≡ None) × (end.action ≡ None)
   LeavesClient fault.OutOfMemory end = (end.is_killed ≡ false) × (end.ended ≡ None) × (end.action ≡ None)
   LeavesClient f end = (end.is_killed ≡ true) × IsSome end.ended × (end.action ≡ None)
+
+-- ---- a message that asks for nothing
+
+module _ {U C : Type 0} where
+  -- The message is to a display or a registry, and its arguments are none that a request to it has: a new number, or the name of
+  -- a global, the name of an interface, a version and a new number.
+  abbrev pub AsksNothing : Core U C → WireMessage → Type 0
+  AsksNothing c m =
+      (x : Object (Kept U)) × (held c.store m.sender ≡ Some x)
+      × (((x.interface.0 ≡ display_id.0) × ((n : ℕ) → ¬ (m.args ≡ arg.NewId n ∷ [])))
+      ⊎ ((x.interface.0 ≡ registry_id.0)
+      × ((g version n : ℕ) (name : Option (List ℕ)) → ¬ (m.args ≡ arg.Uint g ∷ arg.Str name ∷ arg.Uint version ∷ arg.NewId n ∷ []))))
 
 -- ---- how far the turns lead
 
@@ -91,18 +124,26 @@ module _ {T U G C : Type 0} (sends : T → Queue → Result ℕ IoFault → T �
 
 module _ {T U G C : Type 0} (sends : T → Queue → Result ℕ IoFault → T → Type 0) (a : Around G C) where
   -- The message is a request to a kept object, and this is its action, open from now on: it has the message's opcode, and its
-  -- arguments turned back to the wire are the message's.
-  abbrev pub IsItsRequest : IdParts → ℕ → List (Argument IdParts Token) → Bool → Option IdParts → ReaderState T (Core U C) → WireMessage → ReaderState T (Core U C) → Type 0
-  IsItsRequest sender opcode args is_destructor created before m end =
-      (x : Object (Kept U)) × (row : MessageRow)
-      × (held before.core.store m.sender ≡ Some x) × (request_row a.table x.interface m.opcode ≡ Some row)
-      × (sender ≡ id_at a.client m.sender x) × (opcode ≡ m.opcode) × (map wire_argument args ≡ m.args) × (is_destructor ≡ row.is_destructor)
-      × (held end.core.store m.sender ≡ Some x) × ObjectsFit a.client end.core.store row.signature row.arg_interfaces args
-      × (end.core.action ≡ Some (opened.Request sender is_destructor created))
+  -- arguments turned back to the wire are the message's. If it made an object, its number had none before.
+  pub record IsItsRequest (sender : IdParts) (opcode : ℕ) (args : List (Argument IdParts Token)) (is_destructor : Bool) (created : Option IdParts)
+      (before : ReaderState T (Core U C)) (m : WireMessage) (end : ReaderState T (Core U C)) : Type 0 where
+    pub receiver : Object (Kept U)
+    pub row : MessageRow
+    pub was_held : held before.core.store m.sender ≡ Some receiver
+    pub request : request_row a.table receiver.interface m.opcode ≡ Some row
+    pub sender_is : sender ≡ id_at a.client m.sender receiver
+    pub opcode_is : opcode ≡ m.opcode
+    pub args_are : map wire_argument args ≡ m.args
+    pub destructor : is_destructor ≡ row.is_destructor
+    pub is_held : held end.core.store m.sender ≡ Some receiver
+    pub objects_fit : ObjectsFit a.client end.core.store row.signature row.arg_interfaces args
+    pub makes : MakesItsObject a.client end.core.store row receiver.version args created
+    pub is_new : MatchOption created (Unit {0}) (λ id. held before.core.store id.number ≡ None)
+    pub action : end.core.action ≡ Some (opened.Request sender is_destructor created)
 
   -- The message is a request to a registry of the client. Its arguments are the name of a global, the name of an interface, a
   -- version and a new number. The global that has the name may be bound so (`may_bind`). The action is its bind, open from now
-  -- on, with a new object of that number, interface and version, which has no data yet.
+  -- on, with a new object of that number, interface and version, which has no data yet. The number had none before.
   abbrev pub IsItsBind : GlobalParts → IdParts → ReaderState T (Core U C) → WireMessage → ReaderState T (Core U C) → Type 0
   IsItsBind global object before m end =
       (x : Object (Kept U)) × (interface : List ℕ) × (version : ℕ) × (kept : Object (KeptGlobal G))
@@ -110,29 +151,49 @@ module _ {T U G C : Type 0} (sends : T → Queue → Result ℕ IoFault → T �
       × (m.args ≡ arg.Uint global.name ∷ arg.Str (Some interface) ∷ arg.Uint version ∷ arg.NewId object.number ∷ [])
       × (held a.globals.store global.name ≡ Some kept) × (global ≡ global_at global.name kept)
       × (may_bind a before.core global.name (Some interface) version kept ≡ true)
-      × (object.client ≡ a.client) × (object.interface ≡ kept.interface)
+      × (object.client ≡ a.client) × (object.interface ≡ kept.interface) × (held before.core.store object.number ≡ None)
       × (held end.core.store object.number ≡ Some (fresh_object kept.interface version object.serial None))
       × (end.core.action ≡ Some (opened.Bind object))
 
   abbrev pub IsItsAction : Handed → ReaderState T (Core U C) → WireMessage → ReaderState T (Core U C) → Type 0
-  IsItsAction (Request sender opcode args is_destructor created) = IsItsRequest sender opcode args is_destructor created
-  IsItsAction (Bind global object) = IsItsBind global object
+  IsItsAction (Request sender opcode args is_destructor created) before m end = IsItsRequest sender opcode args is_destructor created before m end
+  IsItsAction (Bind global object) before m end = IsItsBind global object before m end
 
   -- a message was read at the front of what waits, and this is its action
   abbrev pub ComesOfFront : Handed → ReaderState T (Core U C) → ReaderState T (Core U C) → Type 0
   ComesOfFront h before end =
       (m : WireMessage) × (link : LinkState T) × ReadsAs sends (server a) before (Ok m) link × IsItsAction h before m end
 
-  -- why a reading answers this fault if no receive failed so, with so many receives left
-  abbrev pub StopsItself : IoFault → Bool → ℕ → ReaderState T (Core U C) → Type 0
-  StopsItself fault.WouldBlock refused left end = (left ≡ 0) × Lacks sends (server a) end
-  StopsItself fault.OutOfMemory refused left end =
-      (refused ≡ true) × (FrontAsks sends (server a) end ⊎ (Lacks sends (server a) end × ReceiveAsks end.link))
-  StopsItself fault.Proto refused left end = end.core.ended ≡ Some ConnectionClosed
-  StopsItself fault.Pipe refused left end = IsSome end.core.ended
-  StopsItself _ refused left end = ⊥
+  -- ---- what ends a reading at a turn
+
+  -- the turn found at the front bytes that are no message, or one that asks for nothing
+  abbrev pub FoundNoMessage : Turn → ReaderState T (Core U C) → Type 0
+  FoundNoMessage (Received r) before = ⊥
+  FoundNoMessage (Handled es) before =
+      (m : WireMessage) × (link : LinkState T) × ReadsAs sends (server a) before (Ok m) link × AsksNothing before.core m
+  FoundNoMessage (Unread es) before = ReadsAs sends (server a) before (Err parse.Malformed) before.link
+
+  -- the turn took the message at the front
+  abbrev pub TookMessage : Turn → ReaderState T (Core U C) → Type 0
+  TookMessage (Handled es) before = (m : WireMessage) × (link : LinkState T) × ReadsAs sends (server a) before (Ok m) link
+  TookMessage _ before = ⊥
 
 module _ {T U G C : Type 0} (sends : T → Queue → Result ℕ IoFault → T → Type 0) (receives : T → ℕ → Result Queue IoFault → T → Type 0) (a : Around G C) where
+  -- it holds of the last turn, and of the state to which the turns before it led
+  abbrev pub OfLast : (Turn → ReaderState T (Core U C) → Type 0) → ReaderState T (Core U C) → List Turn → Type 0
+  OfLast P start turns =
+      (earlier : List Turn) × (t : Turn) × (before : ReaderState T (Core U C))
+      × (turns ≡ earlier ++ t ∷ []) × TurnsLead sends receives a earlier start before × P t before
+
+  -- why a reading answers this fault if no receive failed so, with so many receives left
+  abbrev pub StopsItself : IoFault → ReaderState T (Core U C) → List Turn → Bool → ℕ → ReaderState T (Core U C) → Type 0
+  StopsItself fault.WouldBlock start turns refused left end = (left ≡ 0) × Lacks sends (server a) end
+  StopsItself fault.OutOfMemory start turns refused left end =
+      (refused ≡ true) × (FrontAsks sends (server a) end ⊎ (Lacks sends (server a) end × ReceiveAsks end.link))
+  StopsItself fault.Proto start turns refused left end = OfLast (FoundNoMessage sends a) start turns × (end.core.ended ≡ Some ConnectionClosed)
+  StopsItself fault.Pipe start turns refused left end = OfLast (TookMessage sends a) start turns × IsSome end.core.ended
+  StopsItself _ start turns refused left end = ⊥
+
   -- The action comes of the message that the last turn found at the front: the turns before it led from the beginning to
   -- where that message was read.
   abbrev pub ComesOfLast : Handed → ReaderState T (Core U C) → List Turn → ReaderState T (Core U C) → Type 0
@@ -145,4 +206,4 @@ module _ {T U G C : Type 0} (sends : T → Queue → Result ℕ IoFault → T �
   ReadingEnds start turns (Ok h) refused left end = (end.core.is_killed ≡ false) × (end.core.ended ≡ None) × ComesOfLast h start turns end
   ReadingEnds start turns (Err ActionOpen) refused left end = ⊥
   ReadingEnds start turns (Err (Io f)) refused left end =
-      (LastReceiveFailed f turns ⊎ StopsItself sends a f refused left end) × LeavesClient f end.core
+      (LastReceiveFailed f turns ⊎ StopsItself f start turns refused left end) × LeavesClient f end.core

@@ -7,6 +7,7 @@ use Rattle.wl_server.specs.declared.notes.Happening.{Happening}
 use Rattle.wl_server.specs.declared.notes.Happening.TheVariants as happened
 use Rattle.wl_server.specs.declared.notes.Note.{Note}
 use Rattle.wl_server.specs.declared.notes.Note.TheVariants.{Initialized, Disconnected, Destroyed}
+use Rattle.wl_server.specs.declared.notes.queues.NoteNumbers.{NoteNumbers}
 use Rattle.wl_server.specs.Globals.{Offer, new_offer}
 use Rattle.wl_server.specs.Ids.{ClientParts, same_client}
 use Rattle.wl_server.specs.Part.{Part}
@@ -24,12 +25,14 @@ pub record Stored (T U C : Type 0) : Type 0 where
   pub made : List (Happening U)
   pub times : NoteTimes
 
--- the offer, the last serial given to a client, the clients by slot, and the notes of all clients that were gathered
+-- the offer, the last serial given to a client, the clients by slot, the notes of all clients that were gathered, and the numbers
+-- in time that the next notes get
 pub record ServerState (T U G C : Type 0) : Type 0 where
   pub offer : Offer G
   pub last_client : ℕ
   pub clients : List (Option (Stored T U C))
   pub notes : List (Note U)
+  pub numbers : NoteNumbers
 
 -- what is held of one client id: its part, if it is stored, and the notes of it that were made and not taken, in order
 pub record Seen (T U C : Type 0) : Type 0 where
@@ -58,7 +61,7 @@ notes_of id notes = flat_map (told_of id) notes
 
 -- a new server has no clients and no globals
 abbrev pub new_server : {T U G C : Type 0} → List InterfaceRow → ServerState T U G C
-new_server table = record { offer = new_offer table; last_client = 0; clients = []; notes = [] }
+new_server table = record { offer = new_offer table; last_client = 0; clients = []; notes = []; numbers = record { waiting = 0; made = 0 } }
 
 -- no numbers
 abbrev pub no_times : NoteTimes

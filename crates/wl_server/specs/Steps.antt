@@ -1,5 +1,6 @@
 -- What a call does to a server: to what all clients share, and to what is held of every client id.
-use Rattle.std.specs.Prelude.{◌≡◌, ◌≢◌, ℕ, ◌+◌, ◌<◌, ◌⊎◌, ◌++◌, List, [], Bool, true, false, Option, None, Some, IsSome, Result, Ok, Err, AllPairs, ◌↔◌}
+use Rattle.std.specs.Prelude.{◌≡◌, ◌≢◌, ℕ, ◌+◌, ◌<◌, ◌⊎◌, ◌++◌, List, [], Bool, true, false, Option, None, Some, IsSome, Result, Ok, Err, AllPairs, ◌↔◌, map}
+use Rattle.std.specs.Option.{option_map_or}
 use Rattle.wl_wire.specs.declared.interface.InterfaceId.{InterfaceId}
 use Rattle.wl_wire.specs.declared.protocol.TableError.TheVariants as table
 use Rattle.wl_wire.specs.Table.{AnswersGrowth, InterfaceRow, grown, interface_rows}
@@ -12,10 +13,12 @@ use Rattle.wl_server.specs.declared.runs.step.Step.{Step}
 use Rattle.wl_server.specs.declared.runs.step.Step.TheVariants as step
 use Rattle.wl_server.specs.Deeds.{Deed}
 use Rattle.wl_server.specs.Globals.{Globals, Offer, CreatesGlobal, disabled, freed, with_created, with_globals, with_table}
+use Rattle.wl_server.specs.declared.notes.Note.{Note}
 use Rattle.wl_server.specs.Ids.{ClientParts}
+use Rattle.wl_server.specs.NoteOrder.{AllInTime, AllNumbered, AllTakeFirst, IsInOrder, NoneWaits, RiseFromSlot, times_of}
 use Rattle.wl_server.specs.Part.{last_possible_serial}
 use Rattle.wl_server.specs.PartStep.{Asked, Call, PartCall, World}
-use Rattle.wl_server.specs.Server.{ServerState, Stored, seen, stored_at}
+use Rattle.wl_server.specs.Server.{ServerState, Stored, client_at, seen, stored_at}
 
 -- A call of a run, and whether memory was refused in it; and for each client id whether memory was refused to that client,
 -- and the deeds of the call with it, among them its sends and receives.
@@ -124,6 +127,42 @@ module _ {T U G C : Type 0} where
   abbrev pub IsRefused : Entry T U G C → Type 0
   IsRefused e = (e.refused ≡ true) ↔ ((lacks_growth e.call ≡ true) ⊎ ((id : ClientParts) × (e.lacks id ≡ true)))
 
+-- ---- the order of notes
+
+-- What was gathered stays. The notes that are made, or wait, get numbers of their own, which are the next ones, client after client.
+pub record MakesNotes {T U G C : Type 0} (before after : ServerState T U G C) : Type 0 where
+  pub gathered : after.notes ≡ before.notes
+  pub times : AllInTime (map times_of before.clients) before.numbers (map times_of after.clients) after.numbers
+  pub numbered : AllNumbered before.clients → AllNumbered after.clients
+
+-- the notes that were made come behind those that were gathered, in order of time, and are handed out
+pub record HandsOutNotes {T U G C : Type 0} (before : ServerState T U G C) (out : List (Note U)) (after : ServerState T U G C) : Type 0 where
+  pub in_order : IsInOrder false before.clients before.notes out
+  pub none : after.notes ≡ []
+  pub numbered : AllNumbered before.clients → AllNumbered after.clients
+  pub first : AllTakeFirst (map times_of before.clients) (map times_of after.clients)
+  pub numbers : after.numbers ≡ before.numbers
+
+-- The notes that were made come behind those that were gathered, and then those that waited, each in order of time. The notes
+-- of the ends of objects come last, in the order of their clients. No note is left with its client, and the numbers of those that wait begin anew.
+pub record GathersNotes {T U G C : Type 0} (before after : ServerState T U G C) : Type 0 where
+  pub told : List (Note U)
+  pub ends : List (Note U)
+  pub in_order : IsInOrder true before.clients before.notes told
+  pub behind : after.notes ≡ told ++ ends
+  pub by_slot : RiseFromSlot 0 ends
+  pub first : AllTakeFirst (map times_of before.clients) (map times_of after.clients)
+  pub none_left : (id : ClientParts) → option_map_or (λ s. s.made) (client_at id after.clients) [] ≡ []
+  pub none_waits : NoneWaits (map times_of after.clients)
+  pub numbered : AllNumbered before.clients → AllNumbered after.clients
+  pub numbers : after.numbers ≡ record before.numbers { waiting = 0 }
+
+module _ {T U G C : Type 0} where
+  abbrev pub NotesGoOn : ServerState T U G C → Call T U G C → ServerState T U G C → Type 0
+  NotesGoOn before (Asked step.TakeNotes (reply.TakeNotes (Ok out))) after = HandsOutNotes before out.items after
+  NotesGoOn before (Asked step.Cleanup (reply.Cleanup (Ok out))) after = GathersNotes before after
+  NotesGoOn before _ after = MakesNotes before after
+
 -- ---- a call
 
 -- a call of a server, as an entry of a run
@@ -135,6 +174,7 @@ pub record OneStep {T U G C : Type 0} (w : World T G C) (before : ServerState T 
   pub order : RisesBySlot e.call
   pub room : AsksForRoom before e.call
   pub refused : IsRefused e
+  pub notes : NotesGoOn before e.call after
   pub each : (id : ClientParts) → PartCall w id before.offer e.call (seen id before) (e.lacks id) (e.did id) (seen id after)
 
 module _ {T U G C : Type 0} (w : World T G C) where

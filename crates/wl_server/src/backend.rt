@@ -68,7 +68,7 @@ impl<T, U, G, C> Model for Backend<T, U, G, C> {
     ghost use Rattle.wl_link.specs.ObjectMap.{store_code};
     ghost use Rattle.wl_server.specs.Backend.{BackendState};
     ghost use Rattle.wl_server.specs.Inside.Inserting.{HasSlots};
-    ghost use Rattle.wl_server.specs.Inside.NoteOrder.{HasNumbers, times_of};
+    ghost use Rattle.wl_server.specs.NoteOrder.{HasNumbers, times_of};
 
     ghost Value = { BackendState T U G C };
 
@@ -84,6 +84,7 @@ impl<T, U, G, C> Model for Backend<T, U, G, C> {
         last_client = b.last_client;
         clients = b.clients.items;
         notes = b.notes.items;
+        numbers = b.numbers;
       };
       refused = b.refused;
     } };

@@ -87,8 +87,9 @@ impl<T: Transport + Drop, U: Drop, G: GlobalHandler<C> + Drop, C: Drop> Backend<
     /// It stands for `wayland_backend::server::Backend::dispatch_all_clients`. Each client's transport receives at most
     /// 64 times.
     ///
-    /// Returns the sum of the clients' counts, which saturates at `usize::MAX`. A client's error counts as 0 and is not
-    /// told. The only error is `OutOfMemory`, if there was no memory for the cleanup.
+    /// Returns the sum of the clients' counts, which saturates at `usize::MAX`. If the dispatch of a client ends with an
+    /// error, this client adds nothing to the sum, and its error is not returned. The only error of this call is
+    /// `OutOfMemory`: there was no memory for the cleanup.
     pub fn dispatch_all_clients<H: Handler<T, U, G, C>>(
         &mut self,
         handler: &mut H,

@@ -39,7 +39,7 @@ ghost use Rattle.wl_server.specs.Backend.{BackendState};
 ghost use Rattle.wl_server.specs.Bounded.{EachIsBounded, EachPartIsBounded, receives_over};
 ghost use Rattle.wl_server.specs.Cutting.{EachIsServed, GoesOn, HistoriesAreCut, IsServed};
 ghost use Rattle.wl_server.specs.Dispatch.{EachIsDispatched, EndsDispatch, IsDispatched, answering};
-ghost use Rattle.wl_server.specs.DispatchOutcome.{DispatchesHaveOneOutcome, IsDeterministic, ManyDispatchesHaveOneOutcome};
+ghost use Rattle.wl_server.specs.Outcome.Dispatches.{DispatchesHaveOneOutcome, IsDeterministic, IsDeterministicIfSpared, ManyDispatchesHaveOneOutcome, ManySparedDispatchesHaveOneOutcome, SparedDispatchesHaveOneOutcome};
 ghost use Rattle.wl_server.specs.GivenOnce.{GivesOnce, HaveGivenOnce};
 ghost use Rattle.wl_server.specs.Globals.{CreatesGlobal, Globals, Offer};
 ghost use Rattle.wl_server.specs.Ids.{ClientParts, GlobalParts};
@@ -50,6 +50,7 @@ ghost use Rattle.wl_server.specs.Named.{EachKeepsNaming, EachNamesNoneAgain};
 ghost use Rattle.wl_server.specs.Logged.{EachLogIsSpelled, HaveSpelledLogs};
 ghost use Rattle.wl_server.specs.NotedEnds.{EachNoteIsOfAnEnd, EndIsNotedAtOnce, HaveNotesOfEnds};
 ghost use Rattle.wl_server.specs.NotedOnce.{CleanupNotesAll, EachIsNoted, FinishNotesAtOnce, HaveNotes};
+ghost use Rattle.wl_server.specs.NoteOrder.Ordered.{EarlierNotesFirst};
 ghost use Rattle.wl_server.specs.Part.{Part};
 ghost use Rattle.wl_server.specs.PartStep.{Call, around, over, over_scripts, share_of};
 ghost use Rattle.wl_server.specs.Reading.{Around, answered, reads_on, server};
@@ -59,7 +60,7 @@ ghost use Rattle.wl_server.specs.Server.{Seen, ServerState, Stored, new_server};
 ghost use Rattle.wl_server.specs.Steps.{RiseBySlot, Entry, InsertsNext, OneStep, StepOf};
 ghost use Rattle.wl_server.specs.Stretches.{StretchIsServed, IsStretch, IsStretchWithin, SameLeft, handed_out, arrived, beside_exchanges, finished};
 ghost use Rattle.wl_server.specs.Telling.{Core, Finish, Told, reader_part};
-ghost use Rattle.wl_server.specs.WholeOutcome.{AnswersAlike, PerformancesHaveOneOutcome, RunsHaveOneOutcome, SameServer};
+ghost use Rattle.wl_server.specs.Outcome.Whole.{AnswersAlike, HoldsSame, PerformancesHaveOneOutcome, RunsHaveOneOutcome};
 
 use crate::dispatch::Handler;
 use crate::globals::handler::GlobalHandler;
@@ -101,20 +102,20 @@ pub fn each_client_has_one_outcome<T: Transport, U, G: GlobalHandler<C>, C>()
 /// A run of a server has one outcome, over every transport whose answers follow from its value.
 ///
 /// Take two runs of the same calls, in which memory is not refused, from servers that look the same to their program.
-/// Their replies are the same, and the servers look the same afterwards: what is held of each client id, the globals and
-/// limits, and how many clients were inserted. A program does not see where lists lie in memory, nor the order between
-/// the notes of two clients.
+/// Their replies are the same, also in the order of notes, and the servers look the same afterwards: what is held of each
+/// client id, the globals and limits, how many clients were inserted, and the order of the notes that are not taken yet.
+/// A program does not see where lists lie in memory.
 ///
-/// Servers that look the same return the same in look-ups (clause `answers`): which clients are live, what is known of a
-/// client, an object and a global, and which handler a global has. What calls return about all clients together has one
-/// outcome, too: the id of a new client, the id of a new global or the reason for which there is none, what became of
-/// interfaces that were to be added, and the list that a cleanup returns, which follows from each client's share of it.
+/// Servers of which the same is held return the same in look-ups (clause `answers`): which clients are live, what is
+/// known of a client, an object and a global, and which handler a global has. What calls return about all clients
+/// together has one outcome, too: the id of a new client, the id of a new global or the reason for which there is none,
+/// what became of interfaces that were to be added, and the lists that `cleanup` and `take_notes` return.
 pub fn each_run_of_a_server_has_one_outcome<T: Transport, U, G: GlobalHandler<C>, C>()
     ensures run { IsFunction T.sends → IsReceiveFunction T.receives → RunsHaveOneOutcome U (over T.sends T.receives G.views) }
     ensures steps { IsFunction T.sends → IsReceiveFunction T.receives → PerformancesHaveOneOutcome U (over T.sends T.receives G.views) }
     ensures script_run { RunsHaveOneOutcome U (over_scripts G.views) }
     ensures script_steps { PerformancesHaveOneOutcome U (over_scripts G.views) }
-    ensures answers { (s t : ServerState T U G C) → SameServer s t → AnswersAlike s t }
+    ensures answers { (s t : ServerState T U G C) → HoldsSame s t → AnswersAlike s t }
     ensures client { (last : ℕ) (clients : List (Option (Stored T U C))) (a b : Result ClientParts InsertClientError) →
         a ≢ Err insert.OutOfMemory → b ≢ Err insert.OutOfMemory →
         InsertsNext last clients a → InsertsNext last clients b → a ≡ b }
@@ -137,6 +138,11 @@ pub fn each_run_of_a_server_has_one_outcome<T: Transport, U, G: GlobalHandler<C>
 /// Take two dispatches of one client (clause `client`), or of the same clients (clause `several`), with the same handler,
 /// over servers that look the same to their program. If `memory_refused` is false after both, they return the same, the
 /// handlers are the same afterwards, and the servers look the same.
+///
+/// `memory_refused` does not tell of the calls that the handler makes. A handler whose calls may lack memory is not
+/// deterministic in this sense, since what follows depends on whether they do. It may note in its own value that a call of it
+/// lacked memory, and be deterministic as long as none did (`IsDeterministicIfSpared`). The clauses `spared_client` and
+/// `spared_several` say the same of dispatches with such a handler, if none of its calls lacked memory by its value afterwards.
 pub fn each_dispatch_has_one_outcome<
     T: Transport,
     U,
@@ -148,6 +154,12 @@ pub fn each_dispatch_has_one_outcome<
         DispatchesHaveOneOutcome (over T.sends T.receives G.views) (answering H.requests H.binds) }
     ensures several { IsFunction T.sends → IsReceiveFunction T.receives → IsDeterministic (answering H.requests H.binds) →
         ManyDispatchesHaveOneOutcome (over T.sends T.receives G.views) (answering H.requests H.binds) }
+    ensures spared_client { IsFunction T.sends → IsReceiveFunction T.receives → (spared : H → Bool) →
+        IsDeterministicIfSpared (answering H.requests H.binds) spared →
+        SparedDispatchesHaveOneOutcome (over T.sends T.receives G.views) (answering H.requests H.binds) spared }
+    ensures spared_several { IsFunction T.sends → IsReceiveFunction T.receives → (spared : H → Bool) →
+        IsDeterministicIfSpared (answering H.requests H.binds) spared →
+        ManySparedDispatchesHaveOneOutcome (over T.sends T.receives G.views) (answering H.requests H.binds) spared }
 {}
 
 /// The identity law of a server, over every transport: each id that is handed out names its own object.
@@ -234,6 +246,18 @@ pub fn each_object_that_leaves_is_noted_once<T: Transport, U, G: GlobalHandler<C
     ensures script_of_ends { (table : List InterfaceRow) (steps : List (RunEntry (Step Script U G C) (Reply Script U))) (after : ServerState Script U G C) →
         Performs (over_scripts G.views) (new_server table) steps after → HaveNotesOfEnds (over_scripts G.views) table steps after }
     ensures script_at_once { EndIsNotedAtOnce U (over_scripts {C = C} G.views) }
+{}
+
+/// The law of the order of notes, over every transport: what happened earlier is handed out earlier.
+///
+/// Take a point of a run of a new server, and a later one, with no call of `take_notes` that succeeded in between. What
+/// `take_notes` would have returned at the earlier point comes first in what it returns at the later one. The rest is what
+/// happened since then, to whichever client. Cleanups may be in between: what they add comes behind, too.
+///
+/// This holds as long as fewer than 2^128 - 1 notes were made.
+pub fn notes_come_in_the_order_of_time<T: Transport, U, G: GlobalHandler<C>, C>()
+    ensures run { (table : List InterfaceRow) → EarlierNotesFirst U (over {C = C} T.sends T.receives G.views) table }
+    ensures script { (table : List InterfaceRow) → EarlierNotesFirst U (over_scripts {C = C} G.views) table }
 {}
 
 /// The law of killed clients, over every transport: a killed client stays killed until a cleanup takes it out.
@@ -357,16 +381,18 @@ pub fn a_reading_receives_64_times()
 ///
 /// An action comes of the message that the last turn found at the front of what was received. A request has the message's
 /// opcode, and its arguments are the message's if each id is turned back into its number. Each object argument is null,
-/// where the table allows it, or the kept object of its number, of an interface that fits. A bind comes of a message to a
-/// registry of the client: of the name of a global, the name of its interface, a version, and the number of the new object.
-/// A fault is what the last receive answered, or one of these four:
+/// where the table allows it, or the kept object of its number, of an interface that fits. The request made an object exactly
+/// if it does by the table; then the new id among its arguments is the id of that object, whose number had none before. A bind
+/// comes of a message to a registry of the client: of the name of a global, the name of its interface, a version, and the
+/// number of the new object. A fault is what the last receive answered, or one of these four:
 ///
 /// - `WouldBlock`: no receive is left, and the message at the front lacks bytes or tokens.
 /// - `OutOfMemory`: memory was refused, and the message at the front asks for some, or a receive does. A message of at most
 ///   four arguments asks for none if it has no string and no array, and makes no object. A receive asks for none if a byte
 ///   of the buffer is free and no more than 28 tokens wait.
-/// - `Proto`: the client was killed for the reason `ConnectionClosed`.
-/// - `Pipe`: the client was killed, for whatever reason.
+/// - `Proto`: the last turn found bytes at the front that are no message by the table, or a message to a display or a registry
+///   whose arguments are none that a request to it has. The client was killed for the reason `ConnectionClosed`.
+/// - `Pipe`: the last turn took a message, and the client was killed, for whatever reason.
 ///
 /// After `WouldBlock` and `OutOfMemory` the client lives on. After any other fault it was killed in this reading.
 pub fn each_reading_ends_for_a_reason<T: Transport, U, G: GlobalHandler<C>, C>()

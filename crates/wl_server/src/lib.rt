@@ -24,7 +24,7 @@
 //! | `add_interfaces` | `globals::add_interfaces` | `Steps`, and `Table` of `wl_wire` |
 //! | `cleanup`, `take_notes` | `notes` | `PartStep`, `Felt` |
 //! | look-ups, `next_global_id`, `all_clients`, `with_all_clients`, `all_objects_for`, `with_all_objects_for` | `lookups`, `globals::lookups` | `Lookups`, `Next` |
-//! | `replay` | `runs::replay` | `Runs`, `Histories`, `WholeOutcome` |
+//! | `replay` | `runs::replay` | `Runs`, `Histories`, `Outcome/Whole` |
 //!
 //! Most calls have a second clause, `plain`. It says what the program finds of the object, the client, the global or the
 //! notes after the call, in the words of the look-ups (`specs/Plain` and the files of the folder `specs/Plain/`). It follows
@@ -34,9 +34,10 @@
 //! words of each law stand in a file of `specs/`: `Runs` (each client is alone), `Identified` (ids), `Logged` (what was
 //! sent), `Announced` (globals), `NotedOnce` (notes), `Killed` (killed clients), `GivenOnce` (ids of clients and globals),
 //! `Accounts` (these seven, of one history), `Named` (what any id names), `NotedEnds` (which objects notes tell of),
-//! `Cutting` and `Stretches` (it does not matter how the bytes are cut into receives), `Outcome`, `WholeOutcome` and
-//! `DispatchOutcome` (there is one outcome), `Bounded` (how often is received), `ReadingEnds` (why a reading ends). That a
-//! message always has room in the buffer (`Room`) is a clause of `next_action` itself.
+//! `NoteOrder` with its folder (in which order notes come), `Cutting` and `Stretches` (it does not matter how the bytes
+//! are cut into receives), `Outcome` with its folder (there is one outcome), `Bounded` (how often is received),
+//! `ReadingEnds` (why a reading ends). That a message always has room in the buffer (`Room`) is a clause of
+//! `next_action` itself.
 #![tactic(auto)]
 
 mod backend;

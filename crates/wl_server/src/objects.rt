@@ -6,7 +6,8 @@ ghost use Rattle.std.specs.Prelude.{◌≡◌, ◌<◌, ◌++◌, true, IfSome, 
 ghost use Rattle.std.specs.List.{filter};
 ghost use Rattle.std.specs.VecDeque.{deque_capacity, deque_len};
 ghost use Rattle.wl_link.specs.Store.{held, removed};
-ghost use Rattle.wl_server.specs.Inside.NoteOrder.{GivesNumbers, one_waits};
+ghost use Rattle.wl_server.specs.NoteOrder.{GivesNumbers};
+ghost use Rattle.wl_server.specs.Inside.NoteOrder.{one_waits};
 ghost use Rattle.wl_server.specs.Part.{named, note_of_end, registries_without, same_id, fresh_object as the_object, id_at as the_id};
 
 pub mod create;

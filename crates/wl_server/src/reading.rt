@@ -15,6 +15,7 @@ pub mod registry;
 pub mod request;
 pub mod respond;
 pub mod response;
+pub mod sync;
 pub mod texts;
 
 use crate::globals::KeptGlobal;

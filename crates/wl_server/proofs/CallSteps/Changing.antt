@@ -12,6 +12,7 @@ use Rattle.wl_server.specs.Part.{Part}
 use Rattle.wl_server.specs.PartStep.{Changed, Quietly, WithTransport, World}
 use Rattle.wl_server.specs.Server.{ServerState, Stored, untimed}
 use Rattle.wl_server.specs.Steps.{Makes}
+use Rattle.wl_server.proofs.CallSteps.Numbering.{in_time_none, numbered_set, set_in_time}
 use Rattle.wl_server.proofs.CallSteps.Slots.{did_at, each_set, lacks_at}
 
 module _ {T U G C : Type 0} (w : World T G C) (before : ServerState T U G C) (target : ClientParts) (t : T) where
@@ -36,6 +37,11 @@ module _ {T U G C : Type 0} (w : World T G C) (before : ServerState T U G C) (ta
       order = tt;
       room = tt;
       refused = (λ h. absurd (false≢true h), λ h. was_refused h);
+      notes = record {
+        gathered = refl;
+        times = set_in_time before.clients target.slot (Some c) (Some (over_transport c t)) before.numbers before.numbers here (in_time_none c.times before.numbers);
+        numbered = numbered_set before.clients target.slot (Some c) (Some (over_transport c t)) here (λ is. is);
+      };
       each = λ id. each_set before.clients before.notes target c (over_transport c t) changes (Unit {0}) false [] _ here known (refl, refl, (t, refl, refl)) made id;
     },
   )

@@ -1,5 +1,5 @@
 -- A step that each client feels by itself, one slot after another.
-use Rattle.std.proofs.Common.{◌≡◌, ◌≢◌, ◌∙◌, ℕ, ◌+◌, ◌<◌, ◌≤◌, Bool, true, false, ◌||◌, List, [], length, Option, None, Some, is_some, refl, sym, ap, subst, arith, true≢false}
+use Rattle.std.proofs.Common.{◌≡◌, ◌≢◌, ◌∙◌, ℕ, ◌+◌, ◌<◌, ◌≤◌, Bool, true, false, ◌||◌, List, [], length, map, Option, None, Some, is_some, refl, sym, ap, subst, arith, true≢false}
 use mathlib.Core.Logic.{inl, inr}
 use Rattle.std.specs.Option.{option_map_or}
 use Rattle.std.specs.Prelude.{◌⊎◌, ◌==◌, if◌then◌else◌, nat_lt, slice_get, slice_set}
@@ -7,6 +7,7 @@ use Rattle.std.proofs.lemmas.Bool.{eqb-true, false≢true, ltb-false, ltb-true}
 use Rattle.std.proofs.lemmas.List.{length-set}
 use Rattle.std.proofs.lemmas.Option.{slice_get_past}
 use Rattle.wl_server.specs.declared.notes.Happening.{Happening}
+use Rattle.wl_server.specs.declared.notes.queues.NoteNumbers.{NoteNumbers}
 use Rattle.wl_server.specs.declared.runs.step.Reply.{Reply}
 use Rattle.wl_server.specs.declared.runs.step.Step.{Step}
 use Rattle.wl_server.proofs.OverRuns.Alone.AccountLaws.{calls}
@@ -16,9 +17,11 @@ use Rattle.wl_server.specs.Deeds.{Deed}
 use Rattle.wl_server.specs.Globals.{Offer}
 use Rattle.wl_server.specs.Ids.{ClientParts}
 use Rattle.wl_server.specs.PartStep.{Asked, Call, Feels, PartStep, World}
+use Rattle.wl_server.specs.NoteOrder.{AllInTime, AllNumbered, times_of}
 use Rattle.wl_server.specs.Inside.Places.{AllFeel, FeltAt, PlaceFeels}
 use Rattle.wl_server.specs.Server.{Seen, ServerState, Stored, client_at, if_serial, seen_as, notes_of}
-use Rattle.wl_server.specs.Steps.{AsksForRoom, NumbersClient, AnswersShared, RisesBySlot, inserted_by, lacks_growth, offer_after}
+use Rattle.wl_server.specs.Steps.{AsksForRoom, MakesNotes, NotesGoOn, NumbersClient, AnswersShared, RisesBySlot, inserted_by, lacks_growth, offer_after}
+use Rattle.wl_server.proofs.CallSteps.Numbering.{all_none}
 use Rattle.wl_server.proofs.CallSteps.Slots.{Kind, client_present, get_set_other, get_set_same, on_part, other_of, same_parts, slot_within}
 
 module _ {T U C : Type 0} (R : Kind T U C) where
@@ -184,19 +187,20 @@ pub record IsFelt {T U G C : Type 0} (call : Call T U G C) : Type 0 where
   pub client : (before : ServerState T U G C) → NumbersClient before call
   pub order : RisesBySlot call
   pub room : (before : ServerState T U G C) → AsksForRoom before call
+  pub notes : (before after : ServerState T U G C) → MakesNotes before after → NotesGoOn before call after
 
 module _ {T U G C : Type 0} (w : World T G C) (before : ServerState T U G C) (s : Step T U G C) (answer : Reply T U) (felt : IsFelt (Asked s answer)) where
   last : (n : ℕ) → n ≡ 0 → before.last_client ≡ before.last_client + n
   last n zero = omega (arith, zero)
 
   -- all clients felt it
-  pub felt_call : {was : Bool} (R : Kind T U C) (refused : Bool) (offer : Offer G) (clients : List (Option (Stored T U C)))
+  pub felt_call : {was : Bool} (R : Kind T U C) (refused : Bool) (offer : Offer G) (clients : List (Option (Stored T U C))) (numbers' : NoteNumbers)
       → offer ≡ offer_after before.offer (Asked s answer) → AnswersShared before.offer (Asked s answer) → lacks_growth (Asked s answer) ≡ false
       → ((id : ClientParts) (lacked : Bool) (did : List (Deed U)) (b a : Seen T U C) → Feels b (λ p q. R id p lacked did q) lacked did a
       → PartStep w id before.offer s answer b lacked did a)
-      → AllFeel R refused (length before.clients) before.clients clients
-      → Calls w (record { server = before; refused = was }) s answer (record { server = record before { offer = offer; clients = clients }; refused = refused })
-  felt_call R refused offer clients becomes numbers growth to all = calls _ _ _ _ _ (
+      → AllFeel R refused (length before.clients) before.clients clients → AllInTime (map times_of before.clients) before.numbers (map times_of clients) numbers' → (AllNumbered before.clients → AllNumbered clients)
+      → Calls w (record { server = before; refused = was }) s answer (record { server = record before { offer = offer; clients = clients; numbers = numbers' }; refused = refused })
+  felt_call R refused offer clients numbers' becomes numbers growth to all times numbered = calls _ _ _ _ _ (
     record { call = Asked s answer; refused = refused; lacks = λ id. lacks_of R refused before.clients clients all id; did = λ id. (by id).0 },
     refl,
     refl,
@@ -208,6 +212,7 @@ module _ {T U G C : Type 0} (w : World T G C) (before : ServerState T U G C) (s 
       order = felt.order;
       room = felt.room before;
       refused = (λ is. inr (some_lacks R refused before.clients clients all is), λ h. was_refused h);
+      notes = felt.notes before _ (record { gathered = refl; times = times; numbered = numbered });
       each = λ id. to id _ _ _ _ (by id).1;
     },
   )
@@ -235,6 +240,7 @@ module _ {T U G C : Type 0} (w : World T G C) (before : ServerState T U G C) (s 
       order = felt.order;
       room = felt.room before;
       refused = (λ is. inl (growth ∙ is), λ h. was_refused h);
+      notes = felt.notes before _ (record { gathered = refl; times = all_none _ _; numbered = λ all. all });
       each = λ id. to id _;
     },
   )

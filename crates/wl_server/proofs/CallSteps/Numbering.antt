@@ -1,15 +1,17 @@
 -- The numbers in time of notes: how they rise, and how a call that makes notes keeps them in order.
-use Rattle.std.proofs.Common.{◌≡◌, ◌≢◌, ◌∙◌, ℕ, zero, suc, ◌+◌, ◌<◌, ◌≤◌, Bool, true, false, List, [], ◌∷◌, ◌++◌, map, Option, None, Some, is_some, refl, sym, ap, subst, arith, append_assoc, append-nil}
+use Rattle.std.proofs.Common.{◌≡◌, ◌≢◌, ◌∙◌, ℕ, zero, suc, ◌+◌, ◌<◌, ◌≤◌, Bool, true, false, List, [], ◌∷◌, ◌++◌, length, map, Option, None, Some, is_some, refl, sym, ap, subst, arith, append_assoc, append-nil}
 use mathlib.Core.Logic.{inl, inr}
 use Rattle.std.specs.Option.{option_map, option_map_or}
-use Rattle.std.specs.Prelude.{◌⊎◌, ◌==◌, Contains, if◌then◌else◌, slice_get, slice_set}
-use Rattle.std.proofs.lemmas.Bool.{eqb-true, false≢true}
+use Rattle.std.specs.Prelude.{◌⊎◌, ◌==◌, Contains, if◌then◌else◌, nat_lt, slice_get, slice_set}
+use Rattle.std.proofs.lemmas.Bool.{eqb-true, false≢true, ltb-false, ltb-true}
+use Rattle.std.proofs.lemmas.List.{length-append}
 use Rattle.std.proofs.lemmas.List.Elements.{Contains-append_cases, Contains-append_right}
 use Rattle.wl_server.specs.declared.notes.queues.NoteNumbers.{NoteNumbers}
 use Rattle.wl_server.specs.Ids.{ClientParts}
 use Rattle.wl_server.specs.Inside.Inserting.{IsPut}
 use Rattle.wl_server.specs.Inside.Leaving.{all_staying, staying}
-use Rattle.wl_server.specs.Inside.NoteOrder.{AllInTime, AllTakeFirst, AreInTime, GivesNumbers, HasNumbers, NotesInTime, RiseWithin, TakesFirst, last_number, number_after, times_at, times_of}
+use Rattle.wl_server.specs.NoteOrder.{AllInTime, AllNumbered, AllTakeFirst, AreInTime, GivesNumbers, HasNumbers, InTimeBelow, InTurn, IsNumbered, NoneWaits, NotesInTime, RiseWithin, TakesFirst, last_number, number_after, number_past, numbers_from, place_at, times_at, times_of}
+use Rattle.wl_server.specs.Inside.NoteOrder.{NoneNumbered}
 use Rattle.wl_server.specs.Server.{NoteTimes, Stored, client_at, no_times, stored_at}
 use Rattle.wl_server.proofs.CallSteps.Slots.{get_set_other, get_set_same, other_of, slot_of_client}
 
@@ -45,23 +47,82 @@ among low (m ∷ ns) next n (first, rest) (suc k, below, at) =
 -- ---- numbers that are given
 
 pub gives_none : (ns : List ℕ) (next : ℕ) → GivesNumbers ns next ns next
-gives_none ns next = record { more = []; behind = sym (append-nil ns); rise = λ below. omega arith }
-
--- others got numbers meanwhile
-gives_past : (ns : List ℕ) (next next' : ℕ) → (next' < last_number → next ≤ next') → GivesNumbers ns next ns next'
-gives_past ns next next' up = record { more = []; behind = sym (append-nil ns); rise = up }
+gives_none ns next = record { more = []; behind = sym (append-nil ns); given = refl; past = refl }
 
 pub gives_one : (ns ns' : List ℕ) (next next' : ℕ) → ns' ≡ ns ++ next ∷ [] → next' ≡ number_after next → GivesNumbers ns next ns' next'
-gives_one ns ns' next next' is after = record { more = next ∷ []; behind = is; rise = λ below. (omega arith, omega (arith, after, below)) }
+gives_one ns ns' next next' is after = record { more = next ∷ []; behind = is; given = refl; past = after }
+
+numbers_more : (next k m : ℕ) → numbers_from next (k + m) ≡ numbers_from next k ++ numbers_from (number_past next k) m
+numbers_more next zero m = let none : zero + m ≡ m = omega arith in ap (numbers_from next) none
+numbers_more next (suc k) m =
+    let one : suc k + m ≡ suc (k + m) = omega arith in
+    ap (numbers_from next) one ∙ ap (λ (l : List ℕ). next ∷ l) (numbers_more (number_after next) k m)
+
+past_more : (next k m : ℕ) → number_past next (k + m) ≡ number_past (number_past next k) m
+past_more next zero m = let none : zero + m ≡ m = omega arith in ap (number_past next) none
+past_more next (suc k) m =
+    let one : suc k + m ≡ suc (k + m) = omega arith in
+    ap (number_past next) one ∙ past_more (number_after next) k m
 
 gives_both : (ns ms ks : List ℕ) (a b c : ℕ) → GivesNumbers ns a ms b → GivesNumbers ms b ks c → GivesNumbers ns a ks c
 gives_both ns ms ks a b c one two = record {
+  more = one.more ++ two.more;
+  behind = two.behind ∙ (ap (λ (l : List ℕ). l ++ two.more) one.behind ∙ append_assoc ns one.more two.more);
+  given = ap (λ (l : List ℕ). l ++ two.more) one.given
+      ∙ (ap (λ (l : List ℕ). numbers_from a (length one.more) ++ l) (two.given ∙ ap (λ (n : ℕ). numbers_from n (length two.more)) one.past)
+      ∙ (sym (numbers_more a (length one.more) (length two.more)) ∙ ap (numbers_from a) (sym long)));
+  past = two.past ∙ (ap (λ (n : ℕ). number_past n (length two.more)) one.past ∙ (sym (past_more a (length one.more) (length two.more)) ∙ ap (number_past a) (sym long)));
+}
+  where
+    long : length (one.more ++ two.more) ≡ length one.more + length two.more
+    long = length-append one.more two.more
+
+-- as long as they are not used up, the numbers rise
+rise_from : (next count : ℕ) → number_past next count < last_number → RiseWithin next (numbers_from next count) (number_past next count)
+rise_from next zero below = omega arith
+rise_from next (suc count) below =
+    let rest = rise_from (number_after next) count below in
+    let up = rise_up (number_after next) (numbers_from (number_after next) count) (number_past (number_after next) count) rest in
+    let step : number_after next ≡ next + 1 = omega (arith, up, below) in
+    (omega arith, subst (λ (n : ℕ). RiseWithin n (numbers_from (number_after next) count) (number_past (number_after next) count)) step rest)
+
+-- Numbers were given while the next number went from `next` to `next'`.
+pub record GivesWithin (ns : List ℕ) (next : ℕ) (ns' : List ℕ) (next' : ℕ) : Type 0 where
+  pub more : List ℕ
+  pub behind : ns' ≡ ns ++ more
+  pub rise : next' < last_number → RiseWithin next more next'
+
+within : (ns : List ℕ) (next : ℕ) (ns' : List ℕ) (next' : ℕ) → GivesNumbers ns next ns' next' → GivesWithin ns next ns' next'
+within ns next ns' next' gives = record {
+  more = gives.more;
+  behind = gives.behind;
+  rise = λ below.
+      subst (λ (l : List ℕ). RiseWithin next l next') (sym gives.given)
+      (subst (λ (n : ℕ). RiseWithin next (numbers_from next (length gives.more)) n) (sym gives.past)
+      (rise_from next (length gives.more) (subst (λ (n : ℕ). n < last_number) gives.past below)));
+}
+
+pub within_none : (ns : List ℕ) (next next' : ℕ) → (next' < last_number → next ≤ next') → GivesWithin ns next ns next'
+within_none ns next next' up = record { more = []; behind = sym (append-nil ns); rise = up }
+
+pub within_both : (ns ms ks : List ℕ) (a b c : ℕ) → GivesWithin ns a ms b → GivesWithin ms b ks c → GivesWithin ns a ks c
+within_both ns ms ks a b c one two = record {
   more = one.more ++ two.more;
   behind = two.behind ∙ (ap (λ (l : List ℕ). l ++ two.more) one.behind ∙ append_assoc ns one.more two.more);
   rise = λ below.
       let second = two.rise below in
       let up = rise_up b two.more c second in
       rise_append a one.more b two.more c (one.rise (omega (arith, up, below))) second;
+}
+
+within_lower : (ns : List ℕ) (a b : ℕ) (ns' : List ℕ) (c : ℕ) → (c < last_number → a ≤ b) → GivesWithin ns b ns' c → GivesWithin ns a ns' c
+within_lower ns a b ns' c up gives = record { more = gives.more; behind = gives.behind; rise = λ below. rise_lower a b gives.more c (up below) (gives.rise below) }
+
+within_higher : (ns : List ℕ) (a : ℕ) (ns' : List ℕ) (b c : ℕ) → (c < last_number → b ≤ c) → GivesWithin ns a ns' b → GivesWithin ns a ns' c
+within_higher ns a ns' b c up gives = record {
+  more = gives.more;
+  behind = gives.behind;
+  rise = λ below. let high = up below in rise_higher a gives.more b c high (gives.rise (omega (arith, high, below)));
 }
 
 -- ---- the notes of one client
@@ -138,7 +199,7 @@ module _ {T U C : Type 0} where
 module _ (of : NoteTimes → List ℕ) where
   -- one client got numbers, and the others have theirs
   changed : (ts ts' : List NoteTimes) (i next next' : ℕ) → ((k : ℕ) → k ≢ i → times_at k ts' ≡ times_at k ts)
-      → GivesNumbers (of (times_at i ts)) next (of (times_at i ts')) next' → next' < last_number → AreInTime of next ts → AreInTime of next' ts'
+      → GivesWithin (of (times_at i ts)) next (of (times_at i ts')) next' → next' < last_number → AreInTime of next ts → AreInTime of next' ts'
   changed ts ts' i next next' others gives below is = record {
     rise = λ k. rise_at k (k == i) refl;
     apart = λ j k n a b. differ j k n (old_or_new j n (j == i) refl a) (old_or_new k n (k == i) refl b);
@@ -194,38 +255,111 @@ module _ (of : NoteTimes → List ℕ) where
           let (gone, same) = first k in
           subst (λ (l : List ℕ). Contains l n) (sym same) (Contains-append_right gone (of (times_at k ts')) n has)
 
-pub all_none : (ts : List NoteTimes) (a : NoteNumbers) → AllInTime ts a ts a
-all_none ts a = record { each = λ k. in_time_none (times_at k ts) a; keeps = λ has. has }
+-- ---- numbers in turn
 
-pub all_both : (ts us vs : List NoteTimes) (a b c : NoteNumbers) → AllInTime ts a us b → AllInTime us b vs c → AllInTime ts a vs c
-all_both ts us vs a b c one two = record {
-  each = λ k. in_time_both (times_at k ts) (times_at k us) (times_at k vs) a b c (one.each k) (two.each k);
-  keeps = λ has. two.keeps (one.keeps has);
+module _ (of : NoteTimes → List ℕ) where
+  -- no client of these slots got a number
+  turn_still : (n : ℕ) (ts ts' : List NoteTimes) (next : ℕ) → ((k : ℕ) → k < n → times_at k ts' ≡ times_at k ts) → InTurn of n ts next ts' next
+  turn_still zero ts ts' next same = refl
+  turn_still (suc n) ts ts' next same = (
+    next,
+    turn_still n ts ts' next (λ k below. same k (omega (arith, below))),
+    subst (λ (t : NoteTimes). GivesNumbers (of (times_at n ts)) next (of t) next) (sym (same n (omega arith))) (gives_none (of (times_at n ts)) next),
+  )
+
+  -- clients of other slots are not looked at
+  turn_other : (n : ℕ) (ts : List NoteTimes) (next : ℕ) (us vs : List NoteTimes) (next' : ℕ) → ((k : ℕ) → k < n → times_at k vs ≡ times_at k us)
+      → InTurn of n ts next us next' → InTurn of n ts next vs next'
+  turn_other zero ts next us vs next' same is = is
+  turn_other (suc n) ts next us vs next' same (mid, turn, gives) = (
+    mid,
+    turn_other n ts next us vs mid (λ k below. same k (omega (arith, below))) turn,
+    subst (λ (t : NoteTimes). GivesNumbers (of (times_at n ts)) mid (of t) next') (sym (same n (omega arith))) gives,
+  )
+
+  turn_up : (n : ℕ) (ts : List NoteTimes) (next : ℕ) (ts' : List NoteTimes) (next' : ℕ) → InTurn of n ts next ts' next' → next' < last_number → next ≤ next'
+  turn_up zero ts next ts' next' is below = omega (arith, is)
+  turn_up (suc n) ts next ts' next' (mid, turn, gives) below =
+      let more = within (of (times_at n ts)) mid (of (times_at n ts')) next' gives in
+      let up = rise_up mid more.more next' (more.rise below) in
+      let first = turn_up n ts next ts' mid turn (omega (arith, up, below)) in
+      omega (arith, up, first)
+
+  turn_each : (n k : ℕ) (ts : List NoteTimes) (next : ℕ) (ts' : List NoteTimes) (next' : ℕ) → k < n → InTurn of n ts next ts' next'
+      → GivesWithin (of (times_at k ts)) next (of (times_at k ts')) next'
+  turn_each zero k ts next ts' next' less is = absurd (omega (arith, less))
+  turn_each (suc n) k ts next ts' next' less (mid, turn, gives) = at (λ before. turn_each n k ts next ts' mid before turn) (k == n) refl
+    where
+      more : GivesWithin (of (times_at n ts)) mid (of (times_at n ts')) next'
+      more = within (of (times_at n ts)) mid (of (times_at n ts')) next' gives
+
+      up : next' < last_number → mid ≤ next'
+      up below = rise_up mid more.more next' (more.rise below)
+
+      at : (k < n → GivesWithin (of (times_at k ts)) next (of (times_at k ts')) mid) → (b : Bool) → (k == n) ≡ b → GivesWithin (of (times_at k ts)) next (of (times_at k ts')) next'
+      at earlier true same =
+          subst (λ (m : ℕ). GivesWithin (of (times_at m ts)) next (of (times_at m ts')) next') (sym (eqb-true k n same))
+          (within_lower (of (times_at n ts)) next mid (of (times_at n ts')) next'
+          (λ below. let high = up below in turn_up n ts next ts' mid turn (omega (arith, high, below))) more)
+      at earlier false other =
+          let differ = other_of k n other in
+          within_higher (of (times_at k ts)) next (of (times_at k ts')) mid next' up (earlier (lower differ))
+        where
+          lower : k ≢ n → k < n
+          lower differ = omega (arith, less, differ)
+
+-- the made notes of a client, whether or not others got numbers meanwhile
+pub all_each : (ts : List NoteTimes) (a : NoteNumbers) (ts' : List NoteTimes) (b : NoteNumbers) → AllInTime ts a ts' b → (k : ℕ)
+    → GivesWithin (times_at k ts).made a.made (times_at k ts').made b.made
+all_each ts a ts' b (slots, all) k = at (nat_lt k slots) refl
+  where
+    at : (x : Bool) → nat_lt k slots ≡ x → GivesWithin (times_at k ts).made a.made (times_at k ts').made b.made
+    at true less = turn_each (λ t. t.made) slots k ts a.made ts' b.made (ltb-true k slots less) all.made
+    at false past =
+        subst (λ (t : NoteTimes). GivesWithin (times_at k ts).made a.made t.made b.made) (sym (all.others k (ltb-false k slots past)))
+        (within_none (times_at k ts).made a.made b.made (turn_up (λ t. t.made) slots ts a.made ts' b.made all.made))
+
+pub below_none : (n : ℕ) (ts : List NoteTimes) (a : NoteNumbers) → InTimeBelow n ts a ts a
+below_none n ts a = record {
+  made = turn_still (λ t. t.made) n ts ts a.made (λ k below. refl);
+  waiting = turn_still (λ t. t.waiting) n ts ts a.waiting (λ k below. refl);
+  others = λ k past. refl;
+  keeps = λ has. has;
 }
+
+pub all_none : (ts : List NoteTimes) (a : NoteNumbers) → AllInTime ts a ts a
+all_none ts a = (0, below_none 0 ts a)
+
+pub all_same : (ts ts' : List NoteTimes) (a : NoteNumbers) → ts' ≡ ts → AllInTime ts a ts' a
+all_same ts ts' a same = subst (λ (us : List NoteTimes). AllInTime ts a us a) (sym same) (all_none ts a)
 
 -- one client got numbers
 all_but : (ts ts' : List NoteTimes) (i : ℕ) (a b : NoteNumbers) → ((k : ℕ) → k ≢ i → times_at k ts' ≡ times_at k ts)
     → NotesInTime (times_at i ts) a (times_at i ts') b → AllInTime ts a ts' b
-all_but ts ts' i a b others gives = record {
-  each = λ k. at k (k == i) refl;
-  keeps = λ has. record {
-    made = λ below. changed (λ t. t.made) ts ts' i a.made b.made others gives.made below (has.made (let up = up_made below in omega (arith, up, below)));
-    waiting = λ below. changed (λ t. t.waiting) ts ts' i a.waiting b.waiting others gives.waiting below (has.waiting (let up = up_waiting below in omega (arith, up, below)));
-  };
-}
+all_but ts ts' i a b others gives = (
+  suc i,
+  record {
+    made = (a.made, turn_still (λ t. t.made) i ts ts' a.made (λ k below. others k (λ e. omega (arith, e, below))), gives.made);
+    waiting = (a.waiting, turn_still (λ t. t.waiting) i ts ts' a.waiting (λ k below. others k (λ e. omega (arith, e, below))), gives.waiting);
+    others = λ k past. others k (λ e. omega (arith, e, past));
+    keeps = λ has. record {
+      made = λ below. changed (λ t. t.made) ts ts' i a.made b.made others made below (has.made (let up = up_made below in omega (arith, up, below)));
+      waiting = λ below. changed (λ t. t.waiting) ts ts' i a.waiting b.waiting others waiting below (has.waiting (let up = up_waiting below in omega (arith, up, below)));
+    };
+  },
+)
   where
+    made : GivesWithin (times_at i ts).made a.made (times_at i ts').made b.made
+    made = within (times_at i ts).made a.made (times_at i ts').made b.made gives.made
+
+    waiting : GivesWithin (times_at i ts).waiting a.waiting (times_at i ts').waiting b.waiting
+    waiting = within (times_at i ts).waiting a.waiting (times_at i ts').waiting b.waiting gives.waiting
+
     up_made : b.made < last_number → a.made ≤ b.made
-    up_made below = rise_up a.made gives.made.more b.made (gives.made.rise below)
+    up_made below = rise_up a.made made.more b.made (made.rise below)
 
     up_waiting : b.waiting < last_number → a.waiting ≤ b.waiting
-    up_waiting below = rise_up a.waiting gives.waiting.more b.waiting (gives.waiting.rise below)
-
-    at : (k : ℕ) (b' : Bool) → (k == i) ≡ b' → NotesInTime (times_at k ts) a (times_at k ts') b
-    at k true same = subst (λ (n : ℕ). NotesInTime (times_at n ts) a (times_at n ts') b) (sym (eqb-true k i same)) gives
-    at k false other = subst (λ (t : NoteTimes). NotesInTime (times_at k ts) a t b) (sym (others k (other_of k i other))) (record {
-      made = gives_past (times_at k ts).made a.made b.made up_made;
-      waiting = gives_past (times_at k ts).waiting a.waiting b.waiting up_waiting;
-    })
+    up_waiting below = rise_up a.waiting waiting.more b.waiting (waiting.rise below)
 
 module _ {T U C : Type 0} where
   -- the client of a slot was written
@@ -236,6 +370,31 @@ module _ {T U C : Type 0} where
       (λ k differ. times_same clients (slice_set clients i x') k (get_set_other clients i k x' (λ e. differ (sym e))))
       (subst (λ (t : NoteTimes). NotesInTime t a (times_at i (map times_of (slice_set clients i x'))) b) (sym (times_there clients i x here))
       (subst (λ (t : NoteTimes). NotesInTime (times_of x) a t b) (sym (times_there (slice_set clients i x') i x' (get_set_same clients i x x' here))) gives))
+
+  -- the client of the next slot was written, after those below it
+  pub next_in_time : (ts : List NoteTimes) (clients : List (Option (Stored T U C))) (i : ℕ) (x x' : Option (Stored T U C)) (a b c : NoteNumbers)
+      → InTimeBelow i ts a (map times_of clients) b → slice_get clients i ≡ Some x → NotesInTime (times_of x) b (times_of x') c
+      → InTimeBelow (i + 1) ts a (map times_of (slice_set clients i x')) c
+  next_in_time ts clients i x x' a b c before here gives =
+      let next : suc i ≡ i + 1 = omega arith in
+      subst (λ (n : ℕ). InTimeBelow n ts a (map times_of (slice_set clients i x')) c) next (record {
+        made = (b.made, turn_other (λ t. t.made) i ts a.made (map times_of clients) (map times_of (slice_set clients i x')) b.made still before.made, times.made);
+        waiting = (b.waiting, turn_other (λ t. t.waiting) i ts a.waiting (map times_of clients) (map times_of (slice_set clients i x')) b.waiting still before.waiting, times.waiting);
+        others = λ k past. others k (λ e. omega (arith, e, past)) ∙ before.others k (omega (arith, past));
+        keeps = λ has. (set_in_time clients i x x' b c here gives).1.keeps (before.keeps has);
+      })
+    where
+      others : (k : ℕ) → k ≢ i → times_at k (map times_of (slice_set clients i x')) ≡ times_at k (map times_of clients)
+      others k differ = times_same clients (slice_set clients i x') k (get_set_other clients i k x' (λ e. differ (sym e)))
+
+      still : (k : ℕ) → k < i → times_at k (map times_of (slice_set clients i x')) ≡ times_at k (map times_of clients)
+      still k below = others k (λ e. omega (arith, e, below))
+
+      times : NotesInTime (times_at i ts) b (times_at i (map times_of (slice_set clients i x'))) c
+      times =
+          subst (λ (t : NoteTimes). NotesInTime t b (times_at i (map times_of (slice_set clients i x'))) c)
+          (sym (times_there clients i x here) ∙ before.others i (omega arith))
+          (subst (λ (t : NoteTimes). NotesInTime (times_of x) b t c) (sym (times_there (slice_set clients i x') i x' (get_set_same clients i x x' here))) gives)
 
   -- a client was put at a slot that had none
   pub put_in_time : (clients clients' : List (Option (Stored T U C))) (i : ℕ) (s : Stored T U C) (a b : NoteNumbers) → stored_at i clients ≡ None → IsPut clients i s clients'
@@ -249,12 +408,51 @@ module _ {T U C : Type 0} where
   pub numbers_set : (clients : List (Option (Stored T U C))) (id : ClientParts) (s s' : Stored T U C) (a b : NoteNumbers) → Some s ≡ client_at id clients
       → NotesInTime s.times a s'.times b → HasNumbers a (map times_of clients) → HasNumbers b (map times_of (slice_set clients id.slot (Some s')))
   numbers_set clients id s s' a b is gives has =
-      let all = set_in_time clients id.slot (Some s) (Some s') a b (slot_of_client clients id s is).0 gives in all.keeps has
+      let all = set_in_time clients id.slot (Some s) (Some s') a b (slot_of_client clients id s is).0 gives in all.1.keeps has
 
   -- the same where no note was made
   pub numbers_stay : (clients : List (Option (Stored T U C))) (id : ClientParts) (s s' : Stored T U C) (a : NoteNumbers) → Some s ≡ client_at id clients
       → s'.times ≡ s.times → HasNumbers a (map times_of clients) → HasNumbers a (map times_of (slice_set clients id.slot (Some s')))
   numbers_stay clients id s s' a is same has = numbers_set clients id s s' a a is (in_time_same s.times s'.times a a same refl) has
+
+-- ---- as many numbers as notes
+
+module _ {T U C : Type 0} where
+  pub numbered_set : (clients : List (Option (Stored T U C))) (i : ℕ) (x x' : Option (Stored T U C)) → slice_get clients i ≡ Some x
+      → (IsNumbered x → IsNumbered x') → AllNumbered clients → AllNumbered (slice_set clients i x')
+  numbered_set clients i x x' here stays all k = at (i == k) refl
+    where
+      at : (b : Bool) → (i == k) ≡ b → IsNumbered (stored_at k (slice_set clients i x'))
+      at true same =
+          subst (λ (n : ℕ). IsNumbered (stored_at n (slice_set clients i x'))) (eqb-true i k same)
+          (subst (λ (o : Option (Option (Stored T U C))). IsNumbered (option_map_or (λ s. s) o None)) (sym (get_set_same clients i x x' here))
+          (stays (subst (λ (o : Option (Option (Stored T U C))). IsNumbered (option_map_or (λ s. s) o None)) here (all i))))
+      at false other =
+          subst (λ (o : Option (Option (Stored T U C))). IsNumbered (option_map_or (λ s. s) o None)) (sym (get_set_other clients i k x' (other_of i k other))) (all k)
+
+  pub numbered_put : (clients clients' : List (Option (Stored T U C))) (i : ℕ) (s : Stored T U C) → IsPut clients i s clients' → IsNumbered (Some s)
+      → AllNumbered clients → AllNumbered clients'
+  numbered_put clients clients' i s (here, others) is all k = at (k == i) refl
+    where
+      at : (b : Bool) → (k == i) ≡ b → IsNumbered (stored_at k clients')
+      at true same =
+          subst (λ (n : ℕ). IsNumbered (stored_at n clients')) (sym (eqb-true k i same))
+          (subst (λ (o : Option (Option (Stored T U C))). IsNumbered (option_map_or (λ s. s) o None)) (sym here) is)
+      at false other =
+          subst (λ (o : Option (Option (Stored T U C))). IsNumbered (option_map_or (λ s. s) o None)) (sym (others k (other_of k i other))) (all k)
+
+  -- killed clients leave
+  pub numbered_staying : (clients : List (Option (Stored T U C))) → AllNumbered clients → AllNumbered (all_staying clients)
+  numbered_staying clients all k = subst (λ (o : Option (Option (Stored T U C))). IsNumbered (option_map_or (λ s. s) o None)) (sym (get_map staying clients k)) (at (slice_get clients k) (all k))
+    where
+      leaves : (b : Bool) (s : Stored T U C) → IsNumbered (Some s) → IsNumbered (if b then None else Some s)
+      leaves true s is = (refl, refl)
+      leaves false s is = is
+
+      at : (o : Option (Option (Stored T U C))) → IsNumbered (option_map_or (λ s. s) o None) → IsNumbered (option_map_or (λ s. s) (option_map staying o) None)
+      at None is = (refl, refl)
+      at (Some None) is = (refl, refl)
+      at (Some (Some s)) is = leaves s.part.is_killed s is
 
 -- a new server
 pub no_numbers : (n : NoteNumbers) → HasNumbers n []
@@ -268,6 +466,19 @@ no_numbers n = record { made = λ below. none (λ t. t.made) n.made refl; waitin
       where
         nothing : (m : ℕ) → Contains [] m → ⊥
         nothing m (k, below, at) = omega (arith, below)
+
+-- no note waits, and the numbers of those that wait begin anew
+pub waiting_anew : (ts : List NoteTimes) (a : NoteNumbers) → NoneWaits ts → HasNumbers a ts → HasNumbers (record a { waiting = 0 }) ts
+waiting_anew ts a none has = record {
+  made = has.made;
+  waiting = λ below. record {
+    rise = λ k. subst (λ (l : List ℕ). RiseWithin 0 l 0) (sym (none k)) (omega arith);
+    apart = λ j k n a b. absurd (nothing n (subst (λ (l : List ℕ). Contains l n) (none j) a));
+  };
+}
+  where
+    nothing : (n : ℕ) → Contains [] n → ⊥
+    nothing n (k, below, at) = omega (arith, below)
 
 -- ---- notes that are taken
 
@@ -304,6 +515,22 @@ numbers_left ts ts' a first has = record {
   made = λ below. fewer (λ t. t.made) ts ts' a.made (λ k. ((first k).made, (first k).of_made)) (has.made below);
   waiting = λ below. fewer (λ t. t.waiting) ts ts' a.waiting (λ k. ((first k).waiting, (first k).of_waiting)) (has.waiting below);
 }
+
+-- where all notes were gathered, none waits after killed clients are gone
+pub none_waits : (ts ts' : List NoteTimes) → NoneNumbered true ts → AllTakeFirst ts ts' → NoneWaits ts'
+none_waits ts ts' none first k =
+    let took = first k in
+    last_nil took.waiting (times_at k ts').waiting (sym took.of_waiting ∙ waiting_nil (times_at k ts).made (times_at k ts).waiting (none k))
+  where
+    last_nil : (xs ys : List ℕ) → xs ++ ys ≡ [] → ys ≡ []
+    last_nil [] ys is = is
+    last_nil (x ∷ xs) ys is = let long : suc (length (xs ++ ys)) ≡ 0 = ap length is in absurd (omega (arith, long))
+
+    waiting_nil : (ms ws : List ℕ) → map (place_at false 0) ms ++ map (place_at true 0) ws ≡ [] → ws ≡ []
+    waiting_nil [] [] is = refl
+    waiting_nil [] (w ∷ ws) is = let long : suc (length (map (place_at true 0) ws)) ≡ 0 = ap length is in absurd (omega (arith, long))
+    waiting_nil (m ∷ ms) ws is =
+        let long : suc (length (map (place_at false 0) ms ++ map (place_at true 0) ws)) ≡ 0 = ap length is in absurd (omega (arith, long))
 
 module _ {T U C : Type 0} where
   pub take_set : (clients : List (Option (Stored T U C))) (i : ℕ) (x x' : Option (Stored T U C)) → slice_get clients i ≡ Some x

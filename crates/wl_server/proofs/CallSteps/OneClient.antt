@@ -7,17 +7,20 @@ use Rattle.wl_wire.specs.Table.{InterfaceRow}
 use Rattle.wl_link.specs.Store.{Store}
 use Rattle.wl_server.specs.declared.globals.KeptGlobal.{KeptGlobal}
 use Rattle.wl_server.specs.declared.notes.Note.{Note}
+use Rattle.wl_server.specs.declared.notes.queues.NoteNumbers.{NoteNumbers}
 use Rattle.wl_server.specs.declared.runs.step.Reply.{Reply}
 use Rattle.wl_server.specs.declared.runs.step.Step.{Step}
 use Rattle.wl_server.proofs.OverRuns.Alone.AccountLaws.{calls}
 use Rattle.wl_server.specs.Backend.{Calls}
 use Rattle.wl_server.specs.Inside.Client.{Does}
+use Rattle.wl_server.specs.NoteOrder.{IsNumbered, NotesInTime}
 use Rattle.wl_server.specs.Deeds.{Deed}
 use Rattle.wl_server.specs.Globals.{Offer}
 use Rattle.wl_server.specs.Ids.{ClientParts, same_client}
 use Rattle.wl_server.specs.PartStep.{Asked, Call, OfClient, PartStep, World}
 use Rattle.wl_server.specs.Server.{Seen, ServerState, Stored, client_at}
-use Rattle.wl_server.specs.Steps.{AsksForRoom, NumbersClient, AnswersShared, RisesBySlot, StepOf, inserted_by, lacks_growth, offer_after}
+use Rattle.wl_server.specs.Steps.{AsksForRoom, MakesNotes, NotesGoOn, NumbersClient, AnswersShared, RisesBySlot, StepOf, inserted_by, lacks_growth, offer_after}
+use Rattle.wl_server.proofs.CallSteps.Numbering.{all_none, numbered_set, set_in_time}
 use Rattle.wl_server.proofs.CallSteps.Slots.{Kind, did_at, each_missing, each_set, lacks_at, same_self, slot_of_client}
 
 -- a call that is about one client: nothing changes that all share, and no memory is wanted but for that client
@@ -29,28 +32,31 @@ pub record IsOwn {T U G C : Type 0} (call : Call T U G C) : Type 0 where
   pub order : RisesBySlot call
   pub room : (before : ServerState T U G C) → AsksForRoom before call
   pub growth : lacks_growth call ≡ false
+  pub notes : (before after : ServerState T U G C) → MakesNotes before after → NotesGoOn before call after
 
 -- a server of these values
-abbrev pub held_by : {T U G C : Type 0} → List InterfaceRow → Store (KeptGlobal G) → ℕ → ℕ → ℕ → List (Option (Stored T U C)) → List (Note U) → ServerState T U G C
-held_by table globals last_global default_limit last_client clients notes = record {
+abbrev pub held_by : {T U G C : Type 0} → List InterfaceRow → Store (KeptGlobal G) → ℕ → ℕ → ℕ → List (Option (Stored T U C)) → List (Note U) → NoteNumbers → ServerState T U G C
+held_by table globals last_global default_limit last_client clients notes numbers = record {
   offer = record { table = table; globals = record { store = globals; last_serial = last_global }; default_limit = default_limit };
   last_client = last_client;
   clients = clients;
   notes = notes;
+  numbers = numbers;
 }
 
 module _ {T U G C : Type 0} (w : World T G C) (before : ServerState T U G C) (s : Step T U G C) (answer : Reply T U) (own : IsOwn (Asked s answer)) (target : ClientParts)
     (R : Kind T U C) (missing : Type 0)
     (to : (id : ClientParts) (lacked : Bool) (did : List (Deed U)) (b a : Seen T U C) → OfClient (same_client target id) b (λ p q. R id p lacked did q) missing lacked did a
     → PartStep w id before.offer s answer b lacked did a) where
-  abbrev with_clients : List (Option (Stored T U C)) → ServerState T U G C
-  with_clients clients = record before { clients = clients }
+  abbrev with_clients : List (Option (Stored T U C)) → NoteNumbers → ServerState T U G C
+  with_clients clients numbers = record before { clients = clients; numbers = numbers }
 
   -- it was done to the client of that slot
   own_call : (c c' : Stored T U C) (lacked : Bool) → slice_get before.clients target.slot ≡ Some (Some c) → c.serial ≡ target.serial
-      → Does c (λ p did q. R target p lacked did q) c'
-      → StepOf w before s answer lacked (with_clients (slice_set before.clients target.slot (Some c')))
-  own_call c c' lacked here known (did, q, does, is) = (
+      → Does c (λ p did q. R target p lacked did q) c' → (numbers' : NoteNumbers) → NotesInTime c.times before.numbers c'.times numbers'
+      → (IsNumbered (Some c) → IsNumbered (Some c'))
+      → StepOf w before s answer lacked (with_clients (slice_set before.clients target.slot (Some c')) numbers')
+  own_call c c' lacked here known (did, q, does, is) numbers' times numbered = (
     record { call = Asked s answer; refused = lacked; lacks = λ id. lacks_at (same_client target id) lacked; did = λ id. did_at (same_client target id) did },
     refl,
     refl,
@@ -62,6 +68,7 @@ module _ {T U G C : Type 0} (w : World T G C) (before : ServerState T U G C) (s 
       order = own.order;
       room = own.room before;
       refused = (is_refused, λ h. was_refused h);
+      notes = own.notes before _ (record { gathered = refl; times = set_in_time before.clients target.slot (Some c) (Some c') before.numbers numbers' here times; numbered = numbered_set before.clients target.slot (Some c) (Some c') here numbered });
       each = λ id. to id _ _ _ _ (each_set before.clients before.notes target c c' R missing lacked did q here known does is id);
     },
   )
@@ -82,13 +89,14 @@ module _ {T U G C : Type 0} (w : World T G C) (before : ServerState T U G C) (s 
 
   -- the same of the client that was looked up by the id, as this was read
   pub done_to : {was : Bool} (read : ClientParts) (c c' : Stored T U C) (lacked : Bool) → read ≡ target → Some c ≡ client_at read before.clients
-      → Does c (λ p did q. R target p lacked did q) c'
-      → Calls w (record { server = before; refused = was }) s answer (record { server = with_clients (slice_set before.clients read.slot (Some c')); refused = lacked })
-  done_to read c c' lacked same is does =
+      → Does c (λ p did q. R target p lacked did q) c' → (numbers' : NoteNumbers) → NotesInTime c.times before.numbers c'.times numbers'
+      → (IsNumbered (Some c) → IsNumbered (Some c'))
+      → Calls w (record { server = before; refused = was }) s answer (record { server = with_clients (slice_set before.clients read.slot (Some c')) numbers'; refused = lacked })
+  done_to read c c' lacked same is does numbers' times numbered =
       let has = slot_of_client before.clients target c (is ∙ ap (λ (id : ClientParts). client_at id before.clients) same) in
       calls _ _ _ _ _
-      (subst (λ (id : ClientParts). StepOf w before s answer lacked (with_clients (slice_set before.clients id.slot (Some c')))) (sym same)
-      (own_call c c' lacked has.0 has.1 does))
+      (subst (λ (id : ClientParts). StepOf w before s answer lacked (with_clients (slice_set before.clients id.slot (Some c')) numbers')) (sym same)
+      (own_call c c' lacked has.0 has.1 does numbers' times numbered))
 
   -- there is no such client
   no_such_client : client_at target before.clients ≡ None → missing → StepOf w before s answer false before
@@ -104,6 +112,7 @@ module _ {T U G C : Type 0} (w : World T G C) (before : ServerState T U G C) (s 
       order = own.order;
       room = own.room before;
       refused = (λ h. absurd (false≢true h), λ h. was_refused h);
+      notes = own.notes before before (record { gathered = refl; times = all_none _ _; numbered = λ all. all });
       each = λ id. to id _ _ _ _ (each_missing before.clients before.notes target R missing none is id);
     },
   )

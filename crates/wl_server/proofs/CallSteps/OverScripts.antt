@@ -73,6 +73,7 @@ module _ {U G C : Type 0} (views : G → ClientParts → C → GlobalParts → B
     order = one.order;
     room = one.room;
     refused = one.refused;
+    notes = one.notes;
     each = λ id. part_call id before.offer e.call _ _ _ _ (one.each id);
   }
 

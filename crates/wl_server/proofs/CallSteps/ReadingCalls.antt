@@ -14,6 +14,8 @@ use Rattle.wl_server.specs.Backend.{Calls}
 use Rattle.wl_server.specs.Deeds.{Handed}
 use Rattle.wl_server.specs.Globals.{Offer}
 use Rattle.wl_server.specs.Inside.Client.{Does}
+use Rattle.wl_server.specs.NoteOrder.{IsNumbered, NotesInTime}
+use Rattle.wl_server.specs.declared.notes.queues.NoteNumbers.{NoteNumbers}
 use Rattle.wl_server.specs.Ids.{ClientParts, GlobalParts}
 use Rattle.wl_server.specs.PartStep.{Asked, World, around, over}
 use Rattle.wl_server.specs.Reading.{NextAction, action_content, new_reading}
@@ -26,11 +28,11 @@ module _ {T U G C : Type 0} where
   reads_kind w offer r answer r' id p lacked did q = NextAction w.sends w.receives (around w id offer) r p answer r' lacked did q
 
   pub own_next : (id : ClientParts) (answer : Result Action ActionError) → IsOwn {T = T} {U = U} {G = G} {C = C} (Asked (step.NextAction id) (reply.NextAction answer))
-  own_next id answer = record { offer = λ o. refl; last = refl; client = λ b. tt; global = λ o. tt; order = tt; room = λ b. tt; growth = refl }
+  own_next id answer = record { offer = λ o. refl; last = refl; client = λ b. tt; global = λ o. tt; order = tt; room = λ b. tt; growth = refl; notes = λ b a h. h }
 
   pub own_within : (id : ClientParts) (r : Reading) (answer : Result Action ActionError) (r' : Reading)
       → IsOwn {T = T} {U = U} {G = G} {C = C} (Asked (step.NextActionWithin id r) (reply.NextActionWithin answer r'))
-  own_within id r answer r' = record { offer = λ o. refl; last = refl; client = λ b. tt; global = λ o. tt; order = tt; room = λ b. tt; growth = refl }
+  own_within id r answer r' = record { offer = λ o. refl; last = refl; client = λ b. tt; global = λ o. tt; order = tt; room = λ b. tt; growth = refl; notes = λ b a h. h }
 
 module _ {T U G C : Type 0} (sends : T → Queue → Result ℕ IoFault → T → Type 0) (receives : T → ℕ → Result Queue IoFault → T → Type 0)
     (views : G → ClientParts → C → GlobalParts → Bool) (before : ServerState T U G C) (id : ClientParts) (r r' : Reading) (answer : Result Action ActionError) where
@@ -55,19 +57,20 @@ module _ {T U G C : Type 0} (sends : T → Queue → Result ℕ IoFault → T �
 
   -- it was done to the client that was looked up
   module _ (c c' : Stored T U C) (lacked : Bool) (is : Some c ≡ client_at id before.clients)
-      (does : Does c (λ p did q. NextAction sends receives (around there id before.offer) r p (action_content answer) r' lacked did q) c') where
+      (does : Does c (λ p did q. NextAction sends receives (around there id before.offer) r p (action_content answer) r' lacked did q) c') (numbers' : NoteNumbers)
+      (times : NotesInTime c.times before.numbers c'.times numbers') (numbered : IsNumbered (Some c) → IsNumbered (Some c')) where
     abbrev after : ServerState T U G C
-    after = record before { clients = slice_set before.clients id.slot (Some c') }
+    after = record before { clients = slice_set before.clients id.slot (Some c'); numbers = numbers' }
 
     pub next_done : {was : Bool} → r ≡ new_reading
         → Calls there (record { server = before; refused = was }) (step.NextAction id) (reply.NextAction answer) (record { server = after; refused = lacked })
     next_done fresh =
         done_to there before (step.NextAction id) (reply.NextAction answer) (own_next id answer) id (reads new_reading) _
         (λ i l d b a h. (answer, r', refl, h)) id c c' lacked refl is
-        (subst (λ (from : Reading). Does c (λ p did q. NextAction sends receives (around there id before.offer) from p (action_content answer) r' lacked did q) c') fresh does)
+        (subst (λ (from : Reading). Does c (λ p did q. NextAction sends receives (around there id before.offer) from p (action_content answer) r' lacked did q) c') fresh does) numbers' times numbered
 
     pub within_done : {was : Bool}
         → Calls there (record { server = before; refused = was }) (step.NextActionWithin id r) (reply.NextActionWithin answer r') (record { server = after; refused = lacked })
     within_done =
         done_to there before (step.NextActionWithin id r) (reply.NextActionWithin answer r') (own_within id r answer r') id (reads r) _
-        (λ i l d b a h. (answer, r', refl, h)) id c c' lacked refl is does
+        (λ i l d b a h. (answer, r', refl, h)) id c c' lacked refl is does numbers' times numbered

@@ -4,7 +4,8 @@ use mathlib.Core.Logic.{inl, inr}
 use Rattle.std.specs.Prelude.{◌⊎◌}
 use Rattle.std.proofs.lemmas.List.{nil_from_length}
 use Rattle.wl_server.specs.declared.notes.Happening.{Happening}
-use Rattle.wl_server.specs.Inside.Gathering.{AllLeft, count_leaving, to_gather}
+use Rattle.wl_server.specs.Inside.Gathering.{AllLeft, count_leaving}
+use Rattle.wl_server.specs.NoteOrder.{to_gather}
 use Rattle.wl_server.specs.Inside.Leaving.{collected, ends_at, given_at, id_in}
 use Rattle.wl_server.specs.Server.{Stored}
 use Rattle.wl_server.specs.Steps.{SomeClient}

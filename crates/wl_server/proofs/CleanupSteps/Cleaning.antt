@@ -12,7 +12,8 @@ use Rattle.wl_server.specs.declared.objects.Kept.{Kept}
 use Rattle.wl_server.specs.declared.notes.Happening.{Happening}
 use Rattle.wl_server.specs.Deeds.{Deed, Noted, left_if, notes_in}
 use Rattle.wl_server.specs.Felt.{FlushedTo, objects_leave}
-use Rattle.wl_server.specs.Inside.Gathering.{emptied, to_gather}
+use Rattle.wl_server.specs.Inside.Gathering.{emptied}
+use Rattle.wl_server.specs.NoteOrder.{to_gather}
 use Rattle.wl_server.specs.Globals.{Offer}
 use Rattle.wl_server.specs.Ids.{ClientParts}
 use Rattle.wl_server.specs.Inside.Leaving.{FlushesKilled, ends_in, ends_of, given_in, staying}

@@ -1,20 +1,23 @@
 -- A cleanup of all clients, as a step of the server.
-use Rattle.std.proofs.Common.{◌≡◌, ◌+◌, ◌<◌, length, Bool, true, false, List, [], ◌++◌, Option, Ok, Err, Vec, refl, sym, ap, subst, ◌∙◌, arith}
+use Rattle.std.proofs.Common.{◌≡◌, ◌+◌, ◌<◌, length, map, Bool, true, false, List, [], ◌∷◌, ◌++◌, suc, Option, None, Some, Ok, Err, Vec, refl, sym, ap, subst, ◌∙◌, arith}
 use mathlib.Core.Logic.{inl, inr}
 use Rattle.std.specs.Global.{Global}
-use Rattle.std.specs.Prelude.{◌⊎◌}
+use Rattle.std.specs.Option.{option_map_or}
+use Rattle.std.specs.Prelude.{◌⊎◌, if◌then◌else◌}
 use Rattle.std.proofs.lemmas.Bool.{false≢true}
 use Rattle.wl_wire.specs.declared.error.OutOfMemory.{OutOfMemory}
 use Rattle.wl_server.specs.declared.notes.Happening.{Happening}
 use Rattle.wl_server.specs.declared.notes.Note.{Note}
+use Rattle.wl_server.specs.declared.notes.queues.NoteNumbers.{NoteNumbers}
 use Rattle.wl_server.specs.declared.runs.step.Reply.TheVariants as reply
 use Rattle.wl_server.specs.declared.runs.step.Step.TheVariants as step
 use Rattle.wl_server.proofs.OverRuns.Alone.AccountLaws.{calls}
 use Rattle.wl_server.specs.Backend.{Calls}
 use Rattle.wl_server.specs.Inside.Cleanup.{CleansUp}
 use Rattle.wl_server.specs.Inside.Gathering.{count_leaving}
+use Rattle.wl_server.specs.NoteOrder.{AllNumbered, AllTakeFirst, NoneWaits, times_of, to_gather}
 use Rattle.wl_server.specs.Ids.{ClientParts}
-use Rattle.wl_server.specs.Inside.Leaving.{FlushesKilled, collected, given_at}
+use Rattle.wl_server.specs.Inside.Leaving.{FlushesKilled, collected, ends_at, given_at, staying}
 use Rattle.wl_server.specs.PartStep.{Asked, World, share_of}
 use Rattle.wl_server.specs.Server.{ServerState, Stored, client_at, notes_of}
 use Rattle.wl_server.specs.Steps.{StepOf}
@@ -23,17 +26,34 @@ use Rattle.wl_server.proofs.CleanupSteps.Cleaning.{CleanedBy, cleaned_one}
 use Rattle.wl_server.proofs.CallSteps.Collecting.{Rises, ends_for, given_for, given_rises, staying_for}
 use Rattle.wl_server.proofs.CallSteps.Feeling.{each_felt, lacks_of, one_lacks, some_lacks}
 use Rattle.wl_server.proofs.CleanupSteps.Gathering.{notes_append}
+use Rattle.wl_server.proofs.CallSteps.Numbering.{all_none}
 use Rattle.wl_server.proofs.CallSteps.Slots.{Kind}
+use Rattle.wl_server.proofs.CleanupSteps.Outgoing.{ends_rise}
 use Rattle.wl_server.proofs.CleanupSteps.TakingNotes.{none_left, same_left}
+
+-- who stays has no notes that were made, if all were gathered
+none_made : {T U C : Type 0} (x : Option (Stored T U C)) → to_gather true x ≡ [] → option_map_or (λ s. s.made) (staying x) [] ≡ []
+none_made None none = refl
+none_made {T} {U} {C} (Some s) none = at s.part.is_killed
+  where
+    no_notes : (made waiting : List (Happening U)) → made ++ waiting ≡ [] → made ≡ []
+    no_notes [] waiting is = refl
+    no_notes (h ∷ made) waiting is = let long : suc (length (made ++ waiting)) ≡ 0 = ap length is in absurd (omega (arith, long))
+
+    at : (b : Bool) → option_map_or (λ s. s.made) (if b then None else Some s) [] ≡ []
+    at true = refl
+    at false = no_notes s.made s.part.waiting none
 
 module _ {T U G C : Type 0} (w : World T G C) (before : ServerState T U G C) where
   abbrev flush : Kind T U C
   flush id p lacked did q = FlushesKilled w.sends p lacked did q
 
   pub cleaned_up : {was : Bool} (refused : Bool) (clients' : List (Option (Stored T U C))) (notes' : List (Note U)) (out : Vec (ClientParts × T) Global) (given : List (ClientParts × T)) → out.items ≡ given
-      → CleansUp w.sends before.clients before.notes refused clients' notes' given
-      → Calls w (record { server = before; refused = was }) step.Cleanup (reply.Cleanup (Ok out)) (record { server = record before { clients = clients'; notes = notes' }; refused = refused })
-  cleaned_up refused clients' notes' out given are by = calls _ _ _ _ _ (
+      → CleansUp w.sends before.clients before.notes refused clients' notes' given → (numbers' : NoteNumbers) → AllTakeFirst (map times_of before.clients) (map times_of clients')
+      → NoneWaits (map times_of clients') → (AllNumbered before.clients → AllNumbered clients') → numbers' ≡ record before.numbers { waiting = 0 }
+      → Calls w (record { server = before; refused = was }) step.Cleanup (reply.Cleanup (Ok out))
+      (record { server = record before { clients = clients'; notes = notes'; numbers = numbers' }; refused = refused })
+  cleaned_up refused clients' notes' out given are by numbers' first none_waits numbered anew = calls _ _ _ _ _ (
     record { call = Asked step.Cleanup (reply.Cleanup (Ok out)); refused = refused; lacks = λ id. lacked id; did = λ id. (one id).0 },
     refl,
     refl,
@@ -45,6 +65,7 @@ module _ {T U G C : Type 0} (w : World T G C) (before : ServerState T U G C) whe
       order = subst Rises (sym (are ∙ by.gave)) (given_rises 0 by.left);
       room = tt;
       refused = (λ is. inr (some_lacks flush refused before.clients by.flushed by.flushes is), λ h. was_refused h);
+      notes = record { told = by.told; ends = collected ends_at 0 by.left; in_order = by.in_order; behind = by.noted; by_slot = ends_rise 0 0 by.left (omega arith); first = first; none_left = λ id. none_left_of id; none_waits = none_waits; numbered = numbered; numbers = anew };
       each = λ id. (Ok out, refl, (one id).1);
     },
   )
@@ -62,6 +83,11 @@ module _ {T U G C : Type 0} (w : World T G C) (before : ServerState T U G C) whe
           (same_left true by.flushed before.notes by.left by.told by.gathers id) (none_left true by.left by.all id) (by.gathers.told id)
           (ap (notes_of id) by.noted ∙ (notes_append id by.told _ ∙ ap (λ (l : List (Happening U)). notes_of id by.told ++ l) (ends_for id by.left)))
           (ap (share_of id) (are ∙ by.gave) ∙ given_for id by.left))
+
+      none_left_of : (id : ClientParts) → option_map_or (λ s. s.made) (client_at id clients') [] ≡ []
+      none_left_of id =
+          ap (λ (o : Option (Stored T U C)). option_map_or (λ s. s.made) o []) (ap (client_at id) by.stay ∙ staying_for id by.left)
+          ∙ none_made (client_at id by.left) (none_left true by.left by.all id)
 
       was_refused : (false ≡ true) ⊎ ((id : ClientParts) × (lacked id ≡ true)) → refused ≡ true
       was_refused (inl grown) = absurd (false≢true grown)
@@ -82,6 +108,7 @@ module _ {T U G C : Type 0} (w : World T G C) (before : ServerState T U G C) whe
       order = tt;
       room = cleanup_asks before.clients some;
       refused = (λ h. inl refl, λ h. refl);
+      notes = record { gathered = refl; times = all_none _ _; numbered = λ all. all };
       each = λ id. (Err e, refl, (refl, refl, refl));
     },
   )

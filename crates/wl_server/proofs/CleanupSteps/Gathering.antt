@@ -9,7 +9,8 @@ use Rattle.std.proofs.lemmas.Option.{same_Some, none-some}
 use Rattle.wl_server.specs.declared.notes.Happening.{Happening}
 use Rattle.wl_server.specs.declared.notes.Happening.TheVariants as happened
 use Rattle.wl_server.specs.declared.notes.Note.{Note}
-use Rattle.wl_server.specs.Inside.Gathering.{Gathers, MovesNote, count_leaving, emptied, to_gather, notes_from}
+use Rattle.wl_server.specs.Inside.Gathering.{Gathers, MovesNote, count_leaving, emptied, notes_from}
+use Rattle.wl_server.specs.NoteOrder.{to_gather}
 use Rattle.wl_server.specs.Ids.{ClientParts, same_client}
 use Rattle.wl_server.specs.Server.{Stored, client_at, if_serial, note_of, notes_of, told_of}
 use Rattle.wl_server.proofs.CallSteps.Slots.{Are, Serials, Slots, client_absent, client_present, compare, get_set_other, get_set_same, other_of, same_parts, same_self, same_serials, same_slots}
@@ -17,12 +18,12 @@ use Rattle.wl_server.proofs.CallSteps.Slots.{Are, Serials, Slots, client_absent,
 -- ---- notes of one client
 
 module _ {U : Type 0} where
-  told_same : (target id : ClientParts) (h : Happening U) → same_client target id ≡ true → told_of id (note_of target h) ≡ h ∷ []
+  pub told_same : (target id : ClientParts) (h : Happening U) → same_client target id ≡ true → told_of id (note_of target h) ≡ h ∷ []
   told_same target id happened.Initialized same = rw same refl
   told_same target id (happened.Disconnected reason) same = rw same refl
   told_same target id (happened.Destroyed object u) same = rw same refl
 
-  told_other : (target id : ClientParts) (h : Happening U) → same_client target id ≡ false → told_of id (note_of target h) ≡ []
+  pub told_other : (target id : ClientParts) (h : Happening U) → same_client target id ≡ false → told_of id (note_of target h) ≡ []
   told_other target id happened.Initialized other = rw other refl
   told_other target id (happened.Disconnected reason) other = rw other refl
   told_other target id (happened.Destroyed object u) other = rw other refl

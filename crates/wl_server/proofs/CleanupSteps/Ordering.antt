@@ -4,7 +4,7 @@ use mathlib.Core.Logic.{inl, inr}
 use Rattle.std.specs.Option.{option_map_or}
 use Rattle.std.specs.Prelude.{◌⊎◌, ◌==◌, if◌then◌else◌, slice_get, slice_set}
 use Rattle.std.specs.List.Sorted.{IsPermutation}
-use Rattle.std.proofs.lemmas.Bool.{eqb-true, eq-eqb, false≢true}
+use Rattle.std.proofs.lemmas.Bool.{eqb-true, eq-eqb, false≢true, ne_eqb}
 use Rattle.std.proofs.lemmas.List.{length-append, length-map, map-append, nil_from_length}
 use Rattle.std.proofs.lemmas.List.Sorted.{IsPermutation-refl, sum_by-IsPermutation}
 use Rattle.std.proofs.lemmas.List.Sums.{sum_by-append, sum_by-cons}
@@ -13,8 +13,9 @@ use Rattle.wl_server.specs.declared.notes.Happening.{Happening}
 use Rattle.wl_server.specs.declared.notes.Happening.TheVariants as happened
 use Rattle.wl_server.specs.declared.notes.Note.{Note}
 use Rattle.wl_server.specs.declared.notes.queues.NotePlace.{NotePlace}
-use Rattle.wl_server.specs.Inside.Gathering.{AllLeft, MovesNote, to_gather}
-use Rattle.wl_server.specs.Inside.NoteOrder.{IsOrderOf, all_places, count_places, place_at, place_of, places_at, places_of, slot_of, times_of}
+use Rattle.wl_server.specs.Inside.Gathering.{AllLeft, MovesNote}
+use Rattle.wl_server.specs.NoteOrder.{Along, IsOrderOf, all_places, place_at, places_at, places_of, slot_of, times_at, times_of, to_gather}
+use Rattle.wl_server.specs.Inside.NoteOrder.{AreNumbered, NoneNumbered, count_places, place_of}
 use Rattle.wl_server.specs.Ids.{ClientParts}
 use Rattle.wl_server.specs.Server.{NoteTimes, Stored, no_times, note_of, stored_at}
 use Rattle.wl_server.proofs.CallSteps.Slots.{get_set_other, get_set_same, other_of}
@@ -62,7 +63,7 @@ drop_at xs k x here =
     let next : suc k ≡ k + 1 = omega arith in
     subst (λ (n : ℕ). drop k xs ≡ x ∷ drop n xs) next (drop_next xs k x here)
 
-drop_past : {A : Type 0} (xs : List A) (k : ℕ) → length xs ≤ k → drop k xs ≡ []
+pub drop_past : {A : Type 0} (xs : List A) (k : ℕ) → length xs ≤ k → drop k xs ≡ []
 drop_past [] zero past = refl
 drop_past [] (suc k) past = refl
 drop_past (x ∷ xs) zero past = absurd (omega (arith, past))
@@ -161,6 +162,77 @@ module _ {U : Type 0} (slot k : ℕ) where
           let w = length-map waiting (λ n. n.1) in
           omega (arith, first, second, both, m, w)
       at false first second = omega (arith, first, second)
+
+-- how many places a slot has among those of a client's notes
+at_place : (waits : Bool) (slot k : ℕ) (b : Bool) → (slot == k) ≡ b → (ns : List ℕ) → places_at k (map (place_at waits slot) ns) ≡ (if b then length ns else 0)
+at_place waits slot k true is [] = refl
+at_place waits slot k false is [] = refl
+at_place waits slot k true is (n ∷ ns) =
+    let one : places_at k (map (place_at waits slot) (n ∷ ns)) ≡ 1 + places_at k (map (place_at waits slot) ns) =
+    places_cons k (place_at waits slot n) (map (place_at waits slot) ns)
+    ∙ ap (λ (b : Bool). (if b then 1 else 0) + places_at k (map (place_at waits slot) ns)) is
+    in
+    let more = at_place waits slot k true is ns in omega (arith, one, more)
+at_place waits slot k false is (n ∷ ns) =
+    let one : places_at k (map (place_at waits slot) (n ∷ ns)) ≡ 0 + places_at k (map (place_at waits slot) ns) =
+    places_cons k (place_at waits slot n) (map (place_at waits slot) ns)
+    ∙ ap (λ (b : Bool). (if b then 1 else 0) + places_at k (map (place_at waits slot) ns)) is
+    in
+    let more = at_place waits slot k false is ns in omega (arith, one, more)
+
+at_places : (waits : Bool) (slot k : ℕ) (b : Bool) → (slot == k) ≡ b → (t : NoteTimes) → places_at k (places_of waits slot t) ≡ (if b then length (places_of waits 0 t) else 0)
+at_places waits slot k b is t =
+    sum_by-append (λ (p : NotePlace). if p.slot == k then 1 else 0) (map (place_at false slot) t.made) (if waits then map (place_at true slot) t.waiting else [])
+    ∙ (both waits b is ∙ sym (whole b))
+  where
+    whole : (b : Bool) → (if b then length (places_of waits 0 t) else 0)
+        ≡ (if b then length (map (place_at false 0) t.made) + length (if waits then map (place_at true 0) t.waiting else []) else 0)
+    whole true = length-append (map (place_at false 0) t.made) (if waits then map (place_at true 0) t.waiting else [])
+    whole false = refl
+
+    both : (v b : Bool) → (slot == k) ≡ b → places_at k (map (place_at false slot) t.made) + places_at k (if v then map (place_at true slot) t.waiting else [])
+        ≡ (if b then length (map (place_at false 0) t.made) + length (if v then map (place_at true 0) t.waiting else []) else 0)
+    both true true is =
+        let m = at_place false slot k true is t.made in
+        let m' = length-map t.made (place_at false 0) in
+        let w = at_place true slot k true is t.waiting in
+        let w' = length-map t.waiting (place_at true 0) in
+        omega (arith, m, m', w, w')
+    both true false is =
+        let m = at_place false slot k false is t.made in
+        let w = at_place true slot k false is t.waiting in
+        omega (arith, m, w)
+    both false true is =
+        let m = at_place false slot k true is t.made in
+        let m' = length-map t.made (place_at false 0) in
+        omega (arith, m, m')
+    both false false is = let m = at_place false slot k false is t.made in omega (arith, m)
+
+-- all the places of a slot, among those of all clients, are of its client
+past_places : (waits : Bool) (slot k : ℕ) (ts : List NoteTimes) → k < slot → places_at k (all_places waits slot ts) ≡ 0
+past_places waits slot k [] past = refl
+past_places waits slot k (t ∷ ts) past =
+    let both = sum_by-append (λ (p : NotePlace). if p.slot == k then 1 else 0) (places_of waits slot t) (all_places waits (slot + 1) ts) in
+    let this = at_places waits slot k false (ne_eqb slot k (λ e. omega (arith, past, e))) t in
+    let rest = past_places waits (slot + 1) k ts (omega (arith, past)) in
+    omega (arith, both, this, rest)
+
+places_among : (waits : Bool) (slot k n : ℕ) (ts : List NoteTimes) → n ≡ slot + k → places_at n (all_places waits slot ts) ≡ length (places_of waits 0 (times_at k ts))
+places_among waits slot k n [] at = none waits
+  where
+    none : (v : Bool) → 0 ≡ length (places_of v 0 no_times)
+    none true = refl
+    none false = refl
+places_among waits slot zero n (t ∷ ts) at =
+    let both = sum_by-append (λ (p : NotePlace). if p.slot == n then 1 else 0) (places_of waits slot t) (all_places waits (slot + 1) ts) in
+    let this = at_places waits slot n true (eq-eqb slot n (omega (arith, at))) t in
+    let rest = past_places waits (slot + 1) n ts (omega (arith, at)) in
+    omega (arith, both, this, rest)
+places_among waits slot (suc k) n (t ∷ ts) at =
+    let both = sum_by-append (λ (p : NotePlace). if p.slot == n then 1 else 0) (places_of waits slot t) (all_places waits (slot + 1) ts) in
+    let this = at_places waits slot n false (ne_eqb slot n (λ e. omega (arith, at, e))) t in
+    let rest = places_among waits (slot + 1) k n ts (omega (arith, at)) in
+    omega (arith, both, this, rest)
 
 -- the note of a client has its slot
 slot_told : {U : Type 0} (id : ClientParts) (h : Happening U) → slot_of (note_of id h) ≡ id.slot
@@ -310,18 +382,51 @@ module _ {T U C : Type 0} (waits : Bool) where
       in
       nil_from_length (to_gather waits x) (omega (arith, count, no, there))
 
+  -- ---- the numbers that are left
+
+  times_stored : (clients : List (Option (Stored T U C))) (k : ℕ) → times_at k (map times_of clients) ≡ times_of (stored_at k clients)
+  times_stored [] k = refl
+  times_stored (x ∷ clients) zero = refl
+  times_stored (x ∷ clients) (suc k) = times_stored clients k
+
+  -- each client has as many numbers as notes, if the places are those of all of them
+  pub order_numbered : (clients : List (Option (Stored T U C))) (order : List NotePlace) → IsOrderOf waits clients order → (k : ℕ) → AreNumbered waits (stored_at k clients)
+  order_numbered clients order is k =
+      ap (λ (t : NoteTimes). length (places_of waits 0 t)) (sym (times_stored clients k))
+      ∙ (sym (places_among waits 0 k k (map times_of clients) (omega arith))
+      ∙ (sym (places_moved k (all_places waits 0 (map times_of clients)) order is.numbers) ∙ is.each k))
+
+  pub set_numbered : (clients : List (Option (Stored T U C))) (i : ℕ) (x x' : Option (Stored T U C)) → slice_get clients i ≡ Some x → AreNumbered waits x'
+      → ((k : ℕ) → AreNumbered waits (stored_at k clients)) → (k : ℕ) → AreNumbered waits (stored_at k (slice_set clients i x'))
+  set_numbered clients i x x' here new old k = at (i == k) refl
+    where
+      at : (b : Bool) → (i == k) ≡ b → AreNumbered waits (stored_at k (slice_set clients i x'))
+      at true same =
+          subst (λ (n : ℕ). AreNumbered waits (stored_at n (slice_set clients i x'))) (eqb-true i k same)
+          (subst (λ (o : Option (Stored T U C)). AreNumbered waits o) (sym (stored_is (slice_set clients i x') i x' (get_set_same clients i x x' here))) new)
+      at false other =
+          subst (λ (o : Option (Stored T U C)). AreNumbered waits o)
+          (sym (ap (λ (o : Option (Option (Stored T U C))). option_map_or (λ s. s) o None) (get_set_other clients i k x' (other_of i k other)))) (old k)
+
+  pub none_numbered : (clients : List (Option (Stored T U C))) (order : List NotePlace) → order ≡ [] → Left clients order → ((k : ℕ) → AreNumbered waits (stored_at k clients))
+      → NoneNumbered waits (map times_of clients)
+  none_numbered clients order none left numbered k =
+      let count = left k in
+      let no : places_at k order ≡ 0 = ap (places_at k) none in
+      let as_many = numbered k in
+      let there = ap (λ (t : NoteTimes). length (places_of waits 0 t)) (times_stored clients k) in
+      nil_from_length (places_of waits 0 (times_at k (map times_of clients))) (omega (arith, count, no, as_many, there))
+
   -- ---- the slots of the notes
 
   pub slots_after : (notes notes' : List (Note U)) (slot : ℕ) (x x' : Option (Stored T U C)) → MovesNote waits slot x notes x' notes'
-      → map slot_of notes' ≡ map slot_of notes ++ slot ∷ []
+      → (one : List (Note U)) × (notes' ≡ notes ++ one) × (map slot_of one ≡ slot ∷ [])
   slots_after notes notes' slot None x' (h, one, rest, is) = absurd (nil_cons one)
     where
       nil_cons : [] ≡ h ∷ to_gather waits x' → ⊥
       nil_cons e = cc
   slots_after notes notes' slot (Some s) x' (h, one, rest, is) =
-      ap (map slot_of) is
-      ∙ (map-append slot_of notes (note_of (record { slot = slot; serial = s.serial }) h ∷ [])
-      ∙ ap (λ (n : ℕ). map slot_of notes ++ n ∷ []) (slot_told (record { slot = slot; serial = s.serial }) h))
+      (note_of (record { slot = slot; serial = s.serial }) h ∷ [], is, ap (λ (n : ℕ). n ∷ []) (slot_told (record { slot = slot; serial = s.serial }) h))
 
   -- ---- a round of the loop that gathers
 
@@ -379,11 +484,13 @@ module _ {T U C : Type 0} (waits : Bool) where
       subst (λ (l : List NotePlace). IsPermutation l order')
       (sym (append-nil order) ∙ (ap (λ (l : List (Option (Stored T U C))). order ++ all_places waits k (map times_of l)) (sym (drop_past clients k past)) ∙ before)) moved
 
-pub along_more : (start now now' : List ℕ) (order : List NotePlace) (i n : ℕ) (d : NotePlace) → i < length order → n ≡ (get_or order i d).slot
-    → now ≡ start ++ map (λ q. q.slot) (take i order) → now' ≡ now ++ n ∷ [] → now' ≡ start ++ map (λ q. q.slot) (take (i + 1) order)
-along_more start now now' order i n d within is before after =
-    after
-    ∙ (ap (λ (l : List ℕ). l ++ n ∷ []) before
-    ∙ (append_assoc start (map (λ q. q.slot) (take i order)) (n ∷ [])
-    ∙ ap (λ (l : List ℕ). start ++ l)
-    (ap (λ (m : ℕ). map (λ q. q.slot) (take i order) ++ m ∷ []) is ∙ sym (slots_take order i (get_or order i d) (slice_get-get_or order i d within)))))
+pub along_more : {U : Type 0} (start now now' : List (Note U)) (order : List NotePlace) (i n : ℕ) (d : NotePlace) → i < length order → n ≡ (get_or order i d).slot
+    → Along start now (take i order) → (one : List (Note U)) × (now' ≡ now ++ one) × (map slot_of one ≡ n ∷ []) → Along start now' (take (i + 1) order)
+along_more {U} start now now' order i n d within is (more, before, slots) (one, after, slot) = (
+  more ++ one,
+  after ∙ (ap (λ (l : List (Note U)). l ++ one) before ∙ append_assoc start more one),
+  map-append slot_of more one
+      ∙ (ap (λ (l : List ℕ). l ++ map slot_of one) slots
+      ∙ (ap (λ (l : List ℕ). map (λ q. q.slot) (take i order) ++ l) (slot ∙ ap (λ (m : ℕ). m ∷ []) is)
+      ∙ sym (slots_take order i (get_or order i d) (slice_get-get_or order i d within)))),
+)

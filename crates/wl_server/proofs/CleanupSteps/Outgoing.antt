@@ -12,11 +12,13 @@ use Rattle.wl_link.specs.Exchange.{Queue}
 use Rattle.wl_link.specs.Puts.{lacks_memory}
 use Rattle.wl_server.specs.declared.objects.Kept.{Kept}
 use Rattle.wl_server.specs.declared.notes.Happening.{Happening}
+use Rattle.wl_server.specs.declared.notes.Happening.TheVariants as happened
 use Rattle.wl_server.specs.declared.notes.Note.{Note}
 use Rattle.wl_server.specs.Inside.Client.{Does}
 use Rattle.wl_server.specs.Felt.{FlushedTo}
 use Rattle.wl_server.specs.Ids.{ClientParts}
 use Rattle.wl_server.specs.Inside.Leaving.{Flushes, FlushesKilled, all_staying, collected, with_data, ends_at, ends_of, given_at, id_in, staying}
+use Rattle.wl_server.specs.NoteOrder.{RiseFromSlot, slot_of}
 use Rattle.wl_server.specs.Part.{end_note, id_at}
 use Rattle.wl_server.specs.Server.{Stored, no_times, note_of}
 use Rattle.wl_server.proofs.Readings.Flushing.{killed_stays, live_flushed}
@@ -222,3 +224,31 @@ module _ {T U C : Type 0} where
       ap length (collected_drop give slot slot clients x here) ∙ length-append (give slot x) (collected give (slot + 1) (drop (slot + 1) clients))
       in
       omega (arith, is, before, some, part)
+
+-- ---- the notes of ends are in the order of the slots
+
+slot_noted : {U : Type 0} (id : ClientParts) (h : Happening U) → slot_of (note_of id h) ≡ id.slot
+slot_noted id happened.Initialized = refl
+slot_noted id (happened.Disconnected reason) = refl
+slot_noted id (happened.Destroyed object u) = refl
+
+from_lower : {U : Type 0} (low slot : ℕ) (ns : List (Note U)) → low ≤ slot → RiseFromSlot slot ns → RiseFromSlot low ns
+from_lower low slot [] less rise = tt
+from_lower low slot (n ∷ ns) less (first, rest) = (omega (arith, less, first), rest)
+
+noted_rise : {U : Type 0} (slot : ℕ) (id : ClientParts) (hs : List (Happening U)) (rest : List (Note U)) → id.slot ≡ slot → RiseFromSlot slot rest
+    → RiseFromSlot slot (map (note_of id) hs ++ rest)
+noted_rise slot id [] rest is rise = rise
+noted_rise slot id (h ∷ hs) rest is rise =
+    let at = slot_noted id h in
+    (omega (arith, at, is), subst (λ (n : ℕ). RiseFromSlot n (map (note_of id) hs ++ rest)) (sym (at ∙ is)) (noted_rise slot id hs rest is rise))
+
+pub ends_rise : {T U C : Type 0} (low slot : ℕ) (clients : List (Option (Stored T U C))) → low ≤ slot → RiseFromSlot low (collected ends_at slot clients)
+ends_rise low slot [] less = tt
+ends_rise low slot (None ∷ clients) less = ends_rise low (slot + 1) clients (omega (arith, less))
+ends_rise {T = T} {U = U} {C = C} low slot (Some s ∷ clients) less = at s.part.is_killed (ends_rise slot (slot + 1) clients (omega arith))
+  where
+    at : (b : Bool) → RiseFromSlot slot (collected ends_at (slot + 1) clients)
+        → RiseFromSlot low ((if b then map (note_of (id_in slot s)) (ends_of (id_in slot s) (entries s.part.store.objects)) else []) ++ collected ends_at (slot + 1) clients)
+    at true rest = from_lower low slot _ less (noted_rise slot (id_in slot s) (ends_of (id_in slot s) (entries s.part.store.objects)) _ refl rest)
+    at false rest = from_lower low slot _ less rest

@@ -12,14 +12,14 @@ use Rattle.wl_server.specs.declared.notes.Happening.{Happening}
 use Rattle.wl_server.specs.declared.notes.Note.{Note}
 use Rattle.wl_server.specs.Deeds.{Deed, notes_in}
 use Rattle.wl_server.specs.Felt.{FlushedTo}
-use Rattle.wl_server.specs.Inside.Gathering.{Gathers, all_emptied, count_leaving, emptied, to_gather}
+use Rattle.wl_server.specs.Inside.Gathering.{Gathers, all_emptied, count_leaving, emptied}
+use Rattle.wl_server.specs.NoteOrder.{IsOrderOf, all_places, times_of, to_gather}
 use Rattle.wl_server.specs.Ids.{ClientParts}
 use Rattle.wl_server.specs.Inside.Leaving.{FlushesKilled, collected, ends_at, given_at}
 use Rattle.wl_server.specs.Part.{Part, with_link}
 use Rattle.wl_server.specs.Inside.Places.{AllFeel, FeltAt, PlaceFeels}
 use Rattle.wl_server.specs.Server.{NoteTimes, Stored, no_times, stored_at}
 use Rattle.wl_server.specs.declared.notes.queues.NotePlace.{NotePlace}
-use Rattle.wl_server.specs.Inside.NoteOrder.{IsOrderOf, all_places, times_of}
 use Rattle.wl_server.proofs.CleanupSteps.Ordering.{split}
 use Rattle.wl_server.proofs.Readings.Notes.{notes_of_sends}
 

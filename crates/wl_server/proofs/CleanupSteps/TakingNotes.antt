@@ -14,13 +14,15 @@ use Rattle.wl_server.specs.declared.runs.step.Step.TheVariants as step
 use Rattle.wl_server.proofs.OverRuns.Alone.AccountLaws.{calls}
 use Rattle.wl_server.specs.Backend.{Calls}
 use Rattle.wl_server.specs.Deeds.{NoteTaken}
-use Rattle.wl_server.specs.Inside.Gathering.{AllLeft, Gathers, all_emptied, count_leaving, emptied, to_gather}
+use Rattle.wl_server.specs.Inside.Gathering.{AllLeft, Gathers, all_emptied, count_leaving, emptied}
+use Rattle.wl_server.specs.NoteOrder.{AllNumbered, AllTakeFirst, IsInOrder, times_of, to_gather}
 use Rattle.wl_server.specs.Globals.{Offer}
 use Rattle.wl_server.specs.Ids.{ClientParts}
 use Rattle.wl_server.specs.Part.{Part}
 use Rattle.wl_server.specs.PartStep.{Asked, NotesTaken, World}
 use Rattle.wl_server.specs.Server.{Seen, ServerState, Stored, client_at, if_serial, notes_of, seen_as}
 use Rattle.wl_server.specs.Steps.{SomeClient, StepOf}
+use Rattle.wl_server.proofs.CallSteps.Numbering.{all_none}
 use Rattle.wl_server.proofs.CleanupSteps.Asking.{notes_ask}
 
 module _ {T U C : Type 0} where
@@ -98,8 +100,9 @@ module _ {T U G C : Type 0} (w : World T G C) (before : ServerState T U G C) whe
   -- ---- the step
 
   taken_so : (clients' : List (Option (Stored T U C))) (out : Vec (Note U) Global) → Gathers false before.clients before.notes clients' out.items → AllLeft false clients'
+      → IsInOrder false before.clients before.notes out.items → AllTakeFirst (map times_of before.clients) (map times_of clients') → (AllNumbered before.clients → AllNumbered clients')
       → StepOf w before step.TakeNotes (reply.TakeNotes (Ok out)) false (record before { clients = clients'; notes = [] })
-  taken_so clients' out by left = (
+  taken_so clients' out by left in_order first numbered = (
     record {
       call = Asked step.TakeNotes (reply.TakeNotes (Ok out));
       refused = false;
@@ -116,6 +119,7 @@ module _ {T U G C : Type 0} (w : World T G C) (before : ServerState T U G C) whe
       order = tt;
       room = tt;
       refused = (λ h. absurd (false≢true h), λ h. was_refused h);
+      notes = record { in_order = in_order; none = refl; numbered = numbered; first = first; numbers = refl };
       each = λ id. (Ok out, refl, each_taken w before.offer before.clients before.notes clients' out by left id);
     },
   )
@@ -125,12 +129,14 @@ module _ {T U G C : Type 0} (w : World T G C) (before : ServerState T U G C) whe
       was_refused (inr (id, h)) = h
 
   pub notes_taken : {was : Bool} (clients' : List (Option (Stored T U C))) (gathered : List (Note U)) (out : Vec (Note U) Global) (notes' : List (Note U)) → out.items ≡ gathered → notes' ≡ []
-      → Gathers false before.clients before.notes clients' gathered → AllLeft false clients'
+      → Gathers false before.clients before.notes clients' gathered → AllLeft false clients' → IsInOrder false before.clients before.notes gathered
+      → AllTakeFirst (map times_of before.clients) (map times_of clients') → (AllNumbered before.clients → AllNumbered clients')
       → Calls w (record { server = before; refused = was }) step.TakeNotes (reply.TakeNotes (Ok out)) (record { server = record before { clients = clients'; notes = notes' }; refused = false })
-  notes_taken clients' gathered out notes' are none by left =
+  notes_taken clients' gathered out notes' are none by left in_order first numbered =
       calls _ _ _ _ _
       (subst (λ (ns : List (Note U)). StepOf w before step.TakeNotes (reply.TakeNotes (Ok out)) false (record before { clients = clients'; notes = ns })) (sym none)
-      (taken_so clients' out (subst (λ (ns : List (Note U)). Gathers false before.clients before.notes clients' ns) (sym are) by) left))
+      (taken_so clients' out (subst (λ (ns : List (Note U)). Gathers false before.clients before.notes clients' ns) (sym are) by) left
+      (subst (λ (ns : List (Note U)). IsInOrder false before.clients before.notes ns) (sym are) in_order) first numbered))
 
   -- there is no memory for it
   not_taken : (e : OutOfMemory) → SomeClient before.clients (λ s. s.made ≢ []) → StepOf w before step.TakeNotes (reply.TakeNotes (Err e)) true before
@@ -146,6 +152,7 @@ module _ {T U G C : Type 0} (w : World T G C) (before : ServerState T U G C) whe
       order = tt;
       room = some;
       refused = (λ h. inl refl, λ h. refl);
+      notes = record { gathered = refl; times = all_none _ _; numbered = λ all. all };
       each = λ id. (Err e, refl, (refl, refl, refl));
     },
   )

@@ -1,5 +1,5 @@
 -- A new client at a free slot, as a step of the server.
-use Rattle.std.proofs.Common.{◌≡◌, ◌≢◌, ℕ, zero, suc, ◌+◌, ◌<◌, ◌≤◌, Bool, true, false, List, [], ◌∷◌, ◌++◌, length, Option, None, Some, is_some, IsSome, Result, Ok, Err, refl, sym, ap, subst, ◌∙◌, arith, append-nil, true≢false}
+use Rattle.std.proofs.Common.{◌≡◌, ◌≢◌, ℕ, zero, suc, ◌+◌, ◌<◌, ◌≤◌, Bool, true, false, List, [], ◌∷◌, ◌++◌, length, map, Option, None, Some, is_some, IsSome, Result, Ok, Err, refl, sym, ap, subst, ◌∙◌, arith, append-nil, true≢false}
 use mathlib.Core.Logic.{inl, inr}
 use Rattle.std.specs.Prelude.{◌⊎◌, MatchBool, MatchOption, nat_lt, slice_get, slice_set}
 use Rattle.std.specs.Option.{option_map_or}
@@ -11,6 +11,7 @@ use Rattle.wl_server.specs.declared.error.InsertClientError.TheVariants as inser
 use Rattle.wl_server.specs.declared.notes.Happening.{Happening}
 use Rattle.wl_server.specs.declared.notes.Happening.TheVariants.{Initialized}
 use Rattle.wl_server.specs.declared.notes.Note.{Note}
+use Rattle.wl_server.specs.declared.notes.queues.NoteNumbers.{NoteNumbers}
 use Rattle.wl_server.specs.declared.runs.step.Reply.TheVariants as reply
 use Rattle.wl_server.specs.declared.runs.step.Step.TheVariants as step
 use Rattle.wl_server.proofs.OverRuns.Alone.AccountLaws.{calls}
@@ -20,10 +21,12 @@ use Rattle.wl_server.specs.Deeds.{Noted}
 use Rattle.wl_server.specs.Globals.{Offer}
 use Rattle.wl_server.specs.Ids.{ClientParts, same_client}
 use Rattle.wl_server.specs.Inside.Inserting.{AreTaken, IsPut}
+use Rattle.wl_server.specs.NoteOrder.{AllInTime, AllNumbered, times_of}
 use Rattle.wl_server.specs.Part.{fresh_part, last_possible_serial}
 use Rattle.wl_server.specs.PartStep.{Asked, Inserted, Unfelt, World}
 use Rattle.wl_server.specs.Server.{Seen, ServerState, Stored, client_at, if_serial, no_times, notes_of, seen_as, stored_at, untimed}
 use Rattle.wl_server.specs.Steps.{IsLeastFree, LacksSlot, StepOf}
+use Rattle.wl_server.proofs.CallSteps.Numbering.{all_none}
 use Rattle.wl_server.proofs.CallSteps.Slots.{Are, Serials, Slots, client_absent, client_present, compare, did_at, get_set_other, get_set_same, held_of, other_of, same_parts, same_self, same_serials, same_slots}
 
 module _ {T U C : Type 0} where
@@ -140,9 +143,10 @@ module _ {T U G C : Type 0} (w : World T G C) where
   pub inserted : {was : Bool} (before : ServerState T U G C) (transport : T) (client_data : C) (new : ClientParts) (s : Stored T U C) (clients' : List (Option (Stored T U C)))
       → IsLeastFree before.clients new.slot → before.last_client < last_possible_serial → new.serial ≡ before.last_client + 1
       → IsInserted new.serial transport (Some before.offer.default_limit) client_data s → IsPut before.clients new.slot s clients'
+      → (numbers' : NoteNumbers) → AllInTime (map times_of before.clients) before.numbers (map times_of clients') numbers' → (AllNumbered before.clients → AllNumbered clients')
       → Calls w (record { server = before; refused = was }) (step.InsertClient transport client_data) (reply.InsertClient (Ok new))
-      (record { server = record before { last_client = before.last_client + 1; clients = clients' }; refused = false })
-  inserted before transport client_data new s clients' free below serial is put = calls _ _ _ _ _ (
+      (record { server = record before { last_client = before.last_client + 1; clients = clients'; numbers = numbers' }; refused = false })
+  inserted before transport client_data new s clients' free below serial is put numbers' times numbered = calls _ _ _ _ _ (
     record {
       call = Asked (step.InsertClient transport client_data) (reply.InsertClient (Ok new));
       refused = false;
@@ -159,6 +163,7 @@ module _ {T U G C : Type 0} (w : World T G C) where
       order = tt;
       room = tt;
       refused = (λ h. absurd (false≢true h), λ h. was_refused h);
+      notes = record { gathered = refl; times = times; numbered = numbered };
       each = λ id. (Ok new, refl, each_inserted before.offer transport client_data before.clients clients' before.notes new s free.free put is id);
     },
   )
@@ -182,6 +187,7 @@ module _ {T U G C : Type 0} (w : World T G C) where
       order = tt;
       room = tt;
       refused = (λ h. absurd (false≢true h), λ h. was_refused h);
+      notes = record { gathered = refl; times = all_none _ _; numbered = λ all. all };
       each = λ id. (Err insert.Full, refl, (refl, refl, refl));
     },
   )
@@ -193,8 +199,9 @@ module _ {T U G C : Type 0} (w : World T G C) where
   -- there is no memory for the client of this id
   starved_so : (before : ServerState T U G C) (transport : T) (client_data : C) (new : ClientParts) → IsLeastFree before.clients new.slot
       → before.last_client < last_possible_serial → new.serial ≡ before.last_client + 1
-      → StepOf w before (step.InsertClient transport client_data) (reply.InsertClient (Err insert.OutOfMemory)) true before
-  starved_so before transport client_data new free below serial = (
+      → (numbers' : NoteNumbers) → AllInTime (map times_of before.clients) before.numbers (map times_of before.clients) numbers'
+      → StepOf w before (step.InsertClient transport client_data) (reply.InsertClient (Err insert.OutOfMemory)) true (record before { numbers = numbers' })
+  starved_so before transport client_data new free below serial numbers' times = (
     record { call = Asked (step.InsertClient transport client_data) (reply.InsertClient (Err insert.OutOfMemory)); refused = true; lacks = λ id. false; did = λ id. [] },
     refl,
     refl,
@@ -206,14 +213,19 @@ module _ {T U G C : Type 0} (w : World T G C) where
       order = tt;
       room = tt;
       refused = (λ h. inl refl, λ h. refl);
+      notes = record { gathered = refl; times = times; numbered = λ all. all };
       each = λ id. (Err insert.OutOfMemory, refl, (refl, refl, refl));
     },
   )
 
   pub insertion_starved : {was : Bool} (before : ServerState T U G C) (transport : T) (client_data : C) (new : ClientParts) (clients' : List (Option (Stored T U C)))
       → IsLeastFree before.clients new.slot → before.last_client < last_possible_serial → new.serial ≡ before.last_client + 1 → clients' ≡ before.clients
-      → Calls w (record { server = before; refused = was }) (step.InsertClient transport client_data) (reply.InsertClient (Err insert.OutOfMemory)) (record { server = record before { clients = clients' }; refused = true })
-  insertion_starved before transport client_data new clients' free below serial same =
+      → (numbers' : NoteNumbers) → AllInTime (map times_of before.clients) before.numbers (map times_of clients') numbers' → (AllNumbered before.clients → AllNumbered clients')
+      → Calls w (record { server = before; refused = was }) (step.InsertClient transport client_data) (reply.InsertClient (Err insert.OutOfMemory))
+      (record { server = record before { clients = clients'; numbers = numbers' }; refused = true })
+  insertion_starved before transport client_data new clients' free below serial same numbers' times numbered =
       calls _ _ _ _ _
-      (subst (λ (xs : List (Option (Stored T U C))). StepOf w before (step.InsertClient transport client_data) (reply.InsertClient (Err insert.OutOfMemory)) true (record before { clients = xs }))
-      (sym same) (starved_so before transport client_data new free below serial))
+      (subst (λ (xs : List (Option (Stored T U C))). StepOf w before (step.InsertClient transport client_data) (reply.InsertClient (Err insert.OutOfMemory)) true
+      (record before { clients = xs; numbers = numbers' }))
+      (sym same) (starved_so before transport client_data new free below serial numbers'
+      (subst (λ (xs : List (Option (Stored T U C))). AllInTime (map times_of before.clients) before.numbers (map times_of xs) numbers') same times)))

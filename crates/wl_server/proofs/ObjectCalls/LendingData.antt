@@ -17,6 +17,7 @@ use Rattle.wl_server.specs.Plain.{SetsObjectData}
 use Rattle.wl_server.specs.Server.{ServerState, Stored, client_at}
 use Rattle.wl_server.proofs.CallSteps.OneClient.{done_to}
 use Rattle.wl_server.proofs.CallSteps.Slots.{slot_of_client}
+use Rattle.wl_server.proofs.CallSteps.Numbering.{in_time_none}
 use Rattle.wl_server.proofs.CleanupSteps.Gathering.{set_itself}
 use Rattle.wl_server.proofs.Plain.Data.{sets_object_data}
 use Rattle.wl_server.proofs.ObjectCalls.Setting.{own, set_does, sets}
@@ -63,7 +64,7 @@ module _ {T U G C R : Type 0} (call : U → R → U → Type 0) (w : World T G C
     set_to x left store found written =
         done_to _ _ _ _ (own o left (Ok tt)) o.client (sets o left (Ok tt)) (◌≡◌ {A = Result (Unit {0}) InvalidId} (Ok tt) (Err _))
         (λ i l d b a h. (_, refl, h)) read s (having store) false same there
-        (set_does s o left (Ok tt) store (rw found refl) (rw found written))
+        (set_does s o left (Ok tt) store (rw found refl) (rw found written)) before.numbers (in_time_none s.times before.numbers) (λ is. is)
 
     lent_with : (x : Object (Kept U)) (kept_data : Option U) → named s.part.store o ≡ Some x → x.value.user_data ≡ kept_data → (store : Store (Kept U))
         → MatchOption kept_data ((answer ≡ Err _) × (store ≡ s.part.store))

@@ -22,7 +22,7 @@ sets o u answer id p lacked did q = Quietly lacked did (DataSet p o u answer q)
 
 pub own : {T U G C : Type 0} (o : IdParts) (u : U) (answer : Result (Unit {0}) InvalidId)
     → IsOwn {T = T} {U = U} {G = G} {C = C} (Asked (step.SetObjectData o u) (reply.SetObjectData answer))
-own o u answer = record { offer = λ o. refl; last = refl; client = λ b. tt; global = λ o. tt; order = tt; room = λ b. tt; growth = refl }
+own o u answer = record { offer = λ o. refl; last = refl; client = λ b. tt; global = λ o. tt; order = tt; room = λ b. tt; growth = refl; notes = λ b a h. h }
 
 -- a store is given data: so a part is
 data_set : {T U C : Type 0} (p : Part T U C) (id : IdParts) (u : U) (answer : Result (Unit {0}) InvalidId) (store : Store (Kept U))

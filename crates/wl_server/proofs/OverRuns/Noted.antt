@@ -2,3 +2,5 @@
 pub mod NotedLaws
 pub mod NotedSoon
 pub mod NotedEnds
+pub mod PlacesInOrder
+pub mod NotesInOrder

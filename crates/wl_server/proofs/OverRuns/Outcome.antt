@@ -7,8 +7,10 @@ pub mod OutcomeLaws
 pub mod OfferLaws
 pub mod RunOutcome
 pub mod MoveLaws
+pub mod SameNotes
 pub mod ShareLaws
 pub mod WholeLaws
 pub mod WholeRuns
 pub mod DispatchLaws
+pub mod SparedLaws
 pub mod LookupLaws

@@ -1,18 +1,27 @@
 -- An event that the program sends.
-use Rattle.std.proofs.Common.{◌≡◌, ℕ, Bool, true, false, cond, List, [], ◌∷◌, ◌++◌, append-nil, map, Option, None, Some, is_some, Result, Ok, Err, refl, sym, ap, subst, ◌∙◌, true≢false}
+use Rattle.std.proofs.Common.{◌≡◌, ℕ, Bool, true, false, cond, not, List, [], ◌∷◌, ◌++◌, append-nil, map, Option, None, Some, is_some, Result, Ok, Err, refl, sym, ap, subst, ◌∙◌, true≢false}
 use mathlib.Core.Logic.{inl, inr}
-use Rattle.std.specs.Prelude.{◌⊎◌, ◌≢◌, MatchBool, MatchResult, option_map}
+use Rattle.std.specs.Prelude.{◌⊎◌, ◌≢◌, ◌==◌, MatchBool, MatchResult, option_map}
+use Rattle.wl_wire.specs.declared.argument.AllowNull.{AllowNull}
+use Rattle.wl_wire.specs.declared.argument.AllowNull.TheVariants.{No, Yes}
+use Rattle.wl_wire.specs.declared.argument.Argument.{Argument}
+use Rattle.wl_wire.specs.declared.argument.Argument.TheVariants as arg
+use Rattle.wl_wire.specs.declared.argument.ArgumentType.{ArgumentType}
+use Rattle.wl_wire.specs.declared.argument.ArgumentType.TheVariants as kind
 use Rattle.wl_wire.specs.declared.argument.Token.{Token}
 use Rattle.wl_wire.specs.declared.error.IoFault.{IoFault}
 use Rattle.wl_wire.specs.declared.error.IoFault.TheVariants as fault
 use Rattle.wl_wire.specs.declared.message.Message.{Message}
-use Rattle.wl_wire.specs.Table.{InterfaceRow}
+use Rattle.wl_wire.specs.declared.interface.InterfaceId.{InterfaceId}
+use Rattle.wl_wire.specs.MessageRows.{event_row, fits, left_after, matches, next_interface}
+use Rattle.wl_wire.specs.Table.{InterfaceRow, MessageRow}
 use Rattle.wl_link.proofs.Calls.Branches.{either_option}
 use Rattle.wl_link.specs.declared.object.Object.{Object}
 use Rattle.wl_link.specs.Exchange.{Queue, Sending}
 use Rattle.wl_link.specs.Identity.{Id}
 use Rattle.wl_link.specs.Link.{LinkState}
 use Rattle.wl_link.specs.Reader.{Verdict}
+use Rattle.wl_link.specs.Refusals.{first_refusal, when}
 use Rattle.wl_link.specs.Store.{Store, removed}
 use Rattle.wl_server.specs.declared.error.EventError.{EventError}
 use Rattle.wl_server.specs.declared.error.EventError.TheVariants as refused
@@ -25,7 +34,7 @@ use Rattle.wl_server.specs.declared.runs.step.Reply.TheVariants as reply
 use Rattle.wl_server.specs.declared.runs.step.Step.TheVariants as step
 use Rattle.wl_server.specs.Backend.{BackendState, Calls}
 use Rattle.wl_server.specs.Deeds.{Deed, Sent, left_if, notes_in}
-use Rattle.wl_server.specs.Events.{SendsEvent, SendsGranted, SentAs, SessionMessage, ends_closed, ends_sender, event_check, session_content}
+use Rattle.wl_server.specs.Events.{SendsEvent, SendsGranted, SentAs, SessionMessage, argument_fault, argument_faults, checked_row, checked_sender, ends_closed, ends_sender, event_check, found_fault, granted, id_fault, is_child, null_fault, session_content}
 use Rattle.wl_server.specs.Identified.{waiting_of}
 use Rattle.wl_server.specs.Ids.{ClientParts, IdParts, same_client}
 use Rattle.wl_server.specs.Inside.Carried.{told_notes}
@@ -37,7 +46,7 @@ use Rattle.wl_server.specs.Plain.Events.{ChecksTo, EmitsEvent, EventIsPut, Event
 use Rattle.wl_server.specs.Server.{Seen, seen}
 use Rattle.wl_server.specs.Telling.{Core, Did, Tells, Told, core_of, end_deeds}
 use Rattle.wl_server.proofs.OverRuns.Moves.MovesOfCalls.{granted_named}
-use Rattle.wl_server.proofs.Plain.Base.{ids_differ, keeps, nothing_new, of_each, one_value, other_stays, own, same_is, unchanged}
+use Rattle.wl_server.proofs.Plain.Base.{ids_differ, keeps, nothing_new, of_each, one_value, other_stays, own, refused_to, same_is, unchanged}
 use Rattle.wl_server.proofs.Plain.Naming.{names_so, removed_named, removed_others}
 use Rattle.wl_server.proofs.Plain.Verdicts.{IsStarved, IsTold, told_ended, told_nothing, told_starved}
 
@@ -296,6 +305,78 @@ same_error a b is = cc
 not_ok : (e : EventError) → ◌≡◌ {A = Result (Unit {0}) EventError} (Err e) (Ok tt) → ⊥
 not_ok e is = absurd cc
 
+-- ---- no check is refused for want of memory
+
+abbrev is_memory : Option EventError → Bool
+is_memory (Some refused.OutOfMemory) = true
+is_memory _ = false
+
+first_calm : (a : Option EventError) (rest : List (Option EventError)) → is_memory a ≡ false → is_memory (first_refusal rest) ≡ false → is_memory (first_refusal (a ∷ rest)) ≡ false
+first_calm None rest calm others = others
+first_calm (Some e) rest calm others = calm
+
+when_calm : (b : Bool) (e : EventError) → is_memory (Some e) ≡ false → is_memory (when b e) ≡ false
+when_calm true e calm = calm
+when_calm false e calm = refl
+
+null_calm : (null : AllowNull) → is_memory (null_fault null) ≡ false
+null_calm Yes = refl
+null_calm No = refl
+
+module _ {U : Type 0} (client : ClientParts) (store : Store (Kept U)) where
+  found_calm : (is_asked : InterfaceId → Bool) (o : Option (Object (Kept U))) → is_memory (found_fault is_asked o) ≡ false
+  found_calm is_asked None = refl
+  found_calm is_asked (Some x) = when_calm (not (is_asked x.interface)) refused.WrongInterface refl
+
+  id_calm : (is_asked : InterfaceId → Bool) (id : IdParts) → is_memory (id_fault client store is_asked id) ≡ false
+  id_calm is_asked id =
+      first_calm (when (not (same_client id.client client)) refused.ForeignObject) (found_fault is_asked (named store id) ∷ [])
+      (when_calm (not (same_client id.client client)) refused.ForeignObject refl)
+      (first_calm (found_fault is_asked (named store id)) [] (found_calm is_asked (named store id)) refl)
+
+  argument_calm : (row : MessageRow) (k : ArgumentType) (asked : InterfaceId) (x : Argument IdParts Token) → is_memory (argument_fault client store row k asked x) ≡ false
+  argument_calm row (kind.Object null) asked (arg.Object id) = at (id.number == 0)
+    where
+      at : (b : Bool) → is_memory (cond b (null_fault null) (id_fault client store (fits asked) id)) ≡ false
+      at true = null_calm null
+      at false = id_calm (fits asked) id
+  argument_calm row kind.NewId asked (arg.NewId id) = at (id.number == 0)
+    where
+      at : (b : Bool) → is_memory (cond b (Some refused.NullNewId) (id_fault client store (is_child row.child_interface) id)) ≡ false
+      at true = refl
+      at false = id_calm (is_child row.child_interface) id
+  argument_calm row _ asked _ = refl
+
+  arguments_calm : (row : MessageRow) (kinds : List ArgumentType) (asked : List InterfaceId) (args : List (Argument IdParts Token))
+      → is_memory (first_refusal (argument_faults client store row kinds asked args)) ≡ false
+  arguments_calm row [] asked args = refl
+  arguments_calm row (k ∷ kinds) asked [] = refl
+  arguments_calm row (k ∷ kinds) asked (x ∷ args) =
+      first_calm (argument_fault client store row k (next_interface asked) x) (argument_faults client store row kinds (left_after x asked) args)
+      (argument_calm row k (next_interface asked) x) (arguments_calm row kinds (left_after x asked) args)
+
+  abbrev reason_of : Result (Object (Kept U) × Bool) EventError → Option EventError
+  reason_of (Ok g) = None
+  reason_of (Err e) = Some e
+
+  sender_calm : (table : List InterfaceRow) (o : Option (Object (Kept U))) (m : SessionMessage) → is_memory (reason_of (checked_sender client store table o m)) ≡ false
+  sender_calm table None m = refl
+  sender_calm table (Some x) m = row_calm (event_row table x.interface m.opcode)
+    where
+      granted_calm : (row : MessageRow) (o : Option EventError) → is_memory o ≡ false → is_memory (reason_of (granted client store x row o)) ≡ false
+      granted_calm row None calm = refl
+      granted_calm row (Some e) calm = calm
+
+      row_calm : (r : Option MessageRow) → is_memory (reason_of (checked_row client store x r m)) ≡ false
+      row_calm None = refl
+      row_calm (Some row) =
+          granted_calm row (first_refusal (when (not (matches row.signature m.args)) refused.BadSignature ∷ argument_faults client store row row.signature row.arg_interfaces m.args))
+          (first_calm (when (not (matches row.signature m.args)) refused.BadSignature) (argument_faults client store row row.signature row.arg_interfaces m.args)
+          (when_calm (not (matches row.signature m.args)) refused.BadSignature refl) (arguments_calm row row.signature row.arg_interfaces m.args))
+
+  never_memory : (table : List InterfaceRow) (m : SessionMessage) → event_check client store table m ≡ Err refused.OutOfMemory → ⊥
+  never_memory table m is = true≢false (sym (ap (λ (r : Result (Object (Kept U) × Bool) EventError). is_memory (reason_of r)) is) ∙ sender_calm table (named store m.sender) m)
+
 -- ---- of one client
 
 module _ {T U C : Type 0} (sends : T → Queue → Result ℕ IoFault → T → Type 0) (client : ClientParts) (table : List InterfaceRow) (m : SessionMessage) where
@@ -335,6 +416,39 @@ module _ {T U C : Type 0} (sends : T → Queue → Result ℕ IoFault → T → 
                   inr (inr (record { live = live; x = g.0; ends = g.1; checked = is; comes = granted_comes client p m g.0 sends live g.1 answer lacked did q granted }))
               | inr (e, is, (answered, calm, none, same)) ↦
                   inr (inl (record { live = live; e = e; checked = is; answer_is = answered; none = none; same = same }))
+            ]
+      ]
+
+  -- an event that is granted is put, unless memory is refused
+  granted_lacks : (p : Part T U C) (x : Object (Kept U)) (ends : Bool) (answer : Result (Unit {0}) EventError) → answer ≡ Err refused.OutOfMemory → (lacked : Bool) (did : List (Deed U)) (q : Part T U C)
+      → SendsGranted sends client p m x ends answer lacked did q → lacked ≡ true
+  granted_lacks p x ends answer err lacked did q (inl (asks, is, lacks, none, same)) = lacks
+  granted_lacks p x ends answer err lacked did q (inr (es, rest, wrote, link, by, sent, did_so)) = at wrote sent
+    where
+      never : answer ≡ Ok tt → lacked ≡ true
+      never is = absurd (not_ok refused.OutOfMemory (sym err ∙ is))
+
+      at : (wrote : Result (Unit {0}) IoFault) → SentAs sends client p m x ends wrote link answer lacked rest q → lacked ≡ true
+      at (Ok u) (more, tells, is, put) = never is
+      at (Err fault.OutOfMemory) (is, lacks, none, same) = lacks
+      at (Err fault.WouldBlock) (tells, is) = never is
+      at (Err fault.Pipe) (tells, is) = never is
+      at (Err fault.TooBig) (tells, is) = never is
+      at (Err fault.Proto) (tells, is) = never is
+      at (Err fault.InvalidInput) (tells, is) = never is
+      at (Err (fault.Other n)) (tells, is) = never is
+
+  lacks_memory : (answer : Result (Unit {0}) EventError) → answer ≡ Err refused.OutOfMemory → (lacked : Bool) (did : List (Deed U)) (p q : Part T U C) → Does answer lacked did p q
+      → lacked ≡ true
+  lacks_memory answer err lacked did p q h =
+      elim (by_choice p.is_killed h) [
+        | inl (dead, (is, calm, none, same)) ↦ absurd (not_ok refused.OutOfMemory (sym err ∙ is))
+        | inr (live, checked) ↦
+            elim (by_result (event_check client p.store table m) checked) [
+              | inl (g, is, granted) ↦ granted_lacks p g.0 g.1 answer err lacked did q granted
+              | inr (e, is, (answered, calm, none, same)) ↦
+                  absurd (never_memory client p.store table m
+                  (is ∙ ap (λ (x : EventError). let y : Result (Object (Kept U) × Bool) EventError = Err x in y) (same_error e refused.OutOfMemory (sym answered ∙ err))))
             ]
       ]
 
@@ -427,22 +541,28 @@ module _ {T U G C : Type 0} (w : World T G C) (before after : BackendState T U G
             ]
 
     lacked_memory : answer ≡ Err refused.OutOfMemory
-        → (option_map core_of (client_in after client) ≡ option_map core_of (client_in before client)) × (notes_made_in after client ≡ notes_made_in before client)
+        → ((granted : Object (Kept U) × Bool) × ChecksTo before m (Ok granted)) × (after.refused ≡ true)
+        × (option_map core_of (client_in after client) ≡ option_map core_of (client_in before client)) × (notes_made_in after client ≡ notes_made_in before client)
     lacked_memory err =
         let (lacked, did, h) = event_each client in
         elim (either_option (client_of before.server client) (own client _ _ _ lacked did _ h)) [
-          | inl (none, (is, (calm, nothing, same))) ↦
-              (ap (λ (x : Seen T U C). option_map core_of x.part) same, ap (λ (x : Seen T U C). x.made) same)
+          | inl (none, (is, rest)) ↦ absurd (other_reason (same_error refused.OutOfMemory refused.InvalidId (sym err ∙ is)))
           | inr (p, there, (q, does, same)) ↦
               elim (comes_to w.sends client before.server.offer.table m answer lacked did p q does) [
                 | inl d ↦ absurd (not_ok refused.OutOfMemory (sym err ∙ d.ok))
-                | inr (inl r) ↦ kept p q did there same (ap core_of r.same) (ap notes_in r.none)
+                | inr (inl r) ↦
+                    absurd (never_memory client p.store before.server.offer.table m
+                    (r.checked ∙ ap (λ (x : EventError). let y : Result (Object (Kept U) × Bool) EventError = Err x in y) (same_error r.e refused.OutOfMemory (sym r.answer_is ∙ err))))
                 | inr (inr g) ↦
                     let k : IsKept client p m g.x did q = subst (λ (a : Result (Unit {0}) EventError). Comes client p m g.x w.sends g.live g.ends a did q) err g.comes in
-                    kept p q did there same k.core_is k.silent
+                    let (core, made) = kept p q did there same k.core_is k.silent in
+                    (((g.x, g.ends), (p, there, g.live, g.checked)), memory, core, made)
               ]
         ]
       where
+        other_reason : ◌≡◌ {A = EventError} refused.OutOfMemory refused.InvalidId → ⊥
+        other_reason is = absurd cc
+
         kept : (p q : Part T U C) (did : List (Deed U)) → client_of before.server client ≡ Some p
             → seen client after.server ≡ record { part = Some q; made = (seen client before.server).made ++ notes_in did } → core_of q ≡ core_of p → notes_in did ≡ []
             → (option_map core_of (client_in after client) ≡ option_map core_of (client_in before client)) × (notes_made_in after client ≡ notes_made_in before client)
@@ -450,6 +570,22 @@ module _ {T U G C : Type 0} (w : World T G C) (before after : BackendState T U G
           ap (λ (x : Seen T U C). option_map core_of x.part) same ∙ ap Some core ∙ sym (ap (option_map core_of) there),
           ap (λ (x : Seen T U C). x.made) same ∙ ap (λ (l : List (Happening U)). (seen client before.server).made ++ l) silent ∙ append-nil _,
         )
+
+        -- memory was refused to the client of the sender
+        memory : after.refused ≡ true
+        memory =
+            refused_to call client (λ lacked did by. let (r, is, h) = by in
+            lacks_so lacked did (subst (λ (a : Result (Unit {0}) EventError). Of a client lacked did) (sym (inside r is)) h))
+          where
+            inside : (r : Result (Unit {0}) EventError) → ◌≡◌ {A = Reply T U} (reply.SendEvent answer) (reply.SendEvent r) → answer ≡ r
+            inside r is = cc
+
+            lacks_so : (lacked : Bool) (did : List (Deed U)) → Of answer client lacked did → lacked ≡ true
+            lacks_so lacked did h =
+                elim (either_option (client_of before.server client) (own client _ _ _ lacked did _ h)) [
+                  | inl (none, (is, rest)) ↦ absurd (other_reason (same_error refused.OutOfMemory refused.InvalidId (sym err ∙ is)))
+                  | inr (p, there, (q, does, same)) ↦ lacks_memory w.sends client before.server.offer.table m answer err lacked did p q does
+                ]
 
     was_sent : answer ≡ Ok tt
         → ((killed_in before client ≡ Some true) × IsUnchanged before after)

@@ -65,20 +65,21 @@ module _ {T U G C : Type 0} (sends : T → Queue → Result ℕ IoFault → T �
         at (Some reason) ended some = (dead, (reason, is ∙ ap (λ (o : Option DisconnectReason). seen_as' (s.made ++ notes_in (end_deeds {U = U} o))) ended))
 
     handed_out : (h : Handed) (start : ReaderState T (Core U C)) (turns : List Turn) → ComesOfLast sends receives a h start turns end → IsHandedOut a.table a.client h (part_of end)
-    handed_out (Request sender opcode args is_destructor created) start turns (earlier, es, before, split, led, (m, link, read, (x, row, held_before, has, sender_is, opcode_is, numbers, destructor, holds, fit, open'))) = (
-      x,
-      row,
-      ap (λ (n : ℕ). held end.core.store n) number ∙ holds,
-      sender_is ∙ ap (λ (n : ℕ). id_at a.client n x) (sym number),
-      ap (request_row a.table x.interface) opcode_is ∙ has,
-      destructor,
-      fit,
-      open',
+    handed_out (Request sender opcode args is_destructor created) start turns (earlier, es, before, split, led, (m, link, read, its)) = (
+      its.receiver,
+      its.row,
+      ap (λ (n : ℕ). held end.core.store n) number ∙ its.is_held,
+      its.sender_is ∙ ap (λ (n : ℕ). id_at a.client n its.receiver) (sym number),
+      ap (request_row a.table its.receiver.interface) its.opcode_is ∙ its.request,
+      its.destructor,
+      its.objects_fit,
+      its.makes,
+      its.action,
     )
       where
         number : sender.number ≡ m.sender
-        number = ap (λ (i : IdParts). i.number) sender_is
-    handed_out (Bind global object) start turns (earlier, es, before, split, led, (m, link, read, (x, interface, version, kept, held_before, registry, args, there, named', may, of, of_interface, holds, open'))) = (
+        number = ap (λ (i : IdParts). i.number) its.sender_is
+    handed_out (Bind global object) start turns (earlier, es, before, split, led, (m, link, read, (x, interface, version, kept, held_before, registry, args, there, named', may, of, of_interface, free, holds, open'))) = (
       version,
       of,
       holds ∙ ap (λ (i : InterfaceId). Some (fresh_object i version object.serial None)) (sym of_interface),

@@ -1,7 +1,7 @@
 -- How a reading ends, over its turns.
 use Rattle.std.proofs.Common.{◌≡◌, ◌⊎◌, ℕ, Bool, true, false, not, cond, eqb, eqb-true, ◌&&◌, List, [], ◌∷◌, ◌++◌, map, append-nil, append_assoc, Option, None, Some, is_none, is_some, Result, Ok, Err, refl, sym, ap, subst, ◌∙◌, true≢false}
 use mathlib.Core.Logic.{inl, inr}
-use Rattle.std.specs.Prelude.{IsSome, MatchResult, ◌||◌, nat_lt}
+use Rattle.std.specs.Prelude.{IsSome, MatchOption, MatchResult, ◌||◌, nat_lt, option_map}
 use Rattle.wl_wire.specs.declared.argument.Argument.{Argument}
 use Rattle.wl_wire.specs.declared.argument.Argument.TheVariants as arg
 use Rattle.wl_wire.specs.declared.argument.Token.{Token}
@@ -32,13 +32,13 @@ use Rattle.wl_server.specs.Errors.{bind_text, new_id_text, since_text}
 use Rattle.wl_server.specs.Globals.{global_at, shown}
 use Rattle.wl_server.specs.Ids.{IdParts}
 use Rattle.wl_server.specs.Part.{Part, id_at}
-use Rattle.wl_server.specs.Reading.{Around, action_in, answered, binds, binds_to, breaks, converted, display_request, faulted, garbled, hands_out, may_bind, new_at, other_request, reads_on, registry_request, replies, request, row_in, server, stops_if, synced, with_registry}
-use Rattle.wl_server.specs.ReadingEnds.{ComesOfFront, LastReceiveFailed, LeavesClient, ObjectsFit, ReadingEnds, StopsItself, TurnLeads}
+use Rattle.wl_server.specs.Reading.{Around, action_in, answered, binds, binds_to, breaks, converted, display_request, faulted, garbled, hands_out, may_bind, new_at, other_request, reads_on, registry_request, replies, request, row_in, server, stops_if, synced, with_registry, registers, syncs}
+use Rattle.wl_server.specs.ReadingEnds.{AsksNothing, ComesOfFront, FoundNoMessage, LastReceiveFailed, LeavesClient, MakesItsObject, ObjectsFit, OfLast, ReadingEnds, StopsItself, TookMessage, TurnLeads}
 use Rattle.wl_server.specs.Requests.{Outcome, Whole, Wrong, convert, is_valid_new, made_id, made_object, start, with_made}
 use Rattle.wl_server.specs.Telling.{Core, Did, Told, deletions, done_message, introductions, objects_in, reader_part, with_objects}
 use Rattle.wl_server.specs.Telling as telling
-use Rattle.wl_server.proofs.OverRuns.Announced.RequestCases.{display_case}
-use Rattle.wl_server.proofs.Plain.Arguments.{Came, converts}
+use Rattle.wl_server.proofs.OverRuns.Moves.MovesOfRequests.{valid_new}
+use Rattle.wl_server.proofs.Plain.Arguments.{Came, converts, made_by_all, makes_new, read_signed}
 use Rattle.wl_server.proofs.Plain.Base.{none_and_some, when_false, when_true}
 
 not_true : (b : Bool) → not b ≡ true → b ≡ false
@@ -117,13 +117,17 @@ module _ {U G C : Type 0} (a : Around G C) (c : Core U C) (P : Verdict (Core U C
       (g : ℕ) (interface : List ℕ) (version n : ℕ) (kept : Object (KeptGlobal G)) → args ≡ arg.Uint g ∷ arg.Str (Some interface) ∷ arg.Uint version ∷ arg.NewId n ∷ []
       → held a.globals.store g ≡ Some kept → may_bind a c g (Some interface) version kept ≡ true → is_valid_new (objects_in c) n ≡ true → P (binds a c g version n kept)
 
-  bound_case : P (garbled c) → ((code : ℕ) (text : List ℕ) → P (breaks a c code text)) → (args : List WireArgument) → Bound args → P (registry_request a c args)
-  bound_case garbled' breaks' (arg.Uint g ∷ arg.Str None ∷ arg.Uint version ∷ arg.NewId n ∷ []) bound = at (held a.globals.store g)
+  -- they are none of a bind
+  abbrev AreUnbound : List WireArgument → Type 0
+  AreUnbound args = (g version n : ℕ) (name : Option (List ℕ)) → ¬ (args ≡ arg.Uint g ∷ arg.Str name ∷ arg.Uint version ∷ arg.NewId n ∷ [])
+
+  bound_case : (args : List WireArgument) → (AreUnbound args → P (garbled c)) → ((code : ℕ) (text : List ℕ) → P (breaks a c code text)) → Bound args → P (registry_request a c args)
+  bound_case (arg.Uint g ∷ arg.Str None ∷ arg.Uint version ∷ arg.NewId n ∷ []) garbled' breaks' bound = at (held a.globals.store g)
     where
       at : (o : Option (Object (KeptGlobal G))) → P (binds_to a c g None version n o)
       at None = breaks' 0 _
       at (Some kept) = breaks' 0 _
-  bound_case garbled' breaks' (arg.Uint g ∷ arg.Str (Some interface) ∷ arg.Uint version ∷ arg.NewId n ∷ []) bound = at (held a.globals.store g) refl
+  bound_case (arg.Uint g ∷ arg.Str (Some interface) ∷ arg.Uint version ∷ arg.NewId n ∷ []) garbled' breaks' bound = at (held a.globals.store g) refl
     where
       at : (o : Option (Object (KeptGlobal G))) → held a.globals.store g ≡ o → P (binds_to a c g (Some interface) version n o)
       at None there = breaks' 0 _
@@ -134,22 +138,46 @@ module _ {U G C : Type 0} (a : Around G C) (c : Core U C) (P : Verdict (Core U C
           go true true may valid = bound g interface version n kept refl there may valid
           go true false may valid = breaks' 0 _
           go false v may valid = breaks' 0 _
-  bound_case garbled' breaks' _ bound = garbled'
+  bound_case _ garbled' breaks' bound = garbled' (λ g version n name is. true≢false (sym (ap binds_some is)))
+    where
+      binds_some : List WireArgument → Bool
+      binds_some (arg.Uint g ∷ arg.Str name ∷ arg.Uint version ∷ arg.NewId n ∷ []) = true
+      binds_some _ = false
+
+  -- ---- a request to a display
+
+  -- they are not those of one
+  abbrev AreUnasked : List WireArgument → Type 0
+  AreUnasked args = (n : ℕ) → ¬ (args ≡ arg.NewId n ∷ [])
+
+  asked_case : (opcode : ℕ) (args : List WireArgument) → (AreUnasked args → P (garbled c)) → ((code : ℕ) (text : List ℕ) → P (breaks a c code text))
+      → ((n : ℕ) → P (syncs a c n)) → ((n : ℕ) → P (registers a c n)) → P (display_request a c opcode args)
+  asked_case opcode (arg.NewId n ∷ []) garbled' breaks' syncs' registers' = go (is_valid_new (objects_in c) n) (eqb opcode 0)
+    where
+      go : (b z : Bool) → P (cond b (cond z (syncs a c n) (registers a c n)) (breaks a c 0 (new_id_text n)))
+      go true true = syncs' n
+      go true false = registers' n
+      go false z = breaks' 0 (new_id_text n)
+  asked_case opcode _ garbled' breaks' syncs' registers' = garbled' (λ n is. true≢false (sym (ap asks_some is)))
+    where
+      asks_some : List WireArgument → Bool
+      asks_some (arg.NewId n ∷ []) = true
+      asks_some _ = false
 
 module _ {T U G C : Type 0} (sends : T → Queue → Result ℕ IoFault → T → Type 0) (receives : T → ℕ → Result Queue IoFault → T → Type 0) (a : Around G C) where
   -- what is answered at the end of a reading for what the message at the front came to in this turn
   abbrev Answers : Turn → ReaderState T (Core U C) → Result Handed ActionError → ReaderState T (Core U C) → Type 0
   Answers t before (Ok h) end = (end.core.is_killed ≡ false) × (end.core.ended ≡ None) × TookOne t × ComesOfFront sends a h before end
-  Answers t before (Err (Io fault.Proto)) end = (end.core.ended ≡ Some ConnectionClosed) × LeavesClient fault.Proto end.core
-  Answers t before (Err (Io fault.Pipe)) end = IsSome end.core.ended × LeavesClient fault.Pipe end.core
+  Answers t before (Err (Io fault.Proto)) end = FoundNoMessage sends a t before × (end.core.ended ≡ Some ConnectionClosed) × LeavesClient fault.Proto end.core
+  Answers t before (Err (Io fault.Pipe)) end = TookMessage sends a t before × IsSome end.core.ended × LeavesClient fault.Pipe end.core
   Answers t before (Err e) end = ⊥
 
   answers_end : (t : Turn) (before : ReaderState T (Core U C)) (refused : Bool) (left : ℕ) (answer : Result Handed ActionError) (end : ReaderState T (Core U C)) → Answers t before answer end
       → ReadingEnds sends receives a before (t ∷ []) answer refused left end
   answers_end t before refused left (Ok h) end (live, fresh, (es, is), comes) = (live, fresh, ([], es, before, ap (λ (u : Turn). u ∷ []) is, refl, comes))
   answers_end t before refused left (Err ActionOpen) end so = absurd so
-  answers_end t before refused left (Err (Io fault.Proto)) end (is, leaves) = (inr is, leaves)
-  answers_end t before refused left (Err (Io fault.Pipe)) end (is, leaves) = (inr is, leaves)
+  answers_end t before refused left (Err (Io fault.Proto)) end (found, is, leaves) = (inr (([], t, before, refl, refl, found), is), leaves)
+  answers_end t before refused left (Err (Io fault.Pipe)) end (took, is, leaves) = (inr (([], t, before, refl, refl, took), is), leaves)
   answers_end t before refused left (Err (Io fault.WouldBlock)) end so = absurd so
   answers_end t before refused left (Err (Io fault.OutOfMemory)) end so = absurd so
   answers_end t before refused left (Err (Io fault.TooBig)) end so = absurd so
@@ -184,13 +212,14 @@ module _ {T U G C : Type 0} (sends : T → Queue → Result ℕ IoFault → T �
   garbled_came c r (Err fault.InvalidInput) = (refl, reason_if c.is_killed c.ended ConnectionClosed r.live, r.idle)
   garbled_came c r (Err (fault.Other n)) = (refl, reason_if c.is_killed c.ended ConnectionClosed r.live, r.idle)
 
-  garbled_turns : (turn : List Sending → Turn) (before : ReaderState T (Core U C)) (c : Core U C) → IsRead c → (link : LinkState T) → Turns turn before (garbled c) link
-  garbled_turns turn before c r link es first lacked mid (inr (asks, memory, none, gave, is)) = absurd (true≢false (sym asks))
-  garbled_turns turn before c r link es first lacked mid (inl (es1, es2, put, wrote, l, lacks, puts, flushed, is, core, gave, refused)) =
+  garbled_turns : (turn : List Sending → Turn) (before : ReaderState T (Core U C)) (c : Core U C) → IsRead c → ((es : List Sending) → FoundNoMessage sends a (turn es) before)
+      → (link : LinkState T) → Turns turn before (garbled c) link
+  garbled_turns turn before c r found link es first lacked mid (inr (asks, memory, none, gave, is)) = absurd (true≢false (sym asks))
+  garbled_turns turn before c r found link es first lacked mid (inl (es1, es2, put, wrote, l, lacks, puts, flushed, is, core, gave, refused)) =
       let (dead, reason, idle) = subst (Closed c) (sym core) (garbled_came c r wrote) in
       inr (
         not_read mid.core dead,
-        subst (λ (x : Result Handed ActionError). Answers (turn es) before x mid) (sym (ap action_in gave ∙ after_puts put _)) (reason, (dead, some_is mid.core.ended ConnectionClosed reason, idle)),
+        subst (λ (x : Result Handed ActionError). Answers (turn es) before x mid) (sym (ap action_in gave ∙ after_puts put _)) (found es, reason, (dead, some_is mid.core.ended ConnectionClosed reason, idle)),
       )
 
   -- ---- a client that broke the protocol
@@ -208,17 +237,18 @@ module _ {T U G C : Type 0} (sends : T → Queue → Result ℕ IoFault → T �
   breaks_came m code text r (Err fault.InvalidInput) = (refl, some_is _ _ (reason_if m.is_killed m.ended _ r.live), r.idle)
   breaks_came m code text r (Err (fault.Other n)) = (refl, some_is _ _ (reason_if m.is_killed m.ended _ r.live), r.idle)
 
-  ended_turned : (t : Turn) (before : ReaderState T (Core U C)) (first : List (Given (Told U))) (mid : ReaderState T (Core U C)) → action_in first ≡ Err (Io fault.Pipe)
-      → Ended mid.core → Turned t before first mid
-  ended_turned t before first mid is (dead, reason, idle) =
-      inr (not_read mid.core dead, subst (λ (x : Result Handed ActionError). Answers t before x mid) (sym is) (reason, (dead, reason, idle)))
+  ended_turned : (t : Turn) (before : ReaderState T (Core U C)) (first : List (Given (Told U))) (mid : ReaderState T (Core U C)) → TookMessage sends a t before
+      → action_in first ≡ Err (Io fault.Pipe) → Ended mid.core → Turned t before first mid
+  ended_turned t before first mid took is (dead, reason, idle) =
+      inr (not_read mid.core dead, subst (λ (x : Result Handed ActionError). Answers t before x mid) (sym is) (took, reason, (dead, reason, idle)))
 
-  breaks_turns : (turn : List Sending → Turn) (before : ReaderState T (Core U C)) (m : Core U C) (code : ℕ) (text : List ℕ) → IsRead m → (link : LinkState T) → Turns turn before (breaks a m code text) link
-  breaks_turns turn before m code text r link es first lacked mid (inr (asks, memory, none, gave, is)) =
-      ended_turned (turn es) before first mid (ap action_in gave)
+  breaks_turns : (turn : List Sending → Turn) (before : ReaderState T (Core U C)) (m : Core U C) (code : ℕ) (text : List ℕ) → IsRead m
+      → ((es : List Sending) → TookMessage sends a (turn es) before) → (link : LinkState T) → Turns turn before (breaks a m code text) link
+  breaks_turns turn before m code text r took link es first lacked mid (inr (asks, memory, none, gave, is)) =
+      ended_turned (turn es) before first mid (took es) (ap action_in gave)
       (subst (λ (s : ReaderState T (Core U C)). Ended s.core) (sym is) (refl, some_is _ _ (reason_if m.is_killed m.ended ConnectionClosed r.live), r.idle))
-  breaks_turns turn before m code text r link es first lacked mid (inl (es1, es2, put, wrote, l, lacks, puts, flushed, is, core, gave, refused)) =
-      ended_turned (turn es) before first mid (ap action_in gave ∙ after_puts put _) (subst Ended (sym core) (breaks_came m code text r wrote))
+  breaks_turns turn before m code text r took link es first lacked mid (inl (es1, es2, put, wrote, l, lacks, puts, flushed, is, core, gave, refused)) =
+      ended_turned (turn es) before first mid (took es) (ap action_in gave ∙ after_puts put _) (subst Ended (sym core) (breaks_came m code text r wrote))
 
   -- ---- a request that the server answers
 
@@ -244,10 +274,10 @@ module _ {T U G C : Type 0} (sends : T → Queue → Result ℕ IoFault → T �
   handed_both [] y = refl
   handed_both (e ∷ x) y = ap (λ (es : List (Given (Told U))). HandedOut e ∷ es) (handed_both x y)
 
-  replies_turns : (turn : List Sending → Turn) (before : ReaderState T (Core U C)) (m : Core U C) (puts : List Said) (did : List (Deed U)) → Mute did → IsRead m → (link : LinkState T)
-      → Turns turn before (replies m puts did) link
-  replies_turns turn before m puts did mute r link es first lacked mid (inr (asks, memory, none, gave, is)) = absurd (true≢false (sym asks))
-  replies_turns turn before m puts did mute r link es first lacked mid (inl (es1, es2, put, wrote, l, lacks, put_out, flushed, is, core, gave, refused)) =
+  replies_turns : (turn : List Sending → Turn) (before : ReaderState T (Core U C)) (m : Core U C) (puts : List Said) (did : List (Deed U)) → Mute did → IsRead m
+      → ((es : List Sending) → TookMessage sends a (turn es) before) → (link : LinkState T) → Turns turn before (replies m puts did) link
+  replies_turns turn before m puts did mute r took link es first lacked mid (inr (asks, memory, none, gave, is)) = absurd (true≢false (sym asks))
+  replies_turns turn before m puts did mute r took link es first lacked mid (inl (es1, es2, put, wrote, l, lacks, put_out, flushed, is, core, gave, refused)) =
       elim (replies_came m puts did r wrote) [
         | inl same ↦
             let at_m : mid.core ≡ m = core ∙ same in
@@ -259,7 +289,7 @@ module _ {T U G C : Type 0} (sends : T → Queue → Result ℕ IoFault → T �
             let dead : (came_to (server a) (replies m puts did) wrote).is_killed ≡ true = ended.0 in
             let given : first ≡ put_and_gave put (map Did did ++ telling.Stops fault.Pipe ∷ []) =
             gave ∙ ap (λ (b : Bool). put_and_gave put (map Did did ++ stops_when b)) dead in
-            ended_turned (turn es) before first mid
+            ended_turned (turn es) before first mid (took es)
             (ap action_in given ∙ after_puts put _ ∙ ap action_in (handed_both (map Did did) (telling.Stops fault.Pipe ∷ [])) ∙ mute (HandedOut (telling.Stops fault.Pipe) ∷ []))
             (subst Ended (sym core) ended)
       ]
@@ -284,35 +314,50 @@ module _ {T U G C : Type 0} (sends : T → Queue → Result ℕ IoFault → T �
     abbrev here : ReaderState T (Core U C)
     here = record { core = c; link = from }
 
+    took : (es : List Sending) → TookMessage sends a (Handled es) here
+    took es = (m, link, read)
+
+    asks_nothing : AsksNothing c m → (es : List Sending) → FoundNoMessage sends a (Handled es) here
+    asks_nothing nothing es = (m, link, read, nothing)
+
     reads_over : (objects : _) → IsRead (with_objects c objects)
     reads_over objects = record { live = r.live; idle = r.idle; fresh = r.fresh }
 
     converted_turns : (receiver : Object (Kept U)) (row : MessageRow) → held c.store m.sender ≡ Some receiver → request_row a.table receiver.interface m.opcode ≡ Some row
-        → (o : Outcome U) → Came a.client receiver.version (start (objects_in c) row) [] m.args o → Turns Handled here (converted a c m receiver row o) link
-    converted_turns receiver row holds has (Wrong w objects) came = breaks_turns Handled here (with_objects c objects) 0 _ (reads_over objects) link
-    converted_turns receiver row holds has (Whole d args) (more, is, numbers, grown, fit) =
+        → (o : Outcome U)
+        → Came a.client receiver.version (start (objects_in c) row) [] m.args o → Turns Handled here (converted a c m receiver row o) link
+    converted_turns receiver row holds has (Wrong w objects) came = breaks_turns Handled here (with_objects c objects) 0 _ (reads_over objects) took link
+    converted_turns receiver row holds has (Whole d args) (more, is, numbers, grown, fit, made) =
         hands_out_turns here (with_objects c d.objects) (opened.Request id row.is_destructor d.created) (deeds.Request id m.opcode args row.is_destructor d.created) r.live r.fresh
         (λ l. (
           m,
           link,
           read,
-          (
-            receiver,
-            row,
-            holds,
-            has,
-            refl,
-            refl,
-            ap (map _) is ∙ numbers,
-            refl,
-            grown m.sender receiver holds,
-            subst (λ (xs : List (Argument IdParts Token)). ObjectsFit a.client d.objects.store row.signature row.arg_interfaces xs) (sym is) fit,
-            refl,
-          ),
+          record {
+            receiver = receiver;
+            row = row;
+            was_held = holds;
+            request = has;
+            sender_is = refl;
+            opcode_is = refl;
+            args_are = ap (map _) is ∙ numbers;
+            destructor = refl;
+            is_held = grown m.sender receiver holds;
+            objects_fit = subst (λ (xs : List (Argument IdParts Token)). ObjectsFit a.client d.objects.store row.signature row.arg_interfaces xs) (sym is) fit;
+            makes = subst (λ (xs : List (Argument IdParts Token)). MakesItsObject a.client d.objects.store row receiver.version xs d.created) (sym is) made_so.0;
+            is_new = made_so.1;
+            action = refl;
+          },
         )) link
       where
         id : IdParts
         id = id_at a.client m.sender receiver
+
+        by_row : row_in a.table (held c.store m.sender) m.opcode ≡ Some row
+        by_row = ap (λ (o : Option (Object (Kept U))). row_in a.table o m.opcode) holds ∙ has
+
+        made_so : MakesItsObject a.client d.objects.store row receiver.version more d.created × MatchOption d.created (Unit {0}) (λ id. held c.store id.number ≡ None)
+        made_so = made_by_all a.client receiver.version row (objects_in c) d more m.args made numbers (makes_new sends a here m link read row by_row)
 
     other_turns : (receiver : Object (Kept U)) (row : MessageRow) → held c.store m.sender ≡ Some receiver → request_row a.table receiver.interface m.opcode ≡ Some row
         → Turns Handled here (other_request a c m receiver row) link
@@ -321,7 +366,7 @@ module _ {T U G C : Type 0} (sends : T → Queue → Result ℕ IoFault → T �
         go : (b : Bool) → Turns Handled here (cond b
             (breaks a c 1 (since_text m.opcode receiver.version row.since (name_of a.table receiver.interface.0) m.sender))
             (converted a c m receiver row (convert a.client receiver.version (start (objects_in c) row) [] m.args))) link
-        go true = breaks_turns Handled here c 1 _ r link
+        go true = breaks_turns Handled here c 1 _ r took link
         go false =
             converted_turns receiver row holds has (convert a.client receiver.version (start (objects_in c) row) [] m.args)
             (converts a.client receiver.version (start (objects_in c) row) [] m.args)
@@ -346,6 +391,7 @@ module _ {T U G C : Type 0} (sends : T → Queue → Result ℕ IoFault → T �
             may,
             refl,
             refl,
+            (valid_new (objects_in c) n valid).0,
             stored_here c.store n (made_object (objects_in c) kept.interface version) n refl,
             refl,
           ),
@@ -360,31 +406,49 @@ module _ {T U G C : Type 0} (sends : T → Queue → Result ℕ IoFault → T �
         P : Verdict (Core U C) (Told U) → Type 0
         P v = Turns Handled here v link
 
+        -- the table has the message, since it was read
+        never : row_in a.table (held c.store m.sender) m.opcode ≡ None → ⊥
+        never none =
+            let (signature, is, same) = read_signed sends a here m link read in
+            none_and_some (option_map (λ (r : MessageRow). r.signature) (row_in a.table (held c.store m.sender) m.opcode))
+            (ap (option_map (λ (r : MessageRow). r.signature)) none) is
+
         whole : (receiver : Option (Object (Kept U))) (row : Option MessageRow) → held c.store m.sender ≡ receiver → row_in a.table receiver m.opcode ≡ row
             → P (request a c m receiver row)
-        whole None row holds has = garbled_turns Handled here c r link
-        whole (Some receiver) None holds has = garbled_turns Handled here c r link
-        whole (Some receiver) (Some row) holds has = go (eqb receiver.interface.0 display_id.0) (eqb receiver.interface.0 registry_id.0) refl
+        whole None row holds has = absurd (never (ap (λ (o : Option (Object (Kept U))). row_in a.table o m.opcode) holds))
+        whole (Some receiver) None holds has = absurd (never (ap (λ (o : Option (Object (Kept U))). row_in a.table o m.opcode) holds ∙ has))
+        whole (Some receiver) (Some row) holds has = go (eqb receiver.interface.0 display_id.0) (eqb receiver.interface.0 registry_id.0) refl refl
           where
-            go : (b t : Bool) → eqb receiver.interface.0 registry_id.0 ≡ t → P (cond b (display_request a c m.opcode m.args) (cond t (registry_request a c m.args) (other_request a c m receiver row)))
-            go true t registry =
-                display_case a c P (garbled_turns Handled here c r link) (λ code text. breaks_turns Handled here c code text r link)
-                (λ n valid. replies_turns Handled here (synced a c n) (done_message (new_at a c n) ∷ deletions n) [] (λ rest. refl) (record { live = r.live; idle = r.idle; fresh = r.fresh }) link)
-                (λ n valid. replies_turns Handled here (with_registry a c n) (introductions a.table (new_at a c n) 0 (shown a.views a.globals a.client c.client_data)) (Remembered (new_at a c n) ∷ []) (λ rest. refl) (record { live = r.live; idle = r.idle; fresh = r.fresh }) link) m.opcode m.args
-            go false true registry =
-                bound_case a c P (garbled_turns Handled here c r link) (λ code text. breaks_turns Handled here c code text r link) m.args (binds_turns receiver holds registry)
-            go false false registry = other_turns receiver row holds has
+            go : (b t : Bool) → eqb receiver.interface.0 display_id.0 ≡ b → eqb receiver.interface.0 registry_id.0 ≡ t
+                → P (cond b (display_request a c m.opcode m.args) (cond t (registry_request a c m.args) (other_request a c m receiver row)))
+            go true t display registry =
+                asked_case a c P m.opcode m.args
+                (λ unasked. garbled_turns Handled here c r (asks_nothing (receiver, holds, inl (eqb-true receiver.interface.0 display_id.0 display, unasked))) link)
+                (λ code text. breaks_turns Handled here c code text r took link)
+                (λ n. replies_turns Handled here (synced a c n) (done_message (new_at a c n) ∷ deletions n) [] (λ rest. refl) (record { live = r.live; idle = r.idle; fresh = r.fresh }) took link)
+                (λ n. replies_turns Handled here (with_registry a c n) (introductions a.table (new_at a c n) 0 (shown a.views a.globals a.client c.client_data)) (Remembered (new_at a c n) ∷ []) (λ rest. refl) (record { live = r.live; idle = r.idle; fresh = r.fresh }) took link)
+            go false true display registry =
+                bound_case a c P m.args
+                (λ unbound. garbled_turns Handled here c r (asks_nothing (receiver, holds, inr (eqb-true receiver.interface.0 registry_id.0 registry, unbound))) link)
+                (λ code text. breaks_turns Handled here c code text r took link) (binds_turns receiver holds registry)
+            go false false display registry = other_turns receiver row holds has
 
   -- ---- over the turns
 
-  itself_later : (f : IoFault) (lacked refused : Bool) (left : ℕ) (end : ReaderState T (Core U C)) → StopsItself sends a f refused left end → StopsItself sends a f (lacked || refused) left end
-  itself_later fault.WouldBlock lacked refused left end so = so
-  itself_later fault.OutOfMemory lacked refused left end (so, asks) = (or_true lacked refused so, asks)
-  itself_later fault.Proto lacked refused left end so = so
-  itself_later fault.Pipe lacked refused left end so = so
-  itself_later fault.TooBig lacked refused left end so = so
-  itself_later fault.InvalidInput lacked refused left end so = so
-  itself_later (fault.Other n) lacked refused left end so = so
+  last_later : (P : Turn → ReaderState T (Core U C) → Type 0) (t : Turn) (turns : List Turn) (start mid : ReaderState T (Core U C)) → TurnLeads sends receives a t start mid
+      → OfLast sends receives a P mid turns → OfLast sends receives a P start (t ∷ turns)
+  last_later P t turns start mid leads (earlier, last, before, split, led, so) =
+      (t ∷ earlier, last, before, ap (λ (us : List Turn). t ∷ us) split, (mid, leads, led), so)
+
+  itself_later : (f : IoFault) (t : Turn) (turns : List Turn) (lacked refused : Bool) (left : ℕ) (end start mid : ReaderState T (Core U C)) → TurnLeads sends receives a t start mid
+      → StopsItself sends receives a f mid turns refused left end → StopsItself sends receives a f start (t ∷ turns) (lacked || refused) left end
+  itself_later fault.WouldBlock t turns lacked refused left end start mid leads so = so
+  itself_later fault.OutOfMemory t turns lacked refused left end start mid leads (so, asks) = (or_true lacked refused so, asks)
+  itself_later fault.Proto t turns lacked refused left end start mid leads (found, so) = (last_later (FoundNoMessage sends a) t turns start mid leads found, so)
+  itself_later fault.Pipe t turns lacked refused left end start mid leads (took, so) = (last_later (TookMessage sends a) t turns start mid leads took, so)
+  itself_later fault.TooBig t turns lacked refused left end start mid leads so = so
+  itself_later fault.InvalidInput t turns lacked refused left end start mid leads so = so
+  itself_later (fault.Other n) t turns lacked refused left end start mid leads so = so
 
   -- another turn stands before
   ends_later : (t : Turn) (turns : List Turn) (answer : Result Handed ActionError) (lacked refused : Bool) (left : ℕ) (end : ReaderState T (Core U C))
@@ -394,7 +458,7 @@ module _ {T U G C : Type 0} (sends : T → Queue → Result ℕ IoFault → T �
       (live, fresh, (t ∷ earlier, es, before, ap (λ (us : List Turn). t ∷ us) split, (mid, leads, led), comes))
   ends_later t turns (Err ActionOpen) lacked refused left end start mid leads so = so
   ends_later t turns (Err (Io f)) lacked refused left end start mid leads (inl last, leaves) = (inl (later_turn f t turns last), leaves)
-  ends_later t turns (Err (Io f)) lacked refused left end start mid leads (inr so, leaves) = (inr (itself_later f lacked refused left end so), leaves)
+  ends_later t turns (Err (Io f)) lacked refused left end start mid leads (inr so, leaves) = (inr (itself_later f t turns lacked refused left end start mid leads so), leaves)
 
   still_answered : (stopped : Option IoFault) (first gave : List (Given (Told U))) → Silent first → answered stopped (first ++ gave) ≡ answered stopped gave
   still_answered None first gave silent = silent gave
@@ -467,7 +531,7 @@ module _ {T U G C : Type 0} (sends : T → Queue → Result ℕ IoFault → T �
       (subst (λ (w : Verdict (Core U C) (Told U)). CarriesOut sends (server a) w link es first lacked mid) is by)) more (λ r'. read_ends left mid turns rest end r' more)
   read_ends left before (Unread es ∷ turns) out end r (on, (v, link, first, lacked, mid, rest, (read, same, is), by, split, more)) =
       then_ends (Unread es) before left mid end turns first lacked rest out split (v, link, first, lacked, (read, same, is), by)
-      (garbled_turns Unread before before.core r link es first lacked mid
+      (garbled_turns Unread before before.core r (λ es'. read) link es first lacked mid
       (subst (λ (w : Verdict (Core U C) (Told U)). CarriesOut sends (server a) w link es first lacked mid) is by)) more (λ r'. read_ends left mid turns rest end r' more)
 
   -- a reading of a live client without an open action

@@ -1,6 +1,6 @@
 -- What one outcome leaves open and what it does not: worked values.
-use Rattle.std.proofs.Common.{◌≡◌, ℕ, ◌⊎◌, inl, inr, Bool, List, [], ◌∷◌, ◌++◌, None, Result, Ok, Err, true, false, refl, sym, ap, ◌∙◌, lit<, arith, true≢false}
-use Rattle.std.specs.Prelude.{is_ok}
+use Rattle.std.proofs.Common.{◌≡◌, ℕ, ◌⊎◌, inl, inr, Bool, List, [], ◌∷◌, Result, Ok, Err, true, false, refl, sym, ap, ◌∙◌, lit<, arith, true≢false}
+use Rattle.std.specs.Prelude.{◌==◌, is_ok}
 use Rattle.std.proofs.lemmas.Bool.{cases_Bool}
 use Rattle.wl_wire.specs.declared.error.IoFault.{IoFault}
 use Rattle.wl_wire.specs.declared.error.IoFault.TheVariants as fault
@@ -15,7 +15,7 @@ use Rattle.wl_server.specs.Ids.{ClientParts, same_client}
 use Rattle.wl_server.specs.Server.{Seen, ServerState, notes_of}
 use Rattle.wl_server.proofs.OverRuns.Outcome.ShareLaws.{same_client_is}
 use Rattle.wl_server.specs.Steps.{RiseBySlot}
-use Rattle.wl_server.specs.WholeOutcome.{SameServer}
+use Rattle.wl_server.specs.Outcome.Whole.{SameServer}
 use Rattle.wl_server.proofs.Worked.Messages.{table}
 
 abbrev first : ClientParts
@@ -29,10 +29,10 @@ not_both id one two =
     let slots : 0 ≡ 1 = ap (λ (i : ClientParts). i.slot) (same_client_is first id one ∙ sym (same_client_is second id two)) in
     omega (arith, slots)
 
--- ---- the notes of two clients stand in either order
+-- ---- the order of the notes of two clients
 
 abbrev noted : List (Note ℕ) → ServerState ℕ ℕ ℕ Bool
-noted notes = record { offer = new_offer table; last_client = 2; clients = []; notes = notes }
+noted notes = record { offer = new_offer table; last_client = 2; clients = []; notes = notes; numbers = record { waiting = 0; made = 0 } }
 
 abbrev one_order : List (Note ℕ)
 one_order = Initialized first ∷ Initialized second ∷ []
@@ -40,6 +40,7 @@ one_order = Initialized first ∷ Initialized second ∷ []
 abbrev other_order : List (Note ℕ)
 other_order = Initialized second ∷ Initialized first ∷ []
 
+-- servers that differ in it are not the same to their program, though each client finds the same
 either_order : (id : ClientParts) → notes_of id one_order ≡ notes_of id other_order
 either_order id = at (cases_Bool (same_client first id)) (cases_Bool (same_client second id))
   where
@@ -50,15 +51,14 @@ either_order id = at (cases_Bool (same_client first id)) (cases_Bool (same_clien
     at (inr one) (inl two) = rw (one, two) refl
     at (inr one) (inr two) = rw (one, two) refl
 
--- servers that differ in it are the same to their program
-orders_alike : SameServer (noted one_order) (noted other_order)
-orders_alike = record {
-  offer = refl;
-  last = refl;
-  each = λ id. ap (λ notes. let s : Seen ℕ ℕ Bool = record { part = None; made = notes ++ [] } in s) (either_order id);
-}
+orders_differ : SameServer (noted one_order) (noted other_order) → ⊥
+orders_differ same = true≢false (ap tells_first same.notes)
+  where
+    tells_first : List (Note ℕ) → Bool
+    tells_first (Initialized client ∷ _) = client.slot == first.slot
+    tells_first _ = false
 
--- but the notes of one client stand as they were made
+-- and the notes of one client stand as they were made
 abbrev is_first : List (Happening ℕ) → Bool
 is_first (WasInserted ∷ _) = true
 is_first _ = false

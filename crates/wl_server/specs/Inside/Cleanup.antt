@@ -6,7 +6,7 @@ use Rattle.wl_server.specs.declared.notes.Note.{Note}
 use Rattle.wl_server.specs.Inside.Gathering.{AllLeft, Gathers}
 use Rattle.wl_server.specs.Ids.{ClientParts}
 use Rattle.wl_server.specs.Inside.Leaving.{FlushesKilled, all_staying, collected, ends_at, given_at}
-use Rattle.wl_server.specs.Inside.NoteOrder.{IsInOrder}
+use Rattle.wl_server.specs.NoteOrder.{IsInOrder}
 use Rattle.wl_server.specs.Inside.Places.{AllFeel}
 use Rattle.wl_server.specs.Server.{Stored}
 

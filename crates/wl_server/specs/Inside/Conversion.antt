@@ -21,6 +21,17 @@ abbrev pub IsNextKind : List ArgumentType → WireArgument → Type 0
 IsNextKind [] a = ⊥
 IsNextKind (k ∷ _) a = kind_of k ≡ type_of a
 
+-- an argument that names no object, as it is handed out
+abbrev pub plain : WireArgument → Option (Argument IdParts Token)
+plain (arg.Int z) = Some (arg.Int z)
+plain (arg.Uint n) = Some (arg.Uint n)
+plain (arg.Fixed z) = Some (arg.Fixed z)
+plain (arg.Str text) = Some (arg.Str text)
+plain (arg.Object n) = None
+plain (arg.NewId n) = None
+plain (arg.Array bytes) = Some (arg.Array bytes)
+plain (arg.Fd token) = Some (arg.Fd token)
+
 module _ {U : Type 0} where
   abbrev pub objects_of : ClientObjects U → Objects (Kept U)
   objects_of objects = record { store = objects.map.store; last_serial = objects.last_serial }

@@ -3,15 +3,10 @@ use Rattle.std.specs.Prelude.{◌≡◌, ℕ, ◌+◌, List, [], ◌∷◌, ◌+
 use Rattle.wl_server.specs.declared.notes.Happening.{Happening}
 use Rattle.wl_server.specs.declared.notes.Note.{Note}
 use Rattle.wl_server.specs.Ids.{ClientParts}
+use Rattle.wl_server.specs.NoteOrder.{to_gather}
 use Rattle.wl_server.specs.Server.{Stored, client_at, no_times, note_of, notes_of}
 
 module _ {T U C : Type 0} (waits : Bool) where
-  -- the notes of a slot's client that are gathered, in order: those that were made, and then, if they are to be gathered
-  -- too, those that wait
-  abbrev pub to_gather : Option (Stored T U C) → List (Happening U)
-  to_gather None = []
-  to_gather (Some s) = s.made ++ (if waits then s.part.waiting else [])
-
   -- the client without them
   abbrev pub emptied : Stored T U C → Stored T U C
   emptied s = record { serial = s.serial; part = record s.part { waiting = if waits then [] else s.part.waiting }; made = []; times = no_times }
@@ -22,7 +17,7 @@ module _ {T U C : Type 0} (waits : Bool) where
   -- how many there are of all clients
   abbrev pub count_leaving : List (Option (Stored T U C)) → ℕ
   count_leaving [] = 0
-  count_leaving (x ∷ clients) = length (to_gather x) + count_leaving clients
+  count_leaving (x ∷ clients) = length (to_gather waits x) + count_leaving clients
 
   abbrev pub notes_from : ℕ → Option (Stored T U C) → List (Happening U) → List (Note U)
   notes_from slot None told = []
@@ -31,15 +26,15 @@ module _ {T U C : Type 0} (waits : Bool) where
   -- the first of the notes of a slot's client is appended to these notes
   abbrev pub MovesNote : ℕ → Option (Stored T U C) → List (Note U) → Option (Stored T U C) → List (Note U) → Type 0
   MovesNote slot before notes after notes' =
-      (h : Happening U) × (to_gather before ≡ h ∷ to_gather after) × (option_map emptied after ≡ option_map emptied before)
+      (h : Happening U) × (to_gather waits before ≡ h ∷ to_gather waits after) × (option_map emptied after ≡ option_map emptied before)
       × (notes' ≡ notes ++ notes_from slot before (h ∷ []))
 
   -- some notes of all clients are moved so; of each client id the notes tell the same as before
   pub record Gathers (clients : List (Option (Stored T U C))) (notes : List (Note U)) (clients' : List (Option (Stored T U C))) (notes' : List (Note U)) : Type 0 where
     pub rest : all_emptied clients' ≡ all_emptied clients
-    pub told : (id : ClientParts) → notes_of id notes' ++ to_gather (client_at id clients') ≡ notes_of id notes ++ to_gather (client_at id clients)
+    pub told : (id : ClientParts) → notes_of id notes' ++ to_gather waits (client_at id clients') ≡ notes_of id notes ++ to_gather waits (client_at id clients)
     pub count : length notes' + count_leaving clients' ≡ length notes + count_leaving clients
 
   -- no client has notes to be gathered
   abbrev pub AllLeft : List (Option (Stored T U C)) → Type 0
-  AllLeft clients = (slot : ℕ) (x : Option (Stored T U C)) → slice_get clients slot ≡ Some x → to_gather x ≡ []
+  AllLeft clients = (slot : ℕ) (x : Option (Stored T U C)) → slice_get clients slot ≡ Some x → to_gather waits x ≡ []

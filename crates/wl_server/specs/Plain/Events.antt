@@ -45,14 +45,16 @@ module _ {T U G C : Type 0} where
       (p : Part T U C) × (client_in before m.sender.client ≡ Some p) × (p.is_killed ≡ false)
       × (event_check m.sender.client p.store before.server.offer.table m ≡ checked)
 
-  -- To a killed client nothing is sent. To a live one an event that is granted is put. An event that is refused changes
-  -- nothing. If there is no memory, the client and its objects are as before, but some of what waited may have been sent.
+  -- To a killed client nothing is sent. To a live one an event that is granted is put, unless memory is refused: then the client
+  -- and its objects are as before, but some of what waited may have been sent. An event that is refused for another reason
+  -- changes nothing.
   abbrev pub EventSentAs : BackendState T U G C → SessionMessage → Result (Unit {0}) EventError → BackendState T U G C → Type 0
   EventSentAs before m (Ok _) after =
       ((killed_in before m.sender.client ≡ Some true) × IsUnchanged before after)
       ⊎ ((x : Object (Kept U)) × (ends : Bool) × ChecksTo before m (Ok (x, ends)) × EventIsPut before m.sender x ends after)
   EventSentAs before m (Err refused.OutOfMemory) after =
-      (option_map core_of (client_in after m.sender.client) ≡ option_map core_of (client_in before m.sender.client))
+      ((granted : Object (Kept U) × Bool) × ChecksTo before m (Ok granted)) × (after.refused ≡ true)
+      × (option_map core_of (client_in after m.sender.client) ≡ option_map core_of (client_in before m.sender.client))
       × (notes_made_in after m.sender.client ≡ notes_made_in before m.sender.client)
   EventSentAs before m (Err e) after =
       (((client_in before m.sender.client ≡ None) × (e ≡ refused.InvalidId)) ⊎ ChecksTo before m (Err e)) × IsUnchanged before after

@@ -1,6 +1,6 @@
 -- What a program finds of a client after a reading: what is handed out, and whether the client lives.
 --
--- A contract that cites `ReadsClient` has another clause beside it, `read`, from which it follows.
+-- A contract that cites `ReadsClient` has another clause beside it, `call`, from which it follows.
 use Rattle.std.specs.Prelude.{◌≡◌, ◌⊎◌, ℕ, List, ◌∷◌, [], ◌++◌, true, false, None, Some, IsSome, is_some, Result, Ok, Err}
 use Rattle.wl_wire.specs.declared.error.IoFault.{IoFault}
 use Rattle.wl_wire.specs.declared.error.IoFault.TheVariants as fault
@@ -21,18 +21,20 @@ use Rattle.wl_server.specs.Ids.{ClientParts}
 use Rattle.wl_server.specs.Part.{Part, fresh_object, id_at}
 use Rattle.wl_server.specs.Plain.{OtherClientsStay, client_in}
 use Rattle.wl_server.specs.Reading.{action_content}
-use Rattle.wl_server.specs.ReadingEnds.{ObjectsFit}
+use Rattle.wl_server.specs.ReadingEnds.{MakesItsObject, ObjectsFit}
 use Rattle.wl_server.specs.Server.{Seen, seen}
 
 module _ {T U C : Type 0} (table : List InterfaceRow) (id : ClientParts) where
   -- A request: its sender is a kept object of the client, and the table has the request for the interface of that object. Each
-  -- object argument is null, where the table allows that, or a kept object of an interface that fits. A bind: its object is
+  -- object argument is null, where the table allows that, or a kept object of an interface that fits. A request that makes an
+  -- object has its id among its arguments, as a new id, and no other has one; the object has no data yet. A bind: its object is
   -- new, and has no data yet. Either is open from now on.
   abbrev pub IsHandedOut : Handed → Part T U C → Type 0
   IsHandedOut (Request sender opcode args is_destructor created) p =
       (x : Object (Kept U)) × (row : MessageRow) × (held p.store sender.number ≡ Some x) × (sender ≡ id_at id sender.number x)
       × (request_row table x.interface opcode ≡ Some row) × (is_destructor ≡ row.is_destructor)
       × ObjectsFit id p.store row.signature row.arg_interfaces args
+      × MakesItsObject id p.store row x.version args created
       × (p.action ≡ Some (opened.Request sender is_destructor created))
   IsHandedOut (Bind global object) p =
       (version : ℕ) × (object.client ≡ id) × (held p.store object.number ≡ Some (fresh_object object.interface version object.serial None))

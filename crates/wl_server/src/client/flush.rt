@@ -3,13 +3,13 @@
 //! A client is *stored* from its insertion until `Backend::cleanup` takes it out. It is *live* as long as it is stored
 //! and not killed. The *slot* of a client is its index in the server's list of clients.
 
-ghost use Rattle.std.specs.Prelude.{◌≡◌, ℕ, length, map};
+ghost use Rattle.std.specs.Prelude.{◌≡◌, ℕ, length, map, Some};
 ghost use Rattle.wl_link.specs.Puts.{lacks_memory};
 ghost use Rattle.wl_server.specs.Backend.{Calls};
 ghost use Rattle.wl_server.specs.Inside.Client.{Does};
 ghost use Rattle.wl_server.specs.Felt.{FlushedTo};
 ghost use Rattle.wl_server.specs.Inside.Leaving.{Flushes};
-ghost use Rattle.wl_server.specs.Inside.NoteOrder.{times_of};
+ghost use Rattle.wl_server.specs.NoteOrder.{AllNumbered, IsNumbered, times_of};
 ghost use Rattle.wl_server.specs.PartStep.{over};
 ghost use Rattle.wl_server.specs.Plain.{FlushesClients};
 ghost use Rattle.wl_server.specs.Inside.Places.{AllFeel, PlaceFeels};
@@ -30,6 +30,7 @@ impl<T: Transport + Drop, U: Drop, C: Drop> Client<T, U, C> {
     pub fn flush(&mut self) -> Result<(), IoFault>
         ensures flushed { Does self.old (λ p did q. FlushedTo T.sends p result (lacks_memory result) did q) self.new }
         ensures times { self.new.times ≡ self.old.times }
+        ensures numbered { IsNumbered (Some self.old) → IsNumbered (Some self.new) }
     {
         self.socket.flush()
     }
@@ -43,6 +44,7 @@ fn flush_at<T: Transport + Drop, U: Drop, C: Drop>(
 ) -> bool
     ensures felt { (slot : ℕ) → PlaceFeels (λ id p lacked did q. Flushes T.sends killed p lacked did q) slot client.old result client.new }
     ensures times { times_of client.new ≡ times_of client.old }
+    ensures numbered { IsNumbered client.old → IsNumbered client.new }
 {
     match client {
         Some(client) if client.is_killed == killed => {
@@ -61,6 +63,7 @@ pub fn flush_each<T: Transport + Drop, U: Drop, C: Drop>(
 ) -> bool
     ensures felt { AllFeel (λ id p lacked did q. Flushes T.sends killed p lacked did q) result (length clients.old.items) clients.old.items clients.new.items }
     ensures times { map times_of clients.new.items ≡ map times_of clients.old.items }
+    ensures numbered { AllNumbered clients.old.items → AllNumbered clients.new.items }
 {
     let mut refused = false;
     for slot in 0..clients.len() {

@@ -9,7 +9,8 @@ ghost use Rattle.wl_link.specs.Link.{IsFresh};
 ghost use Rattle.wl_link.specs.Store.{empty_store, stored};
 ghost use Rattle.wl_server.specs.Backend.{Calls};
 ghost use Rattle.wl_server.specs.Inside.Client.{IsInserted};
-ghost use Rattle.wl_server.specs.Inside.NoteOrder.{AllInTime, GivesNumbers, NotesInTime, one_made, times_of};
+ghost use Rattle.wl_server.specs.NoteOrder.{IsNumbered, AllNumbered, AllInTime, GivesNumbers, NotesInTime, times_of};
+ghost use Rattle.wl_server.specs.Inside.NoteOrder.{one_made};
 ghost use Rattle.wl_server.specs.Inside.Inserting.{AreTaken, IsPut};
 ghost use Rattle.wl_server.specs.Next.{NextClient, NextClientIsGiven};
 ghost use Rattle.wl_server.specs.Part.{display_object};
@@ -90,6 +91,7 @@ impl<T: Drop, U: Drop, C: Drop> Client<T, U, C> {
         ensures inserted { IfOk result (IsInserted serial transport (Some max_buffer_size) client_data) }
         ensures numbers { MatchResult result (λ client. numbers.new ≡ one_made numbers.old) (λ e. numbers.new ≡ numbers.old) }
         ensures in_time { IfOk result (λ client. NotesInTime no_times numbers.old client.times numbers.new) }
+        ensures numbered { IfOk result (λ client. IsNumbered (Some client)) }
     {
         let (socket, map, made) = first_parts(alloc, transport, max_buffer_size, numbers)?;
         Ok(Client {
@@ -185,6 +187,7 @@ fn put_new<T: Drop, U: Drop, C: Drop>(
     ensures unchanged { OnErr result (clients.new.items ≡ clients.old.items) }
     ensures slots { vec_len clients.old ≤ 0x100000000 → vec_len clients.new ≤ 0x100000000 }
     ensures numbers { MatchResult result (λ _. numbers.new ≡ one_made numbers.old) (λ e. numbers.new ≡ numbers.old) }
+    ensures numbered { AllNumbered clients.old.items → AllNumbered clients.new.items }
     ensures in_time { stored_at id.now.slot clients.old.items ≡ None → AllInTime (map times_of clients.old.items) numbers.old (map times_of clients.new.items) numbers.new }
 {
     let slot = id.slot() as usize;

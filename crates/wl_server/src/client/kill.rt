@@ -3,11 +3,12 @@
 //! A client is *stored* from its insertion until `Backend::cleanup` takes it out. A *note* tells the program what
 //! happened to a client or an object (`Note`).
 
-ghost use Rattle.std.specs.Prelude.{◌≡◌, if◌then◌else◌, MatchResult};
+ghost use Rattle.std.specs.Prelude.{◌≡◌, if◌then◌else◌, MatchResult, Some};
 ghost use Rattle.wl_link.specs.Puts.{lacks_memory};
 ghost use Rattle.wl_server.specs.Backend.{Calls};
 ghost use Rattle.wl_server.specs.Inside.Client.{Does};
-ghost use Rattle.wl_server.specs.Inside.NoteOrder.{NotesInTime, one_made};
+ghost use Rattle.wl_server.specs.NoteOrder.{IsNumbered, NotesInTime};
+ghost use Rattle.wl_server.specs.Inside.NoteOrder.{one_made};
 ghost use Rattle.wl_server.specs.PartStep.{over};
 ghost use Rattle.wl_server.specs.Plain.{KillsClient};
 ghost use Rattle.wl_server.specs.Telling.{Kills};
@@ -32,6 +33,7 @@ impl<T: Drop, U: Drop, C: Drop> Client<T, U, C> {
         ensures killed { Does self.old (λ p did q. Kills p reason did q) self.new }
         ensures numbers { numbers.new ≡ (if self.old.part.is_killed then numbers.old else one_made numbers.old) }
         ensures in_time { NotesInTime self.old.times numbers.old self.new.times numbers.new }
+        ensures numbered { IsNumbered (Some self.old) → IsNumbered (Some self.new) }
     {
         if self.is_killed {
             return;
@@ -52,6 +54,7 @@ impl<T: Drop, U: Drop, C: Drop> Client<T, U, C> {
         ensures numbers { MatchResult answer (λ _. numbers.new ≡ numbers.old)
             (λ _. numbers.new ≡ (if self.old.part.is_killed then numbers.old else one_made numbers.old)) }
         ensures in_time { NotesInTime self.old.times numbers.old self.new.times numbers.new }
+        ensures numbered { IsNumbered (Some self.old) → IsNumbered (Some self.new) }
     {
         let Err(fault) = answer else {
             return false;

@@ -1,16 +1,17 @@
 //! The messages that the server sends by itself.
 
-ghost use Rattle.std.specs.Prelude.{◌≡◌, ◌∷◌, ℕ, [], Some};
+ghost use Rattle.std.specs.Prelude.{◌≡◌, ◌∷◌, ℕ, [], false, IsTrue, Ok, Some};
 ghost use Rattle.wl_wire.specs.declared.argument.Argument.TheVariants as arg;
 ghost use Rattle.wl_wire.specs.Message.{content};
-ghost use Rattle.wl_link.specs.Link.{Wrote};
+ghost use Rattle.wl_link.specs.Link.{Wrote, has_room};
 ghost use Rattle.wl_link.specs.Puts.{lacks_memory};
+ghost use Rattle.wl_link.specs.Store.{is_server_number};
 ghost use Rattle.wl_server.specs.Inside.Puts.{Puts};
 ghost use Rattle.wl_server.specs.Telling.{deletions, done_message, error_message};
 
 use smallvec::SmallVec;
 use std::alloc::Global;
-use wl_link::{BufferedSocket, SERVER_ID_LIMIT, Transport, clear_message};
+use wl_link::{BufferedSocket, NumberMessage, SERVER_ID_LIMIT, Transport, clear_message};
 use wl_wire::{Argument, CString, IoFault, Message, Token};
 
 /// The number of the display.
@@ -25,7 +26,10 @@ const DONE: u16 = 0;
 /// The opcode of `wl_display.delete_id`.
 const DELETE_ID: u16 = 1;
 
-/// Whether memory was refused to a write or a flush that was answered so.
+/// How many bytes `put_done_at_once` writes.
+pub const DONE_SIZE: usize = 24;
+
+/// Whether a write or a flush failed for want of memory.
 pub fn is_out_of_memory(answer: Result<(), IoFault>) -> bool
     ensures { result ≡ lacks_memory answer }
 {
@@ -111,10 +115,10 @@ pub fn put_error<T: Transport>(
     socket.write_message(&message)
 }
 
-/// Tells a client by `wl_callback.done` that its callback of this number is done, and by `wl_display.delete_id` that the
-/// number is free again. Of a number of the server's range only the first is told.
+/// Writes `wl_callback.done` for the callback of this number, and then `wl_display.delete_id`, after which the client may use
+/// the number again. For a number of the server's range it writes only the first.
 ///
-/// `message` is overwritten with what is told, so that no message is made for it.
+/// Both are built in `message`, and what that had before is dropped. So no new message is made for them.
 pub fn put_done<T: Transport>(
     message: &mut Message<u32, Token>,
     socket: &mut BufferedSocket<T>,
@@ -131,4 +135,26 @@ pub fn put_done<T: Transport>(
     }
     overwrite_message(message, DISPLAY, DELETE_ID, number);
     socket.write_message(message)
+}
+
+/// Does what `put_done` does for a callback of one of the client's own numbers, in one go. The outgoing buffer must have room
+/// for both messages, `DONE_SIZE` bytes.
+pub fn put_done_at_once<T: Transport>(socket: &mut BufferedSocket<T>, number: u32)
+    requires own { is_server_number number ≡ false }
+    requires room { IsTrue (has_room socket.old DONE_SIZE) }
+    ensures { (serial : ℕ)
+        → Puts T.sends socket.old (done_message (record { number = number; serial = serial }) ∷ deletions number) (Ok tt) socket.new }
+{
+    socket.write_numbers(&[
+        NumberMessage {
+            sender_id: number,
+            opcode: DONE,
+            number: 0,
+        },
+        NumberMessage {
+            sender_id: DISPLAY,
+            opcode: DELETE_ID,
+            number,
+        },
+    ]);
 }

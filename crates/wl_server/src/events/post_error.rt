@@ -3,10 +3,10 @@
 //! A client is *stored* from its insertion until `Backend::cleanup` takes it out. It is *live* as long as it is stored
 //! and not killed. A *note* tells the program what happened to a client or an object (`Note`).
 
-ghost use Rattle.std.specs.Prelude.{◌≡◌, IsSome, true, false};
+ghost use Rattle.std.specs.Prelude.{◌≡◌, IsSome, true, false, Some};
 ghost use Rattle.wl_link.specs.Link.{Wrote};
 ghost use Rattle.wl_link.specs.Puts.{FlushesOut};
-ghost use Rattle.wl_server.specs.Inside.NoteOrder.{NotesInTime};
+ghost use Rattle.wl_server.specs.NoteOrder.{IsNumbered, NotesInTime};
 ghost use Rattle.wl_server.specs.Backend.{Calls};
 ghost use Rattle.wl_server.specs.Inside.Carried.{IsCarried};
 ghost use Rattle.wl_server.specs.Inside.Client.{Does};
@@ -51,6 +51,7 @@ impl<T: Transport + Drop, U: Drop, C: Drop> Client<T, U, C> {
         ensures carried { IsCarried T.sends (posts protocol.now (core_of self.old.part) id.now code text) self.old result self.new }
         ensures exactly { PostsOn T.sends self.old.part id.now code text result self.new.part }
         ensures in_time { NotesInTime self.old.times numbers.old self.new.times numbers.new }
+        ensures numbered { IsNumbered (Some self.old) → IsNumbered (Some self.new) }
     {
         let alloc = self.alloc();
         if self.is_killed {
@@ -81,6 +82,7 @@ impl<T: Transport + Drop, U: Drop, C: Drop> Client<T, U, C> {
         ensures does { Does self.old (λ p did q. PostsError T.sends protocol.now p id.now code text result did q) self.new }
         ensures exactly { PostsOn T.sends self.old.part id.now code text result self.new.part }
         ensures in_time { NotesInTime self.old.times numbers.old self.new.times numbers.new }
+        ensures numbered { IsNumbered (Some self.old) → IsNumbered (Some self.new) }
     {
         if id.is_null() {
             return false;

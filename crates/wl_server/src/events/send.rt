@@ -2,10 +2,10 @@
 //!
 //! A *note* tells the program what happened to a client or an object (`Note`).
 
-ghost use Rattle.std.specs.Prelude.{◌≡◌, ◌<◌, ◌++◌, IfSome, OnErr, OnOk, map};
+ghost use Rattle.std.specs.Prelude.{◌≡◌, ◌<◌, ◌++◌, IfSome, OnErr, OnOk, map, Some};
 ghost use Rattle.std.specs.VecDeque.{deque_capacity, deque_len};
 ghost use Rattle.wl_link.specs.Store.{held};
-ghost use Rattle.wl_server.specs.Inside.NoteOrder.{GivesNumbers, NotesInTime};
+ghost use Rattle.wl_server.specs.NoteOrder.{IsNumbered, GivesNumbers, NotesInTime};
 ghost use Rattle.wl_server.specs.declared.runs.step.Reply.TheVariants as reply;
 ghost use Rattle.wl_server.specs.declared.runs.step.Step.TheVariants as step;
 ghost use Rattle.wl_server.specs.Backend.{Calls};
@@ -99,6 +99,7 @@ impl<T: Transport + Drop, U: Drop, C: Drop> Client<T, U, C> {
     ) -> bool
         ensures tells { TellsEnd T.sends self.old number ends written result self.new }
         ensures in_time { NotesInTime self.old.times numbers.old self.new.times numbers.new }
+        ensures numbered { IsNumbered (Some self.old) → IsNumbered (Some self.new) }
     {
         let alloc = self.alloc();
         let answer = put_end(alloc, &mut self.socket, number, ends, written);
@@ -119,6 +120,7 @@ impl<T: Transport + Drop, U: Drop, C: Drop> Client<T, U, C> {
     ) -> (Result<(), EventError>, bool)
         ensures does { Does self.old (λ p did q. SendsEvent T.sends message.now.sender_id.client protocol.now p (session_content message.now) result.0 result.1 did q) self.new }
         ensures in_time { NotesInTime self.old.times numbers.old self.new.times numbers.new }
+        ensures numbered { IsNumbered (Some self.old) → IsNumbered (Some self.new) }
     {
         if self.is_killed {
             return (Ok(()), false);
@@ -144,8 +146,10 @@ impl<T: Transport + Drop, U: Drop, C: Drop> Client<T, U, C> {
 }
 
 impl<T: Transport + Drop, U: Drop, G: GlobalHandler<C> + Drop, C: Drop> Backend<T, U, G, C> {
-    /// Puts an event that is only lent, as `send_event` does: a program that sends one message again and again keeps it and
-    /// its memory.
+    /// Sends an event as `send_event` does, but only borrows the message. A program that sends the same message again and again
+    /// can so keep it and its memory.
+    ///
+    /// The errors are those of `send_event`.
     pub fn send_event_lent(&mut self, message: &Message<ObjectId, Token>) -> Result<(), EventError>
         ensures call { Calls (over T.sends T.receives G.views) self.old (step.SendEvent message.now) (reply.SendEvent result) self.new }
         ensures plain { EmitsEvent self.old (session_content message.now) result self.new }
@@ -160,7 +164,7 @@ impl<T: Transport + Drop, U: Drop, G: GlobalHandler<C> + Drop, C: Drop> Backend<
         answer
     }
 
-    /// Puts the event after what waits to be sent to the client of its sender.
+    /// Adds the event to what waits to be sent to the client of its sender, at the end. `flush` sends what waits.
     ///
     /// It stands for `wayland_backend::server::Handle::send_event`. To a killed client nothing is sent, and the call
     /// returns `Ok`, whatever the event.

@@ -13,7 +13,7 @@ use crate::globals::handler::GlobalHandler;
 use wl_link::Transport;
 use wl_wire::{Interface, TableError};
 
-/// Whether memory was refused to a call that was answered so.
+/// Whether the interfaces were refused for want of memory.
 fn lacks_memory(answer: &Result<(), TableError>) -> bool
     ensures { result ≡ refused_growth answer.now }
 {

@@ -5,7 +5,7 @@
 
 ghost use Rattle.std.specs.Prelude.{◌≡◌, ◌≤◌, IfSome, length, map};
 ghost use Rattle.wl_link.specs.Identity.{names};
-ghost use Rattle.wl_server.specs.Inside.NoteOrder.{AllInTime, NotesInTime, times_of};
+ghost use Rattle.wl_server.specs.NoteOrder.{IsNumbered, AllNumbered, AllInTime, NotesInTime, times_of};
 ghost use Rattle.wl_server.specs.Backend.{Calls};
 ghost use Rattle.wl_server.specs.Globals.{global_serial, shown_as};
 ghost use Rattle.wl_server.specs.Inside.News.{HearsNew};
@@ -40,6 +40,7 @@ fn tell_new_at<T: Transport + Drop, U: Drop, G: GlobalHandler<C>, C: Drop>(
     ensures felt { PlaceFeels (HearsNew T.sends G.views announcement.old.table id.now global.now) slot client.old result client.new }
     ensures same { announcement.new ≡ announcement.old }
     ensures in_time { NotesInTime (times_of client.old) numbers.old (times_of client.new) numbers.new }
+    ensures numbered { IsNumbered client.old → IsNumbered client.new }
 {
     match client {
         Some(client) if !client.is_killed => {
@@ -66,6 +67,7 @@ fn tell_new<T: Transport + Drop, U: Drop, G: GlobalHandler<C>, C: Drop>(
     requires { length clients.old ≤ 0x100000000 }
     ensures felt { AllFeel (HearsNew T.sends G.views protocol.now id.now global.now) result (length clients.old) clients.old clients.new }
     ensures in_time { AllInTime (map times_of clients.old) numbers.old (map times_of clients.new) numbers.new }
+    ensures numbered { AllNumbered clients.old → AllNumbered clients.new }
 {
     let mut announcement = Announcement::new(protocol, id.name(), global);
     let mut refused = false;
@@ -95,6 +97,7 @@ fn tell_named<T: Transport + Drop, U: Drop, G: GlobalHandler<C> + Drop, C: Drop>
     ensures felt { IfSome (names global_serial (record { number = id.now.name; serial = id.now.serial }) globals.now.store)
         (λ global. AllFeel (HearsNew T.sends G.views protocol.now id.now global) result (length clients.old) clients.old clients.new) }
     ensures in_time { AllInTime (map times_of clients.old) numbers.old (map times_of clients.new) numbers.new }
+    ensures numbered { AllNumbered clients.old → AllNumbered clients.new }
 {
     match global_in(globals, id) {
         Some(global) => tell_new(clients, numbers, protocol, id, global),

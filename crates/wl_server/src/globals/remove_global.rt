@@ -5,7 +5,7 @@
 
 ghost use Rattle.std.specs.Prelude.{◌≡◌, ℕ, length, map};
 ghost use Rattle.wl_link.specs.Identity.{names};
-ghost use Rattle.wl_server.specs.Inside.NoteOrder.{AllInTime, NotesInTime, times_of};
+ghost use Rattle.wl_server.specs.NoteOrder.{IsNumbered, AllNumbered, AllInTime, NotesInTime, times_of};
 ghost use Rattle.wl_server.specs.Backend.{Calls};
 ghost use Rattle.wl_server.specs.Felt.{Hears, removals};
 ghost use Rattle.wl_server.specs.Globals.{global_serial, is_enabled as global_is_enabled};
@@ -47,6 +47,7 @@ fn tell_loss_at<T: Transport + Drop, U: Drop, C: Drop>(
 ) -> bool
     ensures felt { (slot : ℕ) → PlaceFeels (λ id p lacked did q. Hears T.sends p (removals p name) lacked did q) slot client.old result client.new }
     ensures in_time { NotesInTime (times_of client.old) numbers.old (times_of client.new) numbers.new }
+    ensures numbered { IsNumbered client.old → IsNumbered client.new }
 {
     match client {
         Some(client) if !client.is_killed => {
@@ -68,6 +69,7 @@ fn tell_loss<T: Transport + Drop, U: Drop, C: Drop>(
 ) -> bool
     ensures felt { AllFeel (λ id p lacked did q. Hears T.sends p (removals p name) lacked did q) result (length clients.old) clients.old clients.new }
     ensures in_time { AllInTime (map times_of clients.old) numbers.old (map times_of clients.new) numbers.new }
+    ensures numbered { AllNumbered clients.old → AllNumbered clients.new }
 {
     let mut refused = false;
     for slot in 0..clients.len() {

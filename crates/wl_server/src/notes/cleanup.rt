@@ -8,7 +8,8 @@ ghost use Rattle.std.specs.Vec.{vec_capacity, vec_len};
 ghost use Rattle.wl_server.specs.Backend.{Calls};
 ghost use Rattle.wl_server.specs.Inside.Cleanup.{CleansUp};
 ghost use Rattle.wl_server.specs.Inside.Gathering.{count_leaving};
-ghost use Rattle.wl_server.specs.Inside.NoteOrder.{AllTakeFirst, IsOrderOf, count_places, times_of};
+ghost use Rattle.wl_server.specs.NoteOrder.{AllNumbered, AllTakeFirst, IsOrderOf, NoneWaits, times_of};
+ghost use Rattle.wl_server.specs.Inside.NoteOrder.{count_places};
 ghost use Rattle.wl_server.specs.Inside.Leaving.{all_staying, collected, ends_at, given_at, staying};
 ghost use Rattle.wl_server.specs.PartStep.{over};
 ghost use Rattle.wl_server.specs.Plain.{CleansUpClients};
@@ -23,7 +24,7 @@ use crate::ids::client_id::ClientId;
 use crate::notes::Note;
 use crate::notes::gather::{count_of, gather, order_of};
 use crate::notes::leaving::{count_ending, end_objects};
-use crate::notes::queues::NotePlace;
+use crate::notes::queues::{NoteNumbers, NotePlace};
 use std::alloc::Global;
 use wl_link::Transport;
 use wl_wire::OutOfMemory;
@@ -186,9 +187,11 @@ pub fn memory_for<T: Drop, U: Drop, C: Drop>(
 }
 
 /// Flushes the killed clients, gathers all notes, and takes the killed clients out. If no client was killed, it only
-/// gathers. Returns whether memory was refused in a flush.
+/// gathers. No note waits then, so the numbers of those that wait begin at 0 again. Returns whether memory was refused in a
+/// flush.
 fn clean_up<T: Transport + Drop, U: Drop, C: Drop>(
     clients: &mut Vec<Option<Client<T, U, C>>>,
+    numbers: &mut NoteNumbers,
     notes: &mut Vec<Note<U>>,
     memory: &mut CleanupMemory<T>,
 ) -> bool
@@ -199,7 +202,11 @@ fn clean_up<T: Transport + Drop, U: Drop, C: Drop>(
     requires none { memory.old.given.items ≡ [] }
     ensures cleaned { CleansUp T.sends clients.old.items notes.old.items result clients.new.items notes.new.items memory.new.given.items }
     ensures first { AllTakeFirst (map times_of clients.old.items) (map times_of clients.new.items) }
+    ensures none_waits { NoneWaits (map times_of clients.new.items) }
+    ensures numbered { AllNumbered clients.old.items → AllNumbered clients.new.items }
+    ensures numbers { numbers.new ≡ record numbers.old { waiting = 0 } }
 {
+    numbers.begin_waiting_anew();
     if memory.given.capacity() == 0 {
         // No client was killed: none is flushed or taken out.
         gather(clients, true, &memory.order, notes);
@@ -231,7 +238,12 @@ impl<T: Transport + Drop, U: Drop, G: GlobalHandler<C> + Drop, C: Drop> Backend<
         let alloc = self.alloc();
         match memory_for(alloc, &self.clients, &mut self.notes) {
             Ok(mut memory) => {
-                self.refused = clean_up(&mut self.clients, &mut self.notes, &mut memory);
+                self.refused = clean_up(
+                    &mut self.clients,
+                    &mut self.numbers,
+                    &mut self.notes,
+                    &mut memory,
+                );
                 // Any of them may be free now. The next insertion goes over them once more, as this call did.
                 self.free_from = 0;
                 Ok(memory.given)

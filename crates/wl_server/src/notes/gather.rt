@@ -5,8 +5,9 @@
 
 ghost use Rattle.std.specs.Prelude.{◌≡◌, ℕ, ◌+◌, ◌++◌, ◌≤◌, ◌<◌, ◌==◌, ◌∷◌, [], if◌then◌else◌, length, map, false, None, Some, MatchOption, IfOk, IsPermutation, OnErr, OnOk};
 ghost use Rattle.std.specs.Vec.{vec_capacity, vec_len};
-ghost use Rattle.wl_server.specs.Inside.Gathering.{AllLeft, Gathers, MovesNote, count_leaving, emptied, to_gather};
-ghost use Rattle.wl_server.specs.Inside.NoteOrder.{AllTakeFirst, IsInOrder, IsOrderOf, Rise, TakesFirst, count_places, places_at, places_of, slot_of, times_of};
+ghost use Rattle.wl_server.specs.Inside.Gathering.{AllLeft, Gathers, MovesNote, count_leaving, emptied};
+ghost use Rattle.wl_server.specs.NoteOrder.{AllNumbered, AllTakeFirst, Along, IsInOrder, IsNumbered, IsOrderOf, Rise, TakesFirst, places_at, places_of, slot_of, times_of, to_gather};
+ghost use Rattle.wl_server.specs.Inside.NoteOrder.{AreNumbered, NoneNumbered, count_places};
 ghost use Rattle.wl_server.specs.Server.{note_of as the_note};
 
 use crate::client::Client;
@@ -34,6 +35,8 @@ impl<T, U, C> Client<T, U, C> {
         ensures taken { MatchOption result ((self.new ≡ self.old) × (to_gather waits (Some self.old) ≡ []))
             (λ h. (to_gather waits (Some self.old) ≡ h ∷ to_gather waits (Some self.new)) × (emptied waits self.new ≡ emptied waits self.old)) }
         ensures first { TakesFirst self.old.times self.new.times }
+        ensures numbered { AreNumbered waits (Some self.new) }
+        ensures all_numbered { IsNumbered (Some self.old) → IsNumbered (Some self.new) }
     {
         if let Some(happening) = self.made.pop() {
             return Some(happening);
@@ -56,6 +59,8 @@ fn move_note<T, U, C>(
     requires room { vec_len notes.old < vec_capacity notes.old }
     ensures moved { MovesNote waits slot client.old notes.old.items client.new notes.new.items }
     ensures first { TakesFirst (times_of client.old) (times_of client.new) }
+    ensures numbered { AreNumbered waits client.new }
+    ensures all_numbered { IsNumbered client.old → IsNumbered client.new }
     ensures capacity { vec_capacity notes.new ≡ vec_capacity notes.old }
 {
     let Some(client) = client else { unreachable!() };
@@ -80,8 +85,10 @@ pub fn gather<T, U, C>(
     requires room { vec_len notes.old + count_leaving waits clients.old.items ≤ vec_capacity notes.old }
     ensures gathered { Gathers waits clients.old.items notes.old.items clients.new.items notes.new.items }
     ensures ended { AllLeft waits clients.new.items }
-    ensures along { map slot_of notes.new.items ≡ map slot_of notes.old.items ++ map (λ p. p.slot) order.now }
+    ensures along { Along notes.old.items notes.new.items order.now }
     ensures first { AllTakeFirst (map times_of clients.old.items) (map times_of clients.new.items) }
+    ensures no_numbers { NoneNumbered waits (map times_of clients.new.items) }
+    ensures numbered { AllNumbered clients.old.items → AllNumbered clients.new.items }
     ensures capacity { vec_capacity notes.new ≡ vec_capacity notes.old }
 {
     for place in order {
@@ -171,6 +178,7 @@ pub fn gather_made<T, U, C>(
     requires slots { length clients.old.items ≤ 0x100000000 }
     ensures gathered { IfOk result (λ _. Gathers false clients.old.items notes.old.items clients.new.items notes.new.items) }
     ensures ended { IfOk result (λ _. AllLeft false clients.new.items) }
+    ensures numbered { AllNumbered clients.old.items → AllNumbered clients.new.items }
     ensures in_order { IfOk result (λ _. IsInOrder false clients.old.items notes.old.items notes.new.items) }
     ensures first { AllTakeFirst (map times_of clients.old.items) (map times_of clients.new.items) }
     ensures unchanged { OnErr result ((clients.new.items ≡ clients.old.items) × (notes.new.items ≡ notes.old.items)) }

@@ -8,7 +8,8 @@
 
 ghost use Rattle.std.specs.Prelude.{◌≡◌, ℕ, List, ◌+◌, ◌++◌, ◌∷◌, ◌<◌, ◌≤◌, [], false, true, length, map, IfOk, MatchOption, OnOk};
 ghost use Rattle.std.specs.VecDeque.{deque_capacity, deque_len};
-ghost use Rattle.wl_server.specs.Inside.NoteOrder.{GivesNumbers, number_after, place_of};
+ghost use Rattle.wl_server.specs.NoteOrder.{GivesNumbers, number_after};
+ghost use Rattle.wl_server.specs.Inside.NoteOrder.{place_of};
 
 use crate::notes::Happening;
 use std::alloc::Global;
@@ -16,7 +17,7 @@ use std::collections::VecDeque;
 use wl_wire::OutOfMemory;
 
 /// The numbers that the next notes get. Notes are kept with their client. Their numbers tell in which order the notes of
-/// all clients were put into the queues. They are never set back.
+/// all clients were put into the queues. Those of notes that wait begin at 0 again when a cleanup has gathered them all.
 #[derive(Drop)]
 pub struct NoteNumbers {
     /// The number of the next note that waits for a cleanup.
@@ -44,6 +45,13 @@ impl NoteNumbers {
             waiting: 0,
             made: 0,
         }
+    }
+
+    /// The numbers of notes that wait begin at 0 again.
+    pub fn begin_waiting_anew(&mut self)
+        ensures { self.new ≡ record self.old { waiting = 0 } }
+    {
+        self.waiting = 0;
     }
 }
 

@@ -2,7 +2,8 @@
 //!
 //! A client is *stored* from its insertion until `Backend::cleanup` takes it out.
 
-ghost use Rattle.std.specs.Prelude.{◌≡◌, []};
+ghost use Rattle.std.specs.Prelude.{◌≡◌, [], Some};
+ghost use Rattle.wl_server.specs.NoteOrder.{IsNumbered};
 ghost use Rattle.wl_server.specs.Backend.{Calls};
 ghost use Rattle.wl_server.specs.Inside.Client.{Does};
 ghost use Rattle.wl_server.specs.Inside.Creation.{LacksSerial};
@@ -55,6 +56,7 @@ impl<T: Drop, U: Drop, C: Drop> Client<T, U, C> {
     ) -> Result<ObjectId, CreateError>
         ensures does { Does self.old (λ p did q. (did ≡ []) × Creates protocol.now id.now p interface version user_data result q) self.new }
         ensures times { self.new.times ≡ self.old.times }
+        ensures numbered { IsNumbered (Some self.old) → IsNumbered (Some self.new) }
     {
         if protocol.get(interface).is_none() {
             return Err(CreateError::UnknownInterface);
@@ -74,7 +76,7 @@ impl<T: Drop, U: Drop, C: Drop> Client<T, U, C> {
     }
 }
 
-/// Whether memory was refused to a creation that was answered so.
+/// Whether the creation failed for want of memory.
 fn lacks_memory(answer: &Result<ObjectId, CreateError>) -> bool
     ensures { result ≡ lacks_create answer.now }
 {

@@ -3,8 +3,8 @@
 //! A client is *stored* from its insertion until `Backend::cleanup` takes it out. A *note* tells the program what
 //! happened to a client or an object (`Note`).
 
-ghost use Rattle.std.specs.Prelude.{◌≡◌, ◌==◌, if◌then◌else◌, None, option_copied};
-ghost use Rattle.wl_server.specs.Inside.NoteOrder.{NotesInTime};
+ghost use Rattle.std.specs.Prelude.{◌≡◌, ◌==◌, if◌then◌else◌, None, option_copied, Some};
+ghost use Rattle.wl_server.specs.NoteOrder.{IsNumbered, NotesInTime};
 ghost use Rattle.wl_server.specs.Backend.{Calls};
 ghost use Rattle.wl_server.specs.Inside.Client.{Does};
 ghost use Rattle.wl_server.specs.Inside.Destruction.{lacks_destroy};
@@ -49,6 +49,7 @@ impl<T: Transport + Drop, U: Drop, C: Drop> Client<T, U, C> {
     ) -> Result<(), DestroyError>
         ensures does { Does self.old (λ p did q. Destroys T.sends id.now.client p id.now result (lacks_destroy result) did q) self.new }
         ensures in_time { NotesInTime self.old.times numbers.old self.new.times numbers.new }
+        ensures numbered { IsNumbered (Some self.old) → IsNumbered (Some self.new) }
     {
         let alloc = self.alloc();
         let Some(object) = destroyable(&self.objects.map, id) else {
@@ -67,7 +68,7 @@ impl<T: Transport + Drop, U: Drop, C: Drop> Client<T, U, C> {
     }
 }
 
-/// Whether memory was refused to a destruction that was answered so.
+/// Whether the destruction failed for want of memory.
 fn lacks_memory(answer: &Result<(), DestroyError>) -> bool
     ensures { result ≡ lacks_destroy answer.now }
 {

@@ -1,11 +1,12 @@
 //! The arguments of a request, and the objects that they name or make.
 
-ghost use Rattle.std.specs.Prelude.{◌≡◌, ◌≢◌, ◌+◌, ◌<◌, ◌∷◌, [], false, true, None, Ok, Err, IfOk, MatchResult, length};
+ghost use Rattle.std.specs.Prelude.{◌≡◌, ◌≢◌, ℕ, ◌+◌, ◌++◌, ◌<◌, ◌∷◌, [], false, true, None, Ok, Err, IfOk, IfSome, IsSome, MatchResult, length};
 ghost use Rattle.smallvec.specs.SmallVec.{HasRoomFor};
 ghost use Rattle.wl_wire.specs.Argument.{Matches};
+ghost use Rattle.wl_wire.specs.declared.argument.Argument.TheVariants as argument;
 ghost use Rattle.wl_wire.specs.MessageRows.{next_interface, rest_of};
 ghost use Rattle.wl_server.specs.Requests.{Wrong, allows_null as null_allowed, convert, kinds_after, object_argument};
-ghost use Rattle.wl_server.specs.Inside.Conversion.{Appends, CanMake, EndsWhole, IsNextKind, MakesObject, MakesNew, objects_of, state};
+ghost use Rattle.wl_server.specs.Inside.Conversion.{Appends, CanMake, EndsWhole, IsNextKind, MakesObject, MakesNew, objects_of, plain, state};
 
 use crate::ids::client_id::ClientId;
 use crate::ids::object_id::ObjectId;
@@ -148,6 +149,80 @@ fn new_id_argument<U: Drop>(
     }
 }
 
+/// Converts the number of an object into an id, and puts that behind what is in `converted`, which has room for it.
+fn convert_object<U: Drop>(
+    client: ClientId,
+    objects: &ClientObjects<U>,
+    progress: &mut Progress<'_>,
+    number: u32,
+    converted: &mut SmallVec<Argument<ObjectId, Token>, INLINE_ARGS>,
+) -> Result<(), RequestFault>
+    requires { HasRoomFor converted.old 1 }
+    ensures appends { (version : ℕ) → Appends client version (state objects.now progress.old) converted.old.items (argument.Object number)
+        result (state objects.now progress.new) converted.new.items }
+    ensures capacity { converted.new.capacity ≡ converted.old.capacity }
+    ensures len { IfOk result (λ _. length converted.new.items ≡ length converted.old.items + 1) }
+    ensures kinds { progress.new.kinds.now ≡ kinds_after progress.old.kinds.now }
+    ensures child { progress.new.child ≡ progress.old.child }
+{
+    let allows_null = take_kind(progress);
+    let asked = take_asked(progress);
+    let id = object_argument(client, &objects.map, allows_null, asked, number)?;
+    converted.push_reserved(Argument::Object(id));
+    Ok(())
+}
+
+/// Makes the object of a new id, and puts its id behind what is in `converted`, which has room for it.
+fn convert_new_id<U: Drop>(
+    client: ClientId,
+    version: u32,
+    objects: &mut ClientObjects<U>,
+    progress: &mut Progress<'_>,
+    number: u32,
+    converted: &mut SmallVec<Argument<ObjectId, Token>, INLINE_ARGS>,
+) -> Result<(), RequestFault>
+    requires reserved { progress.old.child ≢ None → objects.old.map.reserved ≡ true }
+    requires room { HasRoomFor converted.old 1 }
+    ensures appends { Appends client version (state objects.old progress.old) converted.old.items (argument.NewId number)
+        result (state objects.new progress.new) converted.new.items }
+    ensures capacity { converted.new.capacity ≡ converted.old.capacity }
+    ensures len { IfOk result (λ _. length converted.new.items ≡ length converted.old.items + 1) }
+    ensures kinds { progress.new.kinds.now ≡ kinds_after progress.old.kinds.now }
+    ensures child { IfOk result (λ _. progress.new.child ≡ None) }
+    ensures registries { objects.new.registries ≡ objects.old.registries }
+{
+    take_kind(progress);
+    let id = new_id_argument(client, version, objects, progress, number)?;
+    converted.push_reserved(Argument::NewId(id));
+    Ok(())
+}
+
+/// Puts an argument that names no object behind those in `converted`, which has room for it. A text or an array is taken out
+/// of the argument.
+#[inline(always)]
+fn put_plain(
+    arg: &mut Argument<u32, Token>,
+    converted: &mut SmallVec<Argument<ObjectId, Token>, INLINE_ARGS>,
+)
+    requires plain { IsSome (plain arg.old) }
+    requires room { HasRoomFor converted.old 1 }
+    ensures put { IfSome (plain arg.old) (λ a. converted.new.items ≡ converted.old.items ++ a ∷ []) }
+    ensures capacity { converted.new.capacity ≡ converted.old.capacity }
+{
+    match arg {
+        Argument::Int(value) => converted.push_reserved(Argument::Int(*value)),
+        Argument::Uint(value) => converted.push_reserved(Argument::Uint(*value)),
+        Argument::Fixed(value) => converted.push_reserved(Argument::Fixed(*value)),
+        Argument::Str(text) => converted.push_reserved(Argument::Str(text.take())),
+        Argument::Array(bytes) => {
+            let none = ByteArray::new(Vec::new(*converted.allocator()));
+            converted.push_reserved(Argument::Array(mem::replace(bytes, none)));
+        }
+        Argument::Fd(token) => converted.push_reserved(Argument::Fd(*token)),
+        Argument::Object(_) | Argument::NewId(_) => unreachable!(),
+    }
+}
+
 /// Converts an argument of a request, and puts it behind those in `converted`, which has room for it. `version` is the
 /// version of the object that the request was sent to. A text or an array is taken out of the argument.
 fn convert_one<U: Drop>(
@@ -168,28 +243,19 @@ fn convert_one<U: Drop>(
     ensures can_make { IfOk result (λ _. CanMake progress.new objects.new) }
     ensures kinds { progress.new.kinds.now ≡ kinds_after progress.old.kinds.now }
 {
-    let allows_null = take_kind(progress);
     match arg {
-        Argument::Int(value) => converted.push_reserved(Argument::Int(*value)),
-        Argument::Uint(value) => converted.push_reserved(Argument::Uint(*value)),
-        Argument::Fixed(value) => converted.push_reserved(Argument::Fixed(*value)),
-        Argument::Str(text) => converted.push_reserved(Argument::Str(text.take())),
-        Argument::Array(bytes) => {
-            let none = ByteArray::new(Vec::new(*converted.allocator()));
-            converted.push_reserved(Argument::Array(mem::replace(bytes, none)));
-        }
-        Argument::Fd(token) => converted.push_reserved(Argument::Fd(*token)),
         Argument::Object(number) => {
-            let asked = take_asked(progress);
-            let id = object_argument(client, &objects.map, allows_null, asked, *number)?;
-            converted.push_reserved(Argument::Object(id));
+            convert_object(client, objects, progress, *number, converted)
         }
         Argument::NewId(number) => {
-            let id = new_id_argument(client, version, objects, progress, *number)?;
-            converted.push_reserved(Argument::NewId(id));
+            convert_new_id(client, version, objects, progress, *number, converted)
+        }
+        other => {
+            take_kind(progress);
+            put_plain(other, converted);
+            Ok(())
         }
     }
-    Ok(())
 }
 
 /// Converts the arguments of a request, from left to right, and returns the object that the request makes. The texts and

@@ -21,7 +21,7 @@ use crate::reading::response::{Breach, Response};
 use wl_wire::{Argument, Message, Token, WL_CALLBACK_INTERFACE, WL_REGISTRY_INTERFACE};
 
 /// The opcode of `wl_display.sync`.
-const SYNC: u16 = 0;
+pub const SYNC: u16 = 0;
 
 /// Handles a request to a display, and returns what is still to be done for it.
 pub fn display_request<'m, U: Drop, G: GlobalHandler<C>, C>(

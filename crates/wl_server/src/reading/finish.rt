@@ -14,7 +14,8 @@ ghost use Rattle.wl_server.specs.Inside.Client.{Does};
 ghost use Rattle.wl_server.specs.Cutting.{CallIsCut};
 ghost use Rattle.wl_server.specs.Finish.{ended_by, FinishesBind, FinishesOpen, FinishesRequest, refusal};
 ghost use Rattle.wl_server.specs.Inside.Finishing.{BindLeaves, DataHeld, EndsSender, RequestLeaves, lacks_finish, part_finished};
-ghost use Rattle.wl_server.specs.Inside.NoteOrder.{GivesNumbers, NotesInTime, one_made};
+ghost use Rattle.wl_server.specs.NoteOrder.{IsNumbered, GivesNumbers, NotesInTime};
+ghost use Rattle.wl_server.specs.Inside.NoteOrder.{one_made};
 ghost use Rattle.wl_server.specs.Part.{note_of_end, registries_without};
 ghost use Rattle.wl_server.specs.PartStep.{Asked, over};
 ghost use Rattle.wl_server.specs.Plain.{EndsBind, EndsOpenRequest, ReturnsBindData, ReturnsRequestData};
@@ -130,6 +131,7 @@ impl<T: Transport + Drop, U: Drop, C: Drop> Client<T, U, C> {
     ) -> Result<Result<(), IoFault>, OutOfMemory>
         ensures ends { EndsSender T.sends id.now self.old sender.now is_destructor result self.new }
         ensures in_time { NotesInTime self.old.times numbers.old self.new.times numbers.new }
+        ensures numbered { IsNumbered (Some self.old) → IsNumbered (Some self.new) }
     {
         let Some(object) = ended_in(&self.objects.map, sender, is_destructor) else {
             return Ok(Ok(()));
@@ -169,6 +171,7 @@ impl<T: Transport + Drop, U: Drop, C: Drop> Client<T, U, C> {
         ensures done { Does self.old (λ p did q. FinishesOpen T.sends id.now p (opened.Request sender.now is_destructor created) user_data (result_and result (Ok tt)) (lacks_finish (result_and result (Ok tt))) did q) self.new }
         ensures back { IfOk result (λ back. DataHeld self.new.part.store created user_data back) }
         ensures in_time { NotesInTime self.old.times numbers.old self.new.times numbers.new }
+        ensures numbered { IsNumbered (Some self.old) → IsNumbered (Some self.new) }
     {
         if let Some(error) = refusal_of(self.is_killed, &created, &user_data) {
             return Err(FinishRefused { error, user_data });
@@ -196,6 +199,7 @@ impl<T: Transport + Drop, U: Drop, C: Drop> Client<T, U, C> {
         ensures done { Does self.old (λ p did q. FinishesRequest T.sends id.now p user_data (result_and result (Ok tt)) (lacks_finish (result_and result (Ok tt))) did q) self.new }
         ensures back { RequestLeaves self.old.part user_data result self.new.part }
         ensures in_time { NotesInTime self.old.times numbers.old self.new.times numbers.new }
+        ensures numbered { IsNumbered (Some self.old) → IsNumbered (Some self.new) }
     {
         let Some(action) = self.action.get() else {
             let error = FinishError::NoOpenAction;
@@ -219,6 +223,7 @@ impl<T: Transport + Drop, U: Drop, C: Drop> Client<T, U, C> {
         ensures done { Does self.old (λ p did q. FinishesBind p user_data (result_and result (Ok tt)) false did q) self.new }
         ensures back { BindLeaves self.old.part user_data result self.new.part }
         ensures times { self.new.times ≡ self.old.times }
+        ensures numbered { IsNumbered (Some self.old) → IsNumbered (Some self.new) }
     {
         let Some(action) = self.action.get() else {
             let error = FinishError::NoOpenAction;
@@ -234,7 +239,7 @@ impl<T: Transport + Drop, U: Drop, C: Drop> Client<T, U, C> {
     }
 }
 
-/// Whether memory was refused to a call that was answered so.
+/// Whether the end of an action was refused for want of memory.
 fn lacks_memory<R, D>(answer: &Result<R, FinishRefused<D>>) -> bool
     ensures { result ≡ lacks_finish (result_and answer.now (Ok tt)) }
 {
@@ -272,7 +277,7 @@ impl<T: Transport + Drop, U: Drop, G: GlobalHandler<C> + Drop, C: Drop> Backend<
         user_data: Option<U>,
     ) -> Result<(), FinishRefused<Option<U>>>
         ensures cutting { CallIsCut (over T.sends T.receives G.views) self.old.server (Asked (step.FinishRequest client.now user_data) (reply.FinishRequest result)) self.new.refused self.new.server }
-        ensures finished { Calls (over T.sends T.receives G.views) self.old (step.FinishRequest client.now user_data) (reply.FinishRequest result) self.new }
+        ensures call { Calls (over T.sends T.receives G.views) self.old (step.FinishRequest client.now user_data) (reply.FinishRequest result) self.new }
         ensures plain { EndsOpenRequest self.old client.now user_data result self.new }
     {
         match self.finish_request_returning(client, user_data) {
@@ -291,7 +296,7 @@ impl<T: Transport + Drop, U: Drop, G: GlobalHandler<C> + Drop, C: Drop> Backend<
         user_data: Option<U>,
     ) -> Result<Option<U>, FinishRefused<Option<U>>>
         ensures cutting { CallIsCut (over T.sends T.receives G.views) self.old.server (Asked (step.FinishRequest client.now user_data) (reply.FinishRequest (result_and result (Ok tt)))) self.new.refused self.new.server }
-        ensures finished { Calls (over T.sends T.receives G.views) self.old (step.FinishRequest client.now user_data) (reply.FinishRequest (result_and result (Ok tt))) self.new }
+        ensures call { Calls (over T.sends T.receives G.views) self.old (step.FinishRequest client.now user_data) (reply.FinishRequest (result_and result (Ok tt))) self.new }
         ensures plain { EndsOpenRequest self.old client.now user_data (result_and result (Ok tt)) self.new }
         ensures data { ReturnsRequestData self.old client.now user_data result self.new }
     {
@@ -319,7 +324,7 @@ impl<T: Transport + Drop, U: Drop, G: GlobalHandler<C> + Drop, C: Drop> Backend<
     /// An error gives the user data back and changes nothing.
     pub fn finish_bind(&mut self, client: &ClientId, user_data: U) -> Result<(), FinishRefused<U>>
         ensures cutting { CallIsCut (over T.sends T.receives G.views) self.old.server (Asked (step.FinishBind client.now user_data) (reply.FinishBind result)) self.new.refused self.new.server }
-        ensures finished { Calls (over T.sends T.receives G.views) self.old (step.FinishBind client.now user_data) (reply.FinishBind result) self.new }
+        ensures call { Calls (over T.sends T.receives G.views) self.old (step.FinishBind client.now user_data) (reply.FinishBind result) self.new }
         ensures plain { EndsBind self.old client.now user_data result self.new }
     {
         match self.finish_bind_returning(client, user_data) {
@@ -338,7 +343,7 @@ impl<T: Transport + Drop, U: Drop, G: GlobalHandler<C> + Drop, C: Drop> Backend<
         user_data: U,
     ) -> Result<Option<U>, FinishRefused<U>>
         ensures cutting { CallIsCut (over T.sends T.receives G.views) self.old.server (Asked (step.FinishBind client.now user_data) (reply.FinishBind (result_and result (Ok tt)))) self.new.refused self.new.server }
-        ensures finished { Calls (over T.sends T.receives G.views) self.old (step.FinishBind client.now user_data) (reply.FinishBind (result_and result (Ok tt))) self.new }
+        ensures call { Calls (over T.sends T.receives G.views) self.old (step.FinishBind client.now user_data) (reply.FinishBind (result_and result (Ok tt))) self.new }
         ensures plain { EndsBind self.old client.now user_data (result_and result (Ok tt)) self.new }
         ensures data { ReturnsBindData self.old client.now user_data result self.new }
     {

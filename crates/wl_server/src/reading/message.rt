@@ -9,7 +9,7 @@ ghost use Rattle.wl_wire.specs.Parse.{IsThere};
 ghost use Rattle.wl_wire.specs.Table.{IsAcceptedTable, holds_zero, message_row};
 ghost use Rattle.wl_link.specs.Store.{held};
 ghost use Rattle.wl_link.specs.declared.object.Object.{Object as ObjectOf};
-ghost use Rattle.wl_server.specs.Inside.NoteOrder.{NotesInTime};
+ghost use Rattle.wl_server.specs.NoteOrder.{IsNumbered, NotesInTime};
 ghost use Rattle.wl_server.specs.declared.objects.Kept.{Kept as KeptOf};
 ghost use Rattle.wl_server.specs.Reading.{row_asks, row_in};
 ghost use Rattle.wl_wire.specs.declared.argument.Argument.{Argument as Arg};
@@ -37,7 +37,7 @@ use wl_wire::{
 };
 
 /// The request with this opcode of the object that has the number, and what the object is.
-fn request_desc<'p, U: Drop>(
+pub fn request_desc<'p, U: Drop>(
     protocol: &'p Protocol,
     objects: &ObjectMap<Kept<U>>,
     sender: u32,
@@ -201,10 +201,15 @@ impl<T: Transport + Drop, U: Drop, C: Drop> Client<T, U, C> {
         ensures place { INLINE_ARGS ≤ message.new.args.capacity }
         ensures inline { INLINE_ARGS ≤ args.new.capacity }
         ensures in_time { NotesInTime self.old.times numbers.old self.new.times numbers.new }
+        ensures numbered { IsNumbered (Some self.old) → IsNumbered (Some self.new) }
     {
         let Some(header) = self.socket.next_header() else {
             return MessageEnd::Lacks;
         };
+        // Most syncs need no object for their callback.
+        if self.answer_sync(around, reading, header) {
+            return MessageEnd::Continues;
+        }
         let end = self.handle_at(numbers, around, reading, header, message, found, args);
         clear_message(message);
         end
@@ -229,6 +234,7 @@ impl<T: Transport + Drop, U: Drop, C: Drop> Client<T, U, C> {
         ensures handles { HandlesMessage T.sends T.receives (around_of G.views around.now) self.old reading.old (message_result result found.new args.new.items) self.new reading.new }
         ensures inline { INLINE_ARGS ≤ args.new.capacity }
         ensures in_time { NotesInTime self.old.times numbers.old self.new.times numbers.new }
+        ensures numbered { IsNumbered (Some self.old) → IsNumbered (Some self.new) }
     {
         let read = reading.read;
         let taken = take_request(
@@ -271,6 +277,7 @@ impl<T: Transport + Drop, U: Drop, C: Drop> Client<T, U, C> {
         ensures handles { (r : ReadingOf) (f : FoundOf) (args : List (Arg IdParts TokenParts)) → r.read ≤ 0xFFFFFFFFFFFFFFFF
             → HandlesMessage T.sends T.receives (around_of G.views around.now) self.old r (message_result result f args) self.new r }
         ensures in_time { NotesInTime self.old.times numbers.old self.new.times numbers.new }
+        ensures numbered { IsNumbered (Some self.old) → IsNumbered (Some self.new) }
     {
         match error {
             MessageParseError::MissingData | MessageParseError::MissingFD => MessageEnd::Lacks,

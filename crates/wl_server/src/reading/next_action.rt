@@ -2,9 +2,9 @@
 //!
 //! A client is *stored* from its insertion until `Backend::cleanup` takes it out.
 
-ghost use Rattle.std.specs.Prelude.{◌≡◌, ◌≤◌, Ok, OnErr, Result, option_map};
+ghost use Rattle.std.specs.Prelude.{◌≡◌, ◌≤◌, Ok, OnErr, Result, option_map, Some};
 ghost use Rattle.std.specs.Result.{result_and};
-ghost use Rattle.wl_server.specs.Inside.NoteOrder.{NotesInTime};
+ghost use Rattle.wl_server.specs.NoteOrder.{IsNumbered, NotesInTime};
 ghost use Rattle.wl_server.specs.declared.error.ActionError.{ActionError as ActionErrorOf};
 ghost use Rattle.wl_server.specs.declared.reading.action.Action.{Action as ActionOf};
 ghost use Rattle.wl_server.specs.declared.runs.step.Reply.TheVariants as reply;
@@ -49,8 +49,9 @@ impl Reading {
 }
 
 impl<T: Transport + Drop, U: Drop, C: Drop> Client<T, U, C> {
-    /// Handles messages until the reading ends, or until no whole message waits. `message` is the place that each is read
-    /// into. An action that is handed out is in `found` then, and its arguments are in `args`.
+    /// Reads the messages that wait, one after another, and does what each asks for. Returns `None` when no whole message
+    /// waits any more. Returns `Some` when the reading is over: `Ok` if there is an action, or else the reason why there is
+    /// none. The action is then in `found`, and its arguments are in `args`. Each message is read into `message`.
     fn handle_waiting<G: GlobalHandler<C> + Drop>(
         &mut self,
         numbers: &mut NoteNumbers,
@@ -67,6 +68,7 @@ impl<T: Transport + Drop, U: Drop, C: Drop> Client<T, U, C> {
         ensures place { INLINE_ARGS ≤ message.new.args.capacity }
         ensures inline { INLINE_ARGS ≤ args.new.capacity }
         ensures in_time { NotesInTime self.old.times numbers.old self.new.times numbers.new }
+        ensures numbered { IsNumbered (Some self.old) → IsNumbered (Some self.new) }
     {
         // The count of requests starts within its type.
         prove!(reading.read <= usize::MAX);
@@ -85,6 +87,7 @@ impl<T: Transport + Drop, U: Drop, C: Drop> Client<T, U, C> {
     fn receive(&mut self, numbers: &mut NoteNumbers) -> Option<NoAction>
         ensures fills { Fills T.receives self.old result self.new }
         ensures in_time { NotesInTime self.old.times numbers.old self.new.times numbers.new }
+        ensures numbered { IsNumbered (Some self.old) → IsNumbered (Some self.new) }
     {
         let Err(fault) = self.socket.fill_incoming_buffers() else {
             return None;
@@ -108,8 +111,8 @@ impl<T: Transport + Drop, U: Drop, C: Drop> Client<T, U, C> {
         }
     }
 
-    /// Handles messages and receives, until there is an action or no receive is left. `message` is the place that each
-    /// message is read into. An action that is handed out is in `found` then, and its arguments are in `args`.
+    /// Handles the messages that wait, and receives when no whole one is left, until there is an action or a reason why
+    /// there is none. The action is then in `found`, and its arguments are in `args`. Each message is read into `message`.
     fn read<G: GlobalHandler<C> + Drop>(
         &mut self,
         numbers: &mut NoteNumbers,
@@ -125,6 +128,7 @@ impl<T: Transport + Drop, U: Drop, C: Drop> Client<T, U, C> {
         ensures ends { EndsAs T.sends T.receives (around_of G.views around.now) self.old reading.old (action_of result found.new args.new.items) self.new reading.new }
         ensures place { INLINE_ARGS ≤ message.new.args.capacity }
         ensures in_time { NotesInTime self.old.times numbers.old self.new.times numbers.new }
+        ensures numbered { IsNumbered (Some self.old) → IsNumbered (Some self.new) }
     {
         // The count of requests starts within its type.
         prove!(reading.read <= usize::MAX);
@@ -145,8 +149,8 @@ impl<T: Transport + Drop, U: Drop, C: Drop> Client<T, U, C> {
         }
     }
 
-    /// Finds the next action of the client, which is open until it is finished. The action is in `found` then, and its
-    /// arguments are in `args`. Also returns whether memory was refused.
+    /// Finds the next action of the client, if none is open and the client was not killed. The action is then in `found`,
+    /// and its arguments are in `args`. It stays open until it is finished. Also returns whether memory was refused.
     pub fn find_action<G: GlobalHandler<C> + Drop>(
         &mut self,
         numbers: &mut NoteNumbers,
@@ -159,6 +163,7 @@ impl<T: Transport + Drop, U: Drop, C: Drop> Client<T, U, C> {
         requires { INLINE_ARGS ≤ args.old.capacity }
         ensures does { Does self.old (λ p did q. NextAction T.sends T.receives (around_of G.views around.now) reading.old p (action_of result.0 found.new args.new.items) reading.new result.1 did q) self.new }
         ensures in_time { NotesInTime self.old.times numbers.old self.new.times numbers.new }
+        ensures numbered { IsNumbered (Some self.old) → IsNumbered (Some self.new) }
     {
         if self.action.is_open() {
             return (Err(ActionError::ActionOpen), false);
@@ -208,7 +213,7 @@ impl<T: Transport + Drop, U: Drop, G: GlobalHandler<C> + Drop, C: Drop> Backend<
     /// If each receive brings a byte or would block, and memory is not refused, it does not matter how bytes and tokens
     /// were cut into receives.
     pub fn next_action(&mut self, id: &ClientId) -> Result<Action, ActionError>
-        ensures read { Calls (over T.sends T.receives G.views) self.old (step.NextAction id.now) (reply.NextAction result) self.new }
+        ensures call { Calls (over T.sends T.receives G.views) self.old (step.NextAction id.now) (reply.NextAction result) self.new }
         ensures room { HasRoom (over T.sends T.receives G.views) self.old.server (Asked (step.NextAction id.now) (reply.NextAction result)) self.new.server }
         ensures cutting { CallIsCut (over T.sends T.receives G.views) self.old.server (Asked (step.NextAction id.now) (reply.NextAction result)) self.new.refused self.new.server }
         ensures plain { ReadsClient self.old id.now result self.new }
@@ -229,7 +234,7 @@ impl<T: Transport + Drop, U: Drop, G: GlobalHandler<C> + Drop, C: Drop> Backend<
         id: &ClientId,
         reading: &mut Reading,
     ) -> Result<Action, ActionError>
-        ensures read { Calls (over T.sends T.receives G.views) self.old (step.NextActionWithin id.now reading.old) (reply.NextActionWithin result reading.new) self.new }
+        ensures call { Calls (over T.sends T.receives G.views) self.old (step.NextActionWithin id.now reading.old) (reply.NextActionWithin result reading.new) self.new }
         ensures room { HasRoom (over T.sends T.receives G.views) self.old.server (Asked (step.NextActionWithin id.now reading.old) (reply.NextActionWithin result reading.new)) self.new.server }
         ensures cutting { CallIsCut (over T.sends T.receives G.views) self.old.server (Asked (step.NextActionWithin id.now reading.old) (reply.NextActionWithin result reading.new)) self.new.refused self.new.server }
         ensures plain { ReadsClient self.old id.now result self.new }
@@ -249,7 +254,7 @@ impl<T: Transport + Drop, U: Drop, G: GlobalHandler<C> + Drop, C: Drop> Backend<
         id: &ClientId,
         action: &mut Action,
     ) -> Result<(), ActionError>
-        ensures read { Calls (over T.sends T.receives G.views) self.old (step.NextAction id.now) (reply.NextAction (result_and result (Ok action.new))) self.new }
+        ensures call { Calls (over T.sends T.receives G.views) self.old (step.NextAction id.now) (reply.NextAction (result_and result (Ok action.new))) self.new }
         ensures room { HasRoom (over T.sends T.receives G.views) self.old.server (Asked (step.NextAction id.now) (reply.NextAction (result_and result (Ok action.new)))) self.new.server }
         ensures cutting { CallIsCut (over T.sends T.receives G.views) self.old.server (Asked (step.NextAction id.now) (reply.NextAction (result_and result (Ok action.new)))) self.new.refused self.new.server }
         ensures plain { ReadsClient self.old id.now (result_and result (Ok action.new)) self.new }
@@ -273,7 +278,7 @@ impl<T: Transport + Drop, U: Drop, G: GlobalHandler<C> + Drop, C: Drop> Backend<
         reading: &mut Reading,
         action: &mut Action,
     ) -> Result<(), ActionError>
-        ensures read { Calls (over T.sends T.receives G.views) self.old (step.NextActionWithin id.now reading.old) (reply.NextActionWithin (result_and result (Ok action.new)) reading.new) self.new }
+        ensures call { Calls (over T.sends T.receives G.views) self.old (step.NextActionWithin id.now reading.old) (reply.NextActionWithin (result_and result (Ok action.new)) reading.new) self.new }
         ensures room { HasRoom (over T.sends T.receives G.views) self.old.server (Asked (step.NextActionWithin id.now reading.old) (reply.NextActionWithin (result_and result (Ok action.new)) reading.new)) self.new.server }
         ensures cutting { CallIsCut (over T.sends T.receives G.views) self.old.server (Asked (step.NextActionWithin id.now reading.old) (reply.NextActionWithin (result_and result (Ok action.new)) reading.new)) self.new.refused self.new.server }
         ensures plain { ReadsClient self.old id.now (result_and result (Ok action.new)) self.new }

@@ -3,12 +3,12 @@
 //!
 //! A client is *live* as long as it is stored and not killed.
 
-ghost use Rattle.std.specs.Prelude.{◌≡◌, ◌∷◌, List, [], false, Err, IfOk, MatchResult};
+ghost use Rattle.std.specs.Prelude.{◌≡◌, ◌∷◌, List, [], false, Err, IfOk, MatchResult, Some};
 ghost use Rattle.wl_wire.specs.declared.argument.Argument.{Argument as Arg};
 ghost use Rattle.wl_wire.specs.declared.argument.Token.{Token as TokenParts};
 ghost use Rattle.wl_wire.specs.declared.error.IoFault.TheVariants as io;
 ghost use Rattle.wl_link.specs.Puts.{lacks_memory};
-ghost use Rattle.wl_server.specs.Inside.NoteOrder.{NotesInTime};
+ghost use Rattle.wl_server.specs.NoteOrder.{IsNumbered, NotesInTime};
 ghost use Rattle.wl_server.specs.declared.notes.DisconnectReason.TheVariants.{ConnectionClosed};
 ghost use Rattle.wl_server.specs.declared.reading.action.Found.{Found as FoundOf};
 ghost use Rattle.wl_server.specs.declared.reading.action.MessageEnd.TheVariants as came;
@@ -73,6 +73,7 @@ impl<T: Transport + Drop, U: Drop, C: Drop> Client<T, U, C> {
     pub fn garbled(&mut self, numbers: &mut NoteNumbers) -> NoAction
         ensures handled { IsHandled T.sends (garbled (core_of self.old.part)) self.old (Ended result) self.new }
         ensures in_time { NotesInTime self.old.times numbers.old self.new.times numbers.new }
+        ensures numbered { IsNumbered (Some self.old) → IsNumbered (Some self.new) }
     {
         self.kill(numbers, DisconnectReason::ConnectionClosed);
         NoAction {
@@ -95,6 +96,7 @@ impl<T: Transport + Drop, U: Drop, C: Drop> Client<T, U, C> {
         requires name { HasName breach.now }
         ensures handled { IsHandled T.sends (breaks (around_of G.views around.now) (core_of self.old.part) (code_of breach.now) (text_of around.now.protocol.now breach.now)) self.old (Ended result) self.new }
         ensures in_time { NotesInTime self.old.times numbers.old self.new.times numbers.new }
+        ensures numbered { IsNumbered (Some self.old) → IsNumbered (Some self.new) }
     {
         let alloc = self.alloc();
         let Ok((code, text)) = breach_error(alloc, around.protocol, breach) else {
@@ -120,6 +122,7 @@ impl<T: Transport + Drop, U: Drop, C: Drop> Client<T, U, C> {
             (λ f. (result ≡ came.Ends (record { fault = io.Pipe; refused = lacks_memory (Err f) }))
             × Does self.old (λ p did q. Kills p ConnectionClosed did q) self.new) }
         ensures in_time { NotesInTime self.old.times numbers.old self.new.times numbers.new }
+        ensures numbered { IsNumbered (Some self.old) → IsNumbered (Some self.new) }
     {
         if wrote.is_ok() {
             return MessageEnd::Continues;
@@ -143,6 +146,7 @@ impl<T: Transport + Drop, U: Drop, C: Drop> Client<T, U, C> {
             (replies (core_of self.old.part) (introductions around.now.protocol.now (id_of registry.now) 0 (shown G.views (around_of G.views around.now).globals around.now.client self.old.part.client_data))
             (Remembered (id_of registry.now) ∷ [])) self.old (message_result result f args) self.new }
         ensures in_time { NotesInTime self.old.times numbers.old self.new.times numbers.new }
+        ensures numbered { IsNumbered (Some self.old) → IsNumbered (Some self.new) }
     {
         let alloc = self.alloc();
         let wrote = put_globals(alloc, &mut self.socket, around, &self.data, registry);
@@ -163,6 +167,7 @@ impl<T: Transport + Drop, U: Drop, C: Drop> Client<T, U, C> {
             (replies (core_of self.old.part) (done_message (id_of callback.now) ∷ deletions callback.now.number) [])
             self.old (message_result result f args) self.new }
         ensures in_time { NotesInTime self.old.times numbers.old self.new.times numbers.new }
+        ensures numbered { IsNumbered (Some self.old) → IsNumbered (Some self.new) }
     {
         let wrote = put_done(message, &mut self.socket, callback.protocol_id());
         self.replied(numbers, wrote)

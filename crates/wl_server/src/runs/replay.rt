@@ -13,7 +13,7 @@ ghost use Rattle.wl_server.specs.PartStep.{over_scripts};
 ghost use Rattle.wl_server.specs.Inside.Performing.{IsOfAll, IsOfGlobals, IsOfObject, IsOfReading, IsOfScript};
 ghost use Rattle.wl_server.specs.Runs.{Performs, StopsAt};
 ghost use Rattle.wl_server.specs.Server.{ServerState};
-ghost use Rattle.wl_server.specs.WholeOutcome.{SameServer, WholeReply};
+ghost use Rattle.wl_server.specs.Outcome.Whole.{SameServer, WholeReply};
 
 use crate::backend::Backend;
 use crate::globals::handler::GlobalHandler;

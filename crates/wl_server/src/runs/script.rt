@@ -64,7 +64,7 @@ fn make_move(script: &mut Memory, call: ScriptCall) -> Result<(), ScriptError>
     }
 }
 
-/// Whether memory was refused to a call of a script that was answered so.
+/// Whether the call of the script failed for want of memory.
 fn lacks_memory(answer: &Result<(), ScriptError>) -> bool
     ensures { result ≡ lacks_move (nothing_taken answer.now) }
 {

@@ -16,13 +16,13 @@ use Rattle.wl_server.specs.declared.runs.step.Step.TheVariants as step
 use Rattle.wl_server.specs.Backend.{BackendState}
 use Rattle.wl_server.specs.Deeds.{Bind, Handed, Request, handed}
 use Rattle.wl_server.specs.Dispatch.{Answering, Answers, EachIsDispatched, EndsDispatch, Handles, IsDispatched, Last, Round, Rounds, cleaned, dispatched, fault_of_end, fault_of_reading, more, no_action, none, not_ended, refusal_in, total_with}
-use Rattle.wl_server.specs.DispatchOutcome.{DispatchesHaveOneOutcome, HandledSame, IsDeterministic, ManyDispatchesHaveOneOutcome, SameBackend}
+use Rattle.wl_server.specs.Outcome.Dispatches.{DispatchesHaveOneOutcome, HandledSame, IsDeterministic, ManyDispatchesHaveOneOutcome, SameBackend}
 use Rattle.wl_server.specs.Ids.{ClientParts}
 use Rattle.wl_server.specs.PartStep.{Asked, Call, World}
 use Rattle.wl_server.specs.Reading.{action_content, new_reading}
 use Rattle.wl_server.specs.Server.{ServerState}
 use Rattle.wl_server.specs.Steps.{Entry, OneStep}
-use Rattle.wl_server.specs.WholeOutcome.{SameServer, WholeReply}
+use Rattle.wl_server.specs.Outcome.Whole.{SameServer, WholeReply}
 use Rattle.wl_server.proofs.OverRuns.Outcome.Determined.{IsDetermined}
 use Rattle.wl_server.proofs.OverRuns.Outcome.WholeRuns.{asked_one, entry_one, replied_one}
 
@@ -62,7 +62,15 @@ reading_same T U r r' left left' same = same any
 -- ---- a call of a dispatch
 
 same_back : {T U G C : Type 0} {s t : ServerState T U G C} → SameServer s t → SameServer t s
-same_back same = record { offer = sym same.offer; last = sym same.last; each = λ (i : ClientParts). sym (same.each i) }
+same_back same = record {
+  offer = sym same.offer;
+  last = sym same.last;
+  each = λ (i : ClientParts). sym (same.each i);
+  notes = sym same.notes;
+  numbers = sym same.numbers;
+  times = λ slot. sym (same.times slot);
+  numbered = (same.numbered.1, same.numbered.0);
+}
 
 module _ {T U G C : Type 0} (w : World T G C) (known : IsDetermined w) where
   -- the same step was made twice

@@ -12,7 +12,7 @@ use Rattle.wl_server.specs.Lookups.{and_then, client_of, global_info_of, id_if, 
 use Rattle.wl_server.specs.Part.{Part, id_at, named}
 use Rattle.wl_server.specs.Server.{Seen, ServerState, Stored, if_serial, no_times, stored_at}
 use Rattle.wl_server.proofs.OverRuns.Outcome.WholeLaws.{found}
-use Rattle.wl_server.specs.WholeOutcome.{AnswersAlike, SameServer}
+use Rattle.wl_server.specs.Outcome.Whole.{AnswersAlike, HoldsSame}
 
 module _ {T U C : Type 0} where
   -- the live clients by slot, of lists that tell the same at each slot
@@ -47,7 +47,7 @@ module _ {T U C : Type 0} where
           let serial : x.serial ≡ y.serial = sym (eqb-true y.serial x.serial is) in
           ap₂ (λ (m : ℕ) (p : Part T U C). id_if_stored n (Some (record { serial = m; part = p; made = x.made; times = no_times }))) serial part
 
-module _ {T U G C : Type 0} (s t : ServerState T U G C) (same : SameServer s t) where
+module _ {T U G C : Type 0} (s t : ServerState T U G C) (same : HoldsSame s t) where
   slot_one : (k n : ℕ) (a b : Option (Stored T U C)) → stored_at k s.clients ≡ a → stored_at k t.clients ≡ b → id_if_stored n a ≡ id_if_stored n b
   slot_one k n None None is is' = refl
   slot_one k n (Some x) b is is' =

@@ -1,11 +1,14 @@
 -- What is the same to each client is the same to the program: the slots that are free, whether memory was refused, and
 -- replies.
-use Rattle.std.proofs.Common.{◌≡◌, ℕ, Bool, true, false, List, Option, None, Some, is_some, Result, Ok, Err, refl, sym, ap, subst, ◌∙◌, true≢false}
+use Rattle.std.proofs.Common.{◌≡◌, ℕ, Bool, true, false, List, Option, None, Some, is_some, Result, Ok, Err, Vec, refl, sym, ap, subst, ◌∙◌, true≢false}
+use Rattle.std.specs.Global.{Global}
 use Rattle.std.specs.Prelude.{option_map}
 use Rattle.std.proofs.lemmas.Bool.{eq-eqb}
 use mathlib.Core.Logic.{inl, inr}
 use Rattle.wl_server.specs.declared.error.InsertClientError.{InsertClientError}
 use Rattle.wl_server.specs.declared.error.InsertClientError.TheVariants as insert
+use Rattle.wl_wire.specs.declared.error.OutOfMemory.{OutOfMemory}
+use Rattle.wl_server.specs.declared.notes.Note.{Note}
 use Rattle.wl_server.specs.declared.runs.step.Reply.{Reply}
 use Rattle.wl_server.specs.declared.runs.step.Reply.TheVariants as reply
 use Rattle.wl_server.specs.declared.runs.step.Step.{Step}
@@ -20,7 +23,7 @@ use Rattle.wl_server.specs.Runs.{is_about}
 use Rattle.wl_server.specs.Server.{Seen, ServerState, Stored, client_at, if_serial, seen, stored_at}
 use Rattle.wl_server.proofs.OverRuns.Outcome.ShareLaws.{shares_one}
 use Rattle.wl_server.specs.Steps.{Entry, InsertsNext, IsLeastFree, IsRefused, RisesBySlot, lacks_growth}
-use Rattle.wl_server.specs.WholeOutcome.{SameServer, WholeReply}
+use Rattle.wl_server.specs.Outcome.Whole.{SameServer, WholeReply}
 
 is_none_by : {A : Type 0} (o : Option A) → is_some o ≡ false → o ≡ None
 is_none_by None is = refl
@@ -58,7 +61,7 @@ module _ {T U C : Type 0} where
   found st o is = ap (λ (z : Option (Stored T U C)). if_serial st.serial z) is ∙ (rw (eq-eqb st.serial st.serial refl) refl)
 
 module _ {T U G C : Type 0} where
-  slot_same : (s t : ServerState T U G C) → ((id : ClientParts) → seen id s ≡ seen id t) → (k : ℕ) (a b : Option (Stored T U C)) → stored_at k s.clients ≡ a
+  pub slot_same : (s t : ServerState T U G C) → ((id : ClientParts) → seen id s ≡ seen id t) → (k : ℕ) (a b : Option (Stored T U C)) → stored_at k s.clients ≡ a
       → stored_at k t.clients ≡ b → is_some a ≡ is_some b
   slot_same s t each k None None is is' = refl
   slot_same s t each k (Some x) (Some y) is is' = refl
@@ -109,58 +112,76 @@ module _ {T U G C : Type 0} (w : World T G C) (any : ClientParts) (offer : Offer
   cleanup_one (Ok out) (Err f) ample ample' rises rises' same = absurd (true≢false ample')
   cleanup_one (Ok out) (Ok out') ample ample' rises rises' same = shares_one out.items out'.items rises rises' same
 
-  -- replies that are the same to each client whose step it is are the same to the program
+  abbrev of_taken : Result (Vec (Note U) Global) OutOfMemory → Reply T U
+  of_taken r = reply.TakeNotes r
+
+  taken_one : (r r' : Result (Vec (Note U) Global) OutOfMemory) → Ample step.TakeNotes (reply.TakeNotes r) → Ample step.TakeNotes (reply.TakeNotes r')
+      → ((out out' : Vec (Note U) Global) → r ≡ Ok out → r' ≡ Ok out' → out.items ≡ out'.items)
+      → WholeReply {T = T} {U = U} (reply.TakeNotes r) (reply.TakeNotes r')
+  taken_one (Err f) r' ample ample' took = absurd (true≢false ample)
+  taken_one (Ok out) (Err f) ample ample' took = absurd (true≢false ample')
+  taken_one (Ok out) (Ok out') ample ample' took = took out out' refl refl
+
+  -- replies that are the same to each client whose step it is are the same to the program, if they hand out the same notes
   pub whole_one : (s : Step T U G C) (p q : Reply T U) → ((id : ClientParts) → is_about id s ≡ true → SameReply id p q) → SharedSame s p q
-      → Ample s p → Ample s q → Rises s p → Rises s q → PartStep w any offer s p before false d x → PartStep w any offer s q before false e y → WholeReply p q
-  whole_one (step.InsertClient transport client_data) p q one shared ample ample' rises rises' (r, is, h) (r', is', g) =
+      → Ample s p → Ample s q → Rises s p → Rises s q
+      → ((out out' : Vec (Note U) Global) → s ≡ step.TakeNotes → p ≡ reply.TakeNotes (Ok out) → q ≡ reply.TakeNotes (Ok out')
+      → out.items ≡ out'.items) → PartStep w any offer s p before false d x → PartStep w any offer s q before false e y → WholeReply p q
+  whole_one (step.InsertClient transport client_data) p q one shared ample ample' rises rises' took (r, is, h) (r', is', g) =
       same_whole p q (reply.InsertClient r) (reply.InsertClient r') is is' (λ id. sym is ∙ shared ∙ is')
-  whole_one (step.SetObjectData o u) p q one shared ample ample' rises rises' (r, is, h) (r', is', g) =
+  whole_one (step.SetObjectData o u) p q one shared ample ample' rises rises' took (r, is, h) (r', is', g) =
       same_whole p q (reply.SetObjectData r) (reply.SetObjectData r') is is' (let here = same_here o.client p q _ _ is is' (one o.client (same_self o.client)) in λ id. here)
-  whole_one (step.CreateObject target i version u) p q one shared ample ample' rises rises' (r, is, h) (r', is', g) =
+  whole_one (step.CreateObject target i version u) p q one shared ample ample' rises rises' took (r, is, h) (r', is', g) =
       same_whole p q (reply.CreateObject r) (reply.CreateObject r') is is' (let here = same_here target p q _ _ is is' (one target (same_self target)) in λ id. here)
-  whole_one (step.DestroyObject o) p q one shared ample ample' rises rises' (r, is, h) (r', is', g) =
+  whole_one (step.DestroyObject o) p q one shared ample ample' rises rises' took (r, is, h) (r', is', g) =
       same_whole p q (reply.DestroyObject r) (reply.DestroyObject r') is is' (let here = same_here o.client p q _ _ is is' (one o.client (same_self o.client)) in λ id. here)
-  whole_one (step.SendEvent m) p q one shared ample ample' rises rises' (r, is, h) (r', is', g) =
+  whole_one (step.SendEvent m) p q one shared ample ample' rises rises' took (r, is, h) (r', is', g) =
       same_whole p q (reply.SendEvent r) (reply.SendEvent r') is is'
       (let here = same_here m.sender_id.client p q _ _ is is' (one m.sender_id.client (same_self m.sender_id.client)) in λ id. here)
-  whole_one (step.PostError o code text) p q one shared ample ample' rises rises' (is, h) (is', g) = same_whole p q reply.PostError reply.PostError is is' (λ id. refl)
-  whole_one (step.KillClient target reason) p q one shared ample ample' rises rises' (is, h) (is', g) = same_whole p q reply.KillClient reply.KillClient is is' (λ id. refl)
-  whole_one (step.CreateGlobal i version handler) p q one shared ample ample' rises rises' (r, is, h) (r', is', g) =
+  whole_one (step.PostError o code text) p q one shared ample ample' rises rises' took (is, h) (is', g) =
+      same_whole p q reply.PostError reply.PostError is is' (λ id. refl)
+  whole_one (step.KillClient target reason) p q one shared ample ample' rises rises' took (is, h) (is', g) =
+      same_whole p q reply.KillClient reply.KillClient is is' (λ id. refl)
+  whole_one (step.CreateGlobal i version handler) p q one shared ample ample' rises rises' took (r, is, h) (r', is', g) =
       same_whole p q (reply.CreateGlobal r) (reply.CreateGlobal r') is is' (λ id. sym is ∙ shared ∙ is')
-  whole_one (step.DisableGlobal g) p q one shared ample ample' rises rises' (is, h) (is', h') = same_whole p q reply.DisableGlobal reply.DisableGlobal is is' (λ id. refl)
-  whole_one (step.RemoveGlobal g) p q one shared ample ample' rises rises' (is, h) (is', h') = same_whole p q reply.RemoveGlobal reply.RemoveGlobal is is' (λ id. refl)
-  whole_one (step.Flush None) p q one shared ample ample' rises rises' (r, is, h) (r', is', g) =
+  whole_one (step.DisableGlobal g) p q one shared ample ample' rises rises' took (is, h) (is', h') =
+      same_whole p q reply.DisableGlobal reply.DisableGlobal is is' (λ id. refl)
+  whole_one (step.RemoveGlobal g) p q one shared ample ample' rises rises' took (is, h) (is', h') =
+      same_whole p q reply.RemoveGlobal reply.RemoveGlobal is is' (λ id. refl)
+  whole_one (step.Flush None) p q one shared ample ample' rises rises' took (r, is, h) (r', is', g) =
       same_whole p q (reply.Flush r) (reply.Flush r') is is' (let here = same_here any p q _ _ is is' (one any refl) in λ id. here)
-  whole_one (step.Flush (Some target)) p q one shared ample ample' rises rises' (r, is, h) (r', is', g) =
+  whole_one (step.Flush (Some target)) p q one shared ample ample' rises rises' took (r, is, h) (r', is', g) =
       same_whole p q (reply.Flush r) (reply.Flush r') is is' (let here = same_here target p q _ _ is is' (one target (same_self target)) in λ id. here)
-  whole_one (step.SetDefaultMaxBufferSize limit) p q one shared ample ample' rises rises' (is, h) (is', g) =
+  whole_one (step.SetDefaultMaxBufferSize limit) p q one shared ample ample' rises rises' took (is, h) (is', g) =
       same_whole p q reply.SetDefaultMaxBufferSize reply.SetDefaultMaxBufferSize is is' (λ id. refl)
-  whole_one (step.AddInterfaces interfaces) p q one shared ample ample' rises rises' (r, is, h) (r', is', g) =
+  whole_one (step.AddInterfaces interfaces) p q one shared ample ample' rises rises' took (r, is, h) (r', is', g) =
       let same = sym is ∙ shared ∙ is' in same_whole p q (reply.AddInterfaces r) (reply.AddInterfaces r') is is' (λ id. same)
-  whole_one (step.SetClientMaxBufferSize target limit) p q one shared ample ample' rises rises' (is, h) (is', g) =
+  whole_one (step.SetClientMaxBufferSize target limit) p q one shared ample ample' rises rises' took (is, h) (is', g) =
       same_whole p q reply.SetClientMaxBufferSize reply.SetClientMaxBufferSize is is' (λ id. refl)
-  whole_one (step.NextAction target) p q one shared ample ample' rises rises' (r, left, is, h) (r', left', is', g) =
+  whole_one (step.NextAction target) p q one shared ample ample' rises rises' took (r, left, is, h) (r', left', is', g) =
       same_whole p q (reply.NextAction r) (reply.NextAction r') is is' (let here = same_here target p q (reply.NextAction r) (reply.NextAction r') is is' (one target (same_self target)) in λ id. here)
-  whole_one (step.NextActionWithin target reading) p q one shared ample ample' rises rises' (r, left, is, h) (r', left', is', g) =
+  whole_one (step.NextActionWithin target reading) p q one shared ample ample' rises rises' took (r, left, is, h) (r', left', is', g) =
       same_whole p q (reply.NextActionWithin r left) (reply.NextActionWithin r' left') is is'
       (let here = same_here target p q (reply.NextActionWithin r left) (reply.NextActionWithin r' left') is is' (one target (same_self target)) in λ id. here)
-  whole_one (step.FinishRequest target u) p q one shared ample ample' rises rises' (r, is, h) (r', is', g) =
+  whole_one (step.FinishRequest target u) p q one shared ample ample' rises rises' took (r, is, h) (r', is', g) =
       same_whole p q (reply.FinishRequest r) (reply.FinishRequest r') is is' (let here = same_here target p q _ _ is is' (one target (same_self target)) in λ id. here)
-  whole_one (step.FinishBind target u) p q one shared ample ample' rises rises' (r, is, h) (r', is', g) =
+  whole_one (step.FinishBind target u) p q one shared ample ample' rises rises' took (r, is, h) (r', is', g) =
       same_whole p q (reply.FinishBind r) (reply.FinishBind r') is is' (let here = same_here target p q _ _ is is' (one target (same_self target)) in λ id. here)
-  whole_one step.Cleanup p q one shared ample ample' rises rises' (r, is, h) (r', is', g) =
+  whole_one step.Cleanup p q one shared ample ample' rises rises' took (r, is, h) (r', is', g) =
       same_whole p q (reply.Cleanup r) (reply.Cleanup r') is is'
       (cleanup_one r r' (subst (λ z. Ample step.Cleanup z) is ample) (subst (λ z. Ample step.Cleanup z) is' ample') (subst (λ z. Rises step.Cleanup z) is rises)
       (subst (λ z. Rises step.Cleanup z) is' rises') (λ id. same_here id p q (reply.Cleanup r) (reply.Cleanup r') is is' (one id refl)))
-  whole_one step.TakeNotes p q one shared ample ample' rises rises' (r, is, h) (r', is', g) =
-      same_whole p q (reply.TakeNotes r) (reply.TakeNotes r') is is' (λ id. same_here id p q (reply.TakeNotes r) (reply.TakeNotes r') is is' (one id refl))
-  whole_one (step.Arrive target bytes tokens) p q one shared ample ample' rises rises' (r, is, h) (r', is', g) =
+  whole_one step.TakeNotes p q one shared ample ample' rises rises' took (r, is, h) (r', is', g) =
+      same_whole p q (reply.TakeNotes r) (reply.TakeNotes r') is is'
+      (taken_one r r' (subst (λ z. Ample step.TakeNotes z) is ample) (subst (λ z. Ample step.TakeNotes z) is' ample')
+      (λ out out' here there. took out out' refl (is ∙ ap of_taken here) (is' ∙ ap of_taken there)))
+  whole_one (step.Arrive target bytes tokens) p q one shared ample ample' rises rises' took (r, is, h) (r', is', g) =
       same_whole p q (reply.Arrive r) (reply.Arrive r') is is' (let here = same_here target p q _ _ is is' (one target (same_self target)) in λ id. here)
-  whole_one (step.ArriveFault target f) p q one shared ample ample' rises rises' (r, is, h) (r', is', g) =
+  whole_one (step.ArriveFault target f) p q one shared ample ample' rises rises' took (r, is, h) (r', is', g) =
       same_whole p q (reply.ArriveFault r) (reply.ArriveFault r') is is' (let here = same_here target p q _ _ is is' (one target (same_self target)) in λ id. here)
-  whole_one (step.Accept target n) p q one shared ample ample' rises rises' (r, is, h) (r', is', g) =
+  whole_one (step.Accept target n) p q one shared ample ample' rises rises' took (r, is, h) (r', is', g) =
       same_whole p q (reply.Accept r) (reply.Accept r') is is' (let here = same_here target p q _ _ is is' (one target (same_self target)) in λ id. here)
-  whole_one (step.AcceptFault target f) p q one shared ample ample' rises rises' (r, is, h) (r', is', g) =
+  whole_one (step.AcceptFault target f) p q one shared ample ample' rises rises' took (r, is, h) (r', is', g) =
       same_whole p q (reply.AcceptFault r) (reply.AcceptFault r') is is' (let here = same_here target p q _ _ is is' (one target (same_self target)) in λ id. here)
-  whole_one (step.TakeSent target) p q one shared ample ample' rises rises' (r, is, h) (r', is', g) =
+  whole_one (step.TakeSent target) p q one shared ample ample' rises rises' took (r, is, h) (r', is', g) =
       same_whole p q (reply.TakeSent r) (reply.TakeSent r') is is' (let here = same_here target p q (reply.TakeSent r) (reply.TakeSent r') is is' (one target (same_self target)) in λ id. here)

@@ -1,9 +1,10 @@
--- That each call of a server has one outcome, where memory is not refused, and so each run of calls: up to what no program
--- finds.
-use Rattle.std.proofs.Common.{◌≡◌, ◌≢◌, ℕ, ◌+◌, Bool, false, List, [], ◌∷◌, Result, Err, refl, sym, ap, subst, ◌∙◌, true≢false, arith}
+-- That each call of a server has one outcome, where memory is not refused, and so each run of calls.
+use Rattle.std.proofs.Common.{◌≡◌, ◌≢◌, ℕ, ◌+◌, Bool, false, List, [], ◌∷◌, Result, Ok, Err, Vec, refl, sym, ap, subst, ◌∙◌, true≢false, arith}
+use Rattle.std.specs.Global.{Global}
 use Rattle.wl_wire.specs.Table.{interface_rows}
 use Rattle.wl_server.specs.declared.error.InsertClientError.{InsertClientError}
 use Rattle.wl_server.specs.declared.error.InsertClientError.TheVariants as insert
+use Rattle.wl_server.specs.declared.notes.Note.{Note}
 use Rattle.wl_server.specs.declared.runs.step.Reply.{Reply}
 use Rattle.wl_server.specs.declared.runs.step.Reply.TheVariants as reply
 use Rattle.wl_server.specs.declared.runs.step.Step.{Step}
@@ -21,8 +22,9 @@ use Rattle.wl_server.specs.PartStep.{Asked, Call, Changed, PartCall, PartStep, W
 use Rattle.wl_server.proofs.OverRuns.Outcome.OfferLaws.{answered_step, numbers_as, offer_as, offer_one, shared_same}
 use Rattle.wl_server.specs.Server.{Seen, ServerState, seen}
 use Rattle.wl_server.specs.Steps.{Entry, InsertsNext, NumbersClient, AnswersShared, OneStep, RisesBySlot, inserted_by, lacks_growth, offer_after}
+use Rattle.wl_server.proofs.OverRuns.Outcome.SameNotes.{SameNotes, notes_one, took_one}
 use Rattle.wl_server.proofs.OverRuns.Outcome.WholeLaws.{ample_by, inserts_there, slots_same, whole_one}
-use Rattle.wl_server.specs.WholeOutcome.{PerformancesHaveOneOutcome, RunsHaveOneOutcome, SameServer, WholeAnswer, WholeReply}
+use Rattle.wl_server.specs.Outcome.Whole.{PerformancesHaveOneOutcome, RunsHaveOneOutcome, SameServer, WholeAnswer, WholeReply}
 
 module _ {T U G C : Type 0} where
   -- ---- what a call counts and numbers, by its step and its answer
@@ -105,24 +107,36 @@ module _ {T U G C : Type 0} where
         shared_same any s.offer k p q refl ample ample' n n' (answered_step w any s.offer k p _ _ _ _ h) (answered_step w any s.offer k q _ _ _ _ g)
     whole_shared any k p q ample ample' c c' n n' h g = tt
 
+    -- who takes notes in one run does in the other
+    taking_too : (k k' : Step T U G C) → k ≡ step.TakeNotes → SameStep k k' → step.TakeNotes ≡ k'
+    taking_too k k' is same = subst (λ (z : Step T U G C). SameStep z k') is same
+
     call_whole : (call call' : Call T U G C) → SameCall call call' → lacks_growth call ≡ false → lacks_growth call' ≡ false → NumbersClient s call → NumbersClient t call'
         → AnswersShared s.offer call → AnswersShared s.offer call' → RisesBySlot call → RisesBySlot call'
+        → ((out out' : Vec (Note U) Global) → call ≡ Asked step.TakeNotes (reply.TakeNotes (Ok out))
+        → call' ≡ Asked step.TakeNotes (reply.TakeNotes (Ok out')) → out.items ≡ out'.items)
         → ((id : ClientParts) → PartCall w id s.offer call (seen id s) false (d id) (x id)) → ((id : ClientParts) → PartCall w id s.offer call' (seen id s) false (e id) (y id))
         → WholeAnswer call call' × SharedAnswer call call' × ((id : ClientParts) → SameFelt (d id) (e id) (x id) (y id))
-    call_whole (Asked k p) (Asked k' q) same ample ample' c c' n n' rises rises' h g =
+    call_whole (Asked k p) (Asked k' q) same ample ample' c c' n n' rises rises' took h g =
         let any : ClientParts = record { slot = 0; serial = 0 } in
         let there = part_as w known any s.offer (seen any s) (d any) (e any) (x any) (y any) k k' q same (g any) in
         let shared = whole_shared any k p q ample ample' c (clients_as t k k' q same c') n (numbers_as s.offer k k' q same n') (h any) there in (
           whole_one w any s.offer (seen any s) (d any) (e any) (x any) (y any) k p q
               (λ id own. (call_one w known id s.offer (seen id s) (d id) (e id) (x id) (y id) (Asked k p) (Asked k' q) same ample ample' shared (h id) (g id)).0 own)
-              shared ample ample' rises (rises_as k k' q same rises') (h any) there,
+              shared ample ample' rises (rises_as k k' q same rises')
+              (λ out out' taking is is'. took out out' (ap (λ (z : Step T U G C). Asked z p) taking ∙ ap (Asked step.TakeNotes) is)
+              (ap (λ (z : Step T U G C). Asked z q) (sym (taking_too k k' taking same)) ∙ ap (Asked step.TakeNotes) is'))
+              (h any) there,
           shared,
           λ id. (call_one w known id s.offer (seen id s) (d id) (e id) (x id) (y id) (Asked k p) (Asked k' q) same ample ample' shared (h id) (g id)).1,
         )
-    call_whole (Changed target v) (Changed target' v') same ample ample' c c' n n' rises rises' h g =
+    call_whole (Changed target v) (Changed target' v') same ample ample' c c' n n' rises rises' took h g =
         (tt, tt, λ id. (call_one w known id s.offer (seen id s) (d id) (e id) (x id) (y id) (Changed target v) (Changed target' v') same ample ample' tt (h id) (g id)).1)
-    call_whole (Asked k p) (Changed target v) same ample ample' c c' n n' rises rises' h g = absurd same
-    call_whole (Changed target v) (Asked k p) same ample ample' c c' n n' rises rises' h g = absurd same
+    call_whole (Asked k p) (Changed target v) same ample ample' c c' n n' rises rises' took h g = absurd same
+    call_whole (Changed target v) (Asked k p) same ample ample' c c' n n' rises rises' took h g = absurd same
+
+  noted : {s t : ServerState T U G C} → SameServer s t → SameNotes s t
+  noted same = record { notes = same.notes; numbers = same.numbers; times = same.times; numbered = same.numbered }
 
   -- each call has one outcome
   pub entry_one : (w : World T G C) → IsDetermined w → (s t x y : ServerState T U G C) (e f : Entry T U G C) → SameServer s t → SameCall e.call f.call
@@ -139,13 +153,18 @@ module _ {T U G C : Type 0} where
       (subst (λ (b : Bool). PartCall w id t.offer f.call (seen id t) b (f.did id) (seen id y)) (ample'.1 id) (by'.each id))) in
       let numbers = subst (λ (o : Offer G). AnswersShared o f.call) (sym same.offer) by'.global in
       let one = call_whole w known s t same (λ id. e.did id) (λ id. f.did id) (λ id. seen id x) (λ id. seen id y) e.call f.call same_call ample.0 ample'.0 by.client by'.client
-      by.global numbers by.order by'.order here there in (
+      by.global numbers by.order by'.order (took_one w s t x y e f (noted same) same.each by by') here there in
+      let notes = notes_one w s t x y e f (noted same) (λ id. (one.2 id).after) same_call ample.0 ample'.0 by by' in (
         one.0,
         λ id. (one.2 id).did,
         record {
           offer = by.offer ∙ call_offer s.offer e.call f.call same_call one.1 ∙ ap (λ (o : Offer G). offer_after o f.call) same.offer ∙ sym by'.offer;
           last = by.last ∙ ap (λ (n : ℕ). s.last_client + n) (call_inserted e.call f.call same_call one.1) ∙ ap (λ (n : ℕ). n + inserted_by f.call) same.last ∙ sym by'.last;
           each = λ id. (one.2 id).after;
+          notes = notes.notes;
+          numbers = notes.numbers;
+          times = notes.times;
+          numbered = notes.numbered;
         },
       )
 

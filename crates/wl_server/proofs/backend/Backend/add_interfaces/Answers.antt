@@ -15,7 +15,7 @@ use Rattle.wl_server.proofs.backend.Backend.add_interfaces.Goals as goal
 
 felt : {T U G C : Type 0} (interfaces : Vec Interface Global) (r : Result (Unit {0}) TableError)
     → IsFelt {T = T} {U = U} {G = G} {C = C} (Asked (step.AddInterfaces interfaces) (reply.AddInterfaces r))
-felt interfaces r = record { last = refl; client = λ b. tt; order = tt; room = λ b. tt }
+felt interfaces r = record { last = refl; client = λ b. tt; order = tt; room = λ b. tt; notes = λ b a h. h }
 
 lacked : (T U G C : Type 0) (interfaces : Vec Interface Global) (r : Result (Unit {0}) TableError) (refused : Bool) → refused ≡ refused_growth r
     → lacks_growth {T = T} {U = U} {G = G} {C = C} (Asked (step.AddInterfaces interfaces) (reply.AddInterfaces r)) ≡ refused

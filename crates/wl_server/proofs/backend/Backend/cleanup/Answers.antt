@@ -1,9 +1,11 @@
-use Rattle.std.proofs.Common.{◌<◌, ◌≤◌, ◌+◌, true, arith, length, refl, subst}
+use Rattle.std.proofs.Common.{◌<◌, ◌≤◌, ◌+◌, true, arith, length, map, refl, subst, sym}
 use Rattle.std.specs.Vec.{vec_capacity}
 use Rattle.wl_server.specs.Inside.Cleanup.{CleansUp}
 use Rattle.wl_server.specs.Inside.Gathering.{count_leaving}
 use Rattle.wl_server.specs.Inside.Leaving.{collected, given_at}
-use Rattle.wl_server.proofs.CallSteps.Numbering.{numbers_left}
+use Rattle.wl_server.specs.NoteOrder.{HasNumbers, times_of}
+use Rattle.wl_server.specs.declared.notes.queues.NoteNumbers.{NoteNumbers}
+use Rattle.wl_server.proofs.CallSteps.Numbering.{numbers_left, waiting_anew}
 use Rattle.wl_server.proofs.CleanupSteps.CleanedSlots.{slots_cleaned}
 use Rattle.wl_server.proofs.CleanupSteps.CleaningUp.{cleaned_up, cleanup_starved}
 use Rattle.wl_server.proofs.CleanupSteps.Taken.{none_taken}
@@ -21,7 +23,8 @@ returns-in-Ok-clause-call g c =
     subst (λ ns. CleansUp g.T.Transport.sends c.self.inside.clients.items ns c.clean_up-self-inside.result c.clean_up-self-inside.new.clients.items
     c.clean_up-self-inside.new.notes.items c.clean_up-self-inside.new.memory.given.items) c.memory_for.ensures.items c.clean_up-self-inside.ensures.cleaned
     in
-    rw (← c.self.view_is) (cleaned_up _ _ _ _ _ c.clean_up-self-inside.new.memory.given _ refl by)
+    rw (← c.self.view_is) (cleaned_up _ _ _ _ _ c.clean_up-self-inside.new.memory.given _ refl by c.clean_up-self-inside.new.numbers
+    c.clean_up-self-inside.ensures.first c.clean_up-self-inside.ensures.none_waits c.clean_up-self-inside.ensures.numbered c.clean_up-self-inside.ensures.numbers)
 
 pub returns-in-Err-clause-call : goal.returns-in-Err-clause-call
 returns-in-Err-clause-call g c =
@@ -35,7 +38,8 @@ invariant_of-self g c =
     let after = c.clean_up-self-inside.new.clients.ok.0 in
     let within = c.self.invariant.0.within in (
       record { within = omega (arith, same, before, after, within); taken = none_taken _ },
-      numbers_left _ _ _ c.clean_up-self-inside.ensures.first c.self.invariant.1,
+      subst (λ (n : NoteNumbers). HasNumbers n (map times_of c.clean_up-self-inside.new.clients.items)) (sym c.clean_up-self-inside.ensures.numbers)
+          (waiting_anew _ _ c.clean_up-self-inside.ensures.none_waits (numbers_left _ _ _ c.clean_up-self-inside.ensures.first c.self.invariant.1)),
     )
 
 pub returns-in-Ok-clause-plain : goal.returns-in-Ok-clause-plain

@@ -15,7 +15,7 @@ use Rattle.wl_server.specs.Server.{Stored}
 use Rattle.wl_server.specs.Steps.{lacks_growth}
 use Rattle.wl_server.specs.declared.runs.step.Reply.TheVariants as reply
 use Rattle.wl_server.specs.declared.runs.step.Step.TheVariants as step
-use Rattle.wl_server.specs.Inside.NoteOrder.{AllInTime, times_of}
+use Rattle.wl_server.specs.NoteOrder.{AllInTime, AllNumbered, times_of}
 use Rattle.wl_server.proofs.CallSteps.Feeling.{IsFelt, felt_call, unfelt_call}
 use Rattle.wl_server.proofs.CleanupSteps.Taken.{slots_felt}
 use Rattle.wl_server.proofs.Plain.Globals.{offers_global}
@@ -24,7 +24,7 @@ use Rattle.wl_server.proofs.backend.Backend.create_global.Goals.{in-OutOfMemory,
 
 felt : {T U G C : Type 0} (i : InterfaceId) (version : ℕ) (handler : G) (answer : Result GlobalParts GlobalError)
     → IsFelt {T = T} {U = U} {G = G} {C = C} (Asked (step.CreateGlobal i version handler) (reply.CreateGlobal answer))
-felt i version handler answer = record { last = refl; client = λ b. tt; order = tt; room = λ b. tt }
+felt i version handler answer = record { last = refl; client = λ b. tt; order = tt; room = λ b. tt; notes = λ b a h. h }
 
 abbrev is_out_of_memory : GlobalError → Bool
 is_out_of_memory refused.OutOfMemory = true
@@ -59,11 +59,14 @@ returns-in-Ok-clause-call g c =
     (subst (λ (o : Option (Object (KeptGlobal _))). IfSome o (λ x. AllFeel (HearsNew g.T.Transport.sends g.G.GlobalHandler.views c.self.inside.protocol c.in-Ok.id x)
     c.tell_named-self-inside.result (length c.deref_mut.result.now) c.deref_mut.result.now c.tell_named-self-inside.new.clients)) c.in-Ok.ensures.kept c.tell_named-self-inside.ensures.felt) in
     let len : length c.tell_named-self-inside.new.clients ≡ vec_len c.self.inside.clients = all.len ∙ sym c.self.inside.clients.ok.0 in
+    let numbers = subst (λ (xs : List (Option (Stored _ _ _))). AllInTime (map times_of xs) c.self.inside.numbers (map times_of c.tell_named-self-inside.new.clients)
+    c.tell_named-self-inside.new.numbers) c.deref_mut.ensures.value c.tell_named-self-inside.ensures.in_time in
     rw (← c.self.view_is, with_items_is c.self.inside.clients c.tell_named-self-inside.new.clients len)
     (felt_call _ _ _ _ (felt _ _ _ _) (HearsNew g.T.Transport.sends g.G.GlobalHandler.views c.self.inside.protocol c.in-Ok.id new)
-    c.tell_named-self-inside.result _ c.tell_named-self-inside.new.clients
+    c.tell_named-self-inside.result _ c.tell_named-self-inside.new.clients c.tell_named-self-inside.new.numbers
     (ap (λ (gs : Globals _). let o : Offer _ = record { table = c.self.inside.protocol; globals = gs; default_limit = c.self.inside.default_limit } in o) c.in-Ok.ensures.globals)
-    c.in-Ok.ensures.answer refl (λ i l d b a h. (_, refl, h)) all)
+    c.in-Ok.ensures.answer refl (λ i l d b a h. (_, refl, h)) all numbers
+    (subst (λ (xs : List (Option (Stored _ _ _))). AllNumbered xs → AllNumbered c.tell_named-self-inside.new.clients) c.deref_mut.ensures.value c.tell_named-self-inside.ensures.numbered))
 
 pub invariant_of-self : goal.invariant_of-self
 invariant_of-self g c =
@@ -76,7 +79,7 @@ invariant_of-self g c =
     let len : length c.tell_named-self-inside.new.clients ≡ vec_len c.self.inside.clients = all.len ∙ sym c.self.inside.clients.ok.0 in
     let numbers = subst (λ (xs : List (Option (Stored _ _ _))). AllInTime (map times_of xs) c.self.inside.numbers (map times_of c.tell_named-self-inside.new.clients)
     c.tell_named-self-inside.new.numbers) c.deref_mut.ensures.value c.tell_named-self-inside.ensures.in_time in
-    rw (with_items_is c.self.inside.clients c.tell_named-self-inside.new.clients len) (slots_felt _ _ _ _ _ _ all c.self.invariant.0, numbers.keeps c.self.invariant.1)
+    rw (with_items_is c.self.inside.clients c.tell_named-self-inside.new.clients len) (slots_felt _ _ _ _ _ _ all c.self.invariant.0, numbers.1.keeps c.self.invariant.1)
 
 pub returns-after-matches-clause-plain : goal.returns-after-matches-clause-plain
 returns-after-matches-clause-plain g c = offers_global _ _ _ _ (returns-after-matches-clause-call g c)

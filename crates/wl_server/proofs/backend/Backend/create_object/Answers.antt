@@ -10,7 +10,7 @@ use Rattle.wl_server.specs.PartStep.{Asked, lacks_create}
 use Rattle.wl_server.specs.Server.{Stored}
 use Rattle.wl_server.specs.declared.runs.step.Reply.TheVariants as reply
 use Rattle.wl_server.specs.declared.runs.step.Step.TheVariants as step
-use Rattle.wl_server.proofs.CallSteps.Numbering.{numbers_stay}
+use Rattle.wl_server.proofs.CallSteps.Numbering.{in_time_same, numbers_stay}
 use Rattle.wl_server.proofs.CallSteps.OneClient.{IsOwn, done_to, none_stored}
 use Rattle.wl_server.proofs.CallSteps.Slots.{Kind}
 use Rattle.wl_server.proofs.CleanupSteps.Taken.{slots_set}
@@ -22,7 +22,7 @@ creates table i version u answer id p lacked did q = (lacked ≡ lacks_create an
 
 own : {T U G C : Type 0} (id : ClientParts) (i : InterfaceId) (version : ℕ) (u : U) (answer : Result IdParts CreateError)
     → IsOwn {T = T} {U = U} {G = G} {C = C} (Asked (step.CreateObject id i version u) (reply.CreateObject answer))
-own id i version u answer = record { offer = λ o. refl; last = refl; client = λ b. tt; global = λ o. tt; order = tt; room = λ b. tt; growth = refl }
+own id i version u answer = record { offer = λ o. refl; last = refl; client = λ b. tt; global = λ o. tt; order = tt; room = λ b. tt; growth = refl; notes = λ b a h. h }
 
 -- with whether memory was refused
 does : {T U C : Type 0} (table : List InterfaceRow) (id : ClientParts) (before after : Stored T U C) (i : InterfaceId) (version : ℕ) (u : U) (answer : Result IdParts CreateError)
@@ -40,7 +40,7 @@ returns-clause-call g c = rw (← c.self.view_is)
     (done_to _ _ _ _ (own _ _ _ _ _) c.args.client.now (creates _ c.args.interface c.args.version c.args.user_data c.create_object-answer.result)
     (c.create_object-answer.result ≡ Err create.InvalidId) (λ i l d b a h. (_, refl, h)) _ c.in-Some.stored.now c.create_object-answer.new.self
     c.lacks_memory-self-inside.result refl c.in-Some.ensures.value
-    (does c.self.inside.protocol c.args.client.now c.in-Some.stored.now c.create_object-answer.new.self c.args.interface c.args.version c.args.user_data c.create_object-answer.result _ c.lacks_memory-self-inside.ensures c.create_object-answer.ensures.does))
+    (does c.self.inside.protocol c.args.client.now c.in-Some.stored.now c.create_object-answer.new.self c.args.interface c.args.version c.args.user_data c.create_object-answer.result _ c.lacks_memory-self-inside.ensures c.create_object-answer.ensures.does) _ (in_time_same _ _ _ _ c.create_object-answer.ensures.times refl) c.create_object-answer.ensures.numbered)
 
 pub invariant_of-self-2 : goal.invariant_of-self-2
 invariant_of-self-2 g c = (slots_set _ _ _ _ _ c.self.invariant.0, numbers_stay _ _ _ _ _ c.in-Some.ensures.value c.create_object-answer.ensures.times c.self.invariant.1)

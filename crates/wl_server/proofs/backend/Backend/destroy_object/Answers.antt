@@ -23,7 +23,7 @@ destroys sends o answer id p lacked did q = Destroys sends id p o answer lacked 
 
 own : {T U G C : Type 0} (o : IdParts) (answer : Result (Unit {0}) DestroyError)
     → IsOwn {T = T} {U = U} {G = G} {C = C} (Asked (step.DestroyObject o) (reply.DestroyObject answer))
-own o answer = record { offer = λ o. refl; last = refl; client = λ b. tt; global = λ o. tt; order = tt; room = λ b. tt; growth = refl }
+own o answer = record { offer = λ o. refl; last = refl; client = λ b. tt; global = λ o. tt; order = tt; room = λ b. tt; growth = refl; notes = λ b a h. h }
 
 -- with whether memory was refused
 does : {T U C : Type 0} (sends : T → Queue → Result ℕ IoFault → T → Type 0) (o : IdParts) (before after : Stored T U C) (answer : Result (Unit {0}) DestroyError)
@@ -40,7 +40,7 @@ pub returns-clause-call : goal.returns-clause-call
 returns-clause-call g c = rw (← c.self.view_is)
     (done_to _ _ _ _ (own _ _) c.args.id.now.client (destroys g.T.Transport.sends c.args.id.now c.destroy_object-answer.result) (c.destroy_object-answer.result ≡ Err destroy.InvalidId)
     (λ i l d b a h. (_, refl, h)) _ c.in-Some.client.now c.destroy_object-answer.new.self c.lacks_memory-self-inside.result
-    c.client-client.ensures c.in-Some.ensures.value (does g.T.Transport.sends c.args.id.now c.in-Some.client.now c.destroy_object-answer.new.self c.destroy_object-answer.result _ c.lacks_memory-self-inside.ensures c.destroy_object-answer.ensures.does))
+    c.client-client.ensures c.in-Some.ensures.value (does g.T.Transport.sends c.args.id.now c.in-Some.client.now c.destroy_object-answer.new.self c.destroy_object-answer.result _ c.lacks_memory-self-inside.ensures c.destroy_object-answer.ensures.does) _ c.destroy_object-answer.ensures.in_time c.destroy_object-answer.ensures.numbered)
 
 pub invariant_of-self-2 : goal.invariant_of-self-2
 invariant_of-self-2 g c = (slots_set _ _ _ _ _ c.self.invariant.0, numbers_set _ _ _ _ _ _ c.in-Some.ensures.value c.destroy_object-answer.ensures.in_time c.self.invariant.1)

@@ -1,7 +1,7 @@
 use Rattle.std.proofs.Common.{◌≡◌, false, Option, Result, Ok, Err, ap, refl, sym}
 use Rattle.std.specs.Prelude.{option_map}
 use Rattle.std.specs.Result.{result_and}
-use Rattle.wl_server.proofs.CallSteps.Numbering.{numbers_stay}
+use Rattle.wl_server.proofs.CallSteps.Numbering.{in_time_same, numbers_stay}
 use Rattle.wl_server.proofs.OverRuns.Cut.CuttingLaws.{histories_cut}
 use Rattle.wl_server.specs.declared.error.FinishError.TheVariants as finish
 use Rattle.wl_server.specs.declared.error.FinishRefused.{FinishRefused}
@@ -23,36 +23,36 @@ finishes u answer id p lacked did q = FinishesBind p u answer lacked did q
 
 own : {T U G C : Type 0} (id : ClientParts) (u : U) (answer : Result (Unit {0}) (FinishRefused U))
     → IsOwn {T = T} {U = U} {G = G} {C = C} (Asked (step.FinishBind id u) (reply.FinishBind answer))
-own id u answer = record { offer = λ o. refl; last = refl; client = λ b. tt; global = λ o. tt; order = tt; room = λ b. tt; growth = refl }
+own id u answer = record { offer = λ o. refl; last = refl; client = λ b. tt; global = λ o. tt; order = tt; room = λ b. tt; growth = refl; notes = λ b a h. h }
 
 abbrev Unknown : {U : Type 0} → U → Result (Unit {0}) (FinishRefused U) → Type 0
 Unknown u answer = answer ≡ Err (record { error = finish.InvalidId; user_data = u })
 
-pub returns-in_default-clause-finished : goal.returns-in_default-clause-finished
-returns-in_default-clause-finished g c = rw (← c.self.view_is)
+pub returns-in_default-clause-call : goal.returns-in_default-clause-call
+returns-in_default-clause-call g c = rw (← c.self.view_is)
     (none_stored _ _ _ _ (own _ _ _) c.args.client.now (finishes c.args.user_data (Err (record { error = finish.InvalidId; user_data = c.args.user_data })))
     (Unknown c.args.user_data (Err (record { error = finish.InvalidId; user_data = c.args.user_data }))) (λ i l d b a h. (_, refl, h))
     _ refl c.in_default.ensures.value refl)
 
-pub returns-clause-finished : goal.returns-clause-finished
-returns-clause-finished g c = rw (← c.self.view_is)
+pub returns-clause-call : goal.returns-clause-call
+returns-clause-call g c = rw (← c.self.view_is)
     (done_to _ _ _ _ (own _ _ _) c.args.client.now (finishes c.args.user_data (result_and c.finish_bind.result (Ok tt))) (Unknown c.args.user_data (result_and c.finish_bind.result (Ok tt))) (λ i l d b a h. (_, refl, h))
-    _ c.in-Some.stored.now c.finish_bind.new.self false refl c.in-Some.ensures.value c.finish_bind.ensures.done)
+    _ c.in-Some.stored.now c.finish_bind.new.self false refl c.in-Some.ensures.value c.finish_bind.ensures.done _ (in_time_same _ _ _ _ c.finish_bind.ensures.times refl) c.finish_bind.ensures.numbered)
 
 pub returns-in_default-clause-cutting : goal.returns-in_default-clause-cutting
-returns-in_default-clause-cutting g c = ((returns-in_default-clause-finished g c).step, histories_cut _ _ _ _)
+returns-in_default-clause-cutting g c = ((returns-in_default-clause-call g c).step, histories_cut _ _ _ _)
 
 pub returns-clause-cutting : goal.returns-clause-cutting
-returns-clause-cutting g c = ((returns-clause-finished g c).step, histories_cut _ _ _ _)
+returns-clause-cutting g c = ((returns-clause-call g c).step, histories_cut _ _ _ _)
 
 pub invariant_of-self-2 : goal.invariant_of-self-2
 invariant_of-self-2 g c = (slots_set _ _ _ _ _ c.self.invariant.0, numbers_stay _ _ _ _ _ c.in-Some.ensures.value c.finish_bind.ensures.times c.self.invariant.1)
 
 pub returns-in_default-clause-plain : goal.returns-in_default-clause-plain
-returns-in_default-clause-plain g c = ends_bind _ _ _ (returns-in_default-clause-finished g c)
+returns-in_default-clause-plain g c = ends_bind _ _ _ (returns-in_default-clause-call g c)
 
 pub returns-clause-plain : goal.returns-clause-plain
-returns-clause-plain g c = ends_bind _ _ _ (returns-clause-finished g c)
+returns-clause-plain g c = ends_bind _ _ _ (returns-clause-call g c)
 
 pub returns-clause-data : goal.returns-clause-data
 returns-clause-data g c =

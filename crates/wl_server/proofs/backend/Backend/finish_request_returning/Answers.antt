@@ -26,37 +26,37 @@ finishes sends u answer id p lacked did q = FinishesRequest sends id p u answer 
 
 own : {T U G C : Type 0} (id : ClientParts) (u : Option U) (answer : Result (Unit {0}) (FinishRefused (Option U)))
     → IsOwn {T = T} {U = U} {G = G} {C = C} (Asked (step.FinishRequest id u) (reply.FinishRequest answer))
-own id u answer = record { offer = λ o. refl; last = refl; client = λ b. tt; global = λ o. tt; order = tt; room = λ b. tt; growth = refl }
+own id u answer = record { offer = λ o. refl; last = refl; client = λ b. tt; global = λ o. tt; order = tt; room = λ b. tt; growth = refl; notes = λ b a h. h }
 
 abbrev Unknown : {U : Type 0} → Option U → Result (Unit {0}) (FinishRefused (Option U)) → Type 0
 Unknown u answer = answer ≡ Err (record { error = finish.InvalidId; user_data = u })
 
-pub returns-in_default-clause-finished : goal.returns-in_default-clause-finished
-returns-in_default-clause-finished g c = rw (← c.self.view_is)
+pub returns-in_default-clause-call : goal.returns-in_default-clause-call
+returns-in_default-clause-call g c = rw (← c.self.view_is)
     (none_stored _ _ _ _ (own _ _ _) c.args.client.now (finishes g.T.Transport.sends c.args.user_data (Err (record { error = finish.InvalidId; user_data = c.args.user_data })))
     (Unknown c.args.user_data (Err (record { error = finish.InvalidId; user_data = c.args.user_data }))) (λ i l d b a h. (_, refl, h))
     _ refl c.in_default.ensures.value refl)
 
-pub returns-clause-finished : goal.returns-clause-finished
-returns-clause-finished g c = rw (← c.self.view_is, c.lacks_memory-self-inside.ensures)
+pub returns-clause-call : goal.returns-clause-call
+returns-clause-call g c = rw (← c.self.view_is, c.lacks_memory-self-inside.ensures)
     (done_to _ _ _ _ (own _ _ _) c.args.client.now (finishes g.T.Transport.sends c.args.user_data (result_and c.finish_request-answer.result (Ok tt)))
     (Unknown c.args.user_data (result_and c.finish_request-answer.result (Ok tt))) (λ i l d b a h. (_, refl, h)) _ c.in-Some.stored.now
-    c.finish_request-answer.new.self (lacks_finish (result_and c.finish_request-answer.result (Ok tt))) refl c.in-Some.ensures.value c.finish_request-answer.ensures.done)
+    c.finish_request-answer.new.self (lacks_finish (result_and c.finish_request-answer.result (Ok tt))) refl c.in-Some.ensures.value c.finish_request-answer.ensures.done _ c.finish_request-answer.ensures.in_time c.finish_request-answer.ensures.numbered)
 
 pub returns-in_default-clause-cutting : goal.returns-in_default-clause-cutting
-returns-in_default-clause-cutting g c = ((returns-in_default-clause-finished g c).step, histories_cut _ _ _ _)
+returns-in_default-clause-cutting g c = ((returns-in_default-clause-call g c).step, histories_cut _ _ _ _)
 
 pub returns-clause-cutting : goal.returns-clause-cutting
-returns-clause-cutting g c = ((returns-clause-finished g c).step, histories_cut _ _ _ _)
+returns-clause-cutting g c = ((returns-clause-call g c).step, histories_cut _ _ _ _)
 
 pub invariant_of-self-2 : goal.invariant_of-self-2
 invariant_of-self-2 g c = (slots_set _ _ _ _ _ c.self.invariant.0, numbers_set _ _ _ _ _ _ c.in-Some.ensures.value c.finish_request-answer.ensures.in_time c.self.invariant.1)
 
 pub returns-in_default-clause-plain : goal.returns-in_default-clause-plain
-returns-in_default-clause-plain g c = ends_open_request _ _ _ _ _ _ (returns-in_default-clause-finished g c)
+returns-in_default-clause-plain g c = ends_open_request _ _ _ _ _ _ (returns-in_default-clause-call g c)
 
 pub returns-clause-plain : goal.returns-clause-plain
-returns-clause-plain g c = ends_open_request _ _ _ _ _ _ (returns-clause-finished g c)
+returns-clause-plain g c = ends_open_request _ _ _ _ _ _ (returns-clause-call g c)
 
 pub returns-clause-data : goal.returns-clause-data
 returns-clause-data g c =

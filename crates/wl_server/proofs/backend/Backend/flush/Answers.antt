@@ -5,8 +5,8 @@ use Rattle.wl_server.specs.Ids.{ClientParts}
 use Rattle.wl_server.specs.PartStep.{Asked}
 use Rattle.wl_server.specs.declared.runs.step.Reply.TheVariants as reply
 use Rattle.wl_server.specs.declared.runs.step.Step.TheVariants as step
-use Rattle.wl_server.specs.Inside.NoteOrder.{HasNumbers}
-use Rattle.wl_server.proofs.CallSteps.Numbering.{numbers_stay}
+use Rattle.wl_server.specs.NoteOrder.{HasNumbers}
+use Rattle.wl_server.proofs.CallSteps.Numbering.{all_same, in_time_same, numbers_stay}
 use Rattle.wl_server.proofs.CallSteps.OneClient.{IsOwn, done_to, none_stored}
 use Rattle.wl_server.proofs.CallSteps.Feeling.{IsFelt, felt_call}
 use Rattle.wl_server.proofs.CleanupSteps.Taken.{slots_set, taken_felt}
@@ -15,16 +15,16 @@ use Rattle.wl_server.proofs.backend.Backend.flush.Goals as goal
 use Rattle.wl_server.specs.Server.{NoteTimes}
 
 own : {T U G C : Type 0} (client : Option ClientParts) (answer : _) → IsOwn {T = T} {U = U} {G = G} {C = C} (Asked (step.Flush client) (reply.Flush answer))
-own client answer = record { offer = λ o. refl; last = refl; client = λ b. tt; global = λ o. tt; order = tt; room = λ b. tt; growth = refl }
+own client answer = record { offer = λ o. refl; last = refl; client = λ b. tt; global = λ o. tt; order = tt; room = λ b. tt; growth = refl; notes = λ b a h. h }
 
 felt : {T U G C : Type 0} (client : Option ClientParts) (answer : _) → IsFelt {T = T} {U = U} {G = G} {C = C} (Asked (step.Flush client) (reply.Flush answer))
-felt client answer = record { last = refl; client = λ b. tt; order = tt; room = λ b. tt }
+felt client answer = record { last = refl; client = λ b. tt; order = tt; room = λ b. tt; notes = λ b a h. h }
 
 pub returns-in_default-clause-call : goal.returns-in_default-clause-call
 returns-in_default-clause-call g c =
     rw (← c.self.view_is, c.in_default.is)
     (felt_call _ _ _ _ (felt _ _) (λ id p lacked did q. FlushesLive g.T.Transport.sends p lacked did q) c.flush_each-self-inside.result _ c.flush_each-self-inside.new.clients.items
-    refl tt refl (λ i l d b a h. (_, refl, (refl, h))) c.flush_each-self-inside.ensures.felt)
+    _ refl tt refl (λ i l d b a h. (_, refl, (refl, h))) c.flush_each-self-inside.ensures.felt (all_same _ _ _ c.flush_each-self-inside.ensures.times) c.flush_each-self-inside.ensures.numbered)
 
 pub invariant_of-self : goal.invariant_of-self
 invariant_of-self g c =
@@ -49,7 +49,7 @@ returns-clause-call g c =
     (sym c.is_out_of_memory-self-inside.ensures) c.flush-answer.ensures.flushed in
     rw (← c.self.view_is, c.in-Some.is)
     (done_to _ _ _ _ (own _ _) c.in-Some.id (λ i p lacked did q. FlushedTo g.T.Transport.sends p c.flush-answer.result lacked did q) (c.flush-answer.result ≡ Ok tt) (λ i l d b a h. (_, refl, h))
-    _ c.in-Some-stored_mut.client.now c.flush-answer.new.self c.is_out_of_memory-self-inside.result refl c.in-Some-stored_mut.ensures.value does)
+    _ c.in-Some-stored_mut.client.now c.flush-answer.new.self c.is_out_of_memory-self-inside.result refl c.in-Some-stored_mut.ensures.value does _ (in_time_same _ _ _ _ c.flush-answer.ensures.times refl) c.flush-answer.ensures.numbered)
 
 pub invariant_of-self-2 : goal.invariant_of-self-2
 invariant_of-self-2 g c = (slots_set _ _ _ _ _ c.self.invariant.0, numbers_stay _ _ _ _ _ c.in-Some-stored_mut.ensures.value c.flush-answer.ensures.times c.self.invariant.1)

@@ -15,12 +15,14 @@ pub returns-in-Ok-clause-call : goal.returns-in-Ok-clause-call
 returns-in-Ok-clause-call g c =
     let (s, is, put) = c.in-Ok.ensures.put in
     let (free, left, next) = c.in-Some.ensures.next in
-    rw (← c.self.view_is) (inserted _ _ c.args.transport c.args.client_data c.in-Some.id s c.put_new.new.clients.items free left next is put)
+    rw (← c.self.view_is) (inserted _ _ c.args.transport c.args.client_data c.in-Some.id s c.put_new.new.clients.items free left next is put c.put_new.new.numbers
+    (c.put_new.ensures.in_time free.free) c.put_new.ensures.numbered)
 
 pub returns-in-Err-clause-call : goal.returns-in-Err-clause-call
 returns-in-Err-clause-call g c =
     let (free, left, next) = c.in-Some.ensures.next in
-    rw (← c.self.view_is) (insertion_starved _ _ _ _ c.in-Some.id c.put_new.new.clients.items free left next c.in-Err.ensures.unchanged)
+    rw (← c.self.view_is) (insertion_starved _ _ _ _ c.in-Some.id c.put_new.new.clients.items free left next c.in-Err.ensures.unchanged
+    c.put_new.new.numbers (c.put_new.ensures.in_time free.free) c.put_new.ensures.numbered)
 
 pub invariant_of-self-in-Ok : goal.invariant_of-self-in-Ok
 invariant_of-self-in-Ok g c =
@@ -30,7 +32,7 @@ invariant_of-self-in-Ok g c =
         within = c.put_new.ensures.slots c.self.invariant.0.within;
         taken = subst (λ n. AreTaken (n + 1) c.put_new.new.clients.items) (sym c.slot.ensures) (taken_put _ _ _ s c.in-Some.ensures.next.0 put);
       },
-      all.keeps c.self.invariant.1,
+      all.1.keeps c.self.invariant.1,
     )
 
 pub returns-in_default-clause-plain : goal.returns-in_default-clause-plain

@@ -18,7 +18,7 @@ abbrev kills : {T U C : Type 0} → DisconnectReason → Kind T U C
 kills reason id p lacked did q = (lacked ≡ false) × Kills p reason did q
 
 own : {T U G C : Type 0} (id : ClientParts) (reason : DisconnectReason) → IsOwn {T = T} {U = U} {G = G} {C = C} (Asked (step.KillClient id reason) reply.KillClient)
-own id reason = record { offer = λ o. refl; last = refl; client = λ b. tt; global = λ o. tt; order = tt; room = λ b. tt; growth = refl }
+own id reason = record { offer = λ o. refl; last = refl; client = λ b. tt; global = λ o. tt; order = tt; room = λ b. tt; growth = refl; notes = λ b a h. h }
 
 kill_does : {T U C : Type 0} (before : Stored T U C) (reason : DisconnectReason) (after : Stored T U C) → Does before (λ p did q. Kills p reason did q) after
     → Does before (λ p did q. (false ≡ false) × Kills p reason did q) after
@@ -31,7 +31,7 @@ returns-in_default-clause-call g c = rw (← c.self.view_is)
 pub returns-clause-call : goal.returns-clause-call
 returns-clause-call g c = rw (← c.self.view_is)
     (done_to _ _ _ _ (own _ _) c.args.id.now (kills c.args.reason) (Unit {0}) (λ i l d b a h. (refl, h))
-    _ c.in-Some.client.now c.kill.new.self false refl c.in-Some.ensures.value (kill_does c.in-Some.client.now _ c.kill.new.self c.kill.ensures.killed))
+    _ c.in-Some.client.now c.kill.new.self false refl c.in-Some.ensures.value (kill_does c.in-Some.client.now _ c.kill.new.self c.kill.ensures.killed) _ c.kill.ensures.in_time c.kill.ensures.numbered)
 
 pub invariant_of-self-2 : goal.invariant_of-self-2
 invariant_of-self-2 g c = (slots_set _ _ _ _ _ c.self.invariant.0, numbers_set _ _ _ _ _ _ c.in-Some.ensures.value c.kill.ensures.in_time c.self.invariant.1)

@@ -1,5 +1,5 @@
 use Rattle.std.proofs.Common.{arith, List, Option, map, subst, sym}
-use Rattle.wl_server.specs.Inside.NoteOrder.{HasNumbers, times_of}
+use Rattle.wl_server.specs.NoteOrder.{HasNumbers, times_of}
 use Rattle.wl_server.specs.Server.{Stored}
 use Rattle.wl_server.proofs.CallSteps.Numbering.{no_numbers}
 use Rattle.wl_server.proofs.CleanupSteps.Taken.{none_taken}

@@ -26,7 +26,7 @@ abbrev posts : {T U C : Type 0} → (T → Queue → Result ℕ IoFault → T �
 posts sends table o code text id p lacked did q = PostsError sends table p o code text lacked did q
 
 own : {T U G C : Type 0} (o : IdParts) (code : ℕ) (text : List ℕ) → IsOwn {T = T} {U = U} {G = G} {C = C} (Asked (step.PostError o code text) reply.PostError)
-own o code text = record { offer = λ o. refl; last = refl; client = λ b. tt; global = λ o. tt; order = tt; room = λ b. tt; growth = refl }
+own o code text = record { offer = λ o. refl; last = refl; client = λ b. tt; global = λ o. tt; order = tt; room = λ b. tt; growth = refl; notes = λ b a h. h }
 
 pub returns-in_default-clause-call : goal.returns-in_default-clause-call
 returns-in_default-clause-call g c = rw (← c.self.view_is)
@@ -37,7 +37,7 @@ pub returns-clause-call : goal.returns-clause-call
 returns-clause-call g c = rw (← c.self.view_is)
     (done_to _ _ _ _ (own _ _ _) c.args.id.now.client (posts g.T.Transport.sends c.self.inside.protocol c.args.id.now c.args.code c.args.text) (Unit {0})
     (λ i l d b a h. (refl, h)) _ c.in-Some.client.now c.post_error-self-inside.new.self c.post_error-self-inside.result
-    c.client-client.ensures c.in-Some.ensures.value c.post_error-self-inside.ensures.does)
+    c.client-client.ensures c.in-Some.ensures.value c.post_error-self-inside.ensures.does _ c.post_error-self-inside.ensures.in_time c.post_error-self-inside.ensures.numbered)
 
 pub invariant_of-self-2 : goal.invariant_of-self-2
 invariant_of-self-2 g c = (slots_set _ _ _ _ _ c.self.invariant.0, numbers_set _ _ _ _ _ _ c.in-Some.ensures.value c.post_error-self-inside.ensures.in_time c.self.invariant.1)

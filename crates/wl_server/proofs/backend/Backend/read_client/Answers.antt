@@ -18,13 +18,13 @@ pub returns-clause-fresh : goal.returns-clause-fresh
 returns-clause-fresh g c answer is fresh =
     rw (← c.self.view_is)
     (next_done g.T.Transport.sends g.T.Transport.receives g.G.GlobalHandler.views _ c.args.id.now c.args.reading.now c.find_action-answer.new.reading answer c.in-Some.client.now c.find_action-answer.new.self c.find_action-answer.result.1
-    c.in-Some.ensures.value (rw (← is) at c.find_action-answer.ensures.does) fresh)
+    c.in-Some.ensures.value (rw (← is) at c.find_action-answer.ensures.does) _ c.find_action-answer.ensures.in_time c.find_action-answer.ensures.numbered fresh)
 
 pub returns-clause-within : goal.returns-clause-within
 returns-clause-within g c answer is =
     rw (← c.self.view_is)
     (within_done g.T.Transport.sends g.T.Transport.receives g.G.GlobalHandler.views _ c.args.id.now c.args.reading.now c.find_action-answer.new.reading answer c.in-Some.client.now c.find_action-answer.new.self c.find_action-answer.result.1
-    c.in-Some.ensures.value (rw (← is) at c.find_action-answer.ensures.does))
+    c.in-Some.ensures.value (rw (← is) at c.find_action-answer.ensures.does) _ c.find_action-answer.ensures.in_time c.find_action-answer.ensures.numbered)
 
 pub invariant_of-self-2 : goal.invariant_of-self-2
 invariant_of-self-2 g c = (slots_set _ _ _ _ _ c.self.invariant.0, numbers_set _ _ _ _ _ _ c.in-Some.ensures.value c.find_action-answer.ensures.in_time c.self.invariant.1)

@@ -10,25 +10,28 @@ use Rattle.wl_server.specs.Inside.Places.{AllFeel}
 use Rattle.wl_server.specs.Server.{Stored}
 use Rattle.wl_server.specs.declared.runs.step.Reply.TheVariants as reply
 use Rattle.wl_server.specs.declared.runs.step.Step.TheVariants as step
-use Rattle.wl_server.specs.Inside.NoteOrder.{AllInTime, times_of}
+use Rattle.wl_server.specs.NoteOrder.{AllInTime, AllNumbered, times_of}
 use Rattle.wl_server.proofs.CallSteps.Feeling.{IsFelt, felt_call, unfelt_call}
 use Rattle.wl_server.proofs.CleanupSteps.Taken.{slots_felt}
 use Rattle.wl_server.proofs.Plain.Globals.{removes_global}
 use Rattle.wl_server.proofs.backend.Backend.remove_global.Goals as goal
 
 felt : {T U G C : Type 0} (id : GlobalParts) → IsFelt {T = T} {U = U} {G = G} {C = C} (Asked (step.RemoveGlobal id) reply.RemoveGlobal)
-felt id = record { last = refl; client = λ b. tt; order = tt; room = λ b. tt }
+felt id = record { last = refl; client = λ b. tt; order = tt; room = λ b. tt; notes = λ b a h. h }
 
 pub returns-then-was_enabled-clause-call : goal.returns-then-was_enabled-clause-call
 returns-then-was_enabled-clause-call g c =
     let len : length c.tell_loss-self-inside.new.clients ≡ vec_len c.self.inside.clients = c.tell_loss-self-inside.ensures.felt.len ∙ c.deref_mut.ensures.len in
     let all = subst (λ (xs : List (Option (Stored _ _ _))). AllFeel (λ id p lacked did q. Hears g.T.Transport.sends p (removals p c.name.result) lacked did q)
     c.tell_loss-self-inside.result (length xs) xs c.tell_loss-self-inside.new.clients) c.deref_mut.ensures.value c.tell_loss-self-inside.ensures.felt in
+    let numbers = subst (λ (xs : List (Option (Stored _ _ _))). AllInTime (map times_of xs) c.self.inside.numbers (map times_of c.tell_loss-self-inside.new.clients)
+    c.tell_loss-self-inside.new.numbers) c.deref_mut.ensures.value c.tell_loss-self-inside.ensures.in_time in
     rw (← c.self.view_is, with_items_is c.self.inside.clients c.tell_loss-self-inside.new.clients len)
     (felt_call _ _ _ _ (felt _) (λ id p lacked did q. Hears g.T.Transport.sends p (removals p c.args.id.now.name) lacked did q)
-    c.tell_loss-self-inside.result _ c.tell_loss-self-inside.new.clients
+    c.tell_loss-self-inside.result _ c.tell_loss-self-inside.new.clients c.tell_loss-self-inside.new.numbers
     (ap (λ (gs : Globals _). let o : Offer _ = record { table = c.self.inside.protocol; globals = gs; default_limit = c.self.inside.default_limit } in o) (c.remove.ensures c.self.inside.last_global))
-    tt refl (λ i l d b a h. (refl, at_true _ _ (sym c.is_enabled-was_enabled.ensures ∙ c.if-was_enabled.true) h)) (rw (← c.name.ensures) all))
+    tt refl (λ i l d b a h. (refl, at_true _ _ (sym c.is_enabled-was_enabled.ensures ∙ c.if-was_enabled.true) h)) (rw (← c.name.ensures) all) numbers
+    (subst (λ (xs : List (Option (Stored _ _ _))). AllNumbered xs → AllNumbered c.tell_loss-self-inside.new.clients) c.deref_mut.ensures.value c.tell_loss-self-inside.ensures.numbered))
 
 pub returns-else-was_enabled-clause-call : goal.returns-else-was_enabled-clause-call
 returns-else-was_enabled-clause-call g c = rw (← c.self.view_is)
@@ -43,7 +46,7 @@ invariant_of-self g c =
     c.tell_loss-self-inside.result (length xs) xs c.tell_loss-self-inside.new.clients) c.deref_mut.ensures.value c.tell_loss-self-inside.ensures.felt in
     let numbers = subst (λ (xs : List (Option (Stored _ _ _))). AllInTime (map times_of xs) c.self.inside.numbers (map times_of c.tell_loss-self-inside.new.clients)
     c.tell_loss-self-inside.new.numbers) c.deref_mut.ensures.value c.tell_loss-self-inside.ensures.in_time in
-    rw (with_items_is c.self.inside.clients c.tell_loss-self-inside.new.clients len) (slots_felt _ _ _ _ _ _ all c.self.invariant.0, numbers.keeps c.self.invariant.1)
+    rw (with_items_is c.self.inside.clients c.tell_loss-self-inside.new.clients len) (slots_felt _ _ _ _ _ _ all c.self.invariant.0, numbers.1.keeps c.self.invariant.1)
 
 pub returns-then-was_enabled-clause-plain : goal.returns-then-was_enabled-clause-plain
 returns-then-was_enabled-clause-plain g c = removes_global _ (returns-then-was_enabled-clause-call g c)

@@ -22,7 +22,7 @@ abbrev sends_event : {T U C : Type 0} → (T → Queue → Result ℕ IoFault �
 sends_event sends table m answer id p lacked did q = SendsEvent sends id table p (session_content m) answer lacked did q
 
 own : {T U G C : Type 0} (m : Message IdParts Token) (answer : Result (Unit {0}) EventError) → IsOwn {T = T} {U = U} {G = G} {C = C} (Asked (step.SendEvent m) (reply.SendEvent answer))
-own m answer = record { offer = λ o. refl; last = refl; client = λ b. tt; global = λ o. tt; order = tt; room = λ b. tt; growth = refl }
+own m answer = record { offer = λ o. refl; last = refl; client = λ b. tt; global = λ o. tt; order = tt; room = λ b. tt; growth = refl; notes = λ b a h. h }
 
 abbrev unknown : Result (Unit {0}) EventError
 unknown = Err refused.InvalidId
@@ -38,7 +38,7 @@ returns-clause-call g c = rw (← c.self.view_is)
     (c.send_event-answer.result.0 ≡ unknown) (λ i l d b a h. (c.send_event-answer.result.0, refl, h))
     _ c.in-Some.client.now c.send_event-answer.new.self c.send_event-answer.result.1
     c.client-id.ensures c.in-Some.ensures.value
-    c.send_event-answer.ensures.does)
+    c.send_event-answer.ensures.does _ c.send_event-answer.ensures.in_time c.send_event-answer.ensures.numbered)
 
 pub invariant_of-self-2 : goal.invariant_of-self-2
 invariant_of-self-2 g c = (slots_set _ _ _ _ _ c.self.invariant.0, numbers_set _ _ _ _ _ _ c.in-Some.ensures.value c.send_event-answer.ensures.in_time c.self.invariant.1)

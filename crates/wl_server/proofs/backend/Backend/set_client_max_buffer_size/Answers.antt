@@ -1,4 +1,4 @@
-use Rattle.std.proofs.Common.{◌≡◌, ℕ, List, Some, false, refl, sym, subst, ap}
+use Rattle.std.proofs.Common.{◌≡◌, ℕ, List, Some, false, refl, sym, subst, ap, ◌∙◌, length}
 use Rattle.wl_link.specs.Link.{LinkState, LimitSet}
 use Rattle.wl_server.specs.Inside.Client.{Does}
 use Rattle.wl_server.specs.Deeds.{Deed}
@@ -8,7 +8,7 @@ use Rattle.wl_server.specs.PartStep.{Asked, Quietly}
 use Rattle.wl_server.specs.Server.{Stored, no_times}
 use Rattle.wl_server.specs.declared.runs.step.Reply.TheVariants as reply
 use Rattle.wl_server.specs.declared.runs.step.Step.TheVariants as step
-use Rattle.wl_server.proofs.CallSteps.Numbering.{numbers_stay}
+use Rattle.wl_server.proofs.CallSteps.Numbering.{in_time_same, numbers_stay}
 use Rattle.wl_server.proofs.CallSteps.OneClient.{IsOwn, done_to, none_stored}
 use Rattle.wl_server.proofs.CallSteps.Doing.{does_quietly}
 use Rattle.wl_server.proofs.CallSteps.Slots.{Kind}
@@ -21,7 +21,7 @@ limits {T} limit id p lacked did q = Quietly lacked did ((link : LinkState T) ×
 
 own : {T U G C : Type 0} (id : ClientParts) (limit : ℕ)
     → IsOwn {T = T} {U = U} {G = G} {C = C} (Asked (step.SetClientMaxBufferSize id limit) reply.SetClientMaxBufferSize)
-own id limit = record { offer = λ o. refl; last = refl; client = λ b. tt; global = λ o. tt; order = tt; room = λ b. tt; growth = refl }
+own id limit = record { offer = λ o. refl; last = refl; client = λ b. tt; global = λ o. tt; order = tt; room = λ b. tt; growth = refl; notes = λ b a h. h }
 
 limit_set : {T U C : Type 0} (s : Stored T U C) (limit : ℕ) (before link : LinkState T) → s.part.link ≡ before → LimitSet before (Some limit) link
     → Does s (λ p did q. Quietly false did ((link : LinkState T) × LimitSet p.link (Some limit) link × (q ≡ with_link p link)))
@@ -41,7 +41,10 @@ pub returns-clause-call : goal.returns-clause-call
 returns-clause-call g c = rw (← c.self.view_is)
     (done_to _ _ _ _ (own _ _) c.args.client.now (limits c.args.max_buffer_size) (Unit {0}) (λ i l d b a h. (refl, h))
     _ c.in-Some.stored.now _ false refl c.in-Some.ensures.value
-    (rw (← c.stored.view_is) (limit_set (record { serial = _; part = _; made = _; times = no_times }) c.args.max_buffer_size c.stored.inside.socket c.set_max_buffer_size.new.self refl c.set_max_buffer_size.ensures)))
+    (rw (← c.stored.view_is) (limit_set (record { serial = _; part = _; made = _; times = no_times }) c.args.max_buffer_size c.stored.inside.socket c.set_max_buffer_size.new.self refl c.set_max_buffer_size.ensures)) _ (in_time_same _ _ _ _ (ap (λ (s : Stored _ _ _). s.times) c.stored.view_is) refl) (λ is. (
+      ap (λ (s : Stored _ _ _). length s.times.made) c.stored.view_is ∙ (is.0 ∙ sym (ap (λ (s : Stored _ _ _). length s.made) c.stored.view_is)),
+      ap (λ (s : Stored _ _ _). length s.times.waiting) c.stored.view_is ∙ (is.1 ∙ sym (ap (λ (s : Stored _ _ _). length s.part.waiting) c.stored.view_is)),
+    )))
 
 pub invariant_of-self-2 : goal.invariant_of-self-2
 invariant_of-self-2 g c = (slots_set _ _ _ _ _ c.self.invariant.0, numbers_stay _ _ _ _ _ c.in-Some.ensures.value (ap (λ (s : Stored _ _ _). s.times) c.stored.view_is) c.self.invariant.1)

@@ -10,7 +10,7 @@ pub returns-in-Ok-clause-call : goal.returns-in-Ok-clause-call
 returns-in-Ok-clause-call g c = rw (← c.self.view_is)
     (notes_taken _ _ c.gather_made.new.clients.items c.gather_made.new.notes.items c.replace.result c.replace.new.dest.items
     (ap (λ (v : Vec _ _). v.items) c.replace.ensures.value) (ap (λ (v : Vec _ _). v.items) c.replace.ensures.after ∙ c.new-none.ensures.items)
-    c.in-Ok.ensures.gathered c.in-Ok.ensures.ended)
+    c.in-Ok.ensures.gathered c.in-Ok.ensures.ended c.in-Ok.ensures.in_order c.gather_made.ensures.first c.in-Ok.ensures.numbered)
 
 pub returns-in-Err-clause-call : goal.returns-in-Err-clause-call
 returns-in-Err-clause-call g c = rw (← c.self.view_is) (notes_starved _ _ _ _ _ c.in-Err.ensures.unchanged.0 c.in-Err.ensures.unchanged.1 c.in-Err.ensures.some)

@@ -1,7 +1,7 @@
 use Rattle.std.proofs.Common.{◌≡◌, ◌∙◌, None, Option, option_copied, Bor, map, sym, ap, subst, refl, List, ℕ}
 use Rattle.wl_server.specs.Objects.{destroyable}
 use Rattle.wl_server.specs.declared.notes.Happening.{Happening}
-use Rattle.wl_server.specs.Inside.NoteOrder.{GivesNumbers, NotesInTime}
+use Rattle.wl_server.specs.NoteOrder.{GivesNumbers, NotesInTime}
 use Rattle.wl_server.proofs.CallSteps.Numbering.{in_time_both, still_waits, waits_in_time}
 use Rattle.wl_server.proofs.CallSteps.Doing.{told_untimed}
 use Rattle.wl_server.proofs.ObjectCalls.Destroying.{refused, starved, untold, destroyed}

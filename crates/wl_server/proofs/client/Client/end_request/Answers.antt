@@ -6,7 +6,7 @@ use Rattle.wl_server.specs.declared.notes.DisconnectReason.TheVariants.{Connecti
 use Rattle.wl_server.specs.Inside.Client.{Does}
 use Rattle.wl_server.specs.Server.{NoteTimes, Stored, untimed}
 use Rattle.wl_server.specs.Telling.{Kills}
-use Rattle.wl_server.specs.Inside.NoteOrder.{NotesInTime}
+use Rattle.wl_server.specs.NoteOrder.{NotesInTime}
 use Rattle.wl_server.proofs.CallSteps.Numbering.{in_time_both, in_time_same}
 use Rattle.wl_server.proofs.CallSteps.Doing.{told_untimed}
 use Rattle.wl_server.proofs.Readings.Finishing.{ends_done, ends_none, ends_starved, request_ends, request_refused, store_unless_written}

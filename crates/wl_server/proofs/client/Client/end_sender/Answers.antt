@@ -1,6 +1,6 @@
 use Rattle.std.proofs.Common.{ap, map, rules, subst, refl, List, ℕ}
 use Rattle.wl_server.specs.declared.notes.Happening.{Happening}
-use Rattle.wl_server.specs.Inside.NoteOrder.{GivesNumbers}
+use Rattle.wl_server.specs.NoteOrder.{GivesNumbers}
 use Rattle.wl_server.proofs.CallSteps.Numbering.{made_in_time, still_made}
 use Rattle.wl_server.proofs.Readings.Finishing.{ends_taken}
 use Rattle.wl_server.proofs.client.Client.end_sender.Goals as goal

@@ -13,6 +13,7 @@ loop-end-init g c =
       left = refl;
       goes = goes_none g.T.Transport.sends g.T.Transport.receives (around_of g.G.GlobalHandler.views c.args.around.now) c.args.self.now c.args.reading.now within c.requires.live;
       in_time = in_time_none _ _;
+      numbered = λ is. is;
     }
 
 pub loop-end-preserved : goal.loop-end-preserved
@@ -23,6 +24,7 @@ loop-end-preserved g c = record {
   goes = goes_goes g.T.Transport.sends g.T.Transport.receives (around_of g.G.GlobalHandler.views c.args.around.now) c.args.self.now c.loop-end.self c.handle_message.new.self c.args.reading.now c.loop-end.reading c.handle_message.new.reading
       c.loop-end.invariant.goes c.in-Continues.ensures.handles.0;
   in_time = in_time_both _ _ _ _ _ _ c.loop-end.invariant.in_time c.handle_message.ensures.in_time;
+  numbered = λ is. c.handle_message.ensures.numbered (c.loop-end.invariant.numbered is);
 }
 
 pub returns-in-Acts-clause-waited : goal.returns-in-Acts-clause-waited
@@ -43,3 +45,12 @@ returns-in-Acts-clause-in_time g c = in_time_both _ _ _ _ _ _ c.loop-end.invaria
 
 pub returns-in-Ends-clause-in_time : goal.returns-in-Ends-clause-in_time
 returns-in-Ends-clause-in_time g c = in_time_both _ _ _ _ _ _ c.loop-end.invariant.in_time c.handle_message.ensures.in_time
+
+pub returns-in-Lacks-clause-numbered : goal.returns-in-Lacks-clause-numbered
+returns-in-Lacks-clause-numbered g c is = c.handle_message.ensures.numbered (c.loop-end.invariant.numbered is)
+
+pub returns-in-Acts-clause-numbered : goal.returns-in-Acts-clause-numbered
+returns-in-Acts-clause-numbered g c is = c.handle_message.ensures.numbered (c.loop-end.invariant.numbered is)
+
+pub returns-in-Ends-clause-numbered : goal.returns-in-Ends-clause-numbered
+returns-in-Ends-clause-numbered g c is = c.handle_message.ensures.numbered (c.loop-end.invariant.numbered is)

@@ -1,5 +1,5 @@
 use Rattle.std.proofs.Common.{◌≡◌, ◌∙◌, true, false, ap, subst}
-use Rattle.wl_server.specs.Inside.NoteOrder.{NotesInTime}
+use Rattle.wl_server.specs.NoteOrder.{NotesInTime}
 use Rattle.wl_server.proofs.CallSteps.Numbering.{in_time_both}
 use Rattle.wl_server.proofs.ObjectCalls.Posting.{posted_dead, posted_live, posted_starved}
 use Rattle.wl_server.proofs.ObjectCalls.Told.{lacked_exactly, not_live, told_exactly}

@@ -12,6 +12,7 @@ loop-end-init g c =
       inline = c.requires.inline;
       goes = goes_none g.T.Transport.sends g.T.Transport.receives (around_of g.G.GlobalHandler.views c.args.around.now) c.args.self.now c.args.reading.now within c.requires.live;
       in_time = in_time_none _ _;
+      numbered = λ is. is;
     }
 
 pub returns-in-Some-clause-ends : goal.returns-in-Some-clause-ends
@@ -44,6 +45,7 @@ loop-end-preserved g c =
       goes = goes_goes g.T.Transport.sends g.T.Transport.receives (around_of g.G.GlobalHandler.views c.args.around.now) c.args.self.now c.handle_waiting.new.self c.receive.new.self c.args.reading.now c.handle_waiting.new.reading _ so
           (fills_goes g.T.Transport.sends g.T.Transport.receives (around_of g.G.GlobalHandler.views c.args.around.now) c.handle_waiting.new.self c.handle_waiting.new.reading _ waited.0.live (goes_within g.T.Transport.sends g.T.Transport.receives (around_of g.G.GlobalHandler.views c.args.around.now) c.args.self.now c.handle_waiting.new.self c.args.reading.now c.handle_waiting.new.reading so) waited.2 left refl c.receive.new.self c.in_default-receive.ensures.fills);
       in_time = in_time_both _ _ _ _ _ _ (in_time_both _ _ _ _ _ _ c.loop-end.invariant.in_time c.handle_waiting.ensures.in_time) c.receive.ensures.in_time;
+      numbered = λ is. c.receive.ensures.numbered (c.handle_waiting.ensures.numbered (c.loop-end.invariant.numbered is));
     }
 
 pub returns-in-Some-clause-in_time : goal.returns-in-Some-clause-in_time
@@ -55,3 +57,12 @@ returns-then-reading-eq0-clause-in_time g c = in_time_both _ _ _ _ _ _ c.loop-en
 pub returns-in-Some-receive-clause-in_time : goal.returns-in-Some-receive-clause-in_time
 returns-in-Some-receive-clause-in_time g c =
     in_time_both _ _ _ _ _ _ (in_time_both _ _ _ _ _ _ c.loop-end.invariant.in_time c.handle_waiting.ensures.in_time) c.receive.ensures.in_time
+
+pub returns-in-Some-clause-numbered : goal.returns-in-Some-clause-numbered
+returns-in-Some-clause-numbered g c is = c.handle_waiting.ensures.numbered (c.loop-end.invariant.numbered is)
+
+pub returns-then-reading-eq0-clause-numbered : goal.returns-then-reading-eq0-clause-numbered
+returns-then-reading-eq0-clause-numbered g c is = c.handle_waiting.ensures.numbered (c.loop-end.invariant.numbered is)
+
+pub returns-in-Some-receive-clause-numbered : goal.returns-in-Some-receive-clause-numbered
+returns-in-Some-receive-clause-numbered g c is = c.receive.ensures.numbered (c.handle_waiting.ensures.numbered (c.loop-end.invariant.numbered is))

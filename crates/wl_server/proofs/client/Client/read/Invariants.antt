@@ -1,5 +1,5 @@
-use Rattle.std.proofs.Common.{◌≤◌}
-use Rattle.wl_server.specs.Inside.NoteOrder.{NotesInTime}
+use Rattle.std.proofs.Common.{Some, ◌≤◌}
+use Rattle.wl_server.specs.NoteOrder.{IsNumbered, NotesInTime}
 use Rattle.wl_server.specs.Inside.ReadingLoop.{ReadsOn, around_of}
 use Rattle.wl_server.proofs.client.Client.read.Given as goal
 
@@ -10,6 +10,7 @@ invariant-loop-end g l = record {
   inline : 4 ≤ l.args.capacity;
   goes : ReadsOn g.T.Transport.sends g.T.Transport.receives (around_of g.G.GlobalHandler.views l.fn.around) l.fn.self l.fn.reading l.self l.reading;
   in_time : NotesInTime l.fn.self.times l.fn.numbers l.self.times l.numbers;
+  numbered : IsNumbered (Some l.fn.self) → IsNumbered (Some l.self);
 }
 
 abbrev pub decreases-loop-end : goal.decreases-loop-end

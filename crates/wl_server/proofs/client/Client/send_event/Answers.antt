@@ -7,7 +7,7 @@ use Rattle.wl_server.specs.Inside.Ending.{notes_ending, registries_ending}
 use Rattle.wl_server.specs.Events.{event_check, session_content}
 use Rattle.wl_server.specs.Ids.{ClientParts}
 use Rattle.wl_server.specs.declared.notes.Happening.{Happening}
-use Rattle.wl_server.specs.Inside.NoteOrder.{GivesNumbers, NotesInTime}
+use Rattle.wl_server.specs.NoteOrder.{GivesNumbers, NotesInTime}
 use Rattle.wl_server.proofs.CallSteps.Numbering.{in_time_both, still_waits, waits_in_time}
 use Rattle.wl_server.proofs.ObjectCalls.SendingEvents.{event_numbered, no_room, not_written, of_sender, sent, to_killed, was_granted, was_refused}
 use Rattle.wl_server.proofs.client.Client.send_event.Goals as goal

@@ -2,7 +2,7 @@ use Rattle.std.proofs.Common.{◌≡◌, Option, List, Some, arith, subst}
 use Rattle.wl_server.specs.Inside.Client.{IsInserted}
 use Rattle.wl_server.specs.Inside.Inserting.{IsPut}
 use Rattle.wl_server.specs.Server.{Stored}
-use Rattle.wl_server.proofs.CallSteps.Numbering.{put_in_time}
+use Rattle.wl_server.proofs.CallSteps.Numbering.{numbered_put, put_in_time}
 use Rattle.wl_server.proofs.client.insert.put_new.Goals as goal
 
 moved : {T U C : Type 0} (xs ys after : List (Option (Stored T U C))) (n m : _) (s : Stored T U C) → xs ≡ ys → n ≡ m → IsPut xs n s after → IsPut ys m s after
@@ -26,3 +26,8 @@ pub returns-clause-in_time : goal.returns-clause-in_time
 returns-clause-in_time g c = λ none.
     put_in_time c.args.clients.now.items c.put_at.new.clients.items c.args.id.now.slot c.in_ok-client.client c.args.numbers.now c.new.new.numbers none
     (moved _ _ _ _ _ _ c.in_ok-reserve_slot.ensures.items c.slot-slot.ensures c.put_at.ensures.put) c.in_ok-client.ensures.in_time
+
+pub returns-clause-numbered : goal.returns-clause-numbered
+returns-clause-numbered g c all =
+    numbered_put c.args.clients.now.items c.put_at.new.clients.items c.args.id.now.slot c.in_ok-client.client
+    (moved _ _ _ _ _ _ c.in_ok-reserve_slot.ensures.items c.slot-slot.ensures c.put_at.ensures.put) c.in_ok-client.ensures.numbered all

@@ -3,7 +3,7 @@ use Rattle.std.proofs.lemmas.Option.{slice_get-get_or}
 use Rattle.wl_server.specs.Globals.{shown_as}
 use Rattle.wl_server.specs.Inside.News.{Announced, HearsNew}
 use Rattle.wl_server.specs.Inside.Places.{AllFeel}
-use Rattle.wl_server.proofs.CallSteps.Numbering.{all_both, all_none, set_in_time}
+use Rattle.wl_server.proofs.CallSteps.Numbering.{below_none, next_in_time, numbered_set}
 use Rattle.wl_server.proofs.CallSteps.Feeling.{none_felt, one_more_felt}
 use Rattle.wl_server.proofs.globals.create_global.tell_new.Goals as goal
 
@@ -13,7 +13,8 @@ loop-slot-init g c = record {
   table = ap (λ (a : Announced). a.table) c.new-announcement.ensures;
   global = ap (λ (a : Announced). a.global) c.new-announcement.ensures ∙ ap (λ (n : ℕ). shown_as (n, c.args.global.now)) c.name.ensures;
   ends = refl;
-  in_time = all_none _ _;
+  in_time = below_none 0 _ _;
+  numbered = λ all. all;
 }
 
 pub loop-slot-preserved : goal.loop-slot-preserved
@@ -25,7 +26,8 @@ loop-slot-preserved g c =
       table = ap (λ (a : Announced). a.table) c.tell_new_at-refused.ensures.same ∙ c.loop-slot.invariant.table;
       global = ap (λ (a : Announced). a.global) c.tell_new_at-refused.ensures.same ∙ c.loop-slot.invariant.global;
       ends = refl;
-      in_time = all_both _ _ _ _ _ _ c.loop-slot.invariant.in_time (set_in_time _ _ _ _ _ _ here c.tell_new_at-refused.ensures.in_time);
+      in_time = next_in_time _ _ _ _ _ _ _ _ c.loop-slot.invariant.in_time here c.tell_new_at-refused.ensures.in_time;
+      numbered = λ all. numbered_set _ _ _ _ here c.tell_new_at-refused.ensures.numbered (c.loop-slot.invariant.numbered all);
     }
 
 pub returns-clause-felt : goal.returns-clause-felt
@@ -33,3 +35,6 @@ returns-clause-felt g c =
     let end : c.loop-slot.slot ≡ length c.args.clients.now = omega (arith, c.loop-slot-test.false, c.loop-slot.auto.slot-end) in
     subst (λ (n : ℕ). AllFeel (HearsNew g.T.Transport.sends g.G.GlobalHandler.views c.args.protocol.now c.args.id.now c.args.global.now) c.loop-slot.refused n c.args.clients.now
     c.loop-slot.clients) end c.loop-slot.invariant.felt
+
+pub returns-clause-in_time : goal.returns-clause-in_time
+returns-clause-in_time g c = (c.loop-slot.slot, c.loop-slot.invariant.in_time)

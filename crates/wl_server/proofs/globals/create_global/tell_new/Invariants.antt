@@ -2,7 +2,7 @@ use Rattle.std.proofs.Common.{◌≡◌, length, map}
 use Rattle.wl_server.specs.Globals.{shown_as}
 use Rattle.wl_server.specs.Inside.News.{HearsNew}
 use Rattle.wl_server.specs.Inside.Places.{AllFeel}
-use Rattle.wl_server.specs.Inside.NoteOrder.{AllInTime, times_of}
+use Rattle.wl_server.specs.NoteOrder.{AllNumbered, InTimeBelow, times_of}
 use Rattle.wl_server.proofs.globals.create_global.tell_new.Given as goal
 
 abbrev pub invariant-loop-slot : goal.invariant-loop-slot
@@ -11,5 +11,6 @@ invariant-loop-slot g l = record {
   table : l.announcement.table ≡ l.protocol;
   global : l.announcement.global ≡ shown_as (l.id.name, l.global);
   ends : l.slot-end ≡ length l.fn.clients;
-  in_time : AllInTime (map times_of l.fn.clients) l.fn.numbers (map times_of l.clients) l.numbers;
+  in_time : InTimeBelow l.slot (map times_of l.fn.clients) l.fn.numbers (map times_of l.clients) l.numbers;
+  numbered : AllNumbered l.fn.clients → AllNumbered l.clients;
 }

@@ -2,12 +2,12 @@ use Rattle.std.proofs.Common.{◌≡◌, ℕ, arith, length, refl, subst}
 use Rattle.std.proofs.lemmas.Option.{slice_get-get_or}
 use Rattle.wl_server.specs.Felt.{Hears, removals}
 use Rattle.wl_server.specs.Inside.Places.{AllFeel}
-use Rattle.wl_server.proofs.CallSteps.Numbering.{all_both, all_none, set_in_time}
+use Rattle.wl_server.proofs.CallSteps.Numbering.{below_none, next_in_time, numbered_set}
 use Rattle.wl_server.proofs.CallSteps.Feeling.{none_felt, one_more_felt}
 use Rattle.wl_server.proofs.globals.remove_global.tell_loss.Goals as goal
 
 pub loop-slot-init : goal.loop-slot-init
-loop-slot-init g c = record { felt = none_felt _ _; ends = refl; in_time = all_none _ _ }
+loop-slot-init g c = record { felt = none_felt _ _; ends = refl; in_time = below_none 0 _ _; numbered = λ all. all }
 
 pub loop-slot-preserved : goal.loop-slot-preserved
 loop-slot-preserved g c =
@@ -16,7 +16,8 @@ loop-slot-preserved g c =
     record {
       felt = one_more_felt _ _ _ _ _ _ _ _ c.loop-slot.invariant.felt here (c.tell_loss_at-refused.ensures.felt c.loop-slot.slot);
       ends = refl;
-      in_time = all_both _ _ _ _ _ _ c.loop-slot.invariant.in_time (set_in_time _ _ _ _ _ _ here c.tell_loss_at-refused.ensures.in_time);
+      in_time = next_in_time _ _ _ _ _ _ _ _ c.loop-slot.invariant.in_time here c.tell_loss_at-refused.ensures.in_time;
+      numbered = λ all. numbered_set _ _ _ _ here c.tell_loss_at-refused.ensures.numbered (c.loop-slot.invariant.numbered all);
     }
 
 pub returns-clause-felt : goal.returns-clause-felt
@@ -24,3 +25,6 @@ returns-clause-felt g c =
     let end : c.loop-slot.slot ≡ length c.args.clients.now = omega (arith, c.loop-slot-test.false, c.loop-slot.auto.slot-end) in
     subst (λ (n : ℕ). AllFeel (λ id p lacked did q. Hears g.T.Transport.sends p (removals p c.args.name) lacked did q) c.loop-slot.refused n c.args.clients.now c.loop-slot.clients)
     end c.loop-slot.invariant.felt
+
+pub returns-clause-in_time : goal.returns-clause-in_time
+returns-clause-in_time g c = (c.loop-slot.slot, c.loop-slot.invariant.in_time)

@@ -1,9 +1,9 @@
 use Rattle.std.proofs.Common.{◌∙◌, ◌≤◌, ◌++◌, List, length, append-nil, arith, ap, subst, sym, true, map, Option}
 use Rattle.wl_server.specs.declared.notes.queues.NotePlace.{NotePlace}
-use Rattle.wl_server.specs.Inside.NoteOrder.{AllTakeFirst, IsOrderOf, slot_of, times_of}
+use Rattle.wl_server.specs.NoteOrder.{AllNumbered, AllTakeFirst, Along, IsOrderOf, times_of}
 use Rattle.wl_server.specs.Server.{NoteTimes, Stored}
 use Rattle.wl_server.specs.Inside.Leaving.{collected, given_at}
-use Rattle.wl_server.proofs.CallSteps.Numbering.{all_take_both, all_take_leave}
+use Rattle.wl_server.proofs.CallSteps.Numbering.{all_take_both, all_take_leave, all_take_none, none_waits, numbered_staying}
 use Rattle.wl_server.proofs.CleanupSteps.Gathering.{gathers_length}
 use Rattle.wl_server.proofs.CleanupSteps.Idle.{none_flushed, none_given, none_leaves, none_noted}
 use Rattle.wl_server.proofs.CleanupSteps.Rooms.{flushed_counts, flushed_order, gathered_ends, gathered_given}
@@ -24,7 +24,7 @@ returns-then-capacity-eq0-clause-cleaned g c =
       flushes = none_flushed g.T.Transport.sends c.args.clients.now.items none;
       gathers = c.gather.ensures.gathered;
       all = c.gather.ensures.ended;
-      in_order = (c.args.memory.now.order.items, c.requires.order, c.gather.ensures.along ∙ ap (λ (l : List NotePlace). map slot_of c.args.notes.now.items ++ map (λ p. p.slot) l) c.deref.ensures.value);
+      in_order = (c.args.memory.now.order.items, c.requires.order, subst (λ (l : List NotePlace). Along c.args.notes.now.items c.gather.new.notes.items l) c.deref.ensures.value c.gather.ensures.along);
       stay = none_leaves 0 c.gather.new.clients.items left;
       noted = sym (append-nil c.gather.new.notes.items) ∙ ap (λ l. c.gather.new.notes.items ++ l) (sym (none_noted c.gather.new.clients.items left));
       gave = c.requires.none ∙ sym (none_given c.gather.new.clients.items left);
@@ -84,7 +84,7 @@ returns-clause-cleaned g c = record {
   flushes = c.flush_each-refused.ensures.felt;
   gathers = c.gather-2.ensures.gathered;
   all = c.gather-2.ensures.ended;
-  in_order = (c.args.memory.now.order.items, c.requires.order, c.gather-2.ensures.along ∙ ap (λ (l : List NotePlace). map slot_of c.args.notes.now.items ++ map (λ p. p.slot) l) c.deref-2.ensures.value);
+  in_order = (c.args.memory.now.order.items, c.requires.order, subst (λ (l : List NotePlace). Along c.args.notes.now.items c.gather-2.new.notes.items l) c.deref-2.ensures.value c.gather-2.ensures.along);
   stay = c.leave_all.ensures.stay;
   noted = c.leave_all.ensures.noted;
   gave = c.leave_all.ensures.given ∙ ap (λ l. l ++ collected given_at 0 c.gather-2.new.clients.items) c.requires.none;
@@ -96,3 +96,17 @@ returns-clause-first g c =
     (subst (λ (ts : List NoteTimes). AllTakeFirst ts (map times_of c.gather-2.new.clients.items)) c.flush_each-refused.ensures.times c.gather-2.ensures.first)
     (subst (λ (xs : List (Option (Stored _ _ _))). AllTakeFirst (map times_of c.gather-2.new.clients.items) (map times_of xs)) (sym c.leave_all.ensures.stay)
     (all_take_leave c.gather-2.new.clients.items))
+
+pub returns-then-capacity-eq0-clause-none_waits : goal.returns-then-capacity-eq0-clause-none_waits
+returns-then-capacity-eq0-clause-none_waits g c = none_waits _ _ c.gather.ensures.no_numbers (all_take_none _)
+
+pub returns-clause-none_waits : goal.returns-clause-none_waits
+returns-clause-none_waits g c =
+    none_waits _ _ c.gather-2.ensures.no_numbers
+    (subst (λ (xs : List (Option (Stored _ _ _))). AllTakeFirst (map times_of c.gather-2.new.clients.items) (map times_of xs)) (sym c.leave_all.ensures.stay)
+    (all_take_leave c.gather-2.new.clients.items))
+
+pub returns-clause-numbered : goal.returns-clause-numbered
+returns-clause-numbered g c all =
+    subst (λ (xs : List (Option (Stored _ _ _))). AllNumbered xs) (sym c.leave_all.ensures.stay)
+    (numbered_staying c.gather-2.new.clients.items (c.gather-2.ensures.numbered (c.flush_each-refused.ensures.numbered all)))

@@ -2,7 +2,8 @@ use Rattle.std.proofs.Common.{length, true, map}
 use Rattle.std.specs.Vec.{vec_capacity, vec_len}
 use Rattle.wl_server.specs.Inside.Gathering.{count_leaving}
 use Rattle.wl_server.specs.Inside.Leaving.{collected, ends_at, given_at}
-use Rattle.wl_server.specs.Inside.NoteOrder.{count_places, times_of}
+use Rattle.wl_server.specs.NoteOrder.{times_of}
+use Rattle.wl_server.specs.Inside.NoteOrder.{count_places}
 use Rattle.wl_server.proofs.CleanupSteps.Asking.{at_most, none_both, none_ends, none_leaving, none_of, on_err, room_of_none, some_of}
 use Rattle.wl_server.proofs.CleanupSteps.Ordering.{none_order}
 use Rattle.wl_server.proofs.notes.cleanup.memory_for.Goals as goal

@@ -1,6 +1,7 @@
 use Rattle.std.proofs.Common.{◌<◌, ◌≤◌, ◌+◌, drop, map}
 use Rattle.wl_server.specs.Inside.Gathering.{count_leaving}
-use Rattle.wl_server.specs.Inside.NoteOrder.{count_places, times_of}
+use Rattle.wl_server.specs.NoteOrder.{times_of}
+use Rattle.wl_server.specs.Inside.NoteOrder.{count_places}
 use Rattle.wl_server.proofs.notes.gather.count_notes.Given as goal
 
 abbrev pub invariant-loop-place : goal.invariant-loop-place

@@ -1,8 +1,8 @@
-use Rattle.std.proofs.Common.{◌∙◌, arith, sym, append-nil, refl}
+use Rattle.std.proofs.Common.{◌∙◌, [], arith, drop, sym, append-nil, refl}
 use Rattle.std.proofs.lemmas.Option.{slice_get_read}
-use Rattle.wl_server.proofs.CallSteps.Numbering.{all_take_both, all_take_none, take_set}
+use Rattle.wl_server.proofs.CallSteps.Numbering.{all_take_both, all_take_none, numbered_set, take_set}
 use Rattle.wl_server.proofs.CleanupSteps.Gathering.{gathers_at, gathers_more, gathers_none, room_at}
-use Rattle.wl_server.proofs.CleanupSteps.Ordering.{along_more, place_left, place_some, place_within, slots_after}
+use Rattle.wl_server.proofs.CleanupSteps.Ordering.{along_more, drop_past, none_numbered, order_numbered, place_left, place_some, place_within, set_numbered, slots_after}
 use Rattle.wl_server.proofs.notes.gather.gather.Goals as goal
 
 pub index_mut-requires : goal.index_mut-requires
@@ -42,8 +42,23 @@ loop-place-preserved g c =
       along = along_more _ _ _ c.args.order.now c.loop-place.place-index c.slot-slot.result _ c.loop-place-test.true c.slot-slot.ensures c.loop-place.invariant.along
           (slots_after c.args.waits c.loop-place.notes.items c.move_note.new.notes.items c.slot-slot.result _ _ c.move_note.ensures.moved);
       first = all_take_both _ _ _ c.loop-place.invariant.first (take_set _ _ _ _ here c.move_note.ensures.first);
+      numbered = set_numbered c.args.waits c.loop-place.clients.items _ _ _ here c.move_note.ensures.numbered c.loop-place.invariant.numbered;
+      all_numbered = λ all. numbered_set _ _ _ _ here c.move_note.ensures.all_numbered (c.loop-place.invariant.all_numbered all);
       capacity = c.move_note.ensures.capacity ∙ c.loop-place.invariant.capacity;
     }
 
 pub loop-place-init : goal.loop-place-init
-loop-place-init g c = record { gathered = gathers_none _ _ _; left = c.requires.order.each; along = sym (append-nil _); first = all_take_none _; capacity = refl }
+loop-place-init g c = record {
+  gathered = gathers_none _ _ _;
+  left = c.requires.order.each;
+  along = ([], sym (append-nil _), refl);
+  first = all_take_none _;
+  numbered = order_numbered c.args.waits _ _ c.requires.order;
+  all_numbered = λ all. all;
+  capacity = refl;
+}
+
+pub returns-clause-no_numbers : goal.returns-clause-no_numbers
+returns-clause-no_numbers g c =
+    none_numbered c.args.waits c.loop-place.clients.items (drop c.loop-place.place-index c.args.order.now)
+    (drop_past c.args.order.now c.loop-place.place-index (omega (arith, c.loop-place-test.false))) c.loop-place.invariant.left c.loop-place.invariant.numbered

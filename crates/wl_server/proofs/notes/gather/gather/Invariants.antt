@@ -1,7 +1,9 @@
-use Rattle.std.proofs.Common.{◌≡◌, ◌++◌, drop, map, take}
+use Rattle.std.proofs.Common.{◌≡◌, ℕ, drop, map, take}
 use Rattle.std.specs.Vec.{vec_capacity}
 use Rattle.wl_server.specs.Inside.Gathering.{Gathers}
-use Rattle.wl_server.specs.Inside.NoteOrder.{AllTakeFirst, slot_of, times_of}
+use Rattle.wl_server.specs.NoteOrder.{AllNumbered, AllTakeFirst, Along, times_of}
+use Rattle.wl_server.specs.Inside.NoteOrder.{AreNumbered}
+use Rattle.wl_server.specs.Server.{stored_at}
 use Rattle.wl_server.proofs.CleanupSteps.Ordering.{Left}
 use Rattle.wl_server.proofs.notes.gather.gather.Given as goal
 
@@ -9,7 +11,9 @@ abbrev pub invariant-loop-place : goal.invariant-loop-place
 invariant-loop-place g l = record {
   gathered : Gathers l.waits l.fn.clients.items l.fn.notes.items l.clients.items l.notes.items;
   left : Left l.waits l.clients.items (drop l.place-index l.order);
-  along : map slot_of l.notes.items ≡ map slot_of l.fn.notes.items ++ map (λ p. p.slot) (take l.place-index l.order);
+  along : Along l.fn.notes.items l.notes.items (take l.place-index l.order);
   first : AllTakeFirst (map times_of l.fn.clients.items) (map times_of l.clients.items);
+  numbered : (k : ℕ) → AreNumbered l.waits (stored_at k l.clients.items);
+  all_numbered : AllNumbered l.fn.clients.items → AllNumbered l.clients.items;
   capacity : vec_capacity l.notes ≡ vec_capacity l.fn.notes;
 }

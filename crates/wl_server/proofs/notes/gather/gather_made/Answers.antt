@@ -1,7 +1,8 @@
 use Rattle.std.proofs.Common.{◌<◌, ◌≤◌, false, subst, [], map, refl, sym, append-nil}
 use Rattle.std.specs.Vec.{vec_capacity, vec_len}
 use Rattle.wl_server.specs.Inside.Gathering.{count_leaving}
-use Rattle.wl_server.specs.Inside.NoteOrder.{count_places, times_of}
+use Rattle.wl_server.specs.NoteOrder.{times_of}
+use Rattle.wl_server.specs.Inside.NoteOrder.{count_places}
 use Rattle.wl_server.proofs.CleanupSteps.Ordering.{none_order}
 use Rattle.wl_server.proofs.CallSteps.Numbering.{all_take_none}
 use Rattle.wl_server.proofs.CleanupSteps.Asking.{none_leaving, none_of, on_err, positive, room_of}
@@ -35,7 +36,7 @@ pub returns-then-count-eq0-clause-in_order : goal.returns-then-count-eq0-clause-
 returns-then-count-eq0-clause-in_order g c =
     let all = subst (λ xs. c.count_notes-count.result < 0xFFFFFFFFFFFFFFFF → count_places false (map times_of xs) ≤ c.count_notes-count.result) c.deref.ensures.value c.count_notes-count.ensures.places in
     let few = none_of c.count_notes-count.result (count_places false (map times_of c.args.clients.now.items)) c.if-count-eq0.true all in
-    ([], none_order false c.args.clients.now.items [] refl (returns-then-count-eq0-clause-ended g c) few, sym (append-nil _))
+    ([], none_order false c.args.clients.now.items [] refl (returns-then-count-eq0-clause-ended g c) few, ([], sym (append-nil _), refl))
 
 pub returns-then-count-eq0-clause-first : goal.returns-then-count-eq0-clause-first
 returns-then-count-eq0-clause-first g c = all_take_none _
@@ -45,3 +46,12 @@ returns-in_err-order-clause-first g c = all_take_none _
 
 pub returns-in_err-reserve-clause-first : goal.returns-in_err-reserve-clause-first
 returns-in_err-reserve-clause-first g c = all_take_none _
+
+pub returns-then-count-eq0-clause-numbered : goal.returns-then-count-eq0-clause-numbered
+returns-then-count-eq0-clause-numbered g c = λ all. all
+
+pub returns-in_err-order-clause-numbered : goal.returns-in_err-order-clause-numbered
+returns-in_err-order-clause-numbered g c = λ all. all
+
+pub returns-in_err-reserve-clause-numbered : goal.returns-in_err-reserve-clause-numbered
+returns-in_err-reserve-clause-numbered g c = λ all. all

@@ -1,6 +1,6 @@
 use Rattle.std.proofs.Common.{◌∙◌, arith, refl, ap, ◌++◌, map}
 use Rattle.std.proofs.lemmas.Option.{slice_get_read}
-use Rattle.wl_server.specs.Inside.NoteOrder.{all_places, times_of}
+use Rattle.wl_server.specs.NoteOrder.{all_places, times_of}
 use Rattle.wl_server.proofs.CleanupSteps.Ordering.{placed_all, placed_more, placed_none, placed_so_far, placed_whole, places_moved}
 use Rattle.wl_server.proofs.notes.gather.order_of.Goals as goal
 

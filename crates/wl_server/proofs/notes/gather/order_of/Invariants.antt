@@ -1,5 +1,5 @@
 use Rattle.std.proofs.Common.{◌≡◌, length, ◌++◌, drop, map}
-use Rattle.wl_server.specs.Inside.NoteOrder.{all_places, times_of}
+use Rattle.wl_server.specs.NoteOrder.{all_places, times_of}
 use Rattle.wl_server.proofs.CleanupSteps.Ordering.{Placed}
 use Rattle.wl_server.proofs.notes.gather.order_of.Given as goal
 

@@ -1,4 +1,4 @@
-use Rattle.std.proofs.Common.{◌≡◌, Bool, Err, Result, List, [], refl, subst, ap}
+use Rattle.std.proofs.Common.{◌≡◌, Bool, Err, Result, List, [], refl, subst, ap, ◌∙◌, length, sym}
 use Rattle.wl_link.specs.Script.{Script}
 use Rattle.wl_server.specs.declared.error.ScriptError.{ScriptError}
 use Rattle.wl_server.specs.declared.error.ScriptError.TheVariants as refused
@@ -11,7 +11,7 @@ use Rattle.wl_server.specs.Moves.{ScriptMoves, nothing_taken}
 use Rattle.wl_server.specs.PartStep.{Asked, OfClient, PartStep, WithTransport, lacks_move, over_scripts}
 use Rattle.wl_server.specs.Inside.Scripting.{Scripts, move_of, reply_to, step_of}
 use Rattle.wl_server.specs.Server.{Seen, ServerState, Stored, no_times}
-use Rattle.wl_server.proofs.CallSteps.Numbering.{numbers_stay}
+use Rattle.wl_server.proofs.CallSteps.Numbering.{in_time_same, numbers_stay}
 use Rattle.wl_server.proofs.CallSteps.OneClient.{IsOwn, done_to, held_by, none_stored}
 use Rattle.wl_server.proofs.CallSteps.Moved.{moved}
 use Rattle.wl_server.proofs.CallSteps.Slots.{Kind}
@@ -23,8 +23,8 @@ scripts x answer id p lacked did q = (lacked ≡ lacks_move (nothing_taken answe
 
 own : {T U G C : Type 0} (id : ClientParts) (x : ScriptCall) (answer : Result (Unit {0}) ScriptError)
     → IsOwn {T = T} {U = U} {G = G} {C = C} (Asked (step_of id x) (reply_to x answer))
-own id (call.Arrive bytes tokens) answer = record { offer = λ o. refl; last = refl; client = λ b. tt; global = λ o. tt; order = tt; room = λ b. tt; growth = refl }
-own id _ answer = record { offer = λ o. refl; last = refl; client = λ b. tt; global = λ o. tt; order = tt; room = λ b. tt; growth = refl }
+own id (call.Arrive bytes tokens) answer = record { offer = λ o. refl; last = refl; client = λ b. tt; global = λ o. tt; order = tt; room = λ b. tt; growth = refl; notes = λ b a h. h }
+own id _ answer = record { offer = λ o. refl; last = refl; client = λ b. tt; global = λ o. tt; order = tt; room = λ b. tt; growth = refl; notes = λ b a h. h }
 
 -- the step is that of its script's call, whichever it is
 to : {U G C : Type 0} (views : _) (before : ServerState Script U G C) (target : ClientParts) (x : ScriptCall) (answer : Result (Unit {0}) ScriptError) (id : ClientParts) (lacked : Bool)
@@ -41,7 +41,7 @@ does id x before after answer (did, q, (none, moves), is) = (did, q, (refl, none
 pub returns-in_default : goal.returns-in_default
 returns-in_default g c =
     let i = c.self.inside in
-    let before = held_by i.protocol i.globals.store i.last_global i.default_limit i.last_client i.clients.items i.notes.items in
+    let before = held_by i.protocol i.globals.store i.last_global i.default_limit i.last_client i.clients.items i.notes.items i.numbers in
     rw (← c.self.view_is)
     (none_stored (over_scripts g.G.GlobalHandler.views) before (step_of c.args.id.now c.args.call) (reply_to c.args.call (Err refused.InvalidId)) (own _ _ _) c.args.id.now
     (scripts c.args.call (Err refused.InvalidId)) (nothing_taken (Err refused.InvalidId) ≡ Err refused.InvalidId) (to g.G.GlobalHandler.views before c.args.id.now c.args.call (Err refused.InvalidId))
@@ -50,7 +50,7 @@ returns-in_default g c =
 pub returns : goal.returns
 returns g c =
     let i = c.self.inside in
-    let before = held_by i.protocol i.globals.store i.last_global i.default_limit i.last_client i.clients.items i.notes.items in
+    let before = held_by i.protocol i.globals.store i.last_global i.default_limit i.last_client i.clients.items i.notes.items i.numbers in
     let answer = c.make_move-answer.result in
     rw (← c.self.view_is, c.lacks_memory-self-inside.ensures)
     (done_to (over_scripts g.G.GlobalHandler.views) before (step_of c.args.id.now c.args.call) (reply_to c.args.call answer) (own _ _ _) c.args.id.now (scripts c.args.call answer)
@@ -58,7 +58,12 @@ returns g c =
     _ c.in-Some.client.now _ (lacks_move (nothing_taken answer)) refl c.in-Some.ensures.value (does c.args.id.now c.args.call c.in-Some.client.now (record { serial = _; part = _; made = _; times = no_times }) answer
     (rw (← c.client.view_is)
     (moved (record { serial = _; part = _; made = _; times = no_times }) (λ t t'. ScriptMoves t (move_of c.args.call) (nothing_taken answer) t') c.make_move-answer.new.script
-    (subst (λ (t : Script). ScriptMoves t (move_of c.args.call) (nothing_taken answer) c.make_move-answer.new.script) c.transport_mut.ensures.value c.make_move-answer.ensures)))))
+    (subst (λ (t : Script). ScriptMoves t (move_of c.args.call) (nothing_taken answer) c.make_move-answer.new.script) c.transport_mut.ensures.value c.make_move-answer.ensures)))) _
+    (in_time_same _ _ _ _ (ap (λ (s : Stored _ _ _). s.times) c.client.view_is) refl)
+    (λ is. (
+      ap (λ (s : Stored _ _ _). length s.times.made) c.client.view_is ∙ (is.0 ∙ sym (ap (λ (s : Stored _ _ _). length s.made) c.client.view_is)),
+      ap (λ (s : Stored _ _ _). length s.times.waiting) c.client.view_is ∙ (is.1 ∙ sym (ap (λ (s : Stored _ _ _). length s.part.waiting) c.client.view_is)),
+    )))
 
 pub invariant_of-self-2 : goal.invariant_of-self-2
 invariant_of-self-2 g c = (slots_set _ _ _ _ _ c.self.invariant.0, numbers_stay _ _ _ _ _ c.in-Some.ensures.value (ap (λ (s : Stored _ _ _). s.times) c.client.view_is) c.self.invariant.1)

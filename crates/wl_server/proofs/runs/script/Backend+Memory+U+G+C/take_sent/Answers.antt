@@ -1,4 +1,4 @@
-use Rattle.std.proofs.Common.{◌≡◌, ◌∙◌, Ok, Err, List, Result, [], false, refl, sym, ap}
+use Rattle.std.proofs.Common.{◌≡◌, ◌∙◌, Ok, Err, List, Result, [], false, refl, sym, ap, length}
 use Rattle.wl_server.specs.declared.error.InvalidId.{InvalidId}
 use Rattle.wl_server.specs.declared.runs.step.Reply.TheVariants as reply
 use Rattle.wl_server.specs.declared.runs.step.Step.TheVariants as step
@@ -10,7 +10,7 @@ use Rattle.wl_server.specs.Moves.{Moved, ScriptMoves, TakeSent, taken}
 use Rattle.wl_server.specs.PartStep.{Asked, WithTransport, lacks_move}
 use Rattle.wl_server.specs.Inside.Scripting.{Scripts}
 use Rattle.wl_server.specs.Server.{Stored, no_times}
-use Rattle.wl_server.proofs.CallSteps.Numbering.{numbers_stay}
+use Rattle.wl_server.proofs.CallSteps.Numbering.{in_time_same, numbers_stay}
 use Rattle.wl_server.proofs.CallSteps.OneClient.{IsOwn, done_to, none_stored}
 use Rattle.wl_server.proofs.CallSteps.Moved.{moved}
 use Rattle.wl_server.proofs.CallSteps.Slots.{Kind}
@@ -21,7 +21,7 @@ abbrev takes : {U C : Type 0} → Moved → Kind Script U C
 takes answer id p lacked did q = (lacked ≡ lacks_move answer) × (did ≡ []) × WithTransport (λ t t'. ScriptMoves t TakeSent answer t') p q
 
 own : {T U G C : Type 0} (id : ClientParts) (answer : Result _ InvalidId) → IsOwn {T = T} {U = U} {G = G} {C = C} (Asked (step.TakeSent id) (reply.TakeSent answer))
-own id answer = record { offer = λ o. refl; last = refl; client = λ b. tt; global = λ o. tt; order = tt; room = λ b. tt; growth = refl }
+own id answer = record { offer = λ o. refl; last = refl; client = λ b. tt; global = λ o. tt; order = tt; room = λ b. tt; growth = refl; notes = λ b a h. h }
 
 does : {U C : Type 0} (id : ClientParts) (before after : Stored Script U C) (answer : Moved) → lacks_move answer ≡ false
     → Does before (λ p did q. (did ≡ []) × Scripts p TakeSent answer q) after → Does before (λ p did q. takes answer id p false did q) after
@@ -43,7 +43,12 @@ returns g c =
     _ c.in-Some.client.now _ false refl c.in-Some.ensures.value (does c.args.id.now c.in-Some.client.now (record { serial = _; part = _; made = _; times = no_times }) _ refl
     (rw (← c.client.view_is)
     (moved (record { serial = _; part = _; made = _; times = no_times }) (λ t t'. ScriptMoves t TakeSent (taken (Ok c.take_sent.result)) t') c.take_sent.new.self
-    (ap (λ (l : List Queue). let r : Moved = Ok l in r) sent, rest)))))
+    (ap (λ (l : List Queue). let r : Moved = Ok l in r) sent, rest)))) _
+    (in_time_same _ _ _ _ (ap (λ (s : Stored _ _ _). s.times) c.client.view_is) refl)
+    (λ is. (
+      ap (λ (s : Stored _ _ _). length s.times.made) c.client.view_is ∙ (is.0 ∙ sym (ap (λ (s : Stored _ _ _). length s.made) c.client.view_is)),
+      ap (λ (s : Stored _ _ _). length s.times.waiting) c.client.view_is ∙ (is.1 ∙ sym (ap (λ (s : Stored _ _ _). length s.part.waiting) c.client.view_is)),
+    )))
 
 pub invariant_of-self-2 : goal.invariant_of-self-2
 invariant_of-self-2 g c = (slots_set _ _ _ _ _ c.self.invariant.0, numbers_stay _ _ _ _ _ c.in-Some.ensures.value (ap (λ (s : Stored _ _ _). s.times) c.client.view_is) c.self.invariant.1)

@@ -1,8 +1,8 @@
 -- When two servers are the same to their program, and when two of their runs are.
 --
--- A program can see of a server what is held of each client id, the offer, and how many clients there were. It does not see
--- in which order the notes of two clients stand, nor which of a client's notes were gathered already.
-use Rattle.std.specs.Prelude.{◌≡◌, ℕ, Bool, false, List, [], ◌∷◌, length, Ok}
+-- A program can see of a server what is held of each client id, the offer, how many clients there were, and, when it takes
+-- them, in which order the notes stand.
+use Rattle.std.specs.Prelude.{◌≡◌, ℕ, Bool, false, List, [], ◌∷◌, length, map, Ok}
 use Rattle.wl_wire.specs.declared.interface.InterfaceId.{InterfaceId}
 use Rattle.wl_link.specs.Runs.{AllSame, entries}
 use Rattle.wl_server.specs.declared.runs.step.Reply.{Reply}
@@ -10,6 +10,7 @@ use Rattle.wl_server.specs.declared.runs.step.Reply.TheVariants as reply
 use Rattle.wl_server.specs.declared.runs.step.Step.{Step}
 use Rattle.wl_server.specs.Ids.{ClientParts, GlobalParts, IdParts}
 use Rattle.wl_server.specs.Lookups.{client_by, client_data_of, global_info_by, handler_of, live_clients, name_for, object_data_of, object_for_number, object_info_of, objects_of_client, transport_of}
+use Rattle.wl_server.specs.NoteOrder.{AllNumbered, times_at, times_of}
 use Rattle.wl_server.specs.Outcome.{SameCall, SameReply}
 use Rattle.wl_server.specs.PartStep.{Asked, Call, World}
 use Rattle.wl_server.specs.Runs.{Leads, Performs}
@@ -17,10 +18,21 @@ use Rattle.wl_server.specs.Server.{ServerState, seen}
 use Rattle.wl_server.specs.Steps.{Entry}
 
 -- the offer, the last serial given to a client, and what is held of each client id
+pub record HoldsSame {T U G C : Type 0} (s t : ServerState T U G C) : Type 0 where
+  pub offer : s.offer ≡ t.offer
+  pub last : s.last_client ≡ t.last_client
+  pub each : (id : ClientParts) → seen id s ≡ seen id t
+
+-- The offer, the last serial given to a client, what is held of each client id, the notes that were gathered, and the numbers
+-- of the others, from which their order follows. Each of these has a number, as it has in each server that a run leads to.
 pub record SameServer {T U G C : Type 0} (s t : ServerState T U G C) : Type 0 where
   pub offer : s.offer ≡ t.offer
   pub last : s.last_client ≡ t.last_client
   pub each : (id : ClientParts) → seen id s ≡ seen id t
+  pub notes : s.notes ≡ t.notes
+  pub numbers : s.numbers ≡ t.numbers
+  pub times : (slot : ℕ) → times_at slot (map times_of s.clients) ≡ times_at slot (map times_of t.clients)
+  pub numbered : AllNumbered s.clients × AllNumbered t.clients
 
 -- look-ups answer the same
 pub record AnswersAlike {T U G C : Type 0} (s t : ServerState T U G C) : Type 0 where
@@ -37,10 +49,10 @@ pub record AnswersAlike {T U G C : Type 0} (s t : ServerState T U G C) : Type 0 
   pub name : (views : G → ClientParts → C → GlobalParts → Bool) (id : GlobalParts) (client : ClientParts) → name_for s views id client ≡ name_for t views id client
 
 module _ {T U : Type 0} where
-  -- Two replies are the same to the program: their lists have the same items, and only the notes of two different clients
-  -- may be in another order.
+  -- Two replies are the same to the program: their lists have the same items in the same order.
   abbrev pub WholeReply : Reply T U → Reply T U → Type 0
   WholeReply (reply.Cleanup (Ok out)) (reply.Cleanup (Ok out')) = out.items ≡ out'.items
+  WholeReply (reply.TakeNotes (Ok out)) (reply.TakeNotes (Ok out')) = out.items ≡ out'.items
   WholeReply answer answer' = (id : ClientParts) → SameReply id answer answer'
 
 module _ {T U G C : Type 0} where

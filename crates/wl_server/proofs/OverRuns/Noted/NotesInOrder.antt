@@ -1,0 +1,544 @@
+-- The notes of all clients over a run: those that were there at an earlier point come first.
+use Rattle.std.proofs.Common.{◌≡◌, ◌∙◌, ℕ, suc, ◌<◌, ◌≤◌, Bool, true, false, List, [], ◌∷◌, ◌++◌, length, map, Option, None, Some, is_some, Result, Ok, Err, Vec, refl, sym, ap, subst, arith, append_assoc, append-nil}
+use mathlib.Core.Logic.{inl, inr}
+use Rattle.std.specs.Global.{Global}
+use Rattle.std.specs.Option.{option_map, option_map_or}
+use Rattle.std.specs.Prelude.{◌⊎◌, ◌==◌, IsPermutation, if◌then◌else◌}
+use Rattle.std.proofs.lemmas.Bool.{eqb-true, false≢true}
+use Rattle.std.proofs.lemmas.List.{append_cancel_left, map-append}
+use Rattle.wl_wire.specs.Table.{InterfaceRow}
+use Rattle.wl_wire.specs.declared.error.OutOfMemory.{OutOfMemory}
+use Rattle.wl_link.proofs.Calls.Branches.{either_bool, either_option}
+use Rattle.wl_server.specs.declared.error.GlobalError.{GlobalError}
+use Rattle.wl_server.specs.declared.error.InsertClientError.{InsertClientError}
+use Rattle.wl_server.specs.declared.notes.Happening.{Happening}
+use Rattle.wl_server.specs.declared.notes.Note.{Note}
+use Rattle.wl_server.specs.declared.notes.Note.TheVariants as note
+use Rattle.wl_server.specs.declared.notes.Happening.TheVariants as happened
+use Rattle.wl_server.specs.declared.notes.queues.NoteNumbers.{NoteNumbers}
+use Rattle.wl_server.specs.declared.notes.queues.NotePlace.{NotePlace}
+use Rattle.wl_server.specs.declared.runs.step.Reply.{Reply}
+use Rattle.wl_server.specs.declared.runs.step.Reply.TheVariants as reply
+use Rattle.wl_server.specs.declared.runs.step.Step.{Step}
+use Rattle.wl_server.specs.declared.runs.step.Step.TheVariants as step
+use Rattle.wl_server.specs.Deeds.{Deed, notes_in}
+use Rattle.wl_server.specs.Globals.{Offer}
+use Rattle.wl_server.specs.Ids.{ClientParts, GlobalParts, same_client}
+use Rattle.wl_server.specs.NoteOrder.{AreInTime, HasNumbers, Rise, all_places, last_number, slot_of, times_at, times_of}
+use Rattle.wl_server.specs.NoteOrder.Ordered.{HandsOutNone, NoneHandedOut}
+use Rattle.wl_server.specs.Part.{Part}
+use Rattle.wl_server.specs.PartStep.{Asked, Call, Changed, CleanedAs, FeelsGlobal, FeelsLoss, FlushedFor, InsertedAs, NotesTaken, OfClient, OnPart, PartCall, PartStep, Unfelt, World}
+use Rattle.wl_server.specs.Runs.{Leads}
+use Rattle.wl_server.specs.Server.{Seen, ServerState, Stored, client_at, if_serial, new_server, note_of, notes_of, seen, stored_at, told_of}
+use Rattle.wl_server.specs.Steps.{Entry, GathersNotes, HandsOutNotes, MakesNotes, NotesGoOn, OneStep, StepOf}
+use Rattle.wl_server.proofs.CallSteps.Numbering.{GivesWithin, all_each, no_numbers, numbers_left, rise_up, waiting_anew, within_both, within_none}
+use Rattle.wl_server.proofs.CallSteps.Slots.{same_parts, same_self, same_slots}
+use Rattle.wl_server.proofs.CleanupSteps.Gathering.{notes_append, told_other, told_same}
+use Rattle.wl_server.proofs.OverRuns.Noted.PlacesInOrder.{earlier_first}
+
+-- ---- notes by their slots and their clients
+
+slot_first : (m n : ℕ) (ms ns : List ℕ) → m ∷ ms ≡ n ∷ ns → (m ≡ n) × (ms ≡ ns)
+slot_first m n ms ns is = (ap (λ (l : List ℕ). first l) is, ap (λ (l : List ℕ). rest l) is)
+  where
+    first : List ℕ → ℕ
+    first [] = m
+    first (x ∷ xs) = x
+
+    rest : List ℕ → List ℕ
+    rest [] = []
+    rest (x ∷ xs) = xs
+
+module _ {U : Type 0} where
+  abbrev pub id_of : Note U → ClientParts
+  id_of (note.Initialized client) = client
+  id_of (note.Disconnected client reason) = client
+  id_of (note.Destroyed client object u) = client
+
+  abbrev pub happening_of : Note U → Happening U
+  happening_of (note.Initialized client) = happened.Initialized
+  happening_of (note.Disconnected client reason) = happened.Disconnected reason
+  happening_of (note.Destroyed client object u) = happened.Destroyed object u
+
+  pub note_is : (n : Note U) → n ≡ note_of (id_of n) (happening_of n)
+  note_is (note.Initialized client) = refl
+  note_is (note.Disconnected client reason) = refl
+  note_is (note.Destroyed client object u) = refl
+
+  pub slot_is : (n : Note U) → slot_of n ≡ (id_of n).slot
+  slot_is (note.Initialized client) = refl
+  slot_is (note.Disconnected client reason) = refl
+  slot_is (note.Destroyed client object u) = refl
+
+  pub own_first : (n : Note U) (ns : List (Note U)) → notes_of (id_of n) (n ∷ ns) ≡ happening_of n ∷ notes_of (id_of n) ns
+  own_first n ns =
+      ap (λ (l : List (Happening U)). l ++ notes_of (id_of n) ns)
+      (ap (told_of (id_of n)) (note_is n) ∙ told_same (id_of n) (id_of n) (happening_of n) (same_self (id_of n)))
+
+  -- who is told of has the slot of the note
+  pub told_slot : (id : ClientParts) (n : Note U) (h : Happening U) (hs : List (Happening U)) → told_of id n ≡ h ∷ hs → id.slot ≡ slot_of n
+  told_slot id n h hs is = at ((id_of n).slot == id.slot) refl
+    where
+      at : (b : Bool) → ((id_of n).slot == id.slot) ≡ b → id.slot ≡ slot_of n
+      at true same = sym (slot_is n ∙ eqb-true (id_of n).slot id.slot same)
+      at false other =
+          let none : told_of id n ≡ [] = ap (told_of id) (note_is n) ∙ told_other (id_of n) id (happening_of n) (same_slots (id_of n) id other) in
+          let long : 0 ≡ suc (length hs) = ap length (sym none ∙ is) in
+          absurd (omega (arith, long))
+
+  first_is : (h k : Happening U) (hs ks : List (Happening U)) → h ∷ hs ≡ k ∷ ks → h ≡ k
+  first_is h k hs ks is = ap (λ (l : List (Happening U)). first l) is
+    where
+      first : List (Happening U) → Happening U
+      first [] = h
+      first (x ∷ xs) = x
+
+  -- Notes begin as others do, if their slots do, and what they tell of each client; and only one client of a slot is told of.
+  module _ (Is : ClientParts → Type 0) (one : (i j : ClientParts) → Is i → Is j → i.slot ≡ j.slot → i ≡ j) where
+    pub begins_so : (a b : List (Note U)) (slots : List ℕ) → map slot_of b ≡ map slot_of a ++ slots
+        → ((id : ClientParts) → (more : List (Happening U)) × (notes_of id b ≡ notes_of id a ++ more))
+        → ((id : ClientParts) (h : Happening U) (hs : List (Happening U)) → notes_of id b ≡ h ∷ hs → Is id)
+        → (rest : List (Note U)) × (b ≡ a ++ rest)
+    begins_so [] b slots along told is = (b, refl)
+    begins_so (x ∷ a) [] slots along told is = let long : 0 ≡ suc (length (map slot_of a ++ slots)) = ap length along in absurd (omega (arith, long))
+    begins_so (x ∷ a) (y ∷ b) slots along told is = whole (begins_so a b slots both.1 told_rest is_rest)
+      where
+        both : (slot_of y ≡ slot_of x) × (map slot_of b ≡ map slot_of a ++ slots)
+        both = slot_first (slot_of y) (slot_of x) (map slot_of b) (map slot_of a ++ slots) along
+
+        x_told : notes_of (id_of x) (y ∷ b) ≡ happening_of x ∷ (notes_of (id_of x) a ++ (told (id_of x)).0)
+        x_told = (told (id_of x)).1 ∙ ap (λ (l : List (Happening U)). l ++ (told (id_of x)).0) (own_first x a)
+
+        ids : id_of y ≡ id_of x
+        ids = one (id_of y) (id_of x) (is (id_of y) (happening_of y) (notes_of (id_of y) b) (own_first y b))
+            (is (id_of x) (happening_of x) (notes_of (id_of x) a ++ (told (id_of x)).0) x_told) (sym (slot_is y) ∙ (both.0 ∙ slot_is x))
+
+        happenings : happening_of y ≡ happening_of x
+        happenings =
+            first_is (happening_of y) (happening_of x) (notes_of (id_of y) b) (notes_of (id_of x) a ++ (told (id_of x)).0)
+            (sym (own_first y b) ∙ (ap (λ (id : ClientParts). notes_of id (y ∷ b)) ids ∙ x_told))
+
+        same : y ≡ x
+        same = note_is y ∙ (ap (λ (id : ClientParts). note_of id (happening_of y)) ids ∙ (ap (note_of (id_of x)) happenings ∙ sym (note_is x)))
+
+        told_rest : (id : ClientParts) → (more : List (Happening U)) × (notes_of id b ≡ notes_of id a ++ more)
+        told_rest id =
+            let (more, all) = told id in (
+              more,
+              append_cancel_left (told_of id x) (notes_of id b) (notes_of id a ++ more)
+                  (ap (λ (n : Note U). told_of id n ++ notes_of id b) (sym same) ∙ (all ∙ append_assoc (told_of id x) (notes_of id a) more)),
+            )
+
+        is_rest : (id : ClientParts) (h : Happening U) (hs : List (Happening U)) → notes_of id b ≡ h ∷ hs → Is id
+        is_rest id h hs at = go (told_of id y) refl
+          where
+            go : (l : List (Happening U)) → told_of id y ≡ l → Is id
+            go [] none = is id h hs (ap (λ (l : List (Happening U)). l ++ notes_of id b) none ∙ at)
+            go (k ∷ ks) some = is id k (ks ++ notes_of id b) (ap (λ (l : List (Happening U)). l ++ notes_of id b) some)
+
+        whole : (rest : List (Note U)) × (b ≡ a ++ rest) → (rest : List (Note U)) × (y ∷ b ≡ (x ∷ a) ++ rest)
+        whole (rest, more) = (rest, ap (λ (n : Note U). n ∷ b) same ∙ ap (λ (l : List (Note U)). x ∷ l) more)
+
+-- ---- what a call does to the notes that were made of a client
+
+module _ {T U C : Type 0} where
+  abbrev Grows : Seen T U C → Seen T U C → Type 0
+  Grows s t = (more : List (Happening U)) × (t.made ≡ s.made ++ more)
+
+  unfelt_grows : (s : Seen T U C) (lacked : Bool) (did : List (Deed U)) (t : Seen T U C) → Unfelt s lacked did t → Grows s t
+  unfelt_grows s lacked did t (unlacked, none, same) = ([], ap (λ (x : Seen T U C). x.made) same ∙ sym (append-nil s.made))
+
+  on_part_grows : (s : Seen T U C) (R : Part T U C → Part T U C → Type 0) (missing : Type 0) (lacked : Bool) (did : List (Deed U)) (t : Seen T U C)
+      → OnPart s R missing lacked did t → Grows s t
+  on_part_grows s R missing lacked did t h =
+      elim (either_option s.part h) [
+        | inl (none, (out, u)) ↦ unfelt_grows s lacked did t u
+        | inr (p, there, (q, does, same)) ↦ (notes_in did, ap (λ (x : Seen T U C). x.made) same)
+      ]
+
+  of_client_grows : (about : Bool) (s : Seen T U C) (R : Part T U C → Part T U C → Type 0) (missing : Type 0) (lacked : Bool) (did : List (Deed U)) (t : Seen T U C)
+      → OfClient about s R missing lacked did t → Grows s t
+  of_client_grows about s R missing lacked did t h =
+      elim (either_bool about h) [
+        | inl on ↦ on_part_grows s R missing lacked did t on
+        | inr u ↦ unfelt_grows s lacked did t u
+      ]
+
+module _ {T U G C : Type 0} (w : World T G C) (id : ClientParts) (offer : Offer G) where
+  inserted_grows : (transport : T) (client_data : C) (r : Result ClientParts InsertClientError) (s : Seen T U C) (lacked : Bool) (did : List (Deed U)) (t : Seen T U C)
+      → InsertedAs w id offer transport client_data r s lacked did t → Grows s t
+  inserted_grows transport client_data (Ok new) s lacked did t h =
+      elim (either_bool (same_client new id) h) [
+        | inl (link, fresh, unlacked, did_so, same) ↦ (happened.Initialized ∷ [], ap (λ (x : Seen T U C). x.made) same)
+        | inr u ↦ unfelt_grows s lacked did t u
+      ]
+  inserted_grows transport client_data (Err e) s lacked did t h = unfelt_grows s lacked did t h
+
+  global_grows : (i : _) (version : ℕ) (handler : G) (r : Result GlobalParts GlobalError) (s : Seen T U C) (lacked : Bool) (did : List (Deed U)) (t : Seen T U C)
+      → FeelsGlobal w id offer i version handler r s lacked did t → Grows s t
+  global_grows i version handler (Ok g) s lacked did t h = on_part_grows s _ _ lacked did t h
+  global_grows i version handler (Err e) s lacked did t h = unfelt_grows s lacked did t h
+
+  loss_grows : (g : GlobalParts) (s : Seen T U C) (lacked : Bool) (did : List (Deed U)) (t : Seen T U C) → FeelsLoss w id offer g s lacked did t → Grows s t
+  loss_grows g s lacked did t h =
+      elim (either_bool _ h) [
+        | inl on ↦ on_part_grows s _ _ lacked did t on
+        | inr u ↦ unfelt_grows s lacked did t u
+      ]
+
+  flushed_grows : (target : Option ClientParts) (answer : _) (s : Seen T U C) (lacked : Bool) (did : List (Deed U)) (t : Seen T U C)
+      → FlushedFor w id offer target answer s lacked did t → Grows s t
+  flushed_grows None answer s lacked did t (is, h) = on_part_grows s _ _ lacked did t h
+  flushed_grows (Some target) answer s lacked did t h = of_client_grows _ s _ _ lacked did t h
+
+  cleaned_grows : (r : Result (Vec (ClientParts × T) Global) OutOfMemory) (s : Seen T U C) (lacked : Bool) (did : List (Deed U)) (t : Seen T U C)
+      → CleanedAs w id offer r s lacked did t → Grows s t
+  cleaned_grows (Ok out) s lacked did t h =
+      elim (either_option s.part h) [
+        | inl (none, (nobody, u)) ↦ unfelt_grows s lacked did t u
+        | inr (p, there, (q, c, same)) ↦ (notes_in did, ap (λ (x : Seen T U C). x.made) same)
+      ]
+  cleaned_grows (Err e) s lacked did t h = unfelt_grows s lacked did t h
+
+  step_grows : (s : Step T U G C) (answer : Reply T U) (before : Seen T U C) (lacked : Bool) (did : List (Deed U)) (after : Seen T U C)
+      → HandsOutNone (Asked s answer) → PartStep w id offer s answer before lacked did after → Grows before after
+  step_grows (step.InsertClient transport client_data) answer s lacked did t none (r, is, h) = inserted_grows transport client_data r s lacked did t h
+  step_grows (step.CreateGlobal i version handler) answer s lacked did t none (r, is, h) = global_grows i version handler r s lacked did t h
+  step_grows (step.DisableGlobal g) answer s lacked did t none (is, h) = loss_grows g s lacked did t h
+  step_grows (step.RemoveGlobal g) answer s lacked did t none (is, h) = loss_grows g s lacked did t h
+  step_grows (step.Flush target) answer s lacked did t none (r, is, h) = flushed_grows target r s lacked did t h
+  step_grows (step.SetDefaultMaxBufferSize limit) answer s lacked did t none (is, h) = unfelt_grows s lacked did t h
+  step_grows (step.AddInterfaces interfaces) answer s lacked did t none (r, is, h) = unfelt_grows s lacked did t h
+  step_grows step.Cleanup answer s lacked did t none (r, is, h) = cleaned_grows r s lacked did t h
+  step_grows step.TakeNotes answer s lacked did t none (r, is, h) = at r is h
+    where
+      at : (r : Result (Vec (Note U) Global) OutOfMemory) → answer ≡ reply.TakeNotes r → NotesTaken w id offer r s lacked did t → Grows s t
+      at (Ok out) is h = absurd (none out (ap (Asked step.TakeNotes) is))
+      at (Err e) is h = unfelt_grows s lacked did t h
+  step_grows (step.PostError o code text) answer s lacked did t none h = of_client_grows _ s _ _ lacked did t h.1
+  step_grows (step.KillClient target reason) answer s lacked did t none h = of_client_grows _ s _ _ lacked did t h.1
+  step_grows (step.SetClientMaxBufferSize target limit) answer s lacked did t none h = of_client_grows _ s _ _ lacked did t h.1
+  step_grows (step.NextAction target) answer s lacked did t none h = of_client_grows _ s _ _ lacked did t h.3
+  step_grows (step.NextActionWithin target reading) answer s lacked did t none h = of_client_grows _ s _ _ lacked did t h.3
+  step_grows call answer s lacked did t none h = of_client_grows _ s _ _ lacked did t h.2
+
+  call_grows : (call : Call T U G C) (before : Seen T U C) (lacked : Bool) (did : List (Deed U)) (after : Seen T U C)
+      → HandsOutNone call → PartCall w id offer call before lacked did after → Grows before after
+  call_grows (Asked s answer) before lacked did after none h = step_grows s answer before lacked did after none h
+  call_grows (Changed target t) before lacked did after none h = of_client_grows _ before _ _ lacked did after h
+
+-- ---- numbers over a run
+
+module _ {T U G C : Type 0} where
+  numbers_go : (before : ServerState T U G C) (call : Call T U G C) (after : ServerState T U G C) → NotesGoOn before call after
+      → HasNumbers before.numbers (map times_of before.clients) → HasNumbers after.numbers (map times_of after.clients)
+  numbers_go before (Asked step.TakeNotes (reply.TakeNotes (Ok out))) after h has =
+      subst (λ (n : NoteNumbers). HasNumbers n (map times_of after.clients)) (sym h.numbers) (numbers_left _ _ _ h.first has)
+  numbers_go before (Asked step.Cleanup (reply.Cleanup (Ok out))) after h has =
+      subst (λ (n : NoteNumbers). HasNumbers n (map times_of after.clients)) (sym h.numbers) (waiting_anew _ _ h.none_waits (numbers_left _ _ _ h.first has))
+  numbers_go before _ after h has = h.times.1.keeps has
+
+  numbers_rise : (before : ServerState T U G C) (call : Call T U G C) (after : ServerState T U G C) → NotesGoOn before call after
+      → after.numbers.made < last_number → before.numbers.made ≤ after.numbers.made
+  numbers_rise before (Asked step.TakeNotes (reply.TakeNotes (Ok out))) after h below =
+      let same = ap (λ (n : NoteNumbers). n.made) h.numbers in omega (arith, same)
+  numbers_rise before (Asked step.Cleanup (reply.Cleanup (Ok out))) after h below =
+      let same = ap (λ (n : NoteNumbers). n.made) h.numbers in omega (arith, same)
+  numbers_rise before _ after h below = let more = all_each _ _ _ _ h.times 0 in rise_up before.numbers.made more.more after.numbers.made (more.rise below)
+
+module _ {T U G C : Type 0} (w : World T G C) where
+  run_numbers : (before : ServerState T U G C) (run : List (Entry T U G C)) (after : ServerState T U G C) → Leads w before run after
+      → HasNumbers before.numbers (map times_of before.clients) → HasNumbers after.numbers (map times_of after.clients)
+  run_numbers before [] after same has = subst (λ (s : ServerState T U G C). HasNumbers s.numbers (map times_of s.clients)) (sym same) has
+  run_numbers before (e ∷ run) after (mid, one, leads) has = run_numbers mid run after leads (numbers_go before e.call mid one.notes has)
+
+  run_rises : (before : ServerState T U G C) (run : List (Entry T U G C)) (after : ServerState T U G C) → Leads w before run after
+      → after.numbers.made < last_number → before.numbers.made ≤ after.numbers.made
+  run_rises before [] after same below = let is = ap (λ (s : ServerState T U G C). s.numbers.made) same in omega (arith, is)
+  run_rises before (e ∷ run) after (mid, one, leads) below =
+      let later = run_rises mid run after leads below in
+      let first = numbers_rise before e.call mid one.notes (omega (arith, later, below)) in
+      omega (arith, first, later)
+
+-- ---- an earlier point, and a later one
+
+abbrev pub made_of : {T U C : Type 0} → ClientParts → List (Option (Stored T U C)) → List (Happening U)
+made_of id clients = option_map_or (λ s. s.made) (client_at id clients) []
+
+-- What is handed out, or gathered: what was gathered before, and then the notes of all clients, of which those that were made
+-- come first and in order of time.
+pub record Drains {T U G C : Type 0} (s : ServerState T U G C) (out : List (Note U)) : Type 0 where
+  pub more : List (Note U)
+  pub waits : Bool
+  pub order : List NotePlace
+  pub slots : List ℕ
+  pub behind : out ≡ s.notes ++ more
+  pub rise : Rise order
+  pub places : IsPermutation (all_places waits 0 (map times_of s.clients)) order
+  pub along : map slot_of more ≡ map (λ p. p.slot) order ++ slots
+  pub each : (id : ClientParts) → (new : List (Happening U)) × (notes_of id more ≡ made_of id s.clients ++ new)
+  pub stored : (id : ClientParts) → client_at id s.clients ≡ None → notes_of id more ≡ []
+
+-- the same of `take_notes`, which hands out no others
+pub record Takes {T U G C : Type 0} (s : ServerState T U G C) (out : List (Note U)) : Type 0 where
+  pub more : List (Note U)
+  pub order : List NotePlace
+  pub behind : out ≡ s.notes ++ more
+  pub rise : Rise order
+  pub places : IsPermutation (all_places false 0 (map times_of s.clients)) order
+  pub along : map slot_of more ≡ map (λ p. p.slot) order
+  pub each : (id : ClientParts) → notes_of id more ≡ made_of id s.clients
+
+-- from one state to a later one, notes were made, and none gathered
+record Makes {T U G C : Type 0} (s t : ServerState T U G C) : Type 0 where
+  gathered : t.notes ≡ s.notes
+  times : (slot : ℕ) → GivesWithin (times_at slot (map times_of s.clients)).made s.numbers.made (times_at slot (map times_of t.clients)).made t.numbers.made
+  each : (id : ClientParts) → (new : List (Happening U)) × (made_of id t.clients ≡ made_of id s.clients ++ new)
+
+module _ {T U C : Type 0} where
+  one_serial : (x : Option (Stored T U C)) (m n : ℕ) → is_some (if_serial m x) ≡ true → is_some (if_serial n x) ≡ true → m ≡ n
+  one_serial None m n a b = absurd (false≢true a)
+  one_serial (Some s) m n a b = sym (serial m a) ∙ serial n b
+    where
+      serial : (k : ℕ) → is_some (if_serial k (Some s)) ≡ true → s.serial ≡ k
+      serial k some = at (s.serial == k) refl some
+        where
+          at : (b : Bool) → (s.serial == k) ≡ b → is_some (if b then Some s else None) ≡ true → s.serial ≡ k
+          at true is some = eqb-true s.serial k is
+          at false is some = absurd (false≢true some)
+
+  pub one_client : (clients : List (Option (Stored T U C))) (i j : ClientParts) → is_some (client_at i clients) ≡ true → is_some (client_at j clients) ≡ true → i.slot ≡ j.slot → i ≡ j
+  one_client clients i j a b same =
+      same_parts i j same
+      (one_serial (stored_at j.slot clients) i.serial j.serial (subst (λ (n : ℕ). is_some (if_serial i.serial (stored_at n clients)) ≡ true) same a) b)
+
+module _ {T U G C : Type 0} where
+  -- what would have been handed out comes first
+  drains_later : (s t : ServerState T U G C) (early out : List (Note U)) → Takes s early → Drains t out → Makes s t → t.numbers.made < last_number
+      → AreInTime (λ x. x.made) s.numbers.made (map times_of s.clients) → AreInTime (λ x. x.made) t.numbers.made (map times_of t.clients)
+      → (rest : List (Note U)) × (out ≡ early ++ rest)
+  drains_later s t early out takes drains makes below has has' = (
+    begun.0,
+    drains.behind
+        ∙ (ap (λ (l : List (Note U)). l ++ drains.more) makes.gathered
+        ∙ (ap (λ (l : List (Note U)). s.notes ++ l) begun.1
+        ∙ (sym (append_assoc s.notes takes.more begun.0) ∙ ap (λ (l : List (Note U)). l ++ begun.0) (sym takes.behind)))),
+  )
+    where
+      first : (rest : List NotePlace) × (drains.order ≡ takes.order ++ rest)
+      first =
+          earlier_first drains.waits (map times_of s.clients) (map times_of t.clients) takes.order drains.order s.numbers.made t.numbers.made
+          takes.rise takes.places drains.rise drains.places has.rise
+          (λ slot. let gives = makes.times slot in (gives.more, gives.behind, gives.rise below)) has'.apart
+
+      slots : map slot_of drains.more ≡ map slot_of takes.more ++ (map (λ p. p.slot) first.0 ++ drains.slots)
+      slots =
+          drains.along
+          ∙ (ap (λ (l : List NotePlace). map (λ p. p.slot) l ++ drains.slots) first.1
+          ∙ (ap (λ (l : List ℕ). l ++ drains.slots) (map-append (λ (p : NotePlace). p.slot) takes.order first.0)
+          ∙ (append_assoc (map (λ p. p.slot) takes.order) (map (λ p. p.slot) first.0) drains.slots
+          ∙ ap (λ (l : List ℕ). l ++ (map (λ p. p.slot) first.0 ++ drains.slots)) (sym takes.along))))
+
+      told : (id : ClientParts) → (more : List (Happening U)) × (notes_of id drains.more ≡ notes_of id takes.more ++ more)
+      told id =
+          let (new, is) = drains.each id in
+          let (new', is') = makes.each id in (
+            new' ++ new,
+            is
+                ∙ (ap (λ (l : List (Happening U)). l ++ new) is'
+                ∙ (append_assoc (made_of id s.clients) new' new ∙ ap (λ (l : List (Happening U)). l ++ (new' ++ new)) (sym (takes.each id)))),
+          )
+
+      stored : (id : ClientParts) (h : Happening U) (hs : List (Happening U)) → notes_of id drains.more ≡ h ∷ hs → is_some (client_at id t.clients) ≡ true
+      stored id h hs is = at (client_at id t.clients) refl
+        where
+          at : (o : Option (Stored T U C)) → client_at id t.clients ≡ o → is_some o ≡ true
+          at (Some c) there = refl
+          at None none = let long : 0 ≡ suc (length hs) = ap length (sym (drains.stored id none) ∙ is) in absurd (omega (arith, long))
+
+      begun : (rest : List (Note U)) × (drains.more ≡ takes.more ++ rest)
+      begun = begins_so (λ id. is_some (client_at id t.clients) ≡ true) (one_client t.clients) takes.more drains.more (map (λ p. p.slot) first.0 ++ drains.slots) slots told stored
+
+-- ---- calls
+
+module _ {T U G C : Type 0} (w : World T G C) where
+  -- what is told of a client behind what was gathered
+  behind_gathered : (id : ClientParts) (gathered more : List (Note U)) (made : List (Happening U)) → notes_of id (gathered ++ more) ≡ notes_of id gathered ++ made
+      → notes_of id more ≡ made
+  behind_gathered id gathered more made is =
+      append_cancel_left (notes_of id gathered) (notes_of id more) made (sym (notes_append id gathered more) ∙ is)
+
+  pub takes_of : (s : ServerState T U G C) (e : Entry T U G C) (after : ServerState T U G C) (out : Vec (Note U) Global)
+      → e.call ≡ Asked step.TakeNotes (reply.TakeNotes (Ok out)) → OneStep w s e after → Takes s out.items
+  takes_of s e after out is one = of (subst (λ (call : Call T U G C). NotesGoOn s call after) is one.notes)
+    where
+      each_of : (id : ClientParts) → PartCall w id s.offer (Asked step.TakeNotes (reply.TakeNotes (Ok out))) (seen id s) (e.lacks id) (e.did id) (seen id after)
+      each_of id = subst (λ (call : Call T U G C). PartCall w id s.offer call (seen id s) (e.lacks id) (e.did id) (seen id after)) is (one.each id)
+
+      told : (id : ClientParts) → notes_of id out.items ≡ notes_of id s.notes ++ made_of id s.clients
+      told id = let (r, is, h) = each_of id in at r is h
+        where
+          at : (r : Result (Vec (Note U) Global) OutOfMemory) → ◌≡◌ {A = Reply T U} (reply.TakeNotes (Ok out)) (reply.TakeNotes r)
+              → NotesTaken w id s.offer r (seen id s) (e.lacks id) (e.did id) (seen id after) → notes_of id out.items ≡ notes_of id s.notes ++ made_of id s.clients
+          at (Err f) is h = absurd (different is)
+            where
+              different : ◌≡◌ {A = Reply T U} (reply.TakeNotes (Ok out)) (reply.TakeNotes (Err f)) → ⊥
+              different e = cc
+          at (Ok out') is h = ap (λ (v : List (Note U)). notes_of id v) (ap items is) ∙ h.0
+            where
+              items : Reply T U → List (Note U)
+              items (reply.TakeNotes (Ok v)) = v.items
+              items _ = []
+
+      of : HandsOutNotes s out.items after → Takes s out.items
+      of h =
+          let (order, ordered, (more, behind, along)) = h.in_order in
+          record {
+            more = more;
+            order = order;
+            behind = behind;
+            rise = ordered.rise;
+            places = ordered.numbers;
+            along = along;
+            each = λ id. behind_gathered id s.notes more (made_of id s.clients) (ap (notes_of id) (sym behind) ∙ told id);
+          }
+
+  takes_drain : (s : ServerState T U G C) (out : List (Note U)) → Takes s out → Drains s out
+  takes_drain s out takes = record {
+    more = takes.more;
+    waits = false;
+    order = takes.order;
+    slots = [];
+    behind = takes.behind;
+    rise = takes.rise;
+    places = takes.places;
+    along = takes.along ∙ sym (append-nil (map (λ p. p.slot) takes.order));
+    each = λ id. ([], takes.each id ∙ sym (append-nil (made_of id s.clients)));
+    stored = λ id none. takes.each id ∙ ap (λ (o : Option (Stored T U C)). option_map_or (λ s. s.made) o []) none;
+  }
+
+  -- what a cleanup gathers
+  pub cleanup_drains : (s : ServerState T U G C) (e : Entry T U G C) (after : ServerState T U G C) (out : Vec (ClientParts × T) Global)
+      → e.call ≡ Asked step.Cleanup (reply.Cleanup (Ok out)) → OneStep w s e after → Drains s after.notes
+  cleanup_drains s e after out is one = of (subst (λ (call : Call T U G C). NotesGoOn s call after) is one.notes)
+    where
+      each_of : (id : ClientParts) → PartCall w id s.offer (Asked step.Cleanup (reply.Cleanup (Ok out))) (seen id s) (e.lacks id) (e.did id) (seen id after)
+      each_of id = subst (λ (call : Call T U G C). PartCall w id s.offer call (seen id s) (e.lacks id) (e.did id) (seen id after)) is (one.each id)
+
+      cleaned : (id : ClientParts) → CleanedAs w id s.offer (Ok out) (seen id s) (e.lacks id) (e.did id) (seen id after)
+      cleaned id = let (r, is, h) = each_of id in at r is h
+        where
+          at : (r : Result (Vec (ClientParts × T) Global) OutOfMemory) → ◌≡◌ {A = Reply T U} (reply.Cleanup (Ok out)) (reply.Cleanup r)
+              → CleanedAs w id s.offer r (seen id s) (e.lacks id) (e.did id) (seen id after) → CleanedAs w id s.offer (Ok out) (seen id s) (e.lacks id) (e.did id) (seen id after)
+          at r is h =
+              subst (λ (r : Result (Vec (ClientParts × T) Global) OutOfMemory). CleanedAs w id s.offer r (seen id s) (e.lacks id) (e.did id) (seen id after)) (sym (ap result is)) h
+            where
+              result : Reply T U → Result (Vec (ClientParts × T) Global) OutOfMemory
+              result (reply.Cleanup r) = r
+              result _ = Ok out
+
+      of : GathersNotes s after → Drains s after.notes
+      of h =
+          let (order, ordered, (more, behind, along)) = h.in_order in
+          let all : after.notes ≡ s.notes ++ (more ++ h.ends) = h.behind ∙ (ap (λ (l : List (Note U)). l ++ h.ends) behind ∙ append_assoc s.notes more h.ends) in
+          record {
+            more = more ++ h.ends;
+            waits = true;
+            order = order;
+            slots = map slot_of h.ends;
+            behind = all;
+            rise = ordered.rise;
+            places = ordered.numbers;
+            along = map-append slot_of more h.ends ∙ ap (λ (l : List ℕ). l ++ map slot_of h.ends) along;
+            each = λ id. (
+                let (new, grown) = cleaned_grows w id s.offer (Ok out) (seen id s) (e.lacks id) (e.did id) (seen id after) (cleaned id) in (
+                  new,
+                  behind_gathered id s.notes (more ++ h.ends) (made_of id s.clients ++ new)
+                      (ap (notes_of id) (sym all) ∙ (now id h ∙ (grown ∙ append_assoc (notes_of id s.notes) (made_of id s.clients) new))),
+                ));
+            stored = λ id none. behind_gathered id s.notes (more ++ h.ends) [] (ap (notes_of id) (sym all) ∙ (now id h ∙ missing id none));
+          }
+        where
+          -- all notes of the client are gathered
+          now : (id : ClientParts) → GathersNotes s after → notes_of id after.notes ≡ (seen id after).made
+          now id h = sym (ap (λ (l : List (Happening U)). notes_of id after.notes ++ l) (h.none_left id) ∙ append-nil (notes_of id after.notes))
+
+          missing : (id : ClientParts) → client_at id s.clients ≡ None → (seen id after).made ≡ notes_of id s.notes ++ []
+          missing id none =
+              elim (either_option (seen id s).part (cleaned id)) [
+                | inl (gone, (nobody, (unlacked, did_so, same))) ↦ ap (λ (x : Seen T U C). x.made) same
+                    ∙ ap (λ (o : Option (Stored T U C)). notes_of id s.notes ++ option_map_or (λ s. s.made) o []) none
+                | inr (p, there, c) ↦ absurd (false≢true (ap (λ (o : Option (Part T U C)). is_some o) (sym (ap (option_map (λ (s : Stored T U C). s.part)) none) ∙ there)))
+              ]
+
+  -- ---- a run between
+
+  -- none was gathered since the point, or what would have been handed out there comes first
+  abbrev Since : ServerState T U G C → List (Note U) → ServerState T U G C → Type 0
+  Since s early t = Makes s t ⊎ ((rest : List (Note U)) × (t.notes ≡ early ++ rest))
+
+  makes_none : (s : ServerState T U G C) → Makes s s
+  makes_none s = record { gathered = refl; times = λ slot. within_none _ _ _ (λ below. omega arith); each = λ id. ([], sym (append-nil (made_of id s.clients))) }
+
+  made_more : (s t : ServerState T U G C) (e : Entry T U G C) (u : ServerState T U G C) → Makes s t → OneStep w t e u → HandsOutNone e.call → MakesNotes t u → Makes s u
+  made_more s t e u makes one none more = record {
+    gathered = more.gathered ∙ makes.gathered;
+    times = λ slot. within_both _ _ _ _ _ _ (makes.times slot) (all_each _ _ _ _ more.times slot);
+    each = λ id. (
+        let (new, is) = makes.each id in
+        let (new', is') = call_grows w id t.offer e.call (seen id t) (e.lacks id) (e.did id) (seen id u) none (one.each id) in
+        let made : made_of id u.clients ≡ made_of id t.clients ++ new' =
+        append_cancel_left (notes_of id t.notes) (made_of id u.clients) (made_of id t.clients ++ new')
+        (ap (λ (l : List (Note U)). notes_of id l ++ made_of id u.clients) (sym more.gathered)
+        ∙ (is' ∙ append_assoc (notes_of id t.notes) (made_of id t.clients) new')) in
+        (new ++ new', made ∙ (ap (λ (l : List (Happening U)). l ++ new') is ∙ append_assoc (made_of id s.clients) new new')));
+  }
+
+  -- a later call
+  since_more : (s : ServerState T U G C) (early : List (Note U)) (t : ServerState T U G C) (e : Entry T U G C) (u : ServerState T U G C) → Takes s early → Since s early t
+      → OneStep w t e u → HandsOutNone e.call → t.numbers.made < last_number
+      → AreInTime (λ x. x.made) s.numbers.made (map times_of s.clients) → AreInTime (λ x. x.made) t.numbers.made (map times_of t.clients) → Since s early u
+  since_more s early t e u takes since one none below has has' = at e.call refl one.notes
+    where
+      making : MakesNotes t u → Since s early t → Since s early u
+      making more (inl makes) = inl (made_more s t e u makes one none more)
+      making more (inr (rest, is)) = inr (rest, more.gathered ∙ is)
+
+      gathering : (out : Vec (ClientParts × T) Global) → e.call ≡ Asked step.Cleanup (reply.Cleanup (Ok out)) → Since s early t → Since s early u
+      gathering out is (inl makes) = inr (drains_later s t early u.notes takes (cleanup_drains t e u out is one) makes below has has')
+      gathering out is (inr (rest, begun)) =
+          let drains = cleanup_drains t e u out is one in
+          inr (rest ++ drains.more, drains.behind ∙ (ap (λ (l : List (Note U)). l ++ drains.more) begun ∙ append_assoc early rest drains.more))
+
+      at : (call : Call T U G C) → e.call ≡ call → NotesGoOn t call u → Since s early u
+      at (Asked step.TakeNotes (reply.TakeNotes (Ok out))) is h = absurd (none out is)
+      at (Asked step.Cleanup (reply.Cleanup (Ok out))) is h = gathering out is since
+      at _ is h = making h since
+
+  since_run : (s : ServerState T U G C) (early : List (Note U)) (t : ServerState T U G C) (run : List (Entry T U G C)) (u : ServerState T U G C) → Takes s early
+      → AreInTime (λ x. x.made) s.numbers.made (map times_of s.clients) → HasNumbers t.numbers (map times_of t.clients) → Since s early t → Leads w t run u
+      → NoneHandedOut run → u.numbers.made < last_number → Since s early u
+  since_run s early t [] u takes has has' since same none below = subst (λ (x : ServerState T U G C). Since s early x) (sym same) since
+  since_run s early t (e ∷ run) u takes has has' since (mid, one, leads) (none, later) below =
+      let up = run_rises w t (e ∷ run) u (mid, one, leads) below in
+      since_run s early mid run u takes has (numbers_go t e.call mid one.notes has')
+      (since_more s early t e mid takes since one none (omega (arith, up, below)) has (has'.made (omega (arith, up, below)))) leads later below
+
+  pub earlier_notes_first : (table : List InterfaceRow) (done between : List (Entry T U G C)) (point mid point' mid' : ServerState T U G C) (early late : Vec (Note U) Global)
+      (refused refused' : Bool) → Leads w (new_server table) done point → Leads w point between mid → NoneHandedOut between → mid.numbers.made < last_number
+      → StepOf w point step.TakeNotes (reply.TakeNotes (Ok early)) refused point' → StepOf w mid step.TakeNotes (reply.TakeNotes (Ok late)) refused' mid'
+      → (rest : List (Note U)) × (late.items ≡ early.items ++ rest)
+  earlier_notes_first table done between point mid point' mid' early late refused refused' leads leads' none below (e, is, was, one) (f, is', was', two) =
+      let has = run_numbers w (new_server table) done point leads (no_numbers _) in
+      let has' = run_numbers w point between mid leads' has in
+      let up = run_rises w point between mid leads' below in
+      let takes = takes_of point e point' early is one in
+      let takes' = takes_of mid f mid' late is' two in
+      at (has.made (omega (arith, up, below))) (has'.made below) takes takes'
+      (since_run point early.items point between mid takes (has.made (omega (arith, up, below))) has (inl (makes_none point)) leads' none below)
+    where
+      at : AreInTime (λ x. x.made) point.numbers.made (map times_of point.clients) → AreInTime (λ x. x.made) mid.numbers.made (map times_of mid.clients)
+          → Takes point early.items → Takes mid late.items → Since point early.items mid → (rest : List (Note U)) × (late.items ≡ early.items ++ rest)
+      at has has' takes takes' (inl makes) = drains_later point mid early.items late.items takes (takes_drain mid late.items takes') makes below has has'
+      at has has' takes takes' (inr (rest, begun)) =
+          (rest ++ takes'.more, takes'.behind ∙ (ap (λ (l : List (Note U)). l ++ takes'.more) begun ∙ append_assoc early.items rest takes'.more))

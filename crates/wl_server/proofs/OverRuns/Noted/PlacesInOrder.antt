@@ -1,0 +1,337 @@
+-- Places in order of time: those that are early come first, and in one order.
+use Rattle.std.proofs.Common.{◌≡◌, ◌∙◌, ℕ, zero, suc, ◌+◌, ◌<◌, ◌≤◌, Bool, true, false, get_or, List, [], ◌∷◌, ◌++◌, length, map, refl, sym, ap, subst, arith}
+use Rattle.std.specs.List.{AllByRecursion}
+use Rattle.std.specs.Prelude.{◌==◌, Contains, if◌then◌else◌, IsPermutation}
+use Rattle.std.proofs.lemmas.Bool.{eqb-true, eq-eqb, false≢true, ne_eqb}
+use Rattle.std.proofs.lemmas.List.Elements.{All-from_recursion, recursion_from_All}
+use Rattle.std.proofs.lemmas.List.Sorted.{All-permutation, sum_by-IsPermutation}
+use Rattle.std.proofs.lemmas.List.Sums.{sum_by-append, sum_by-cons}
+use Rattle.std.specs.List.{sum_by}
+use Rattle.wl_server.specs.declared.notes.queues.NotePlace.{NotePlace}
+use Rattle.wl_server.specs.NoteOrder.{IsNoLater, Rise, RiseWithin, all_places, place_at, places_of, times_at}
+use Rattle.wl_server.specs.Server.{NoteTimes}
+
+-- ---- lists in order, by recursion
+
+abbrev pub Sorted : List NotePlace → Type 0
+Sorted [] = Unit {0}
+Sorted (p ∷ ps) = AllByRecursion (IsNoLater p) ps × Sorted ps
+
+all_more : (P Q : NotePlace → Type 0) → ((p : NotePlace) → P p → Q p) → (ps : List NotePlace) → AllByRecursion P ps → AllByRecursion Q ps
+all_more P Q more [] all = tt
+all_more P Q more (p ∷ ps) (here, all) = (more p here, all_more P Q more ps all)
+
+all_append : (P : NotePlace → Type 0) (ps qs : List NotePlace) → AllByRecursion P ps → AllByRecursion P qs → AllByRecursion P (ps ++ qs)
+all_append P [] qs all more = more
+all_append P (p ∷ ps) qs (here, all) more = (here, all_append P ps qs all more)
+
+pub later_refl : (p : NotePlace) → IsNoLater p p
+later_refl p = (λ w. w, λ e. omega arith, λ e n. omega arith)
+
+later_trans : (p q r : NotePlace) → IsNoLater p q → IsNoLater q r → IsNoLater p r
+later_trans p q r one two = (
+  λ w. two.0 (one.0 w),
+  λ same. by_number (between same) same,
+  λ same at_one. by_slot (between same) same at_one,
+)
+  where
+    -- the kind between is the same
+    between : p.waits ≡ r.waits → p.waits ≡ q.waits
+    between same = at q.waits refl p.waits refl
+      where
+        at : (b : Bool) → q.waits ≡ b → (a : Bool) → p.waits ≡ a → p.waits ≡ q.waits
+        at true qb true pa = pa ∙ sym qb
+        at false qb false pa = pa ∙ sym qb
+        at false qb true pa = absurd (false≢true (sym qb ∙ one.0 pa))
+        at true qb false pa = absurd (false≢true (sym pa ∙ (same ∙ two.0 qb)))
+
+    by_number : p.waits ≡ q.waits → p.waits ≡ r.waits → p.number ≤ r.number
+    by_number e same =
+        let first = one.1 e in
+        let second = two.1 (sym e ∙ same) in
+        omega (arith, first, second)
+
+    by_slot : p.waits ≡ q.waits → p.waits ≡ r.waits → p.number ≡ r.number → p.slot ≤ r.slot
+    by_slot e same at_one =
+        let first = one.1 e in
+        let second = two.1 (sym e ∙ same) in
+        let here = one.2 e (omega (arith, first, second, at_one)) in
+        let there = two.2 (sym e ∙ same) (omega (arith, first, second, at_one)) in
+        omega (arith, here, there)
+
+pub sorted_of : (ps : List NotePlace) → Rise ps → Sorted ps
+sorted_of [] rise = tt
+sorted_of (p ∷ []) rise = (tt, tt)
+sorted_of (p ∷ q ∷ ps) rise = whole (sorted_of (q ∷ ps) next)
+  where
+    first : IsNoLater p q
+    first = rise 0 p (omega arith)
+
+    next : (k : ℕ) (d : NotePlace) → k + 1 < length (q ∷ ps) → IsNoLater (get_or (q ∷ ps) k d) (get_or (q ∷ ps) (k + 1) d)
+    next k d below =
+        let same : suc k + 1 ≡ suc (k + 1) = omega arith in
+        subst (λ (m : ℕ). IsNoLater (get_or (q ∷ ps) k d) (get_or (p ∷ q ∷ ps) m d)) same (rise (suc k) d (omega (arith, below)))
+
+    whole : Sorted (q ∷ ps) → Sorted (p ∷ q ∷ ps)
+    whole rest = ((first, all_more (IsNoLater q) (IsNoLater p) (λ r after. later_trans p q r first after) ps rest.0), rest)
+
+-- ---- how often a note that was made has its place in a list
+
+abbrev at_time : ℕ → ℕ → NotePlace → ℕ
+at_time slot n p = if p.waits then 0 else (if p.number == n then (if p.slot == slot then 1 else 0) else 0)
+
+abbrev pub times_at_time : ℕ → ℕ → List NotePlace → ℕ
+times_at_time slot n ps = sum_by (at_time slot n) ps
+
+place_is : (p : NotePlace) (slot n : ℕ) → p.waits ≡ false → p.number ≡ n → p.slot ≡ slot → p ≡ place_at false slot n
+place_is p slot n waits number at_slot =
+    ap (λ (w : Bool). let q : NotePlace = record { waits = w; number = p.number; slot = p.slot } in q) waits
+    ∙ (ap (λ (m : ℕ). let q : NotePlace = record { waits = false; number = m; slot = p.slot } in q) number
+    ∙ ap (λ (m : ℕ). let q : NotePlace = record { waits = false; number = n; slot = m } in q) at_slot)
+
+count_is : (p : NotePlace) (slot n : ℕ) (w a b : Bool) → p.waits ≡ w → (p.number == n) ≡ a → (p.slot == slot) ≡ b
+    → at_time slot n p ≡ (if w then 0 else (if a then (if b then 1 else 0) else 0))
+count_is p slot n w a b waits number at_slot =
+    ap (λ (x : Bool). if x then 0 else (if p.number == n then (if p.slot == slot then 1 else 0) else 0)) waits
+    ∙ (ap (λ (x : Bool). if w then 0 else (if x then (if p.slot == slot then 1 else 0) else 0)) number
+    ∙ ap (λ (x : Bool). if w then 0 else (if a then (if x then 1 else 0) else 0)) at_slot)
+
+-- what holds of all places holds of one that is there
+found : (P : NotePlace → Type 0) (slot n : ℕ) (ps : List NotePlace) → AllByRecursion P ps → 1 ≤ times_at_time slot n ps → P (place_at false slot n)
+found P slot n [] all some = absurd (omega (arith, some))
+found P slot n (p ∷ ps) (here, all) some = at (λ more. found P slot n ps all more) p.waits (p.number == n) (p.slot == slot) refl refl refl
+  where
+    past : (1 ≤ times_at_time slot n ps → P (place_at false slot n)) → at_time slot n p ≡ 0 → P (place_at false slot n)
+    past later none = let count = sum_by-cons (at_time slot n) p ps in later (omega (arith, some, none, count))
+
+    at : (1 ≤ times_at_time slot n ps → P (place_at false slot n)) → (w a b : Bool) → p.waits ≡ w → (p.number == n) ≡ a → (p.slot == slot) ≡ b → P (place_at false slot n)
+    at later false true true waits number at_slot = subst P (place_is p slot n waits (eqb-true p.number n number) (eqb-true p.slot slot at_slot)) here
+    at later true a b waits number at_slot = past later (count_is p slot n true a b waits number at_slot)
+    at later false false b waits number at_slot = past later (count_is p slot n false false b waits number at_slot)
+    at later false true false waits number at_slot = past later (count_is p slot n false true false waits number at_slot)
+
+-- ---- what is early comes first
+
+-- a note that was made, with a number below this one
+abbrev pub IsEarly : ℕ → NotePlace → Type 0
+IsEarly below p = (p.waits ≡ false) × (p.number < below)
+
+module _ (below : ℕ) (In : ℕ → ℕ → Type 0) (apart : (i j n : ℕ) → In i n → In j n → i ≡ j) where
+  early_so : (a b : List NotePlace) → Sorted a → Sorted b → AllByRecursion (IsEarly below) a
+      → ((slot n : ℕ) → n < below → times_at_time slot n a ≡ times_at_time slot n b) → ((slot n : ℕ) → 1 ≤ times_at_time slot n b → In slot n)
+      → (rest : List NotePlace) × (b ≡ a ++ rest)
+  early_so [] b up up' early same known = (b, refl)
+  early_so (x ∷ a) [] up up' ((made, low), early) same known =
+      let one = count_is x x.slot x.number false true true made (eq-eqb x.number x.number refl) (eq-eqb x.slot x.slot refl) in
+      let count = sum_by-cons (at_time x.slot x.number) x a in
+      let none = same x.slot x.number low in
+      absurd (omega (arith, one, count, none))
+  early_so (x ∷ a) (y ∷ b) (after_x, up) (after_y, up') ((made, low), early) same known = whole (early_so a b up up' early same_rest known_rest)
+    where
+      there : 1 ≤ times_at_time x.slot x.number (y ∷ b)
+      there =
+          let one = count_is x x.slot x.number false true true made (eq-eqb x.number x.number refl) (eq-eqb x.slot x.slot refl) in
+          let count = sum_by-cons (at_time x.slot x.number) x a in
+          let same' = same x.slot x.number low in
+          omega (arith, one, count, same')
+
+      y_first : IsNoLater y (place_at false x.slot x.number)
+      y_first = found (IsNoLater y) x.slot x.number (y ∷ b) (later_refl y, after_y) there
+
+      y_made : y.waits ≡ false
+      y_made = at y.waits refl
+        where
+          at : (w : Bool) → y.waits ≡ w → y.waits ≡ false
+          at true is = absurd (false≢true (y_first.0 is))
+          at false is = is
+
+      y_low : y.number ≤ x.number
+      y_low = y_first.1 y_made
+
+      y_there : 1 ≤ times_at_time y.slot y.number (y ∷ b)
+      y_there =
+          let one = count_is y y.slot y.number false true true y_made (eq-eqb y.number y.number refl) (eq-eqb y.slot y.slot refl) in
+          let count = sum_by-cons (at_time y.slot y.number) y b in
+          omega (arith, one, count)
+
+      back : 1 ≤ times_at_time y.slot y.number (x ∷ a)
+      back = let same' = same y.slot y.number (omega (arith, y_low, low)) in omega (arith, same', y_there)
+
+      x_first : IsNoLater x (place_at false y.slot y.number)
+      x_first = found (IsNoLater x) y.slot y.number (x ∷ a) (later_refl x, after_x) back
+
+      number : y.number ≡ x.number
+      number = let x_low = x_first.1 made in omega (arith, x_low, y_low)
+
+      at_slot : y.slot ≡ x.slot
+      at_slot = apart y.slot x.slot x.number (subst (λ (n : ℕ). In y.slot n) number (known y.slot y.number y_there)) (known x.slot x.number there)
+
+      is : y ≡ x
+      is = place_is y x.slot x.number y_made number at_slot ∙ sym (place_is x x.slot x.number made refl refl)
+
+      same_rest : (slot n : ℕ) → n < below → times_at_time slot n a ≡ times_at_time slot n b
+      same_rest slot n less =
+          let one = sum_by-cons (at_time slot n) x a in
+          let two = sum_by-cons (at_time slot n) y b in
+          let this = ap (at_time slot n) is in
+          let all = same slot n less in
+          omega (arith, one, two, this, all)
+
+      known_rest : (slot n : ℕ) → 1 ≤ times_at_time slot n b → In slot n
+      known_rest slot n some = known slot n (let two = sum_by-cons (at_time slot n) y b in omega (arith, two, some))
+
+      whole : (rest : List NotePlace) × (b ≡ a ++ rest) → (rest : List NotePlace) × (y ∷ b ≡ (x ∷ a) ++ rest)
+      whole (rest, more) = (rest, ap (λ (p : NotePlace). p ∷ b) is ∙ ap (λ (l : List NotePlace). x ∷ l) more)
+
+-- ---- the places of all clients
+
+abbrev pub often : ℕ → List ℕ → ℕ
+often n ns = sum_by (λ (m : ℕ). if m == n then 1 else 0) ns
+
+none_waiting : (k slot n : ℕ) (ns : List ℕ) → times_at_time slot n (map (place_at true k) ns) ≡ 0
+none_waiting k slot n [] = refl
+none_waiting k slot n (m ∷ ns) =
+    let count = sum_by-cons (at_time slot n) (place_at true k m) (map (place_at true k) ns) in
+    let more = none_waiting k slot n ns in
+    omega (arith, count, more)
+
+of_made : (k slot n : ℕ) (b : Bool) → (k == slot) ≡ b → (ns : List ℕ) → times_at_time slot n (map (place_at false k) ns) ≡ (if b then often n ns else 0)
+of_made k slot n true is [] = refl
+of_made k slot n false is [] = refl
+of_made k slot n b is (m ∷ ns) = at b is (of_made k slot n b is ns) (m == n) refl
+  where
+    at : (b : Bool) → (k == slot) ≡ b → times_at_time slot n (map (place_at false k) ns) ≡ (if b then often n ns else 0) → (a : Bool) → (m == n) ≡ a
+        → times_at_time slot n (map (place_at false k) (m ∷ ns)) ≡ (if b then often n (m ∷ ns) else 0)
+    at true is more true number =
+        let count = sum_by-cons (at_time slot n) (place_at false k m) (map (place_at false k) ns) in
+        let this = count_is (place_at false k m) slot n false true true refl number is in
+        let other = sum_by-cons (λ (m : ℕ). if m == n then 1 else 0) m ns in
+        let one = ap {B = ℕ} (λ (x : Bool). if x then 1 else 0) number in
+        omega (arith, count, this, other, one, more)
+    at true is more false number =
+        let count = sum_by-cons (at_time slot n) (place_at false k m) (map (place_at false k) ns) in
+        let this = count_is (place_at false k m) slot n false false true refl number is in
+        let other = sum_by-cons (λ (m : ℕ). if m == n then 1 else 0) m ns in
+        let one = ap {B = ℕ} (λ (x : Bool). if x then 1 else 0) number in
+        omega (arith, count, this, other, one, more)
+    at false is more true number =
+        let count = sum_by-cons (at_time slot n) (place_at false k m) (map (place_at false k) ns) in
+        let this = count_is (place_at false k m) slot n false true false refl number is in
+        omega (arith, count, this, more)
+    at false is more false number =
+        let count = sum_by-cons (at_time slot n) (place_at false k m) (map (place_at false k) ns) in
+        let this = count_is (place_at false k m) slot n false false false refl number is in
+        omega (arith, count, this, more)
+
+of_client : (waits : Bool) (k slot n : ℕ) (b : Bool) → (k == slot) ≡ b → (t : NoteTimes) → times_at_time slot n (places_of waits k t) ≡ (if b then often n t.made else 0)
+of_client waits k slot n b is t =
+    let both = sum_by-append (at_time slot n) (map (place_at false k) t.made) (if waits then map (place_at true k) t.waiting else []) in
+    let made = of_made k slot n b is t.made in
+    let none = waiting waits in
+    both ∙ (ap (λ (m : ℕ). m + times_at_time slot n (if waits then map (place_at true k) t.waiting else [])) made ∙ last (if b then often n t.made else 0) none)
+  where
+    waiting : (v : Bool) → times_at_time slot n (if v then map (place_at true k) t.waiting else []) ≡ 0
+    waiting true = none_waiting k slot n t.waiting
+    waiting false = refl
+
+    last : (m : ℕ) → times_at_time slot n (if waits then map (place_at true k) t.waiting else []) ≡ 0 → m + times_at_time slot n (if waits then map (place_at true k) t.waiting else []) ≡ m
+    last m none = omega (arith, none)
+
+past : (waits : Bool) (k slot n : ℕ) (ts : List NoteTimes) → slot < k → times_at_time slot n (all_places waits k ts) ≡ 0
+past waits k slot n [] less = refl
+past waits k slot n (t ∷ ts) less =
+    let both = sum_by-append (at_time slot n) (places_of waits k t) (all_places waits (k + 1) ts) in
+    let this = of_client waits k slot n false (ne_eqb k slot (λ e. omega (arith, less, e))) t in
+    let more = past waits (k + 1) slot n ts (omega (arith, less)) in
+    omega (arith, both, this, more)
+
+pub among_all : (waits : Bool) (k j slot n : ℕ) (ts : List NoteTimes) → slot ≡ k + j → times_at_time slot n (all_places waits k ts) ≡ often n (times_at j ts).made
+among_all waits k j slot n [] is = refl
+among_all waits k zero slot n (t ∷ ts) is =
+    let both = sum_by-append (at_time slot n) (places_of waits k t) (all_places waits (k + 1) ts) in
+    let this = of_client waits k slot n true (eq-eqb k slot (omega (arith, is))) t in
+    let more = past waits (k + 1) slot n ts (omega (arith, is)) in
+    omega (arith, both, this, more)
+among_all waits k (suc j) slot n (t ∷ ts) is =
+    let both = sum_by-append (at_time slot n) (places_of waits k t) (all_places waits (k + 1) ts) in
+    let this = of_client waits k slot n false (ne_eqb k slot (λ e. omega (arith, is, e))) t in
+    let more = among_all waits (k + 1) j slot n ts (omega (arith, is)) in
+    omega (arith, both, this, more)
+
+-- ---- numbers
+
+pub has_number : (n : ℕ) (ns : List ℕ) → 1 ≤ often n ns → Contains ns n
+has_number n [] some = absurd (omega (arith, some))
+has_number n (m ∷ ns) some = at (λ more. has_number n ns more) (m == n) refl
+  where
+    at : (1 ≤ often n ns → Contains ns n) → (a : Bool) → (m == n) ≡ a → Contains (m ∷ ns) n
+    at later true is = (0, omega arith, eqb-true m n is)
+    at later false is =
+        let count = sum_by-cons (λ (k : ℕ). if k == n then 1 else 0) m ns in
+        let none = ap {B = ℕ} (λ (x : Bool). if x then 1 else 0) is in
+        let (k, below, here) = later (omega (arith, some, count, none)) in
+        (suc k, omega (arith, below), here)
+
+not_later : (low : ℕ) (ns : List ℕ) (next n : ℕ) → RiseWithin low ns next → n < low → often n ns ≡ 0
+not_later low [] next n rise less = refl
+not_later low (m ∷ ns) next n (first, rest) less =
+    let count = sum_by-cons (λ (k : ℕ). if k == n then 1 else 0) m ns in
+    let none = ap {B = ℕ} (λ (x : Bool). if x then 1 else 0) (ne_eqb m n (λ e. omega (arith, e, first, less))) in
+    let more = not_later (m + 1) ns next n rest (omega (arith, first, less)) in
+    omega (arith, count, none, more)
+
+-- numbers that were given later do not count among the early ones
+pub as_often : (ns more ns' : List ℕ) (next next' n : ℕ) → ns' ≡ ns ++ more → RiseWithin next more next' → n < next → often n ns ≡ often n ns'
+as_often ns more ns' next next' n is rise less =
+    let both = sum_by-append (λ (k : ℕ). if k == n then 1 else 0) ns more in
+    let none = not_later next more next' n rise less in
+    let same = ap (often n) is in
+    omega (arith, both, none, same)
+
+-- ---- the places of what was made are early
+
+last_up : (low : ℕ) (ns : List ℕ) (next : ℕ) → RiseWithin low ns next → low ≤ next
+last_up low [] next is = is
+last_up low (n ∷ ns) next (first, rest) = let more = last_up (n + 1) ns next rest in omega (arith, first, more)
+
+made_early : (k low : ℕ) (ns : List ℕ) (next : ℕ) → RiseWithin low ns next → AllByRecursion (IsEarly next) (map (place_at false k) ns)
+made_early k low [] next rise = tt
+made_early k low (n ∷ ns) next (first, rest) = ((refl, (let up = last_up (n + 1) ns next rest in omega (arith, up))), made_early k (n + 1) ns next rest)
+
+all_early : (k : ℕ) (ts : List NoteTimes) (next : ℕ) → ((j : ℕ) → RiseWithin 0 (times_at j ts).made next) → AllByRecursion (IsEarly next) (all_places false k ts)
+all_early k [] next rise = tt
+all_early k (t ∷ ts) next rise =
+    all_append (IsEarly next) (places_of false k t) (all_places false (k + 1) ts)
+    (all_append (IsEarly next) (map (place_at false k) t.made) [] (made_early k 0 t.made next (rise 0)) tt)
+    (all_early (k + 1) ts next (λ j. rise (suc j)))
+
+-- ---- two orders, at an earlier point and at a later one
+
+pub earlier_first : (waits : Bool) (ts ts' : List NoteTimes) (a b : List NotePlace) (next next' : ℕ)
+    → Rise a → IsPermutation (all_places false 0 ts) a → Rise b → IsPermutation (all_places waits 0 ts') b
+    → ((slot : ℕ) → RiseWithin 0 (times_at slot ts).made next)
+    → ((slot : ℕ) → (more : List ℕ) × ((times_at slot ts').made ≡ (times_at slot ts).made ++ more) × RiseWithin next more next')
+    → ((i j n : ℕ) → Contains (times_at i ts').made n → Contains (times_at j ts').made n → i ≡ j)
+    → (rest : List NotePlace) × (b ≡ a ++ rest)
+earlier_first waits ts ts' a b next next' up moved up' moved' rise grow apart =
+    early_so next (λ slot n. Contains (times_at slot ts').made n) apart a b (sorted_of a up) (sorted_of b up') early same known
+  where
+    early : AllByRecursion (IsEarly next) a
+    early = recursion_from_All (IsEarly next) a
+        (All-permutation (IsEarly next) (all_places false 0 ts) a moved (All-from_recursion (IsEarly next) (all_places false 0 ts) (all_early 0 ts next rise)))
+
+    same : (slot n : ℕ) → n < next → times_at_time slot n a ≡ times_at_time slot n b
+    same slot n less =
+        let (more, is, later) = grow slot in
+        let one = sum_by-IsPermutation (at_time slot n) (all_places false 0 ts) a moved in
+        let two = sum_by-IsPermutation (at_time slot n) (all_places waits 0 ts') b moved' in
+        let three = among_all false 0 slot slot n ts (omega arith) in
+        let four = among_all waits 0 slot slot n ts' (omega arith) in
+        let five = as_often (times_at slot ts).made more (times_at slot ts').made next next' n is later less in
+        one ∙ (three ∙ (five ∙ (sym four ∙ sym two)))
+
+    known : (slot n : ℕ) → 1 ≤ times_at_time slot n b → Contains (times_at slot ts').made n
+    known slot n some =
+        let two = sum_by-IsPermutation (at_time slot n) (all_places waits 0 ts') b moved' in
+        let four = among_all waits 0 slot slot n ts' (omega arith) in
+        has_number n (times_at slot ts').made (omega (arith, some, two, four))

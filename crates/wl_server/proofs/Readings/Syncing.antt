@@ -1,0 +1,150 @@
+-- A sync that is answered in place is handled as any other.
+use Rattle.std.proofs.Common.{◌≡◌, ◌∙◌, ℕ, ◌+◌, ◌<◌, false, not, List, [], ◌∷◌, ◌++◌, append-nil, drop, length, Option, None, Some, option_map, Result, Ok, refl, sym, ap, ap₂, subst, arith}
+use Rattle.std.proofs.lemmas.List.{length-drop, take-append-drop}
+use Rattle.std.proofs.lemmas.Bool.{and_parts, le-leb, not-true}
+use Rattle.wl_wire.specs.declared.argument.Argument.TheVariants as arg
+use Rattle.wl_wire.specs.declared.argument.ArgumentType.{ArgumentType}
+use Rattle.wl_wire.specs.declared.argument.ArgumentType.TheVariants as kind
+use Rattle.wl_wire.specs.declared.argument.Token.{Token}
+use Rattle.wl_wire.specs.declared.error.IoFault.{IoFault}
+use Rattle.wl_wire.specs.Message.{WireMessage}
+use Rattle.wl_wire.specs.MessageRows.{request_in}
+use Rattle.wl_wire.specs.Parse.{IsWhole, length_of, opcode_of, payload_of, sender_of}
+use Rattle.std.specs.Prelude.{IfSome, MatchOption}
+use Rattle.wl_wire.specs.Reading.{IsPiece, IsWord, Reads as ReadsArgs}
+use Rattle.wl_wire.specs.Table.{InterfaceRow, IsAcceptedTable, MessageRow, display_id, display_row, fixed_rows, first_message, callback_id}
+use Rattle.wl_link.specs.declared.object.Object.{Object}
+use Rattle.wl_link.specs.Exchange.{Queue}
+use Rattle.wl_link.specs.Identity.{Objects}
+use Rattle.wl_link.specs.Link.{LinkState, after_first, with_incoming}
+use Rattle.wl_link.specs.Puts.{Said}
+use Rattle.wl_link.specs.Reader.{ReadsAs, Takes}
+use Rattle.wl_link.specs.Store.{Store, held, is_server_number}
+use Rattle.wl_server.specs.declared.objects.Kept.{Kept}
+use Rattle.wl_server.specs.declared.reading.action.Reading.{Reading}
+use Rattle.wl_server.specs.Inside.Puts.{Puts}
+use Rattle.wl_server.specs.Inside.ReadingLoop.{HandlesMessage, IsHandled, Live, WentOn, counted, linked}
+use Rattle.wl_server.specs.Inside.Syncing.{LeavesNoTrace, SyncWaits}
+use Rattle.wl_server.specs.Part.{Part, objects_of}
+use Rattle.wl_server.specs.Reading.{Around, made_at, new_at, replies, request, request_to, row_in, server, synced, syncs}
+use Rattle.wl_server.specs.Requests.{made_object}
+use Rattle.wl_server.specs.Server.{Stored}
+use Rattle.wl_server.specs.Telling.{Core, core_of, deletions, done_message, objects_in, reader_part, with_objects}
+use Rattle.wl_server.proofs.Readings.Handling.{from_there, none_quiet, replied_all}
+use Rattle.wl_server.proofs.Readings.OneMessage.{message_handled}
+
+-- the row of a sync
+abbrev sync_row : Option MessageRow
+sync_row = request_in (Some display_row) 0
+
+abbrev one_new_id : List ArgumentType
+one_new_id = kind.NewId ∷ []
+
+module _ (table : List InterfaceRow) (accepted : IsAcceptedTable table) where
+  begins : table ≡ fixed_rows ++ drop 4 table
+  begins = sym (take-append-drop 4 table) ∙ ap (λ (t : List InterfaceRow). t ++ drop 4 table) accepted.fixed
+
+  row_is : {U : Type 0} (o : Option (Object (Kept U))) (x : Object (Kept U)) (opcode : ℕ) → o ≡ Some x → x.interface ≡ display_id → opcode ≡ 0
+      → row_in table o opcode ≡ sync_row
+  row_is o x opcode is display zero = rw (is, display, zero, begins) refl
+
+  receiver_of : {U : Type 0} (o : Option (Object (Kept U))) (opcode : ℕ) (row : MessageRow) → Some row ≡ row_in table o opcode
+      → (x : Object (Kept U)) × (o ≡ Some x)
+  receiver_of None opcode row is = cc
+  receiver_of (Some x) opcode row is = (x, refl)
+
+  module _ {T U : Type 0} (store : Store (Kept U)) (link : LinkState T) (row : MessageRow)
+      (asked : Some row ≡ row_in table (held store (sender_of link.incoming.bytes)) (opcode_of link.incoming.bytes))
+      (display : (x : Object (Kept U)) → held store (sender_of link.incoming.bytes) ≡ Some x → x.interface ≡ display_id)
+      (zero : opcode_of link.incoming.bytes ≡ 0) where
+    -- what the word after the header shows
+    pub waits_if : (o : Option ℕ)
+        → MatchOption o (¬ (IsWhole link.incoming.bytes × (length_of link.incoming.bytes ≡ 12)))
+        (λ word. IsWhole link.incoming.bytes × (length_of link.incoming.bytes ≡ 12) × IsWord word (payload_of link.incoming.bytes))
+        → IfSome o (λ n. SyncWaits table store link n)
+    waits_if None none = tt
+    waits_if (Some n) (whole, twelve, word) =
+        let x = receiver_of (held store (sender_of link.incoming.bytes)) (opcode_of link.incoming.bytes) row asked in
+        record {
+          accepted = accepted;
+          receiver = x.0;
+          holds = x.1;
+          display = display x.0 x.1;
+          opcode = zero;
+          whole = whole;
+          twelve = twelve;
+          word = word;
+        }
+
+-- the link without the message at its front
+abbrev pub taken : {T : Type 0} → LinkState T → LinkState T
+taken l = with_incoming l l.transport (after_first [] l.incoming)
+
+-- the part once the callback was made and removed
+abbrev pub after_sync : {T U C : Type 0} → Part T U C → LinkState T → Part T U C
+after_sync p link = record p { link = link; last_serial = p.last_serial + 1 }
+
+-- it is one of the client's own numbers
+pub own : {U : Type 0} (objects : Objects (Kept U)) (n : ℕ) → LeavesNoTrace objects n → is_server_number n ≡ false
+own objects n no_trace = not-true (is_server_number n) (and_parts (not (is_server_number n)) _ no_trace.valid).0
+
+one_word : (raw : List ℕ) (fds : List Token) (n : ℕ) → IsWord n (payload_of raw) → ReadsArgs one_new_id (arg.NewId n ∷ []) (payload_of raw) fds
+unfolding ReadsArgs IsPiece
+one_word raw fds n word = (payload_of raw, [], fds, sym (append-nil (payload_of raw)), refl, word, tt)
+
+module _ {T U G C : Type 0} (sends : T → Queue → Result ℕ IoFault → T → Type 0) (receives : T → ℕ → Result Queue IoFault → T → Type 0) (a : Around G C)
+    (s : Stored T U C) (n : ℕ) (live : Live s.part) (waits : SyncWaits a.table s.part.store s.part.link n) (no_trace : LeavesNoTrace (objects_of s.part) n) where
+  abbrev bytes : List ℕ
+  bytes = s.part.link.incoming.bytes
+
+  abbrev core : Core U C
+  core = core_of s.part
+
+  abbrev message : WireMessage
+  message = record { sender = sender_of bytes; opcode = 0; args = arg.NewId n ∷ [] }
+
+  row_at_front : (opcode : ℕ) → opcode ≡ 0 → row_in a.table (held s.part.store (sender_of bytes)) opcode ≡ sync_row
+  row_at_front opcode zero = row_is a.table waits.accepted (held s.part.store (sender_of bytes)) waits.receiver opcode waits.holds waits.display zero
+
+  reads : ReadsAs sends (server a) (reader_part s.part) (Ok message) (taken s.part.link)
+  reads =
+      rw (le-leb 8 (length bytes) waits.whole.header) (
+        Some one_new_id,
+        ap (λ (o : Option MessageRow). option_map (λ row. row.signature) o) (sym (row_at_front (opcode_of bytes) waits.opcode)),
+        (record { whole = waits.whole; sender = refl; opcode = sym waits.opcode; args = one_word bytes s.part.link.incoming.tokens n waits.word }, refl),
+      )
+
+  to_display : (x : Object (Kept U)) (row : MessageRow) → x.interface ≡ display_id → request_to a core message x row ≡ made_at a core n (syncs a core n)
+  to_display x row is = rw is refl
+
+  valid : made_at a core n (syncs a core n) ≡ syncs a core n
+  valid = rw no_trace.valid refl
+
+  handled : syncs a core n ≡ (server a).handles core message
+  handled =
+      sym valid ∙ sym (to_display waits.receiver (first_message _ one_new_id (Some callback_id) []) waits.display)
+      ∙ sym (ap₂ (request a core message) waits.holds (row_at_front 0 refl))
+
+  takes : Takes sends (server a) (reader_part s.part) (syncs a core n) (taken s.part.link)
+  takes = (message, reads, handled)
+
+  abbrev mid : Stored T U C
+  mid = record s { part = after_sync s.part (taken s.part.link) }
+
+  kept : synced a core n ≡ core_of mid.part
+  kept = ap (λ (store : Store (Kept U)). with_objects core (record { store = store; last_serial = s.part.last_serial + 1 })) (no_trace.stays (made_object (objects_in core) callback_id 1))
+
+  fewer : length (drop (length_of bytes) bytes) < length bytes
+  fewer = let long = waits.twelve in let there = waits.whole.there in omega (arith, length-drop (length_of bytes) bytes, long, there)
+
+  pub sync_answered : (r r' : Reading) (link : LinkState T) (after : Stored T U C)
+      → Puts sends (taken s.part.link) (done_message (new_at a core n) ∷ deletions n) (Ok tt) link
+      → after ≡ record s { part = after_sync s.part link } → r'.turns_left ≡ r.turns_left → r'.read ≡ counted r.read 1
+      → HandlesMessage sends receives a s r WentOn after r'
+  sync_answered r r' link after puts is left read =
+      let puts_all : List Said = done_message (new_at a core n) ∷ deletions n in
+      let there : IsHandled sends (syncs a core n) mid WentOn after
+      = subst (λ (c : Core U C). IsHandled sends (replies c puts_all []) mid WentOn after) (sym kept) (replied_all sends mid after link puts_all [] none_quiet live puts is) in
+      message_handled sends receives a s r r' live (syncs a core n) (taken s.part.link) WentOn after takes
+      (from_there sends (syncs a core n) (linked s (taken s.part.link)) mid after WentOn refl refl refl there)
+      fewer left read

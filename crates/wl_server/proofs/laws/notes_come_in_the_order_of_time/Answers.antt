@@ -1,0 +1,8 @@
+use Rattle.wl_server.proofs.OverRuns.Noted.NotesInOrder.{earlier_notes_first}
+use Rattle.wl_server.proofs.laws.notes_come_in_the_order_of_time.Goals as goal
+
+pub returns-clause-run : goal.returns-clause-run
+returns-clause-run g c = λ table. earlier_notes_first _ table
+
+pub returns-clause-script : goal.returns-clause-script
+returns-clause-script g c = λ table. earlier_notes_first _ table
