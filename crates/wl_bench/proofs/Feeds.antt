@@ -27,8 +27,7 @@ use Rattle.wl_bench.specs.declared.command.Command.{Command}
 use Rattle.wl_bench.specs.declared.command.Command.TheVariants.{Insert, Client, Dispatch, Create, Disable, Remove, Flush, Cleanup, Notes}
 use Rattle.wl_bench.specs.Answers.{Line, action_text, after_byte, answer_lines, answer_text, argument_text, arguments_text, bytes_of, created_text, effect_text, fault_text, finish_name, flag_text, global_name, hex, insert_name, joined, record_lines, records_lines, refusal_text, script_name, sent_lines, share_lines, taken_out_lines, token_text, tokens_of, tokens_text}
 use Rattle.wl_bench.specs.Bench.{BenchReply, BenchState, Does, DoesForAll, all_clients, client_calls, heard_by, printed, take_step}
-use Rattle.wl_bench.specs.Commands.{parts}
-use Rattle.wl_bench.specs.OneOutcome.{AreSettled, IsSettled}
+use Rattle.wl_bench.specs.Commands.{IsLine, parts}
 use Rattle.wl_bench.specs.Record.{Leads, Recorded, lines, quoted, record_of, recording_of, text_of, whole_lines}
 use Rattle.wl_bench.proofs.InputLines.{goes_on}
 use Rattle.wl_bench.proofs.OneOutcome.{IsQuiet, first_told, quiet_tells, speaks_tells, tells}
@@ -254,7 +253,7 @@ quiet_unfed b x command out quiet (s, call, p, taken, makes, printed_is, clients
     let some = quiet_tells command quiet b b.server s p call (first_told s (heard_by b command) p taken b.server x.server makes) in
     subst AllUnfed (sym printed_is) (printed_unfed (heard_by b command) p taken some)
 
-pub does_unfed : (b x : BenchState) (n : ℕ) (command : Command) (out : List Line) → IsSettled command → Does b n command out x → AllUnfed out
+pub does_unfed : (b x : BenchState) (n : ℕ) (command : Command) (out : List Line) → (command ≡ Notes → ⊥) → Does b n command out x → AllUnfed out
 does_unfed b x n (Client slot c) out is (seat, here, p, taken, makes, printed_is, clients, globals) =
     let speaking = last_speaks seat.client (client_calls seat n c) (take_step seat.client ∷ []) makes.0 p taken b.server x.server (calls_stay seat n c) makes.1 makes.3 in
     subst AllUnfed (sym printed_is) (printed_unfed (seat.client ∷ []) p taken (speaks_tells p speaking))
@@ -266,7 +265,7 @@ does_unfed b x n (Disable name) out is does = quiet_unfed b x (Disable name) out
 does_unfed b x n (Remove name) out is does = quiet_unfed b x (Remove name) out tt does
 does_unfed b x n Flush out is does = quiet_unfed b x Flush out tt does
 does_unfed b x n Cleanup out is does = quiet_unfed b x Cleanup out tt does
-does_unfed b x n Notes out is does = absurd is
+does_unfed b x n Notes out is does = absurd (is refl)
 
 -- ---- records
 
@@ -275,17 +274,22 @@ abbrev pub LinesUnfed : List Recorded → Type 0
 LinesUnfed [] = ⊤
 LinesUnfed (t ∷ told) = Unfed t.line × LinesUnfed told
 
+-- none of the commands takes notes
+abbrev pub NoneIsNotes : List Recorded → Type 0
+NoneIsNotes [] = ⊤
+NoneIsNotes (t ∷ told) = (IsLine Notes t.line → ⊥) × NoneIsNotes told
+
 quoted_unfed : (output : List Line) → AllUnfed output → AllUnfed (map quoted output)
 quoted_unfed [] all = tt
 quoted_unfed (line ∷ output) all = (byte_first 62 (32 ∷ line) refl (byte_first 32 line refl all.0), quoted_unfed output all.1)
 
-pub recording_unfed : (b x : BenchState) (told : List Recorded) → AreSettled told → LinesUnfed told → Leads b told x → AllUnfed (recording_of told)
-recording_unfed b x [] settled plain leads = tt
-recording_unfed b x (t ∷ told) settled plain (command, is_line, mid, does, leads) =
+pub recording_unfed : (b x : BenchState) (told : List Recorded) → NoneIsNotes told → LinesUnfed told → Leads b told x → AllUnfed (recording_of told)
+recording_unfed b x [] none plain leads = tt
+recording_unfed b x (t ∷ told) none plain (command, is_line, mid, does, leads) =
     all_both (record_of t) (recording_of told) (
       both (decimal t.number) (32 ∷ t.line) (number t.number) (byte_first 32 t.line refl plain.0),
-      quoted_unfed t.answer (does_unfed b mid t.number command t.answer (settled.0 command is_line) does),
-    ) (recording_unfed mid x told settled.1 plain.1 leads)
+      quoted_unfed t.answer (does_unfed b mid t.number command t.answer (λ is. none.0 (subst (λ (c : Command). IsLine c t.line) is is_line)) does),
+    ) (recording_unfed mid x told none.1 plain.1 leads)
 
 -- ---- a text of lines
 

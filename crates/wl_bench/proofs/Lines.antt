@@ -8,7 +8,7 @@ use Rattle.wl_bench.specs.Commands.{Finds, IsClientCommand, IsCommand, IsLine, w
 use Rattle.wl_bench.specs.declared.command.ClientCommand.{ClientCommand}
 use Rattle.wl_bench.specs.declared.command.ClientCommand.TheVariants.{Arrive, Read, Finish, Kill, Accept, FailIn, FailOut}
 use Rattle.wl_bench.specs.declared.command.Command.{Command}
-use Rattle.wl_bench.specs.declared.command.Command.TheVariants.{Insert, Client, Dispatch, Create, Disable, Remove, Flush, Cleanup, Notes}
+use Rattle.wl_bench.specs.declared.command.Command.TheVariants.{Client, Dispatch, Create, Disable, Remove}
 
 -- a command has one word at least, and four at most
 abbrev IsFewWords : List (List ℕ) → Type 0

@@ -17,16 +17,16 @@ use Rattle.wl_server.specs.declared.reading.action.Action.{Action}
 use Rattle.wl_server.specs.declared.runs.step.Reply.TheVariants as reply
 use Rattle.wl_server.specs.declared.runs.step.Step.TheVariants as step
 use Rattle.wl_server.specs.Deeds.{Deed, Handed}
-use Rattle.wl_server.specs.DispatchOutcome.{IsDeterministic, SameBackend}
+use Rattle.wl_server.specs.Outcome.Dispatches.{IsDeterministic, SameBackend}
 use Rattle.wl_server.specs.Globals.{Offer}
 use Rattle.wl_server.specs.Ids.{ClientParts, GlobalParts}
 use Rattle.wl_server.specs.Moves.{Moved, taken}
 use Rattle.wl_server.specs.PartStep.{Asked, Call, PartStep, over}
 use Rattle.wl_server.specs.Reading.{action_content}
 use Rattle.wl_server.specs.Runs.{Performs}
-use Rattle.wl_server.specs.Server.{Seen, notes_of, seen}
+use Rattle.wl_server.specs.Server.{Seen, seen}
 use Rattle.wl_server.specs.Steps.{lacks_growth}
-use Rattle.wl_server.specs.WholeOutcome.{SameServer, WholeReply}
+use Rattle.wl_server.specs.Outcome.Whole.{SameServer, WholeReply}
 use Rattle.wl_server.proofs.OverRuns.Outcome.DispatchLaws.{dispatches_one}
 use Rattle.wl_server.proofs.OverRuns.Outcome.MoveLaws.{scripts_determined, transport_determined}
 use Rattle.wl_server.proofs.OverRuns.Outcome.WholeLaws.{ample_by}
@@ -37,7 +37,7 @@ use Rattle.wl_bench.specs.declared.command.Command.{Command}
 use Rattle.wl_bench.specs.declared.command.Command.TheVariants.{Insert, Client, Dispatch, Create, Disable, Remove, Flush, Cleanup, Notes}
 use Rattle.wl_bench.specs.Answers.{Line, action_text, answer_lines, dispatched_text, fault_text, note_lines, record_lines, records_lines, sent_lines, share_lines, taken_out_lines}
 use Rattle.wl_bench.specs.Bench.{BenchBackend, BenchReply, BenchServer, BenchState, BenchStep, Dispatches, Does, DoesDispatch, DoesFor, DoesForAll, Makes, all_clients, all_latest, bench_world, client_calls, client_of, clients_after, empty_script, global_of, globals_after, heard_by, interface_of, latest, line_answers, line_handler, opened_by, printed, seat_told, shared_call, take_step, with_latest}
-use Rattle.wl_bench.specs.OneOutcome.{LookSame, PrintSame, TellSameNotes}
+use Rattle.wl_bench.specs.OneOutcome.{LookSame}
 use Rattle.wl_bench.proofs.Others.{calls_stay, last_speaks, speaks, step_of}
 
 abbrev BenchSeen : Type 0
@@ -303,7 +303,7 @@ printed_notes : (p : BenchReply) (ps : List BenchReply) (out : Vec (Note ℕ) Gl
 printed_notes p ps out is = ap (λ (z : BenchReply). printed [] z ps) is ∙ append-nil (note_lines out.items)
 
 notes_same : (p q : BenchReply) (out out' : Vec (Note ℕ) Global) → p ≡ reply.TakeNotes (Ok out) → q ≡ reply.TakeNotes (Ok out') → WholeReply p q
-    → (client : ClientParts) → notes_of client out.items ≡ notes_of client out'.items
+    → out.items ≡ out'.items
 notes_same p q out out' is is' same =
     let here : WholeReply (reply.TakeNotes (Ok out)) q = subst (λ (z : BenchReply). WholeReply z q) is same in
     let both : WholeReply {T = Script} {U = ℕ} (reply.TakeNotes (Ok out)) (reply.TakeNotes (Ok out')) = subst (λ (z : BenchReply). WholeReply (reply.TakeNotes (Ok out)) z) is' here in
@@ -360,17 +360,15 @@ quiet_printed a b command out out' quiet made =
     let some = quiet_tells command quiet a a.server made.s made.p made.call made.first in
     made.printed_is ∙ (printed_same (heard_by a command) made.p made.q made.ps made.qs some made.same made.each ∙ sym made.printed_is')
 
-notes_printed : (a b : BenchState) (out out' : List Line) → MadeSame a b Notes out out' → TellSameNotes out out'
+notes_printed : (a b : BenchState) (out out' : List Line) → MadeSame a b Notes out out' → out ≡ out'
 notes_printed a b out out' made =
     let step_is = sym (same_Some step.TakeNotes made.s made.call) in
     let here = notes_told a.server made.p (subst (λ (k : BenchStep). FirstIs a.server k made.p) step_is made.first) in
-    let there = notes_told b.server made.q (subst (λ (k : BenchStep). FirstIs b.server k made.q) step_is made.first') in (
-      here.0.items,
-      there.0.items,
-      made.printed_is ∙ printed_notes made.p made.ps here.0 here.1,
-      made.printed_is' ∙ printed_notes made.q made.qs there.0 there.1,
-      notes_same made.p made.q here.0 there.0 here.1 there.1 made.same,
-    )
+    let there = notes_told b.server made.q (subst (λ (k : BenchStep). FirstIs b.server k made.q) step_is made.first') in
+    made.printed_is
+    ∙ (printed_notes made.p made.ps here.0 here.1
+    ∙ (ap note_lines (notes_same made.p made.q here.0 there.0 here.1 there.1 made.same)
+    ∙ sym (made.printed_is' ∙ printed_notes made.q made.qs there.0 there.1)))
 
 -- ---- a dispatch
 
@@ -435,7 +433,7 @@ dispatch_same a b x y n slots out out' look (clients, are, count, mid, does, tak
 -- ---- a command
 
 pub command_one : (a b x y : BenchState) (n : ℕ) (command : Command) (out out' : List Line) → LookSame a b → Does a n command out x → Does b n command out' y
-    → PrintSame command out out' × LookSame x y
+    → (out ≡ out') × LookSame x y
 command_one a b x y n (Client slot c) out out' look does does' = client_one a b x y n slot c out out' look does does'
 command_one a b x y n (Dispatch slots) out out' look does does' = dispatch_same a b x y n slots.items out out' look does does'
 command_one a b x y n Insert out out' look does does' =

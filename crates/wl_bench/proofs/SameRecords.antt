@@ -16,7 +16,7 @@ use Rattle.wl_server.specs.Ids.{ClientParts}
 use Rattle.wl_server.specs.PartStep.{Asked, Call, MovedFor, PartStep}
 use Rattle.wl_server.specs.Moves.{Arrive as ArriveMove, nothing_taken}
 use Rattle.wl_server.specs.Server.{Seen, seen}
-use Rattle.wl_server.specs.Steps.{Entry, OneStep, inserted_by, lacks_growth, offer_after}
+use Rattle.wl_server.specs.Steps.{Entry, NotesGoOn, OneStep, inserted_by, lacks_growth, offer_after}
 use Rattle.wl_bench.specs.declared.bench.Seat.{Seat}
 use Rattle.wl_bench.specs.declared.command.ClientCommand.{ClientCommand}
 use Rattle.wl_bench.specs.declared.command.ClientCommand.TheVariants.{Arrive, Read, Finish, Kill, Accept, FailIn, FailOut}
@@ -25,7 +25,7 @@ use Rattle.wl_bench.specs.declared.command.Command.TheVariants.{Insert, Client, 
 use Rattle.wl_bench.specs.Answers.{Line}
 use Rattle.wl_bench.specs.Bench.{BenchReply, BenchServer, BenchState, BenchStep, Does, DoesDispatch, DoesFor, DoesForAll, Makes, accept_step, bench_world, client_calls}
 use Rattle.wl_bench.specs.Commands.{AskSame, AskSameOfClient, IsLine}
-use Rattle.wl_bench.specs.OneOutcome.{AreSettled, IsSettled, LookSame, OfSameLines, PrintSame}
+use Rattle.wl_bench.specs.OneOutcome.{LookSame, OfSameLines}
 use Rattle.wl_bench.specs.Record.{Leads, Recorded}
 use Rattle.wl_bench.proofs.OneCommand.{one_of_line}
 use Rattle.wl_bench.proofs.OneOutcome.{command_one, create_call}
@@ -79,6 +79,7 @@ module _ (target : ClientParts) (bytes bytes' : Vec ℕ Global) (tokens tokens' 
     refused =
         subst (λ (z : Bool). (e.refused ≡ true) ↔ ((z ≡ true) ⊎ ((id : ClientParts) × (e.lacks id ≡ true))))
         (ap (λ (c : BenchCall). lacks_growth c) call ∙ growth_same there here q) one.refused;
+    notes = subst (λ (c : BenchCall). NotesGoOn b c mid) call one.notes;
     each = λ id. arrive_part id b.offer q (seen id b) (seen id mid) (e.lacks id) (e.did id) (step_of id there q b mid e call one);
   }
 
@@ -130,27 +131,22 @@ does_as b y n c d out same does = absurd same
 
 -- ---- records
 
-settled_prints : (c : Command) (out out' : List Line) → IsSettled c → PrintSame c out out' → out ≡ out'
-settled_prints Notes out out' is same = absurd is
-settled_prints c out out' is same = same
-
 recorded_same : (t u : Recorded) → t.number ≡ u.number → t.line ≡ u.line → t.answer ≡ u.answer → t ≡ u
 recorded_same t u number line answer =
     ap (λ (n : ℕ). let r : Recorded = record { number = n; line = t.line; answer = t.answer } in r) number
     ∙ (ap (λ (l : Line). let r : Recorded = record { number = u.number; line = l; answer = t.answer } in r) line
     ∙ ap (λ (a : List Line). let r : Recorded = record { number = u.number; line = u.line; answer = a } in r) answer)
 
-pub records_one : (a b x y : BenchState) (all all' : List Recorded) → LookSame a b → AreSettled all → OfSameLines all all' → Leads a all x → Leads b all' y
+pub records_one : (a b x y : BenchState) (all all' : List Recorded) → LookSame a b → OfSameLines all all' → Leads a all x → Leads b all' y
     → (all ≡ all') × LookSame x y
-records_one a b x y [] [] look settled same leads leads' =
+records_one a b x y [] [] look same leads leads' =
     (refl, subst (λ (z : BenchState). LookSame z y) (sym leads) (subst (λ (z : BenchState). LookSame a z) (sym leads') look))
-records_one a b x y [] (u ∷ all') look settled same leads leads' = absurd same
-records_one a b x y (t ∷ all) [] look settled same leads leads' = absurd same
-records_one a b x y (t ∷ all) (u ∷ all') look settled same (c, line, mid, does, leads) (d, line', mid', does', leads') =
+records_one a b x y [] (u ∷ all') look same leads leads' = absurd same
+records_one a b x y (t ∷ all) [] look same leads leads' = absurd same
+records_one a b x y (t ∷ all) (u ∷ all') look same (c, line, mid, does, leads) (d, line', mid', does', leads') =
     let ask = one_of_line t.line c d line (subst (λ (l : Line). IsLine d l) (sym same.1) line') in
     let other : Does b t.number c u.answer mid' = subst (λ (m : ℕ). Does b m c u.answer mid') (sym same.0) (does_as b mid' u.number c d u.answer ask does') in
-    let is = settled.0 c line in
     let one = command_one a b mid mid' t.number c t.answer u.answer look does other in
-    let rest = records_one mid mid' x y all all' one.1 settled.1 same.2 leads leads' in
-    let first = recorded_same t u same.0 same.1 (settled_prints c t.answer u.answer is one.0) in
+    let rest = records_one mid mid' x y all all' one.1 same.2 leads leads' in
+    let first = recorded_same t u same.0 same.1 one.0 in
     (ap (λ (r : Recorded). r ∷ all) first ∙ ap (λ (l : List Recorded). u ∷ l) rest.0, rest.1)

@@ -1,7 +1,7 @@
 -- What a command does that is one step, and about no one client.
 use Rattle.std.proofs.Common.{ℕ, List}
 use Rattle.wl_bench.specs.declared.command.Command.{Command}
-use Rattle.wl_bench.specs.declared.command.Command.TheVariants.{Insert, Client, Dispatch, Create, Disable, Remove, Flush, Cleanup, Notes}
+use Rattle.wl_bench.specs.declared.command.Command.TheVariants.{Client, Dispatch}
 use Rattle.wl_bench.specs.Answers.{Line}
 use Rattle.wl_bench.specs.Bench.{BenchState, Does, DoesForAll, IsShared, NamesNone}
 

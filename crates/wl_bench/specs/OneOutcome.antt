@@ -1,14 +1,7 @@
 -- That a command has one outcome: what it prints, and how the bench looks afterwards; and so has the record of commands.
-use Rattle.std.specs.Prelude.{⊤, ◌≡◌, ℕ, List, [], ◌∷◌}
-use Rattle.wl_server.specs.declared.notes.Note.{Note}
-use Rattle.wl_server.specs.Ids.{ClientParts}
-use Rattle.wl_server.specs.Server.{notes_of}
-use Rattle.wl_server.specs.WholeOutcome.{SameServer}
-use Rattle.wl_bench.specs.declared.command.Command.{Command}
-use Rattle.wl_bench.specs.declared.command.Command.TheVariants.{Notes}
-use Rattle.wl_bench.specs.Answers.{Line, note_lines}
+use Rattle.std.specs.Prelude.{⊤, ◌≡◌, List, [], ◌∷◌}
+use Rattle.wl_server.specs.Outcome.Whole.{SameServer}
 use Rattle.wl_bench.specs.Bench.{BenchState}
-use Rattle.wl_bench.specs.Commands.{IsLine}
 use Rattle.wl_bench.specs.Record.{Recorded}
 
 -- Two benches look the same: so do their servers, and the same was made last under each number.
@@ -16,29 +9,6 @@ pub record LookSame (a b : BenchState) : Type 0 where
   pub server : SameServer a.server b.server
   pub clients : a.clients ≡ b.clients
   pub globals : a.globals ≡ b.globals
-
--- the lines of notes, which are the same but for the order between the notes of two clients
-abbrev pub TellSameNotes : List Line → List Line → Type 0
-TellSameNotes out out' =
-    (notes : List (Note ℕ)) × (notes' : List (Note ℕ)) × (out ≡ note_lines notes) × (out' ≡ note_lines notes')
-    × ((client : ClientParts) → notes_of client notes ≡ notes_of client notes')
-
--- a command printed the same twice
-abbrev pub PrintSame : Command → List Line → List Line → Type 0
-PrintSame Notes out out' = TellSameNotes out out'
-PrintSame command out out' = out ≡ out'
-
--- ---- records
-
--- a command whose lines have one order: it takes no notes
-abbrev pub IsSettled : Command → Type 0
-IsSettled Notes = ⊥
-IsSettled command = ⊤
-
--- each line is such a command
-abbrev pub AreSettled : List Recorded → Type 0
-AreSettled [] = ⊤
-AreSettled (t ∷ all) = ((command : Command) → IsLine command t.line → IsSettled command) × AreSettled all
 
 -- the records are of the same lines, under the same numbers
 abbrev pub OfSameLines : List Recorded → List Recorded → Type 0

@@ -7,13 +7,14 @@ use Rattle.std.proofs.lemmas.Grind.{flat_map-append}
 use Rattle.std.proofs.lemmas.Str.Parse.{digit_at}
 use mathlib.Core.Logic.{inl, inr}
 use Rattle.wl_server.specs.Ids.{ClientParts}
+use Rattle.wl_server.specs.NoteOrder.{AllNumbered}
 use Rattle.wl_bench.specs.declared.command.Command.{Command}
 use Rattle.wl_bench.specs.declared.command.Command.TheVariants.{Insert, Client, Dispatch, Create, Disable, Remove, Flush, Cleanup, Notes}
 use Rattle.wl_bench.specs.declared.stop.Stop.{Stop}
 use Rattle.wl_bench.specs.declared.stop.Stop.TheVariants.{BadLine, Failed, Usage, Differs}
 use Rattle.wl_bench.specs.Answers.{Line}
 use Rattle.wl_bench.specs.Bench.{BenchState, Does, NamesNone, client_at, client_of, latest}
-use Rattle.wl_bench.specs.OneOutcome.{AreSettled, LookSame, OfSameLines}
+use Rattle.wl_bench.specs.OneOutcome.{LookSame, OfSameLines}
 use Rattle.wl_bench.specs.Record.{Leads, Recorded, command_line, quoted, record_of, recording_of}
 use Rattle.wl_bench.proofs.Numbers.{own}
 use Rattle.wl_bench.proofs.SameRecords.{records_one}
@@ -148,10 +149,10 @@ stands_more x y c t u claimed told run missing rest same s = record {
 
 -- two commands of one line look the same, and print the same
 heads : (a b mid mid' : BenchState) (c t u : Recorded) → LookSame a b → c.number ≡ t.number → c.line ≡ t.line → t.number ≤ 4294967295 → u.number ≤ 4294967295
-    → AreSettled (t ∷ []) → command_line c ≡ command_line u → Leads a (t ∷ []) mid → Leads b (u ∷ []) mid' → (t ≡ u) × LookSame mid mid'
-heads a b mid mid' c t u look number line few few' settled same leads leads' =
+    → command_line c ≡ command_line u → Leads a (t ∷ []) mid → Leads b (u ∷ []) mid' → (t ≡ u) × LookSame mid mid'
+heads a b mid mid' c t u look number line few few' same leads leads' =
     let parts = same_command c u (omega (arith, number, few)) few' same in
-    let one = records_one a b mid mid' (t ∷ []) (u ∷ []) look settled (sym number ∙ parts.0, sym line ∙ parts.1, tt) leads leads' in
+    let one = records_one a b mid mid' (t ∷ []) (u ∷ []) look (sym number ∙ parts.0, sym line ∙ parts.1, tt) leads leads' in
     let all = one.0 in
     (cc, one.1)
 
@@ -199,9 +200,9 @@ stands_next x y c t u v claimed told run front missing rest here few starts at_e
     go (inr (p, is, left)) = absurd (no_command p missing v (map quoted v.answer ++ recording_of run) few (sym left))
 
 stands : (last : ℕ) (a b x y : BenchState) (claimed told run : List Recorded) (front missing rest : List Line) → LookSame a b → OfSameLines claimed told → Ascend last told
-    → Ascend last run → AreSettled told → Leads a told x → Leads b run y → recording_of run ≡ front ++ map quoted missing → recording_of claimed ≡ front ++ rest
+    → Ascend last run → Leads a told x → Leads b run y → recording_of run ≡ front ++ map quoted missing → recording_of claimed ≡ front ++ rest
     → Stands x y claimed told run missing rest
-stands last a b x y claimed told [] [] missing rest look same up up' settled leads leads' is claimed_is = record {
+stands last a b x y claimed told [] [] missing rest look same up up' leads leads' is claimed_is = record {
   later = told;
   mid = a;
   are = refl;
@@ -209,39 +210,51 @@ stands last a b x y claimed told [] [] missing rest look same up up' settled lea
   leads = leads;
   left = λ none plain. (claimed, sym claimed_is, same);
 }
-stands last a b x y claimed told [] (line ∷ front) missing rest look same up up' settled leads leads' is claimed_is =
+stands last a b x y claimed told [] (line ∷ front) missing rest look same up up' leads leads' is claimed_is =
     let n = ap length is in absurd (omega (arith, n))
-stands last a b x y claimed told (u ∷ run) [] missing rest look same up up' settled leads leads' is claimed_is =
+stands last a b x y claimed told (u ∷ run) [] missing rest look same up up' leads leads' is claimed_is =
     absurd (no_command [] missing u (map quoted u.answer ++ recording_of run) up'.1 (sym is))
-stands last a b x y [] told (u ∷ run) (line ∷ front) missing rest look same up up' settled leads leads' is claimed_is =
+stands last a b x y [] told (u ∷ run) (line ∷ front) missing rest look same up up' leads leads' is claimed_is =
     let n = ap length claimed_is in absurd (omega (arith, n))
-stands last a b x y (c ∷ claimed) [] (u ∷ run) (line ∷ front) missing rest look same up up' settled leads leads' is claimed_is = absurd same
-stands last a b x y (c ∷ claimed) (t ∷ told) (u ∷ []) (line ∷ front) missing rest look same up up' settled (command, is_line, mid, does, leads)
+stands last a b x y (c ∷ claimed) [] (u ∷ run) (line ∷ front) missing rest look same up up' leads leads' is claimed_is = absurd same
+stands last a b x y (c ∷ claimed) (t ∷ told) (u ∷ []) (line ∷ front) missing rest look same up up' (command, is_line, mid, does, leads)
     (command', is_line', mid', does', leads') is claimed_is =
     let first : command_line c ≡ line = cc in
     let first' : command_line u ≡ line = cc in
     let tail : map quoted u.answer ++ [] ≡ front ++ map quoted missing = cc in
     let claimed_tail : map quoted c.answer ++ recording_of claimed ≡ front ++ rest = cc in
-    let one = heads a b mid mid' c t u look same.0 same.1 up.1 up'.1 (settled.0, tt) (first ∙ sym first') (command, is_line, mid, does, refl) (command', is_line', mid', does', refl) in
+    let one = heads a b mid mid' c t u look same.0 same.1 up.1 up'.1 (first ∙ sym first') (command, is_line, mid, does, refl) (command', is_line', mid', does', refl) in
     let starts = recording_starts t.number claimed (ascend_as t.number claimed told same.2 up.2) in
     stands_last x y mid mid' c t u claimed told front missing rest one.0 one.1 leads' same.2 leads starts tail claimed_tail
-stands last a b x y (c ∷ claimed) (t ∷ told) (u ∷ v ∷ run) (line ∷ front) missing rest look same up up' settled (command, is_line, mid, does, leads)
+stands last a b x y (c ∷ claimed) (t ∷ told) (u ∷ v ∷ run) (line ∷ front) missing rest look same up up' (command, is_line, mid, does, leads)
     (command', is_line', mid', does', leads') is claimed_is =
     let first : command_line c ≡ line = cc in
     let first' : command_line u ≡ line = cc in
     let tail : map quoted u.answer ++ recording_of (v ∷ run) ≡ front ++ map quoted missing = cc in
     let claimed_tail : map quoted c.answer ++ recording_of claimed ≡ front ++ rest = cc in
-    let one = heads a b mid mid' c t u look same.0 same.1 up.1 up'.1 (settled.0, tt) (first ∙ sym first') (command, is_line, mid, does, refl) (command', is_line', mid', does', refl) in
+    let one = heads a b mid mid' c t u look same.0 same.1 up.1 up'.1 (first ∙ sym first') (command, is_line, mid, does, refl) (command', is_line', mid', does', refl) in
     let starts = recording_starts t.number claimed (ascend_as t.number claimed told same.2 up.2) in
     let numbers : t.number ≡ u.number = ap (λ (r : Recorded). r.number) one.0 in
     let rises = subst (λ (n : ℕ). Ascend n told) numbers up.2 in
     stands_next x y c t u v claimed told run front missing rest one.0 up'.2.1 starts tail claimed_tail
-    (λ f left all. stands u.number mid mid' x y claimed told (v ∷ run) f missing rest one.1 same.2 rises up'.2 settled.1 leads leads' left all)
+    (λ f left all. stands u.number mid mid' x y claimed told (v ∷ run) f missing rest one.1 same.2 rises up'.2 leads leads' left all)
 
 -- ---- the verdict
 
-look_self : (b : BenchState) → LookSame b b
-look_self b = record { server = record { offer = refl; last = refl; each = λ (id : ClientParts). refl }; clients = refl; globals = refl }
+look_self : (b : BenchState) → AllNumbered b.server.clients → LookSame b b
+look_self b numbered = record {
+  server = record {
+    offer = refl;
+    last = refl;
+    each = λ (id : ClientParts). refl;
+    notes = refl;
+    numbers = refl;
+    times = λ slot. refl;
+    numbered = (numbered, numbered);
+  };
+  clients = refl;
+  globals = refl;
+}
 
 -- what comes behind commands rises from the last of them on
 ascend_later : (last : ℕ) (told later : List Recorded) → Ascend last (told ++ later) → Ascend (last_number last told) later
@@ -282,14 +295,14 @@ go_off [] (line ∷ rest) last [] up off = tt
 go_off [] (line ∷ rest) last (t ∷ later) up off = λ (same : line ≡ command_line t). not_output t off.0 up.1 (sym off.1 ∙ same)
 go_off (output ∷ missing) (line ∷ rest) last later up off = off
 
-module _ (b x : BenchState) (claimed told : List Recorded) (same : OfSameLines claimed told) (up : Ascend 0 told) (leads : Leads b told x) (settled : AreSettled told) where
+module _ (b x : BenchState) (claimed told : List Recorded) (same : OfSameLines claimed told) (up : Ascend 0 told) (leads : Leads b told x) (numbered : AllNumbered b.server.clients) where
   abbrev StandsAt : BenchState → List Recorded → List Line → List Line → Type 0
   StandsAt y run missing rest = Stands x y claimed told run missing rest
 
   stands_at : (y : BenchState) (run : List Recorded) (front missing rest : List Line) → IsRecord b front run missing y → recording_of claimed ≡ front ++ rest
       → StandsAt y run missing rest
   stands_at y run front missing rest (recorded, up', leads') is =
-      stands 0 b b x y claimed told run front missing rest (look_self b) same up up' settled leads leads' recorded is
+      stands 0 b b x y claimed told run front missing rest (look_self b numbered) same up up' leads leads' recorded is
 
   -- the record of today, of which the replay has come to these lines
   today : (y : BenchState) (run : List Recorded) (front missing rest : List Line) → recording_of run ≡ front ++ map quoted missing → (s : StandsAt y run missing rest)

@@ -2,8 +2,9 @@
 //! nothing.
 
 ghost use Rattle.std.specs.Prelude.{◌≢◌, ◌≤◌, ℕ, List, [], Err, Result, Some, length};
+ghost use Rattle.wl_server.specs.NoteOrder.{AllNumbered};
 ghost use Rattle.wl_bench.specs.Bench.{BenchState, new_bench};
-ghost use Rattle.wl_bench.specs.OneOutcome.{AreSettled, OfSameLines};
+ghost use Rattle.wl_bench.specs.OneOutcome.{OfSameLines};
 ghost use Rattle.wl_bench.specs.Record.{Leads, Recorded, Runs, lines, recording_of};
 ghost use Rattle.wl_bench.specs.Table.{bench_rows};
 ghost use Rattle.wl_bench.specs.declared.commands.Form.TheVariants as shape;
@@ -20,19 +21,19 @@ ghost use Rattle.wl_replay.specs.declared.recording.Replayed.{Replayed};
 /// and else which line is the first that differs. It does not call a line bad. It may fail, for want of memory or because
 /// its reader failed.
 ///
-/// None of the commands takes notes, since the notes of two different clients may be printed in another order.
+/// In the state before, each note that is kept with a client has a number, as in each state that commands lead to.
 pub fn a_recording_is_compared_with_today()
     ensures { (before after : BenchState) (claimed today : List Recorded) (verdict : Result Replayed Stop) →
-        OfSameLines claimed today → Ascend 0 today → Leads before today after → AreSettled today →
+        AllNumbered before.server.clients → OfSameLines claimed today → Ascend 0 today → Leads before today after →
         Replays before (recording_of claimed) verdict → ComparesWith (recording_of claimed) today verdict }
 {}
 
 /// A replay answers that a recording is the same, if `wl_bench::commands::record` wrote it.
 ///
 /// The record was written to a writer that held nothing, and both runs are over the table of the program. If the record
-/// ended at a bad line, this holds of what was written by then. The input has at most 4294967295 lines, none of which takes
-/// notes, since the notes of two different clients may be printed in another order. Neither run fails: memory is not
-/// refused, and the readers and writers do not fail.
+/// ended at a bad line, this holds of what was written by then. The input has at most 4294967295 lines. None of them takes
+/// notes, since a note may tell the name of an interface, and a line feed in that name would end the line. Neither run fails:
+/// memory is not refused, and the readers and writers do not fail.
 pub fn what_was_recorded_is_the_same_again()
     ensures { (input text : List ℕ) (ended : Result (Unit {0}) Stop) (verdict : Result Replayed Stop) →
         NoneTakesNotes (lines input) → length (lines input) ≤ 4294967295 → ended ≢ Err Failed →

@@ -7,4 +7,4 @@ pub returns : goal.returns
 returns c = λ asked.
     let blocked = c.in-Err-Io-WouldBlock in
     let blocks = blocked.field-0-is ∙ ap Io blocked.field-0-0-is in
-    was_answered _ _ _ _ _ _ _ _ _ asked blocks blocked.ensures.read (sym c.memory_refused.ensures ∙ c.if-memory_refused.false) c.in_ok-flush.ensures.call
+    was_answered _ _ _ _ _ _ _ _ _ asked blocks blocked.ensures.call (sym c.memory_refused.ensures ∙ c.if-memory_refused.false) c.in_ok-flush.ensures.call

@@ -13,4 +13,4 @@ returns-clause-call c =
     let v : c.self.inside.core ≡ before.core = ap (λ (s : ServerState). s.core) c.self.view_is in
     let k : c.tell_end.new.self ≡ ended c.in-Ok.ends_sender id (record before { core = core }) = search rules in
     ends_open before c.tell_end.new.self c.is_kept.result (EndsRequestOf before id c.args.user_data) c.in-Ok.ends_sender (ledger_of id before.seats.ledgers) c.in-Ok.ensures
-    (λ l e. (c.finish_request_returning-answer.result, core, rw (← v) c.finish_request_returning-answer.ensures.finished, rw (← v) c.finish_request_returning-answer.ensures.data, c.is_kept.ensures, k ∙ ap (λ b. ended b id (record before { core = core })) e))
+    (λ l e. (c.finish_request_returning-answer.result, core, rw (← v) c.finish_request_returning-answer.ensures.call, rw (← v) c.finish_request_returning-answer.ensures.data, c.is_kept.ensures, k ∙ ap (λ b. ended b id (record before { core = core })) e))

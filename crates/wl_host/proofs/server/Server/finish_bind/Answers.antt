@@ -14,4 +14,4 @@ returns-clause-call c =
     let v : c.self.inside.core ≡ before.core = ap (λ (s : ServerState). s.core) c.self.view_is in
     bind_ends before _ id (client_of c.args.client.now) c.args.user_data c.is_kept.result c.id-id.ensures.id
     (ends_open before _ c.is_kept.result (EndsBindOf before id c.args.user_data) c.in_default.field-0 (ledger_of id before.seats.ledgers) c.in_default.ensures
-    (λ l e. (c.finish_bind_returning.result, core, rw (← v) c.finish_bind_returning.ensures.finished, rw (← v) c.finish_bind_returning.ensures.data, c.is_kept.ensures, ap (λ (s : ServerState). record s { core = core }) c.self.view_is)))
+    (λ l e. (c.finish_bind_returning.result, core, rw (← v) c.finish_bind_returning.ensures.call, rw (← v) c.finish_bind_returning.ensures.data, c.is_kept.ensures, ap (λ (s : ServerState). record s { core = core }) c.self.view_is)))
