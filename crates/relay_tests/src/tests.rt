@@ -2,7 +2,7 @@
 
 use std::alloc::Global;
 use std::test::Fail;
-use test_kit::log::row_tells;
+use test_kit::log::{row_tells, tells};
 use wl_relay::{Stop, run, status, tell};
 
 /// A row of a table of inputs: what a failing one is named, its lines, and what is written for them: the output, in brackets what
@@ -120,4 +120,54 @@ fn rows(rt: HostRuntime) -> Result<(), Fail> {
         row_tells(&rt, row.name, written(rt.alloc(), row.lines), row.written)?;
     }
     Ok(())
+}
+
+/// How many lines of 4096 zeros fill the buffer of a side.
+const FILLING: usize = 16;
+
+/// Appends a zero byte as the lines have it, so many times.
+fn push_zeros(text: &mut String, count: usize) -> Result<(), Fail> {
+    for _ in 0..count {
+        text.push_str("00")?;
+    }
+    Ok(())
+}
+
+/// The lines of a client whose request lacks its descriptor, and that goes on until the buffer is full.
+fn lines_that_fill(alloc: Global) -> Result<String, Fail> {
+    let mut lines = String::from_str(
+        alloc,
+        "interface seat 1\nrequest take 1 - fd\nrelay\nclient 0100000001000c000200000002000000000020000100000005000000736561740000000001000000030000000300000000000800 -\n",
+    )?;
+    for _ in 0..FILLING {
+        lines.push_str("client ")?;
+        push_zeros(&mut lines, 4096)?;
+        lines.push_str(" -\n")?;
+    }
+    Ok(lines)
+}
+
+/// What is written for them: the last line says that the side is no longer read, and all goes on.
+fn written_when_full(alloc: Global) -> Result<String, Fail> {
+    let mut text = String::from_str(
+        alloc,
+        "log  -> wl_display@1.get_registry(new id wl_registry@2)\nlog  -> wl_registry@2.bind(1, \"seat\", 1, new id [unknown]@3)\nto server 0100000001000c00020000000200000000002000010000000500000073656174000000000100000003000000 -\nok\n",
+    )?;
+    for _ in 1..FILLING {
+        text.push_str("ok\n")?;
+    }
+    text.push_str(
+        "log [client is no longer read: missing-descriptor]\nto server 0300000000000800",
+    )?;
+    push_zeros(&mut text, 4096 * FILLING)?;
+    text.push_str(" -\nok\n[] 0")?;
+    Ok(text)
+}
+
+/// A side whose first message lacks a descriptor is given up once the buffer is full, and not before.
+#[test]
+fn full_buffer(rt: HostRuntime) -> Result<(), Fail> {
+    let alloc = rt.alloc();
+    let (lines, text) = (lines_that_fill(alloc)?, written_when_full(alloc)?);
+    tells(&rt, written(alloc, lines.as_str()), text.as_str())
 }

@@ -1,16 +1,19 @@
--- What is taken out of a link over a mailbox was the first that was to be sent.
-use Rattle.std.specs.Prelude.{◌≡◌, ℕ, zero, suc, ◌<◌, Bool, true, false, List, [], ◌∷◌, ◌++◌, length, nat_le, take, ◌==◌, if◌then◌else◌, Option, None, Some, Result, Ok, Err}
+-- What is taken out of a link over a mailbox was the first that was to be sent, and what is written is the last.
+use Rattle.std.specs.Prelude.{◌≡◌, ℕ, zero, suc, ◌<◌, ◌⊎◌, Bool, true, false, List, [], ◌∷◌, ◌++◌, length, nat_le, take, ◌==◌, if◌then◌else◌, Option, None, Some, Result, Ok, Err, MatchBool, MatchResult}
 use Rattle.std.proofs.Common.{ap, arith, inl, inr, refl, subst, sym, ◌∙◌}
-use Rattle.std.proofs.lemmas.Bool.{MatchBool-at_false, eqb-true, ne_eqb}
+use Rattle.std.proofs.lemmas.Bool.{MatchBool-at_false, MatchBool-at_true, cases_Bool, eqb-true, ne_eqb}
 use Rattle.std.proofs.lemmas.List.{drop_all}
 use Rattle.wl_wire.specs.declared.argument.Token.{Token}
 use Rattle.wl_wire.specs.declared.error.IoFault.{IoFault}
+use Rattle.wl_wire.specs.declared.error.IoFault.TheVariants as fault
+use Rattle.wl_wire.specs.Message.{WireMessage, size}
 use Rattle.wl_link.specs.Exchange.{Chain, Queue, Sending, joined, nothing}
-use Rattle.wl_link.specs.Link.{LinkState, AfterSend, Flushed, Flushes, left_of, offer_of, offer_size, with_transport}
+use Rattle.wl_link.specs.Link.{LinkState, AfterSend, Flushed, Flushes, Grown, PlacedBy, Put, Wants, Wrote, ignoring, left_of, needed, offer_of, offer_size, spelled, with_transport}
+use Rattle.wl_link.specs.Link.{has_room as room_of}
 use Rattle.wl_link.specs.Mailbox.{MailboxState, MailboxSends, answer_under, behind, has_room}
-use Rattle.wl_link.specs.MailboxLink.{still_to_send}
+use Rattle.wl_link.specs.MailboxLink.{still_to_read, still_to_send}
 use Rattle.wl_link.proofs.Calls.MailboxLinkLaws.{flush_keeps_all}
-use Rattle.wl_link.proofs.Calls.QueueLaws.{queue_is}
+use Rattle.wl_link.proofs.Calls.QueueLaws.{joined_assoc, queue_is}
 use Rattle.wl_relay.specs.Flow.{GivesOut}
 
 -- if all bytes are taken off, and there are some, nothing is left
@@ -92,3 +95,59 @@ nothing_to_send before after answer f done empty =
     ap (λ (q : Queue). q.bytes) (sym kept.0)
     ∙ ap (λ (bs : List ℕ). bs ++ after.outgoing.bytes) empty
     ∙ drained f.0 before.transport after.transport before.outgoing after.outgoing answer f.1.0 f.1.1 done
+
+-- ---- a write that is answered by Ok adds the message to what is to be sent
+
+-- this is added to what is to be sent, and what came is not touched
+abbrev pub Adds : LinkState MailboxState → WireMessage → LinkState MailboxState → Type 0
+Adds before m after = (still_to_send after ≡ joined (still_to_send before) (spelled m)) × (still_to_read after ≡ still_to_read before)
+
+put_adds : (before after : LinkState MailboxState) (m : WireMessage) (u : Unit {0}) → Put before m (Ok u) after → Adds before m after
+put_adds before after m u (inl put) = (
+  ap still_to_send put.1 ∙ sym (joined_assoc before.transport.waiting before.outgoing (spelled m)),
+  ap still_to_read put.1,
+)
+put_adds before after m u (inr refused) = let e = refused.0 in absurd cc
+
+adds_after : (before mid after : LinkState MailboxState) (m : WireMessage) → still_to_send mid ≡ still_to_send before → still_to_read mid ≡ still_to_read before
+    → Adds mid m after → Adds before m after
+adds_after before mid after m sends reads adds = (adds.0 ∙ ap (λ (q : Queue). joined q (spelled m)) sends, adds.1 ∙ reads)
+
+module _ (m : WireMessage) (after : LinkState MailboxState) (u : Unit {0}) where
+  flushed_adds : (mid : LinkState MailboxState) (done : Result (Unit {0}) IoFault)
+      → MatchResult done
+      (λ _. MatchBool (room_of mid (size m)) (Put mid m (Ok u) after) ((Ok u ≡ Err fault.TooBig) × (after ≡ mid)))
+      (λ e. (Ok u ≡ Err e) × (after ≡ mid))
+      → Adds mid m after
+  flushed_adds mid (Ok v) rest = at (cases_Bool (room_of mid (size m)))
+    where
+      at : (room_of mid (size m) ≡ true) ⊎ (room_of mid (size m) ≡ false) → Adds mid m after
+      at (inl room) = put_adds mid after m u (MatchBool-at_true _ _ room rest)
+      at (inr full) = let r = MatchBool-at_false _ _ full rest in let e = r.0 in absurd cc
+  flushed_adds mid (Err other) rest = let e = rest.0 in absurd cc
+
+  placed_adds : (before : LinkState MailboxState) (es : List Sending) → PlacedBy MailboxSends before m es (Ok u) after → Adds before m after
+  placed_adds before es placed = at (cases_Bool (room_of before (size m)))
+    where
+      at : (room_of before (size m) ≡ true) ⊎ (room_of before (size m) ≡ false) → Adds before m after
+      at (inl room) = let p = MatchBool-at_true _ _ room placed in put_adds before after m u p.1
+      at (inr full) =
+          let p = MatchBool-at_false _ _ full placed in
+          let kept = flush_keeps_all before p.0 p.1 (es, p.2) in
+          adds_after before p.0 after m kept.0
+          (ap (λ (q : Queue). joined q p.0.transport.arrived) kept.1 ∙ ap (λ (q : Queue). joined before.incoming q) kept.2)
+          (flushed_adds p.0 (ignoring p.1) p.3)
+
+  pub write_adds : (before : LinkState MailboxState) → Wrote MailboxSends before m (Ok u) after → Adds before m after
+  write_adds before wrote = at (cases_Bool (nat_le (size m) 65535))
+    where
+      at : (nat_le (size m) 65535 ≡ true) ⊎ (nat_le (size m) 65535 ≡ false) → Adds before m after
+      at (inl small) = grows (MatchBool-at_true _ _ small wrote.1)
+        where
+          grows : ((wrote.0 ≡ []) × (Ok u ≡ Err fault.OutOfMemory) × (after ≡ before) × Wants before.limit (needed before (size m)) before.outgoing_capacity)
+              ⊎ ((grown : LinkState MailboxState) × Grown before (size m) grown × PlacedBy MailboxSends grown m wrote.0 (Ok u) after)
+              → Adds before m after
+          grows (inl refused) = let e = refused.1 in absurd cc
+          grows (inr g) =
+              adds_after before g.0 after m (ap still_to_send g.1.1) (ap still_to_read g.1.1) (placed_adds g.0 wrote.0 g.2)
+      at (inr long) = let w = MatchBool-at_false _ _ long wrote.1 in let e = w.1 in absurd cc

@@ -1,11 +1,12 @@
 -- What is on its way through the relay, in both directions, and that nothing of it is lost, added or moved.
-use Rattle.std.specs.Prelude.{◌≡◌, ℕ, Bool, false, true, List, []}
+use Rattle.std.specs.Prelude.{◌≡◌, ℕ, ◌≤◌, Bool, false, true, List, [], length}
 use Rattle.wl_link.specs.Exchange.{Queue, joined, nothing}
 use Rattle.wl_link.specs.Link.{LinkState, with_transport}
 use Rattle.wl_link.specs.Mailbox.{MailboxState}
 use Rattle.wl_link.specs.MailboxLink.{still_to_read, still_to_send}
 use Rattle.wl_wire.specs.Table.{InterfaceRow}
-use Rattle.wl_relay.specs.Log.{GrowsLog, Known, other_side}
+use Rattle.wl_relay.specs.Log.{GrowsLog, IsDone, Known, other_side}
+use Rattle.wl_relay.specs.Objects.{first_objects}
 use Rattle.wl_relay.specs.declared.side.Side.{Side}
 use Rattle.wl_relay.specs.declared.side.Side.TheVariants.{Client, Server}
 
@@ -56,12 +57,23 @@ abbrev pub to_send : Side → RelayState → Queue
 to_send Client r = still_to_send r.client
 to_send Server r = still_to_send r.server
 
--- A new relay has changed nothing, and nothing is on its way. It reads both sides, and its log is empty.
+-- what came from this side and was received, but not handed on
+abbrev pub received : Side → RelayState → Queue
+received Client r = r.client.incoming
+received Server r = r.server.incoming
+
+-- what came from this side and was not received: all bytes are, but tokens wait for the next byte
+abbrev pub not_received : Side → RelayState → Queue
+not_received Client r = r.client.transport.arrived
+not_received Server r = r.server.transport.arrived
+
+-- A new relay has changed nothing, and nothing is on its way. It reads both sides, knows the display alone, and its log is empty.
 pub record Begins (r : RelayState) : Type 0 where
   pub unchanged : has_changed r ≡ false
   pub from_client : flow_from Client r ≡ nothing
   pub from_server : flow_from Server r ≡ nothing
   pub log : r.known.log ≡ []
+  pub objects : r.known.objects ≡ first_objects
   pub follows_client : r.known.follows_client ≡ true
   pub follows_server : r.known.follows_server ≡ true
 
@@ -73,24 +85,41 @@ Arrives side came before after =
     → (has_changed before ≡ false) × (flow_from side after ≡ joined (flow_from side before) came)
     × (flow_from (other_side side) after ≡ flow_from (other_side side) before)
 
--- This was taken out for the side. It was the first that was on its way there, and the other direction has what it had.
-abbrev pub TakesOut : Side → Queue → RelayState → RelayState → Type 0
-TakesOut side out before after =
-    (after.known ≡ before.known) × (after.table ≡ before.table)
-    × (joined out (flow_from (other_side side) after) ≡ flow_from (other_side side) before)
-    × (flow_from side after ≡ flow_from side before)
+-- Nothing goes the other way: what is to be sent to this side, and what the other side has to say, stay as they are.
+abbrev pub KeepsOtherWay : Side → RelayState → RelayState → Type 0
+KeepsOtherWay side before after =
+    (to_send side after ≡ to_send side before) × (to_read (other_side side) after ≡ to_read (other_side side) before)
 
--- the log has grown by the lines of what was read of what came from that side
+-- This was taken out for the side, with at most 28 tokens. It was the first that was to be sent to it. Nothing else is changed.
+pub record TakesOut (side : Side) (out : Queue) (before after : RelayState) : Type 0 where
+  pub first : joined out (to_send side after) ≡ to_send side before
+  pub few : length out.tokens ≤ 28
+  pub known : after.known ≡ before.known
+  pub table : after.table ≡ before.table
+  pub still_to_read : to_read side after ≡ to_read side before
+  pub other_sends : to_send (other_side side) after ≡ to_send (other_side side) before
+  pub other_reads : to_read (other_side side) after ≡ to_read (other_side side) before
+  pub flow : joined out (flow_from (other_side side) after) ≡ flow_from (other_side side) before
+  pub other_flow : flow_from side after ≡ flow_from side before
+
+-- the log has grown by the lines of what was read of what came from that side, and what goes on is to be sent to the other
 abbrev pub LogsRead : Side → RelayState → RelayState → Type 0
 LogsRead side before after =
-    GrowsLog before.table side before.known (to_read side before) after.known (to_read side after) × (after.table ≡ before.table)
+    GrowsLog before.table side before.known (to_read side before) (not_received side before) (to_send (other_side side) before)
+    after.known (to_read side after) (not_received side after) (to_send (other_side side) after)
+    × (after.table ≡ before.table)
 
--- The log has grown by the lines of what came from that side, behind what came before and was not read yet, as one stream. What the
--- other side sent adds no line.
+-- The log has grown by the lines of what came from that side, behind what came before and was not read yet, as one stream; and what
+-- goes on is to be sent to the other side. What that one sent adds no line.
 abbrev pub Logged : Side → Queue → RelayState → RelayState → Type 0
 Logged side came before after =
-    GrowsLog before.table side before.known (joined (to_read side before) came) after.known (to_read side after)
+    GrowsLog before.table side before.known (joined (to_read side before) came) (joined (not_received side before) came) (to_send (other_side side) before)
+    after.known (to_read side after) (not_received side after) (to_send (other_side side) after)
     × (after.table ≡ before.table)
+
+-- All bytes that came from the side were received, and no message that is there whole was left.
+abbrev pub ReadsAll : Side → RelayState → Type 0
+ReadsAll side r = ((not_received side r).bytes ≡ []) × IsDone r.table side r.known (received side r)
 
 -- The lines were taken out. Nothing else is changed.
 abbrev pub TakesLog : List (List ℕ) → RelayState → RelayState → Type 0

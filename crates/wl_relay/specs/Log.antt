@@ -1,24 +1,29 @@
--- The log: the line of a message, and which messages the lines of a call tell of.
-use Rattle.std.specs.Prelude.{◌≡◌, ℕ, ◌⊎◌, Bool, true, false, List, [], ◌∷◌, ◌++◌, codes, map, Option, None, Some, MatchOption, option_map}
+-- What the relay does with the messages of a side: their lines in the log, what goes on in their place, and the objects after them.
+use Rattle.std.specs.Prelude.{◌≡◌, ℕ, ◌<◌, ◌≤◌, ◌⊎◌, Bool, true, false, ◌||◌, List, [], ◌∷◌, ◌++◌, codes, length, map, Option, None, Some, MatchBool, MatchOption, option_map}
 use Rattle.std.specs.Fmt.{decimal}
 use Rattle.std.specs.String.{string_bytes}
+use Rattle.wl_wire.specs.declared.argument.ArgumentType.{ArgumentType}
+use Rattle.wl_wire.specs.declared.error.MessageParseError.TheVariants as errors
 use Rattle.wl_wire.specs.declared.interface.InterfaceId.{InterfaceId}
 use Rattle.wl_wire.specs.LogText.{message_text}
 use Rattle.wl_wire.specs.Message.{WireMessage}
 use Rattle.wl_wire.specs.MessageRows.{event_row, request_row}
-use Rattle.wl_wire.specs.Parse.{IsWhole, ReadsMessage, opcode_of, sender_of}
+use Rattle.wl_wire.specs.Parse.{IsWhole, ReadsMessage, RefusesMessage, length_of, opcode_of, sender_of}
 use Rattle.wl_wire.specs.Table.{InterfaceRow, MessageRow}
 use Rattle.wl_link.specs.declared.object.Object.{Object}
-use Rattle.wl_link.specs.Exchange.{Queue}
+use Rattle.wl_link.specs.Exchange.{Queue, joined, nothing}
+use Rattle.wl_link.specs.HandOn.{first_of}
 use Rattle.wl_link.specs.Link.{after_first}
 use Rattle.wl_link.specs.Store.{Store, held}
+use Rattle.wl_relay.specs.Announcements.{EditsMessage, going_on, is_change}
+use Rattle.wl_relay.specs.Objects.{NotesObjects}
 use Rattle.wl_relay.specs.declared.notes.Edit.{Edit}
 use Rattle.wl_relay.specs.declared.notes.Edit.TheVariants as edit
 use Rattle.wl_relay.specs.declared.notes.Notes.{Notes}
 use Rattle.wl_relay.specs.declared.side.Fault.{Fault}
 use Rattle.wl_relay.specs.declared.side.Fault.TheVariants as fault
 use Rattle.wl_relay.specs.declared.side.Mode.{Mode}
-use Rattle.wl_relay.specs.declared.side.Mode.TheVariants.{Log}
+use Rattle.wl_relay.specs.declared.side.Mode.TheVariants.{HandOn, Log}
 use Rattle.wl_relay.specs.declared.side.Side.{Side}
 use Rattle.wl_relay.specs.declared.side.Side.TheVariants.{Client, Server}
 
@@ -97,7 +102,7 @@ abbrev pub stopped : Side → Fault → Known → Known
 stopped Client fault k = record k { log = k.log ++ fault_line Client fault ∷ []; follows_client = false }
 stopped Server fault k = record k { log = k.log ++ fault_line Server fault ∷ []; follows_server = false }
 
--- ---- a message and its line
+-- ---- a message, and what becomes of it
 
 abbrev pub row_at : List InterfaceRow → Side → InterfaceId → ℕ → Option MessageRow
 row_at table Client interface opcode = request_row table interface opcode
@@ -113,50 +118,174 @@ abbrev pub IsUnknown : List InterfaceRow → Store (Unit {0}) → Side → ℕ �
 IsUnknown table objects side sender opcode =
     MatchOption (held objects sender) (Unit {0}) (λ object. row_at table side object.interface opcode ≡ None)
 
--- the line tells of the message at the front, which is known, and `after` is what follows the message
-pub record TellsKnown (table : List InterfaceRow) (side : Side) (objects : Store (Unit {0})) (q : Queue) (line : List ℕ) (after : Queue) : Type 0 where
+-- A message that was read: its line, what was done with it, and what goes on in its place.
+pub record Passage : Type 0 where
+  pub line : List ℕ
+  pub edit : Edit
+  pub sent : Queue
+
+-- the objects after a message; one that is dropped or lowered, an announcement, changes none
+abbrev pub ObjectsAfter : List InterfaceRow → Mode → Side → Object (Unit {0}) → MessageRow → WireMessage → Store (Unit {0}) → Edit → Store (Unit {0}) → Type 0
+ObjectsAfter table mode side object row m objects edit.Nothing objects' = NotesObjects table mode side object row m objects None objects'
+ObjectsAfter table mode side object row m objects _ objects' = objects' ≡ objects
+
+-- The passage tells of the message at the front, which is known. `objects'` are the objects after it, and `after` is what follows it.
+pub record TellsKnown (table : List InterfaceRow) (mode : Mode) (side : Side) (objects : Store (Unit {0})) (q : Queue) (p : Passage) (objects' : Store (Unit {0}))
+    (after : Queue) : Type 0 where
   pub object : Object (Unit {0})
   pub row : MessageRow
   pub message : WireMessage
-  pub edit : Edit
   pub is_known : IsKnown table objects side message.sender message.opcode object row
   pub reads : ReadsMessage q.bytes row.signature q.tokens message
-  pub text : line ≡ message_line table objects side object.interface row message edit
+  pub edits : EditsMessage table mode side object.interface message p.edit
+  pub text : p.line ≡ message_line table objects side object.interface row message p.edit
+  pub sent : p.sent ≡ going_on p.edit row.signature q message
+  pub noted : ObjectsAfter table mode side object row message objects p.edit objects'
   pub rest : after ≡ after_first row.signature q
 
--- the line tells of the message at the front, which is not known
-pub record TellsUnknown (table : List InterfaceRow) (side : Side) (objects : Store (Unit {0})) (q : Queue) (line : List ℕ) (after : Queue) : Type 0 where
+-- The passage tells of the message at the front, which is not known. Only a log goes on then.
+pub record TellsUnknown (table : List InterfaceRow) (mode : Mode) (side : Side) (objects : Store (Unit {0})) (q : Queue) (p : Passage) (objects' : Store (Unit {0}))
+    (after : Queue) : Type 0 where
+  pub is_log : mode ≡ Log
   pub whole : IsWhole q.bytes
   pub is_unknown : IsUnknown table objects side (sender_of q.bytes) (opcode_of q.bytes)
-  pub text : line ≡ unknown_line side (sender_of q.bytes) (opcode_of q.bytes)
+  pub text : p.line ≡ unknown_line side (sender_of q.bytes) (opcode_of q.bytes)
+  pub unedited : p.edit ≡ edit.Nothing
+  pub sent : p.sent ≡ first_of [] q
+  pub unnoted : objects' ≡ objects
   pub rest : after ≡ after_first [] q
 
-abbrev pub Tells : List InterfaceRow → Side → Store (Unit {0}) → Queue → List ℕ → Queue → Type 0
-Tells table side objects q line after = TellsKnown table side objects q line after ⊎ TellsUnknown table side objects q line after
+abbrev pub Tells : List InterfaceRow → Mode → Side → Store (Unit {0}) → Queue → Passage → Store (Unit {0}) → Queue → Type 0
+Tells table mode side objects q p objects' after =
+    TellsKnown table mode side objects q p objects' after ⊎ TellsUnknown table mode side objects q p objects' after
 
--- ---- the lines of a call
+-- ---- messages one after another
 
--- The lines tell of the messages at the front, one line of each, in their order; `rest` is what follows them. A message may change
--- which objects are known.
-abbrev pub Logs : List InterfaceRow → Side → Store (Unit {0}) → Queue → List (List ℕ) → Store (Unit {0}) → Queue → Type 0
-Logs table side objects q [] objects' rest = (objects' ≡ objects) × (rest ≡ q)
-Logs table side objects q (line ∷ lines) objects' rest =
-    (mid : Queue) × (mid_objects : Store (Unit {0})) × Tells table side objects q line mid × Logs table side mid_objects mid lines objects' rest
+-- The passages tell of the messages at the front, in their order. `objects'` are the objects after them, and `rest` is what follows.
+abbrev pub Passes : List InterfaceRow → Mode → Side → Store (Unit {0}) → Queue → List Passage → Store (Unit {0}) → Queue → Type 0
+Passes table mode side objects q [] objects' rest = (objects' ≡ objects) × (rest ≡ q)
+Passes table mode side objects q (p ∷ ps) objects' rest =
+    (mid : Queue) × (mid_objects : Store (Unit {0})) × Tells table mode side objects q p mid_objects mid
+    × Passes table mode side mid_objects mid ps objects' rest
 
--- The lines that a side's messages add, from this queue of what is to be read to that one. As long as the side is read, they are the
--- lines of the messages that were read. After a fault a last line says so, and the side is no longer read; then no line is added.
-abbrev pub Gains : List InterfaceRow → Side → Bool → Store (Unit {0}) → Queue → List (List ℕ) → Bool → Store (Unit {0}) → Queue → Type 0
-Gains table side false objects q lines followed' objects' q' = (lines ≡ []) × (followed' ≡ false) × (objects' ≡ objects)
-Gains table side true objects q lines true objects' q' = Logs table side objects q lines objects' q'
-Gains table side true objects q lines false objects' q' =
-    (fault : Fault) × (read : List (List ℕ)) × (rest : Queue)
-    × Logs table side objects q read objects' rest × (lines ≡ read ++ fault_line side fault ∷ [])
+abbrev pub lines_of : List Passage → List (List ℕ)
+lines_of [] = []
+lines_of (p ∷ ps) = p.line ∷ lines_of ps
 
--- The log has grown by these lines, and by no others. In a log no announcement is dropped or lowered.
-pub record GrowsLog (table : List InterfaceRow) (side : Side) (before : Known) (q : Queue) (after : Known) (q' : Queue) : Type 0 where
+-- what goes on in place of all of them
+abbrev pub all_sent : List Passage → Queue
+all_sent [] = nothing
+all_sent (p ∷ ps) = joined p.sent (all_sent ps)
+
+-- one of them was dropped or lowered
+abbrev pub any_change : List Passage → Bool
+any_change [] = false
+any_change (p ∷ ps) = is_change p.edit || any_change ps
+
+-- ---- why no message is read
+
+-- the message at the front is not there to its end, or lacks a descriptor
+abbrev pub LacksPart : List ArgumentType → Queue → Type 0
+LacksPart signature q =
+    RefusesMessage q.bytes signature q.tokens errors.MissingData ⊎ RefusesMessage q.bytes signature q.tokens errors.MissingFD
+
+-- Nothing can be read of this before more comes: not even a header is there, or the message lacks a part.
+abbrev pub AwaitsMore : List InterfaceRow → Mode → Side → Store (Unit {0}) → Queue → Type 0
+AwaitsMore table mode side objects q =
+    (length q.bytes < 8)
+    ⊎ ((mode ≡ Log) × IsUnknown table objects side (sender_of q.bytes) (opcode_of q.bytes) × LacksPart [] q)
+    ⊎ ((object : Object (Unit {0})) × (row : MessageRow) × IsKnown table objects side (sender_of q.bytes) (opcode_of q.bytes) object row
+    × LacksPart row.signature q)
+
+-- The message at the front is malformed: it is one of an object that is not known, which only a log goes past; or its header says a
+-- length below its own; or its arguments cannot be read.
+abbrev pub IsMalformed : List InterfaceRow → Mode → Side → Store (Unit {0}) → Queue → Type 0
+IsMalformed table mode side objects q =
+    (8 ≤ length q.bytes)
+    × ((IsUnknown table objects side (sender_of q.bytes) (opcode_of q.bytes) × ((mode ≡ HandOn) ⊎ (length_of q.bytes < 8)))
+    ⊎ ((object : Object (Unit {0})) × (row : MessageRow) × IsKnown table objects side (sender_of q.bytes) (opcode_of q.bytes) object row
+    × RefusesMessage q.bytes row.signature q.tokens errors.Malformed))
+
+-- The message at the front is read, and told by a line; but its objects cannot be noted.
+pub record RefusesObjects (table : List InterfaceRow) (mode : Mode) (side : Side) (objects : Store (Unit {0})) (q : Queue) (f : Fault) (line : List ℕ)
+    (objects' : Store (Unit {0})) : Type 0 where
+  pub object : Object (Unit {0})
+  pub row : MessageRow
+  pub message : WireMessage
+  pub is_known : IsKnown table objects side message.sender message.opcode object row
+  pub reads : ReadsMessage q.bytes row.signature q.tokens message
+  pub edits : EditsMessage table mode side object.interface message edit.Nothing
+  pub text : line ≡ message_line table objects side object.interface row message edit.Nothing
+  pub noted : NotesObjects table mode side object row message objects (Some f) objects'
+
+-- Why a side is no longer read, of what was received from it; the lines that are added before that one, and the objects after it. A
+-- message has fewer than 65536 bytes: one that awaits more where as many were received is there to its end, and lacks a descriptor.
+abbrev pub Stops : List InterfaceRow → Mode → Side → Store (Unit {0}) → Queue → Fault → List (List ℕ) → Store (Unit {0}) → Type 0
+Stops table mode side objects q f lines objects' =
+    (IsMalformed table mode side objects q × (f ≡ fault.Malformed) × (lines ≡ []) × (objects' ≡ objects))
+    ⊎ ((line : List ℕ) × RefusesObjects table mode side objects q f line objects' × (lines ≡ line ∷ []))
+    ⊎ ((65536 ≤ length q.bytes) × AwaitsMore table mode side objects q × (f ≡ fault.MissingDescriptor) × (lines ≡ []) × (objects' ≡ objects))
+
+-- ---- a call
+
+-- Of a side that is read: the messages up to `rest` have their lines, and what goes on in their place is sent.
+pub record Reads (table : List InterfaceRow) (mode : Mode) (side : Side) (objects : Store (Unit {0})) (q : Queue) (lines : List (List ℕ)) (changed : Bool)
+    (sent : Queue) (objects' : Store (Unit {0})) (rest : Queue) : Type 0 where
+  pub passages : List Passage
+  pub passes : Passes table mode side objects q passages objects' rest
+  pub lines_are : lines ≡ lines_of passages
+  pub changed_is : changed ≡ any_change passages
+  pub sent_is : sent ≡ all_sent passages
+
+-- Of a side that is read until a fault comes: the messages before it have their lines, then the one whose objects cannot be noted,
+-- if there is one, and a last line tells of the fault. What was received by then is handed on as it is, and what comes behind it too.
+-- Tokens are received with the first byte: those behind what was received are all that were in the mailbox, or none.
+pub record Ends (table : List InterfaceRow) (mode : Mode) (side : Side) (objects : Store (Unit {0})) (q mailbox : Queue) (lines : List (List ℕ)) (changed : Bool)
+    (sent : Queue) (objects' : Store (Unit {0})) (rest : Queue) : Type 0 where
+  pub passages : List Passage
+  pub mid : Store (Unit {0})
+  pub received : Queue
+  pub behind : Queue
+  pub reason : Fault
+  pub last : List (List ℕ)
+  pub handed : Queue
+  pub passes : Passes table mode side objects q passages mid (joined received behind)
+  pub tokens_first : (behind ≡ mailbox) ⊎ (behind.tokens ≡ [])
+  pub stops : Stops table mode side mid received reason last objects'
+  pub lines_are : lines ≡ lines_of passages ++ (last ++ fault_line side reason ∷ [])
+  pub changed_is : changed ≡ any_change passages
+  pub sent_is : sent ≡ joined (all_sent passages) handed
+  pub as_it_is : joined handed rest ≡ joined received behind
+
+-- Of a side that is not read: no line is added, and what came is handed on as it is.
+pub record PassesBy (q : Queue) (lines : List (List ℕ)) (changed : Bool) (sent : Queue) (rest : Queue) : Type 0 where
+  pub no_lines : lines ≡ []
+  pub no_change : changed ≡ false
+  pub as_it_is : joined sent rest ≡ q
+
+-- What a side's messages do, from this queue of what is to be read, of which this much is in the mailbox, to that one: the lines that
+-- they add, whether one is dropped or lowered, what is sent for them, and the objects after them.
+abbrev pub Gains : List InterfaceRow → Mode → Side → Bool → Store (Unit {0}) → Queue → Queue → List (List ℕ) → Bool → Queue → Bool → Store (Unit {0}) → Queue → Type 0
+Gains table mode side false objects q mailbox lines changed sent followed' objects' q' =
+    PassesBy q lines changed sent q' × (followed' ≡ false) × (objects' ≡ objects)
+Gains table mode side true objects q mailbox lines changed sent true objects' q' = Reads table mode side objects q lines changed sent objects' q'
+Gains table mode side true objects q mailbox lines changed sent false objects' q' = Ends table mode side objects q mailbox lines changed sent objects' q'
+
+-- The log has grown by these lines, and by no others; and what is to be sent by what goes on for them. In a log no announcement is
+-- dropped or lowered.
+pub record GrowsLog (table : List InterfaceRow) (side : Side) (before : Known) (q mailbox out : Queue) (after : Known) (q' mailbox' out' : Queue) : Type 0 where
   pub lines : List (List ℕ)
+  pub changed : Bool
+  pub sent : Queue
   pub log : after.log ≡ before.log ++ lines
-  pub gains : Gains table side (follows side before) before.objects q lines (follows side after) after.objects q'
+  pub out_is : out' ≡ joined out sent
+  pub changed_is : after.has_changed ≡ (before.has_changed || changed)
+  pub gains : Gains table before.mode side (follows side before) before.objects q mailbox lines changed sent (follows side after) after.objects q'
+  pub receives : (mailbox' ≡ mailbox) ⊎ (mailbox'.tokens ≡ [])
   pub mode : after.mode ≡ before.mode
   pub unchanged : before.mode ≡ Log → after.has_changed ≡ before.has_changed
   pub other : follows (other_side side) after ≡ follows (other_side side) before
+
+-- Of what was received from the side nothing more can be done: it awaits more; or, if the side is not read, all is handed on.
+abbrev pub IsDone : List InterfaceRow → Side → Known → Queue → Type 0
+IsDone table side k received = MatchBool (follows side k) (AwaitsMore table k.mode side k.objects received) (received ≡ nothing)

@@ -1,20 +1,25 @@
 //! What is handed on from one link to the other, message by message.
 
-ghost use Rattle.std.specs.Prelude.{◌≡◌, true, false, [], IfOk, OnOk};
+ghost use Rattle.std.specs.Prelude.{◌≡◌, ◌≤◌, ◌<◌, true, false, [], Ok, IfOk, OnOk};
 ghost use Rattle.wl_wire.specs.Message.{content};
-ghost use Rattle.wl_wire.specs.Parse.{IsThere, opcode_of, sender_of};
-ghost use Rattle.wl_link.specs.MailboxLink.{still_to_read};
+ghost use Rattle.wl_wire.specs.Parse.{ReadsMessage};
+ghost use Rattle.wl_wire.specs.declared.message.TheConstants.{INLINE_ARGS};
+ghost use Rattle.wl_link.specs.MailboxLink.{still_to_read, still_to_send};
+ghost use Rattle.wl_relay.specs.Announcements.{is_change};
 ghost use Rattle.wl_relay.specs.Flow.{Kept, KeptUnlessChanged};
-ghost use Rattle.wl_relay.specs.Inside.Passing.{HandedAs, IsQuiet, PassesUnknown, ReadsAs, ReadsUpTo, TellsFault, is_change};
-ghost use Rattle.wl_relay.specs.Log.{GrowsLog, known};
+ghost use Rattle.wl_relay.specs.Inside.Passing.{HandedAs, HandsOnAll, KeepsWayBack, LeavesWayBack, PassedOn, PassesAs, PassesUnknown, ReadsUpTo, ReceivedAs, TakenOff, TellsFault, turns_left};
+ghost use Rattle.wl_relay.specs.Log.{GrowsLog, IsDone, known};
 
 use crate::notes::{
-    Edit, Found, Notes, described, edit_of, follows, log_fault, log_message, note_objects,
+    Edit, Notes, described, edit_of, follows, log_fault, log_message, note_unless_edited,
     unknown_line,
 };
 use crate::side::{Fault, Mode, Side};
 use wl_link::{BufferedSocket, HandOnError, Mailbox, clear_message};
-use wl_wire::{Argument, ArgumentType, IoFault, MessageParseError, OutOfMemory, Protocol};
+use wl_wire::{
+    Argument, ArgumentType, INLINE_ARGS, IoFault, Message, MessageParseError, OutOfMemory,
+    Protocol, Token,
+};
 
 /// A link over a mailbox.
 pub type Link = BufferedSocket<Mailbox>;
@@ -37,7 +42,8 @@ fn hand_on(
     to: &mut Link,
 ) -> Result<Passed, OutOfMemory>
     ensures kept { OnOk result (Kept from.old to.old from.new to.new) }
-    ensures handed { IfOk result (λ passed. HandedAs signature.now from.old passed from.new) }
+    ensures handed { IfOk result (λ passed. HandedAs signature.now from.old to.old passed from.new to.new) }
+    ensures way_back { OnOk result (LeavesWayBack from.old to.old from.new to.new) }
 {
     match from.hand_on(signature, to) {
         Ok(()) => Ok(Passed::One),
@@ -50,7 +56,9 @@ fn hand_on(
 
 /// Hands on all that was received, whether it can be read or not.
 fn hand_on_rest(from: &mut Link, to: &mut Link) -> Result<(), OutOfMemory>
-    ensures { OnOk result (Kept from.old to.old from.new to.new) }
+    ensures kept { OnOk result (Kept from.old to.old from.new to.new) }
+    ensures handed { OnOk result (HandsOnAll from.old to.old from.new to.new) }
+    ensures way_back { OnOk result (LeavesWayBack from.old to.old from.new to.new) }
 {
     match from.hand_on_rest(to) {
         Ok(()) => Ok(()),
@@ -68,7 +76,8 @@ fn pass_unknown(
     to: &mut Link,
 ) -> Result<Passed, OutOfMemory>
     ensures kept { OnOk result (KeptUnlessChanged notes.old.has_changed from.old to.old notes.new.has_changed from.new to.new) }
-    ensures told { IfOk result (λ passed. PassesUnknown side sender opcode (known notes.old) from.old passed (known notes.new) from.new) }
+    ensures told { IfOk result (λ passed. PassesUnknown side sender opcode (known notes.old) from.old to.old passed (known notes.new) from.new to.new) }
+    ensures way_back { OnOk result (LeavesWayBack from.old to.old from.new to.new) }
 {
     if notes.mode == Mode::HandOn {
         return Ok(Passed::Fault(Fault::Malformed));
@@ -81,112 +90,68 @@ fn pass_unknown(
     Ok(passed)
 }
 
-/// Takes the first message off the link.
+/// Takes the first message off the link, and reads it.
 fn take_first(
-    notes: &mut Notes,
     signature: &[ArgumentType],
+    message: &mut Message<u32, Token>,
     from: &mut Link,
 ) -> Result<(), OutOfMemory>
-    ensures changed { notes.new.has_changed ≡ true }
-    ensures quiet { IsQuiet true (known notes.old) (known notes.new) }
-    ensures taken { OnOk result (HandedAs signature.now from.old Passed.One from.new) }
+    requires { INLINE_ARGS ≤ message.old.args.capacity }
+    ensures taken { OnOk result (TakenOff signature.now from.old from.new) }
+    ensures read { OnOk result (ReadsMessage from.old.incoming.bytes signature.now from.old.incoming.tokens (content message.new)) }
+    ensures capacity { INLINE_ARGS ≤ message.new.args.capacity }
 {
-    notes.has_changed = true;
-    let Ok(()) = from.read_with_signature(signature, &mut notes.place.message) else {
+    let Ok(()) = from.read_with_signature(signature, message) else {
         return Err(OutOfMemory);
     };
     Ok(())
 }
 
-/// Drops the first message.
-fn drop_first(
-    notes: &mut Notes,
-    signature: &[ArgumentType],
-    from: &mut Link,
-) -> Result<Passed, OutOfMemory>
-    ensures changed { notes.new.has_changed ≡ true }
-    ensures quiet { IsQuiet true (known notes.old) (known notes.new) }
-    ensures taken { IfOk result (λ passed. HandedAs signature.now from.old passed from.new) }
-    ensures one { IfOk result (λ passed. passed ≡ Passed.One) }
-{
-    take_first(notes, signature, from)?;
-    clear_message(&mut notes.place.message);
-    Ok(Passed::One)
-}
-
 /// Hands on the first message, an announcement, with this version in place of its own.
 fn lower_first(
-    notes: &mut Notes,
     signature: &[ArgumentType],
     version: u32,
+    message: &mut Message<u32, Token>,
     from: &mut Link,
     to: &mut Link,
-) -> Result<Passed, OutOfMemory>
-    ensures changed { notes.new.has_changed ≡ true }
-    ensures quiet { IsQuiet true (known notes.old) (known notes.new) }
-    ensures taken { IfOk result (λ passed. HandedAs signature.now from.old passed from.new) }
-    ensures one { IfOk result (λ passed. passed ≡ Passed.One) }
+) -> Result<(), OutOfMemory>
+    requires { INLINE_ARGS ≤ message.old.args.capacity }
+    ensures passed { OnOk result (PassedOn signature.now (Edit.Lower version) from.old to.old Passed.One from.new to.new) }
+    ensures way_back { OnOk result (LeavesWayBack from.old to.old from.new to.new) }
+    ensures capacity { INLINE_ARGS ≤ message.new.args.capacity }
 {
-    take_first(notes, signature, from)?;
-    let message = &mut notes.place.message;
+    take_first(signature, message, from)?;
     let _old = message.args.pop();
     message.args.push(Argument::Uint(version))?;
-    let written = to.write_message(message);
-    clear_message(message);
-    match written {
-        Ok(()) => Ok(Passed::One),
+    match to.write_message(message) {
+        Ok(()) => Ok(()),
         Err(_) => Err(OutOfMemory),
     }
 }
 
-/// Notes the objects of the first message, which was looked at, and hands it on as it is.
-fn pass_known(
-    table: &Protocol,
-    notes: &mut Notes,
-    found: Found,
-    from: &mut Link,
-    to: &mut Link,
-) -> Result<Passed, OutOfMemory>
-    ensures kept { OnOk result (KeptUnlessChanged notes.old.has_changed from.old to.old notes.new.has_changed from.new to.new) }
-    ensures quiet { OnOk result (IsQuiet false (known notes.old) (known notes.new)) }
-    ensures handed { IfOk result (λ passed. HandedAs found.entry.desc.now.signature.items from.old passed from.new) }
-{
-    let fault = note_objects(
-        table,
-        notes.mode,
-        &mut notes.objects,
-        found,
-        &notes.place.message,
-    )?;
-    clear_message(&mut notes.place.message);
-    match fault {
-        Some(fault) => Ok(Passed::Fault(fault)),
-        None => hand_on(found.desc.signature.as_slice(), from, to),
-    }
-}
-
-/// Hands on the first message, which was looked at and logged, unless it is an announcement that is dropped.
-fn pass_logged(
-    table: &Protocol,
-    notes: &mut Notes,
-    found: Found,
+/// Hands on the first message, or does with it what is to be done. The message is one into which it may be read.
+fn pass_on(
+    signature: &[ArgumentType],
     edit: Edit,
+    message: &mut Message<u32, Token>,
     from: &mut Link,
     to: &mut Link,
 ) -> Result<Passed, OutOfMemory>
-    ensures kept { OnOk result (KeptUnlessChanged notes.old.has_changed from.old to.old notes.new.has_changed from.new to.new) }
-    ensures quiet { OnOk result (IsQuiet (is_change edit) (known notes.old) (known notes.new)) }
-    ensures handed { IfOk result (λ passed. HandedAs found.entry.desc.now.signature.items from.old passed from.new) }
+    requires { INLINE_ARGS ≤ message.old.args.capacity }
+    ensures kept { OnOk result (is_change edit ≡ false → Kept from.old to.old from.new to.new) }
+    ensures passed { IfOk result (λ passed. PassedOn signature.now edit from.old to.old passed from.new to.new) }
+    ensures way_back { OnOk result (LeavesWayBack from.old to.old from.new to.new) }
+    ensures capacity { INLINE_ARGS ≤ message.new.args.capacity }
 {
-    let signature = found.desc.signature.as_slice();
     match edit {
-        Edit::Nothing => pass_known(table, notes, found, from, to),
-        Edit::Drop => drop_first(notes, signature, from),
-        Edit::Lower(version) => lower_first(notes, signature, version, from, to),
+        Edit::Nothing => return hand_on(signature, from, to),
+        Edit::Drop => take_first(signature, message, from)?,
+        Edit::Lower(version) => lower_first(signature, version, message, from, to)?,
     }
+    Ok(Passed::One)
 }
 
-/// Logs the first message that waits on a link, and hands it on, if it is there whole.
+/// Logs the first message that waits on a link, notes its objects and hands it on, if it is there whole.
 fn pass_one(
     table: &Protocol,
     notes: &mut Notes,
@@ -195,7 +160,8 @@ fn pass_one(
     to: &mut Link,
 ) -> Result<Passed, OutOfMemory>
     ensures kept { OnOk result (KeptUnlessChanged notes.old.has_changed from.old to.old notes.new.has_changed from.new to.new) }
-    ensures reads { IfOk result (λ passed. ReadsAs table.now side (known notes.old) (still_to_read from.old) passed (known notes.new) (still_to_read from.new)) }
+    ensures reads { IfOk result (λ passed. PassesAs table.now side (known notes.old) from.old to.old passed (known notes.new) from.new to.new) }
+    ensures way_back { OnOk result (LeavesWayBack from.old to.old from.new to.new) }
 {
     let Some((sender, opcode)) = from.next_header() else {
         return Ok(Passed::Nothing);
@@ -203,7 +169,9 @@ fn pass_one(
     let Some(found) = described(table, &notes.objects, side, sender, opcode) else {
         return pass_unknown(notes, side, sender, opcode, from, to);
     };
-    match from.peek(found.desc.signature.as_slice(), &mut notes.place.message) {
+    let signature = found.desc.signature.as_slice();
+    let message = &mut notes.place.message;
+    match from.peek(signature, message) {
         Ok(()) => {}
         Err(MessageParseError::MissingData | MessageParseError::MissingFD) => {
             return Ok(Passed::Nothing);
@@ -211,10 +179,17 @@ fn pass_one(
         Err(MessageParseError::Malformed) => return Ok(Passed::Fault(Fault::Malformed)),
         Err(MessageParseError::OutOfMemory) => return Err(OutOfMemory),
     }
-    let message = &notes.place.message;
     let edit = edit_of(table, notes.mode, found, message);
     log_message(&mut notes.log, table, &notes.objects, found, message, edit)?;
-    pass_logged(table, notes, found, edit, from, to)
+    let noted = note_unless_edited(table, notes.mode, &mut notes.objects, found, message, edit)?;
+    if let Some(fault) = noted {
+        clear_message(message);
+        return Ok(Passed::Fault(fault));
+    }
+    notes.has_changed = edit.or_changed(notes.has_changed);
+    let passed = pass_on(signature, edit, message, from, to)?;
+    clear_message(message);
+    Ok(passed)
 }
 
 /// Hands on each message that waits whole on a link, up to the first that cannot be read.
@@ -226,17 +201,16 @@ fn pass(
     to: &mut Link,
 ) -> Result<Option<Fault>, OutOfMemory>
     ensures kept { OnOk result (KeptUnlessChanged notes.old.has_changed from.old to.old notes.new.has_changed from.new to.new) }
-    ensures reads { IfOk result (λ fault. ReadsUpTo table.now side (known notes.old) (still_to_read from.old) fault (known notes.new) (still_to_read from.new)) }
+    ensures reads { IfOk result (λ fault. ReadsUpTo table.now side (known notes.old) from.old to.old fault (known notes.new) from.new to.new) }
+    ensures way_back { OnOk result (LeavesWayBack from.old to.old from.new to.new) }
 {
-    let [most, _, _, _] = from.waiting();
-    for _ in 0..most {
+    loop {
         match pass_one(table, notes, side, from, to)? {
             Passed::One => (),
             Passed::Nothing => return Ok(None),
             Passed::Fault(fault) => return Ok(Some(fault)),
         }
     }
-    Ok(None)
 }
 
 /// Hands on what was received, and no longer reads what comes from the side.
@@ -249,6 +223,8 @@ fn give_up(
 ) -> Result<(), OutOfMemory>
     ensures kept { OnOk result (KeptUnlessChanged notes.old.has_changed from.old to.old notes.new.has_changed from.new to.new) }
     ensures told { OnOk result (TellsFault side fault (known notes.old) (known notes.new)) }
+    ensures handed { OnOk result (HandsOnAll from.old to.old from.new to.new) }
+    ensures way_back { OnOk result (LeavesWayBack from.old to.old from.new to.new) }
 {
     if follows(notes, side) {
         log_fault(notes, side, fault)?;
@@ -265,7 +241,10 @@ fn follow(
     to: &mut Link,
 ) -> Result<(), OutOfMemory>
     ensures kept { OnOk result (KeptUnlessChanged notes.old.has_changed from.old to.old notes.new.has_changed from.new to.new) }
-    ensures logged { OnOk result (GrowsLog table.now side (known notes.old) (still_to_read from.old) (known notes.new) (still_to_read from.new)) }
+    ensures logged { OnOk result (GrowsLog table.now side (known notes.old) (still_to_read from.old) from.old.transport.arrived (still_to_send to.old)
+        (known notes.new) (still_to_read from.new) from.new.transport.arrived (still_to_send to.new)) }
+    ensures done { OnOk result (IsDone table.now side (known notes.new) from.new.incoming) }
+    ensures way_back { OnOk result (LeavesWayBack from.old to.old from.new to.new) }
 {
     if !follows(notes, side) {
         return hand_on_rest(from, to);
@@ -278,7 +257,7 @@ fn follow(
 
 /// What a receive led to.
 #[derive(Clone, Copy, Debug, PartialEq, Eq)]
-enum Received {
+pub enum Received {
     /// Something came.
     Some,
     /// Nothing is left in the mailbox.
@@ -287,21 +266,28 @@ enum Received {
     Full,
 }
 
+/// How much the buffer of what was received holds at most.
+const MOST_RECEIVED: usize = 65536;
+
 /// Receives once.
 fn fill(from: &mut Link, to: &Link) -> Result<Received, OutOfMemory>
     ensures kept { OnOk result (Kept from.old to.now from.new to.now) }
     ensures same { still_to_read from.new ≡ still_to_read from.old }
+    ensures to_send { still_to_send from.new ≡ still_to_send from.old }
+    ensures received { IfOk result (λ received. ReceivedAs from.old received from.new) }
 {
+    if from.transport().bytes_left() == 0 {
+        return Ok(Received::All);
+    }
     match from.fill_incoming_buffers() {
         Ok(()) => Ok(Received::Some),
-        Err(IoFault::WouldBlock) => Ok(Received::All),
-        Err(IoFault::Pipe) => Ok(Received::Full),
-        // A mailbox that is open has no fault of its own.
+        Err(IoFault::Pipe) if from.received().len() >= MOST_RECEIVED => Ok(Received::Full),
+        // The buffer may grow so far, and the mailbox gives what it has, if there is memory.
         Err(_) => Err(OutOfMemory),
     }
 }
 
-/// Receives once, and hands on what can be handed on. Answers whether something came.
+/// Receives once, and hands on what can be handed on. Answers whether something was left to do. What was received before was done.
 fn receive_once(
     table: &Protocol,
     notes: &mut Notes,
@@ -309,8 +295,14 @@ fn receive_once(
     from: &mut Link,
     to: &mut Link,
 ) -> Result<bool, OutOfMemory>
+    requires done { IsDone table.now side (known notes.old) from.old.incoming }
     ensures kept { OnOk result (KeptUnlessChanged notes.old.has_changed from.old to.old notes.new.has_changed from.new to.new) }
-    ensures logged { OnOk result (GrowsLog table.now side (known notes.old) (still_to_read from.old) (known notes.new) (still_to_read from.new)) }
+    ensures logged { OnOk result (GrowsLog table.now side (known notes.old) (still_to_read from.old) from.old.transport.arrived (still_to_send to.old)
+        (known notes.new) (still_to_read from.new) from.new.transport.arrived (still_to_send to.new)) }
+    ensures done { OnOk result (IsDone table.now side (known notes.new) from.new.incoming) }
+    ensures fewer { result ≡ Ok true → turns_left side (known notes.new) from.new < turns_left side (known notes.old) from.old }
+    ensures all { result ≡ Ok false → from.new.transport.arrived.bytes ≡ [] }
+    ensures way_back { OnOk result (KeepsWayBack from.old to.old from.new to.new) }
 {
     match fill(from, to)? {
         Received::All => return Ok(false),
@@ -329,12 +321,14 @@ pub fn receive(
     to: &mut Link,
 ) -> Result<(), OutOfMemory>
     ensures kept { OnOk result (KeptUnlessChanged notes.old.has_changed from.old to.old notes.new.has_changed from.new to.new) }
-    ensures logged { OnOk result (GrowsLog table.now side (known notes.old) (still_to_read from.old) (known notes.new) (still_to_read from.new)) }
+    ensures logged { OnOk result (GrowsLog table.now side (known notes.old) (still_to_read from.old) from.old.transport.arrived (still_to_send to.old)
+        (known notes.new) (still_to_read from.new) from.new.transport.arrived (still_to_send to.new)) }
+    ensures done { OnOk result (IsDone table.now side (known notes.new) from.new.incoming) }
+    ensures all { OnOk result (from.new.transport.arrived.bytes ≡ []) }
+    ensures way_back { OnOk result (KeepsWayBack from.old to.old from.new to.new) }
 {
-    for _ in 0..u64::MAX {
-        if !receive_once(table, notes, side, from, to)? {
-            return Ok(());
-        }
-    }
+    // The other side may have made or ended objects since, so what waits is looked at again.
+    follow(table, notes, side, from, to)?;
+    while receive_once(table, notes, side, from, to)? {}
     Ok(())
 }

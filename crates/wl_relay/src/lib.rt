@@ -7,8 +7,8 @@
 //! | Subject | Code | Definitions, in `specs/` |
 //! |---|---|---|
 //! | the sides, and what may go wrong with one | `side` | `Log` |
-//! | the objects and the log | `notes` | `Log` |
-//! | what is handed on, dropped or lowered | `follow` | `Flow`, `Log`; `Inside/Passing` |
+//! | the objects and the log | `notes` | `Objects`, `Log` |
+//! | what is handed on, dropped or lowered | `notes`, `follow` | `Announcements`, `Log`; `Inside/Passing` |
 //! | the relay | `relay` | `Flow`, `Log` |
 //! | the lines of the program | `words`, `rows`, `commands`, `stop` | none |
 #![tactic(auto)]

@@ -1,9 +1,12 @@
 //! What the relay knows: the objects of the session, and the log.
 
-ghost use Rattle.std.specs.Prelude.{◌≡◌, ◌++◌, ◌∷◌, [], map, IfOk, OnOk, MatchOption, IsTrue, false, true};
+ghost use Rattle.std.specs.Prelude.{◌≡◌, ◌||◌, ◌++◌, ◌∷◌, [], Err, map, IfOk, OnOk, MatchOption, false, true};
 ghost use Rattle.std.specs.String.{string_bytes};
 ghost use Rattle.wl_wire.specs.Message.{content};
 ghost use Rattle.wl_wire.specs.Table.{message_row};
+ghost use Rattle.wl_relay.specs.Announcements.{EditsArguments, EditsGlobal, EditsMessage, is_announcement, is_change};
+ghost use Rattle.wl_relay.specs.Objects.{IsBound, NotesBind, NotesChild, NotesObjects, Puts, first_objects, is_bind, is_deletion, new_number, object_of, without_deleted};
+ghost use Rattle.wl_relay.specs.Inside.Passing.{NotesUnder};
 ghost use Rattle.wl_relay.specs.Log.{IsKnown, IsUnknown, arrow, edit_text, fault_line, follows, known, message_line, stopped, unknown_line, unknown_text};
 ghost use Rattle.wl_relay.specs.declared.side.Mode.TheVariants.{Log};
 
@@ -58,6 +61,18 @@ pub enum Edit {
     Lower(u32),
 }
 
+impl Edit {
+    /// Whether a message was dropped or lowered, with this one; `before` says it of those before it.
+    pub fn or_changed(self, before: bool) -> bool
+        ensures { result ≡ (before || is_change self) }
+    {
+        match self {
+            Edit::Nothing => before,
+            Edit::Drop | Edit::Lower(_) => true,
+        }
+    }
+}
+
 impl Notes {
     /// Of a session that begins: the display is its only object.
     pub fn new(alloc: Global, mode: Mode) -> Result<Self, OutOfMemory>
@@ -65,9 +80,17 @@ impl Notes {
         ensures follows { IfOk result (λ notes. (notes.follows_client ≡ true) × (notes.follows_server ≡ true)) }
         ensures log { IfOk result (λ notes. notes.log.items ≡ []) }
         ensures mode { IfOk result (λ notes. notes.mode ≡ mode) }
+        ensures objects { IfOk result (λ notes. notes.objects.store ≡ first_objects) }
     {
         let mut objects = ObjectMap::new(alloc);
-        put_object(&mut objects, 1, WL_DISPLAY_INTERFACE, 1)?;
+        let display = Object {
+            interface: WL_DISPLAY_INTERFACE,
+            version: 1,
+            value: (),
+        };
+        let Ok(()) = objects.insert_at(1, display) else {
+            return Err(OutOfMemory);
+        };
         Ok(Notes {
             objects,
             mode,
@@ -121,7 +144,9 @@ fn put_object(
     number: u32,
     interface: InterfaceId,
     version: u32,
-) -> Result<Option<Fault>, OutOfMemory> {
+) -> Result<Option<Fault>, OutOfMemory>
+    ensures { IfOk result (λ fault. Puts objects.old.store number interface version fault objects.new.store) }
+{
     let _old = objects.remove(number);
     let object = Object {
         interface,
@@ -136,7 +161,9 @@ fn put_object(
 }
 
 /// The interface that a bind names. One that the table lacks is anonymous in a log, and a fault else.
-fn bound(table: &Protocol, mode: Mode, name: &[u8]) -> Option<InterfaceId> {
+fn bound(table: &Protocol, mode: Mode, name: &[u8]) -> Option<InterfaceId>
+    ensures { IsBound table.now mode name.now result }
+{
     match (table.find_bytes(name), mode) {
         (Some(interface), _) => Some(interface),
         (None, Mode::Log) => Some(ANONYMOUS_INTERFACE),
@@ -150,7 +177,9 @@ fn note_bind(
     mode: Mode,
     objects: &mut ObjectMap<()>,
     args: &[Argument<u32, Token>],
-) -> Result<Option<Fault>, OutOfMemory> {
+) -> Result<Option<Fault>, OutOfMemory>
+    ensures { IfOk result (λ fault. NotesBind table.now mode objects.old.store args.now fault objects.new.store) }
+{
     let [
         _,
         Argument::Str(Some(name)),
@@ -167,10 +196,26 @@ fn note_bind(
 }
 
 /// Forgets the object whose number is free again.
-fn note_deleted(objects: &mut ObjectMap<()>, args: &[Argument<u32, Token>]) {
+fn note_deleted(objects: &mut ObjectMap<()>, args: &[Argument<u32, Token>])
+    ensures { objects.new.store ≡ without_deleted objects.old.store args.now }
+{
     if let [Argument::Uint(number)] = args {
         let _gone = objects.remove(*number);
     }
+}
+
+/// The first new number among the arguments.
+fn new_number(args: &[Argument<u32, Token>]) -> Option<u32>
+    ensures { result ≡ new_number args.now }
+{
+    let mut rest = args;
+    while let [arg, others @ ..] = rest {
+        if let Argument::NewId(number) = arg {
+            return Some(*number);
+        }
+        rest = others;
+    }
+    None
 }
 
 /// Notes the object of that interface that a message makes.
@@ -179,31 +224,51 @@ fn note_child(
     child: InterfaceId,
     version: u32,
     args: &[Argument<u32, Token>],
-) -> Result<Option<Fault>, OutOfMemory> {
-    for arg in args {
-        if let Argument::NewId(number) = arg {
-            return put_object(objects, *number, child, version);
-        }
+) -> Result<Option<Fault>, OutOfMemory>
+    ensures { IfOk result (λ fault. NotesChild objects.old.store child version args.now fault objects.new.store) }
+{
+    match new_number(args) {
+        Some(number) => put_object(objects, number, child, version),
+        None => Ok(None),
     }
-    Ok(None)
+}
+
+/// Whether a message of this side to an object of this interface is the request `wl_registry.bind`.
+fn is_bind(side: Side, interface: InterfaceId) -> bool
+    ensures { result ≡ is_bind side interface }
+{
+    match side {
+        Side::Client => interface == WL_REGISTRY_INTERFACE,
+        Side::Server => false,
+    }
+}
+
+/// Whether it is the event `wl_display.delete_id`.
+fn is_deletion(side: Side, interface: InterfaceId, opcode: u16) -> bool
+    ensures { result ≡ is_deletion side interface opcode }
+{
+    match side {
+        Side::Client => false,
+        Side::Server => interface == WL_DISPLAY_INTERFACE && opcode == 1,
+    }
 }
 
 /// Notes the objects that a message makes or ends.
-pub fn note_objects(
+fn note_objects(
     table: &Protocol,
     mode: Mode,
     objects: &mut ObjectMap<()>,
     found: Found,
     message: &Message<u32, Token>,
-) -> Result<Option<Fault>, OutOfMemory> {
+) -> Result<Option<Fault>, OutOfMemory>
+    ensures { IfOk result (λ fault. NotesObjects table.now mode found.entry.side (object_of found.entry.interface found.entry.version) (message_row found.entry.desc.now)
+        (content message.now) objects.old.store fault objects.new.store) }
+{
     let args = message.args.as_slice();
-    if found.side == Side::Client && found.interface == WL_REGISTRY_INTERFACE {
+    if is_bind(found.side, found.interface) {
         return note_bind(table, mode, objects, args);
     }
-    if found.side == Side::Server
-        && found.interface == WL_DISPLAY_INTERFACE
-        && message.opcode == 1
-    {
+    if is_deletion(found.side, found.interface, message.opcode) {
         note_deleted(objects, args);
         return Ok(None);
     }
@@ -213,8 +278,28 @@ pub fn note_objects(
     }
 }
 
+/// Notes the objects of a message with which this is done: an announcement that is dropped or lowered has none.
+pub fn note_unless_edited(
+    table: &Protocol,
+    mode: Mode,
+    objects: &mut ObjectMap<()>,
+    found: Found,
+    message: &Message<u32, Token>,
+    edit: Edit,
+) -> Result<Option<Fault>, OutOfMemory>
+    ensures { IfOk result (λ fault. NotesUnder table.now mode found.entry.side (object_of found.entry.interface found.entry.version) (message_row found.entry.desc.now)
+        (content message.now) objects.old.store edit fault objects.new.store) }
+{
+    match edit {
+        Edit::Nothing => note_objects(table, mode, objects, found, message),
+        Edit::Drop | Edit::Lower(_) => Ok(None),
+    }
+}
+
 /// What is done with the announcement of an interface in this version.
-fn edit_of_global(table: &Protocol, name: &[u8], version: u32) -> Edit {
+fn edit_of_global(table: &Protocol, name: &[u8], version: u32) -> Edit
+    ensures { EditsGlobal table.now name.now version result }
+{
     let Some(id) = table.find_bytes(name) else {
         return Edit::Drop;
     };
@@ -224,24 +309,42 @@ fn edit_of_global(table: &Protocol, name: &[u8], version: u32) -> Edit {
     }
 }
 
-/// What is done with a message.
-pub fn edit_of(table: &Protocol, mode: Mode, found: Found, message: &Message<u32, Token>) -> Edit
-    ensures { mode ≡ Log → result ≡ Edit.Nothing }
+/// What is done with an announcement that has these arguments.
+fn edit_of_arguments(table: &Protocol, args: &[Argument<u32, Token>]) -> Edit
+    ensures { EditsArguments table.now args.now result }
 {
-    if mode == Mode::Log {
-        return Edit::Nothing;
-    }
-    if found.side == Side::Client
-        || found.interface != WL_REGISTRY_INTERFACE
-        || message.opcode != 0
-    {
-        return Edit::Nothing;
-    }
-    match message.args.as_slice() {
+    match args {
         [_, Argument::Str(Some(name)), Argument::Uint(version)] => {
             edit_of_global(table, name.as_bytes(), *version)
         }
         _ => Edit::Nothing,
+    }
+}
+
+/// Whether a message is the event `wl_registry.global`.
+fn is_announcement(side: Side, interface: InterfaceId, opcode: u16) -> bool
+    ensures { result ≡ is_announcement side interface opcode }
+{
+    match side {
+        Side::Client => false,
+        Side::Server => interface == WL_REGISTRY_INTERFACE && opcode == 0,
+    }
+}
+
+/// What is done with a message.
+pub fn edit_of(table: &Protocol, mode: Mode, found: Found, message: &Message<u32, Token>) -> Edit
+    ensures edits { EditsMessage table.now mode found.entry.side found.entry.interface (content message.now) result }
+    ensures in_a_log { mode ≡ Log → result ≡ Edit.Nothing }
+{
+    match mode {
+        Mode::Log => Edit::Nothing,
+        Mode::HandOn => {
+            if is_announcement(found.side, found.interface, message.opcode) {
+                edit_of_arguments(table, message.args.as_slice())
+            } else {
+                Edit::Nothing
+            }
+        }
     }
 }
 

@@ -1,10 +1,10 @@
 //! The relay: a link to each side, and what it knows of the session.
 
-ghost use Rattle.std.specs.Prelude.{◌≡◌, ◌≢◌, ◌<◌, [], Err, IfOk, OnErr, OnOk, MatchOption, length, map};
+ghost use Rattle.std.specs.Prelude.{◌≡◌, ◌≢◌, ◌↔◌, ◌+◌, ◌<◌, ◌≤◌, [], Err, IfOk, OnErr, OnOk, MatchOption, length, map};
 ghost use Rattle.std.specs.String.{string_bytes};
 ghost use Rattle.wl_link.specs.Exchange.{nothing};
 ghost use Rattle.wl_link.specs.MailboxLink.{still_to_send};
-ghost use Rattle.wl_relay.specs.Flow.{Arrives, Begins, GivesOut, Logged, LogsRead, PutsIn, TakesLog, TakesOut, to_send};
+ghost use Rattle.wl_relay.specs.Flow.{Arrives, Begins, GivesOut, KeepsOtherWay, Logged, LogsRead, PutsIn, ReadsAll, TakesLog, TakesOut, not_received, to_send};
 ghost use Rattle.wl_relay.specs.declared.relay.ArriveError.TheVariants.{TooManyTokens};
 
 use crate::follow::{Link, receive};
@@ -60,6 +60,7 @@ impl Model for Relay {
 fn put_in(link: &mut Link, bytes: &[u8], tokens: &[Token]) -> Result<(), ArriveError>
     ensures put { OnOk result (PutsIn link.old (record { bytes = bytes.now; tokens = tokens.now }) link.new) }
     ensures refused { OnErr result (link.new ≡ link.old) }
+    ensures too_many { (result ≡ Err TooManyTokens) ↔ (28 < length link.old.transport.arrived.tokens + length tokens.now) }
 {
     match link.transport_mut().arrive(bytes, tokens) {
         Ok(()) => Ok(()),
@@ -73,6 +74,7 @@ fn take_out(alloc: Global, link: &mut Link) -> Result<(Vec<u8>, Vec<Token>), Out
     requires { 0 < length link.old.transport.waiting.bytes }
     ensures given { IfOk result (λ out. GivesOut link.old (record { bytes = out.0.items; tokens = out.1.items }) link.new) }
     ensures some { IfOk result (λ out. out.0.items ≢ []) }
+    ensures few { IfOk result (λ out. length out.1.items ≤ 28) }
 {
     let bytes = Vec::from_slice(alloc, link.transport().bytes())?;
     let tokens = Vec::from_slice(alloc, link.transport().tokens())?;
@@ -85,6 +87,7 @@ fn send(alloc: Global, link: &mut Link) -> Result<Option<(Vec<u8>, Vec<Token>)>,
     ensures given { IfOk result (λ out. MatchOption out (GivesOut link.old nothing link.new)
         (λ x. GivesOut link.old (record { bytes = x.0.items; tokens = x.1.items }) link.new)) }
     ensures none { IfOk result (λ out. MatchOption out ((still_to_send link.old).bytes ≡ []) (λ x. x.0.items ≢ [])) }
+    ensures few { IfOk result (λ out. MatchOption out (Unit {0}) (λ x. length x.1.items ≤ 28)) }
 {
     let flushed = link.flush();
     if link.transport().bytes().is_empty() {
@@ -117,15 +120,20 @@ impl Relay {
         })
     }
 
-    /// Takes what came from one side, and logs and hands on what is whole.
+    /// Takes what came from one side, and logs and hands on all that is whole.
     ///
     /// The log gains a line for each message that is read, in their order. A message that cannot be read ends the reading of that
-    /// side: the log gains a line that says why, and what the side sends is handed on without lines from then on.
+    /// side: the log gains a line that says why, and what the side sends is handed on as it is, without lines, from then on. Tokens
+    /// that came without bytes wait for the next byte.
     ///
-    /// `TooManyTokens` changes nothing. After `OutOfMemory` the relay is of no more use.
+    /// The error is `TooManyTokens` if more than 28 tokens would wait so, which changes nothing, and else `OutOfMemory`, after which
+    /// the relay is of no more use.
     pub fn arrive(&mut self, side: Side, bytes: &[u8], tokens: &[Token]) -> Result<(), ArriveError>
         ensures arrived { OnOk result (Arrives side (record { bytes = bytes.now; tokens = tokens.now }) self.old self.new) }
         ensures logged { OnOk result (Logged side (record { bytes = bytes.now; tokens = tokens.now }) self.old self.new) }
+        ensures read { OnOk result (ReadsAll side self.new) }
+        ensures other_way { OnOk result (KeepsOtherWay side self.old self.new) }
+        ensures too_many { (result ≡ Err TooManyTokens) ↔ (28 < length (not_received side self.old).tokens + length tokens.now) }
         ensures refused { result ≡ Err TooManyTokens → self.new ≡ self.old }
     {
         match side {
@@ -142,6 +150,8 @@ impl Relay {
     fn receive_from(&mut self, side: Side) -> Result<(), OutOfMemory>
         ensures arrived { OnOk result (Arrives side nothing self.old self.new) }
         ensures logged { OnOk result (LogsRead side self.old self.new) }
+        ensures read { OnOk result (ReadsAll side self.new) }
+        ensures other_way { OnOk result (KeepsOtherWay side self.old self.new) }
     {
         match side {
             Side::Client => {

@@ -1,42 +1,44 @@
 -- That each message that is passed has its line behind those of the messages before it.
-use Rattle.std.proofs.Common.{refl, rules, subst}
-use Rattle.wl_link.specs.MailboxLink.{still_to_read}
-use Rattle.wl_relay.specs.Inside.Passing.{ReadsAs}
+use Rattle.std.proofs.Common.{refl, rules, subst, ◌∙◌}
+use Rattle.wl_link.specs.MailboxLink.{still_to_read, still_to_send}
+use Rattle.wl_relay.specs.Inside.Passing.{PassesAs}
 use Rattle.wl_relay.specs.Log.{known}
 use Rattle.wl_relay.specs.declared.follow.Passed.{Passed}
-use Rattle.wl_relay.proofs.Lines.{reads_after, reads_nothing}
+use Rattle.wl_relay.specs.declared.follow.Passed.TheVariants as passed
+use Rattle.wl_relay.proofs.Lines.{reads_after, reads_nothing, then_awaits, then_stops}
 use Rattle.wl_relay.proofs.follow.pass.Goals as goal
 
-pub loop-init : goal.loop-init
-loop-init c = record {
+pub loop-fault-init : goal.loop-fault-init
+loop-fault-init c = record {
   kept = search rules;
-  reads = reads_nothing c.args.table.now c.args.side (known c.args.notes.now) (still_to_read c.args.from.now) _ refl;
+  reads = reads_nothing c.args.table.now c.args.side (known c.args.notes.now) (still_to_read c.args.from.now) (still_to_send c.args.to.now);
+  way_back = (refl, refl, refl);
 }
 
-pub loop-preserved : goal.loop-preserved
-loop-preserved c =
-    let read = subst (λ (p : Passed). ReadsAs c.args.table.now c.args.side (known c.loop.notes) (still_to_read c.loop.from) p (known c.pass_one.new.notes) (still_to_read c.pass_one.new.from))
-    c.in-One.is c.in_ok-pass_one.ensures.reads in record {
+pub loop-fault-preserved : goal.loop-fault-preserved
+loop-fault-preserved c =
+    let read : PassesAs c.args.table.now c.args.side (known c.loop-fault.notes) c.loop-fault.from c.loop-fault.to passed.One (known c.pass_one.new.notes) c.pass_one.new.from c.pass_one.new.to
+    = subst (λ (p : Passed). PassesAs c.args.table.now c.args.side (known c.loop-fault.notes) c.loop-fault.from c.loop-fault.to p (known c.pass_one.new.notes) c.pass_one.new.from c.pass_one.new.to)
+    c.in-One.is c.in_ok-pass_one.ensures.reads in
+    let back = c.in_ok-pass_one.ensures.way_back in
+    let before = c.loop-fault.invariant.way_back in record {
       kept = search rules;
-      reads = reads_after c.args.table.now c.args.side (known c.args.notes.now) (known c.loop.notes) (known c.pass_one.new.notes)
-          (still_to_read c.args.from.now) (still_to_read c.loop.from) (still_to_read c.pass_one.new.from) c.loop.invariant.reads read;
+      reads = reads_after c.args.table.now c.args.side (known c.args.notes.now) (known c.loop-fault.notes) (known c.pass_one.new.notes)
+          (still_to_read c.args.from.now) (still_to_read c.loop-fault.from) (still_to_read c.pass_one.new.from)
+          (still_to_send c.args.to.now) (still_to_send c.loop-fault.to) (still_to_send c.pass_one.new.to) c.loop-fault.invariant.reads read.0;
+      way_back = (back.0 ∙ before.0, back.1 ∙ before.1, back.2 ∙ before.2);
     }
 
 pub returns-in-Nothing-clause-reads : goal.returns-in-Nothing-clause-reads
 returns-in-Nothing-clause-reads c =
-    let read = subst (λ (p : Passed). ReadsAs c.args.table.now c.args.side (known c.loop.notes) (still_to_read c.loop.from) p (known c.pass_one.new.notes) (still_to_read c.pass_one.new.from))
-    c.in-Nothing.is c.in_ok-pass_one.ensures.reads in
-    reads_after c.args.table.now c.args.side (known c.args.notes.now) (known c.loop.notes) (known c.pass_one.new.notes)
-    (still_to_read c.args.from.now) (still_to_read c.loop.from) (still_to_read c.pass_one.new.from) c.loop.invariant.reads read
+    then_awaits c.args.table.now c.args.side (known c.args.notes.now) (known c.loop-fault.notes) (known c.pass_one.new.notes)
+    c.args.from.now c.loop-fault.from c.pass_one.new.from c.args.to.now c.loop-fault.to c.pass_one.new.to c.loop-fault.invariant.reads
+    (subst (λ (p : Passed). PassesAs c.args.table.now c.args.side (known c.loop-fault.notes) c.loop-fault.from c.loop-fault.to p (known c.pass_one.new.notes) c.pass_one.new.from c.pass_one.new.to)
+    c.in-Nothing.is c.in_ok-pass_one.ensures.reads)
 
 pub returns-in-Fault-clause-reads : goal.returns-in-Fault-clause-reads
 returns-in-Fault-clause-reads c =
-    let read = subst (λ (p : Passed). ReadsAs c.args.table.now c.args.side (known c.loop.notes) (still_to_read c.loop.from) p (known c.pass_one.new.notes) (still_to_read c.pass_one.new.from))
-    c.in-Fault.is c.in_ok-pass_one.ensures.reads in (
-      read.0,
-      reads_after c.args.table.now c.args.side (known c.args.notes.now) (known c.loop.notes) (known c.pass_one.new.notes)
-          (still_to_read c.args.from.now) (still_to_read c.loop.from) read.0 c.loop.invariant.reads read.1,
-    )
-
-pub returns-clause-reads : goal.returns-clause-reads
-returns-clause-reads c = c.loop.invariant.reads
+    then_stops c.args.table.now c.args.side (known c.args.notes.now) (known c.loop-fault.notes) (known c.pass_one.new.notes)
+    c.args.from.now c.loop-fault.from c.pass_one.new.from c.args.to.now c.loop-fault.to c.pass_one.new.to c.loop-fault.invariant.reads c.in-Fault.fault
+    (subst (λ (p : Passed). PassesAs c.args.table.now c.args.side (known c.loop-fault.notes) c.loop-fault.from c.loop-fault.to p (known c.pass_one.new.notes) c.pass_one.new.from c.pass_one.new.to)
+    c.in-Fault.is c.in_ok-pass_one.ensures.reads)

@@ -1,42 +1,47 @@
--- That the line of the first message tells of it, and that it leaves the link.
-use Rattle.std.proofs.Common.{rules, ap, refl}
-use Rattle.std.proofs.lemmas.Grind.{common_steps}
-use Rattle.std.proofs.Common.{arith}
+-- That the line of the first message tells of it, that its objects are noted, and that what goes on in its place is sent.
+use Rattle.std.proofs.Common.{ap, refl, subst}
+use Rattle.wl_wire.specs.declared.error.MessageParseError.{MessageParseError}
 use Rattle.wl_wire.specs.Message.{content}
+use Rattle.wl_wire.specs.Parse.{RefusesMessage}
 use Rattle.wl_wire.specs.Table.{message_row}
-use Rattle.wl_link.specs.MailboxLink.{still_to_read}
 use Rattle.wl_relay.specs.Log.{known}
-use Rattle.wl_relay.proofs.Lines.{known_result, reads_nothing, reads_nothing_as, unknown_result}
+use Rattle.wl_relay.specs.Objects.{object_of}
+use Rattle.wl_relay.proofs.Lines.{malformed_result, passes_result, refused_result, unknown_result}
 use Rattle.wl_relay.proofs.follow.pass_one.Goals as goal
-
-pub returns-in_default-clause-reads : goal.returns-in_default-clause-reads
-returns-in_default-clause-reads c = reads_nothing c.args.table.now c.args.side (known c.args.notes.now) (still_to_read c.args.from.now) _ refl
 
 pub returns-in_default-described-clause-reads : goal.returns-in_default-described-clause-reads
 returns-in_default-described-clause-reads c =
     unknown_result c.args.table.now c.args.side (known c.args.notes.now) _ (known c.pass_unknown.new.notes) c.in-Some.sender c.in-Some.opcode
-    c.args.from.now c.pass_unknown.new.from c.pass_unknown.result (ap known c.notes.view_is)
-    c.in-Some.ensures.1 c.in-Some.ensures.2 c.in_default-described.ensures.known c.pass_unknown.ensures.told
-
-pub returns-in-Err-MissingData-clause-reads : goal.returns-in-Err-MissingData-clause-reads
-returns-in-Err-MissingData-clause-reads c =
-    reads_nothing_as c.args.table.now c.args.side (known c.args.notes.now) _ (still_to_read c.args.from.now) _ (ap known c.notes.view_is)
-    (ap still_to_read c.peek.ensures.unchanged)
+    c.args.from.now c.pass_unknown.new.from c.args.to.now c.pass_unknown.new.to c.pass_unknown.result (ap known c.notes.view_is)
+    c.in-Some.ensures.1 c.in-Some.ensures.2 c.in-Some.ensures.0 c.in_default-described.ensures.known c.pass_unknown.ensures.told
 
 pub returns-in-Err-Malformed-clause-reads : goal.returns-in-Err-Malformed-clause-reads
-returns-in-Err-Malformed-clause-reads c = (
-  still_to_read c.args.from.now,
-  reads_nothing_as c.args.table.now c.args.side (known c.args.notes.now) _ (still_to_read c.args.from.now) (still_to_read c.args.from.now) (ap known c.notes.view_is) refl,
-)
+returns-in-Err-Malformed-clause-reads c =
+    let found = c.in-Some-described.found in
+    malformed_result c.args.table.now c.args.side (known c.args.notes.now) _ _ (object_of found.interface found.version) (message_row found.desc.now)
+    found.side c.in-Some.sender c.in-Some.opcode c.as_slice-signature.result.now c.args.from.now c.peek.new.self (ap known c.notes.view_is)
+    c.in-Some.ensures.1 c.in-Some.ensures.2 c.in-Some-described.ensures.known c.as_slice-signature.ensures.value c.peek.ensures.unchanged
+    c.in-Some-described.ensures.side c.args.to.now c.in-Some.ensures.0
+    (subst (λ (e : MessageParseError). RefusesMessage c.args.from.now.incoming.bytes c.as_slice-signature.result.now c.args.from.now.incoming.tokens e)
+    c.in-Err-Malformed.field-0-is c.in-Err-Malformed.ensures.refused)
+    refl
+
+pub returns-in-Some-noted-clause-reads : goal.returns-in-Some-noted-clause-reads
+returns-in-Some-noted-clause-reads c =
+    let found = c.in-Some-described.found in
+    refused_result c.args.table.now c.args.side (known c.args.notes.now) _ _ (object_of found.interface found.version) (message_row found.desc.now)
+    found.side c.in-Some.sender c.in-Some.opcode c.as_slice-signature.result.now c.args.from.now c.peek.new.self (ap known c.notes.view_is)
+    c.in-Some.ensures.1 c.in-Some.ensures.2 c.in-Some-described.ensures.known c.as_slice-signature.ensures.value c.peek.ensures.unchanged
+    c.in-Some-described.ensures.side (content c.peek.new.message) c.edit_of-edit.result c.in-Ok.ensures.found c.edit_of-edit.ensures.edits
+    c.args.to.now c.in-Some-noted.fault c.in_ok-noted.noted c.note_unless_edited.new.objects.store c.in-Some-noted.is c.in_ok-noted.ensures
+    c.in_ok-log_message.ensures refl
 
 pub returns-clause-reads : goal.returns-clause-reads
 returns-clause-reads c =
     let found = c.in-Some-described.found in
-    known_result c.args.table.now c.args.side (known c.args.notes.now) _ _ (known c.pass_logged.new.notes)
-    (record { interface = found.interface; version = found.version; value = tt }) (message_row found.desc.now) (content c.peek.new.message)
-    c.edit_of-edit.result found.side c.in-Some.sender c.in-Some.opcode c.as_slice.result.now _
-    c.args.from.now c.peek.new.self c.pass_logged.new.from c.pass_logged.result (ap known c.notes.view_is)
-    c.in-Some.ensures.1 c.in-Some.ensures.2 c.in-Some-described.ensures.known c.as_slice.ensures.value c.in-Ok.ensures.found
-    c.in-Some-described.ensures.side refl
-    (first_of (search rules, grind (arith, common_steps)))
-    c.peek.ensures.unchanged c.edit_of-edit.ensures c.pass_logged.ensures.quiet c.pass_logged.ensures.handed
+    passes_result c.args.table.now c.args.side (known c.args.notes.now) _ _ (object_of found.interface found.version) (message_row found.desc.now)
+    found.side c.in-Some.sender c.in-Some.opcode c.as_slice-signature.result.now c.args.from.now c.peek.new.self (ap known c.notes.view_is)
+    c.in-Some.ensures.1 c.in-Some.ensures.2 c.in-Some-described.ensures.known c.as_slice-signature.ensures.value c.peek.ensures.unchanged
+    c.in-Some-described.ensures.side (content c.peek.new.message) c.edit_of-edit.result c.in-Ok.ensures.found c.edit_of-edit.ensures.edits
+    c.args.to.now c.pass_on.new.from c.pass_on.new.to c.in_ok-passed.passed c.in_ok-noted.noted c.in_default-noted.is c.in_ok-noted.ensures
+    c.in_ok-log_message.ensures c.or_changed-notes-inside.ensures refl c.edit_of-edit.ensures.in_a_log c.in_ok-passed.ensures.passed

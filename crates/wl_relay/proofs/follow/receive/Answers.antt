@@ -1,29 +1,28 @@
 -- That the log grows by the lines of what is read after each receive.
-use Rattle.std.proofs.Common.{refl, rules}
-use Rattle.wl_link.specs.MailboxLink.{still_to_read}
+use Rattle.std.proofs.Common.{rules, ◌∙◌}
+use Rattle.wl_link.specs.MailboxLink.{still_to_read, still_to_send}
 use Rattle.wl_relay.specs.Log.{known}
-use Rattle.wl_relay.proofs.Lines.{grows_after, grows_nothing}
+use Rattle.wl_relay.proofs.Lines.{grows_after}
 use Rattle.wl_relay.proofs.follow.receive.Goals as goal
 
-pub loop-init : goal.loop-init
-loop-init c = record {
-  kept = search rules;
-  logged = grows_nothing c.args.table.now c.args.side (known c.args.notes.now) (still_to_read c.args.from.now) _ refl;
-}
-
 pub loop-preserved : goal.loop-preserved
-loop-preserved c = record {
-  kept = search rules;
-  logged = grows_after c.args.table.now c.args.side (known c.args.notes.now) (known c.loop.notes) (known c.receive_once.new.notes)
-      (still_to_read c.args.from.now) (still_to_read c.loop.from) (still_to_read c.receive_once.new.from)
-      c.loop.invariant.logged c.in_ok-receive_once.ensures.logged;
-}
-
-pub returns-then-not-branch-clause-logged : goal.returns-then-not-branch-clause-logged
-returns-then-not-branch-clause-logged c =
-    grows_after c.args.table.now c.args.side (known c.args.notes.now) (known c.loop.notes) (known c.receive_once.new.notes)
-    (still_to_read c.args.from.now) (still_to_read c.loop.from) (still_to_read c.receive_once.new.from)
-    c.loop.invariant.logged c.in_ok-receive_once.ensures.logged
+loop-preserved c =
+    let back = c.in_ok-receive_once.ensures.way_back in
+    let before = c.loop.invariant.way_back in record {
+      kept = search rules;
+      logged = grows_after c.args.table.now c.args.side (known c.args.notes.now) (known c.loop.notes) (known c.receive_once.new.notes)
+          (still_to_read c.args.from.now) (still_to_read c.loop.from) (still_to_read c.receive_once.new.from)
+          c.args.from.now.transport.arrived c.loop.from.transport.arrived c.receive_once.new.from.transport.arrived
+          (still_to_send c.args.to.now) (still_to_send c.loop.to) (still_to_send c.receive_once.new.to)
+          c.loop.invariant.logged c.in_ok-receive_once.ensures.logged;
+      done = c.in_ok-receive_once.ensures.done;
+      way_back = (back.0 ∙ before.0, back.1 ∙ before.1);
+    }
 
 pub returns-clause-logged : goal.returns-clause-logged
-returns-clause-logged c = c.loop.invariant.logged
+returns-clause-logged c =
+    grows_after c.args.table.now c.args.side (known c.args.notes.now) (known c.loop.notes) (known c.receive_once.new.notes)
+    (still_to_read c.args.from.now) (still_to_read c.loop.from) (still_to_read c.receive_once.new.from)
+    c.args.from.now.transport.arrived c.loop.from.transport.arrived c.receive_once.new.from.transport.arrived
+    (still_to_send c.args.to.now) (still_to_send c.loop.to) (still_to_send c.receive_once.new.to)
+    c.loop.invariant.logged c.in_ok-receive_once.ensures.logged

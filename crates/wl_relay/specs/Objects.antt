@@ -1,0 +1,93 @@
+-- Which objects the relay knows after a message.
+use Rattle.std.specs.Prelude.{◌≡◌, ℕ, ◌<◌, ◌⊎◌, Bool, true, false, ◌&&◌, ◌==◌, List, [], ◌∷◌, length, Option, None, Some, MatchBool, MatchOption}
+use Rattle.wl_wire.specs.declared.argument.Argument.TheVariants as arg
+use Rattle.wl_wire.specs.declared.interface.InterfaceId.{InterfaceId}
+use Rattle.wl_wire.specs.Argument.{WireArgument}
+use Rattle.wl_wire.specs.Message.{WireMessage}
+use Rattle.wl_wire.specs.Table.{InterfaceRow, MessageRow, anonymous_id, name_of}
+use Rattle.wl_link.specs.declared.object.Object.{Object}
+use Rattle.wl_link.specs.Store.{Store, empty_store, is_free, removed, stored}
+use Rattle.wl_relay.specs.Announcements.{LacksName}
+use Rattle.wl_relay.specs.declared.side.Fault.{Fault}
+use Rattle.wl_relay.specs.declared.side.Fault.TheVariants as fault
+use Rattle.wl_relay.specs.declared.side.Mode.{Mode}
+use Rattle.wl_relay.specs.declared.side.Mode.TheVariants.{HandOn, Log}
+use Rattle.wl_relay.specs.declared.side.Side.{Side}
+use Rattle.wl_relay.specs.declared.side.Side.TheVariants.{Client, Server}
+
+abbrev pub object_of : InterfaceId → ℕ → Object (Unit {0})
+object_of interface version = record { interface = interface; version = version; value = tt }
+
+-- the objects of a session that begins: the display alone
+abbrev pub first_objects : Store (Unit {0})
+first_objects = stored empty_store 1 (object_of (record { 0 = 1 }) 1)
+
+-- An object takes this number, in place of one that has it. It is a fault if the number leaves one out, or is 0.
+abbrev pub Puts : Store (Unit {0}) → ℕ → InterfaceId → ℕ → Option Fault → Store (Unit {0}) → Type 0
+Puts objects number interface version None objects' =
+    (is_free (removed objects number) number ≡ true) × (objects' ≡ stored (removed objects number) number (object_of interface version))
+Puts objects number interface version (Some fault.NewId) objects' =
+    (is_free (removed objects number) number ≡ false) × (objects' ≡ removed objects number)
+Puts objects number interface version (Some _) objects' = ⊥
+
+-- ---- a bind
+
+-- the request `wl_registry.bind`
+abbrev pub is_bind : Side → InterfaceId → Bool
+is_bind Client interface = interface.0 == 2
+is_bind Server interface = false
+
+-- the name, the version and the new number of a bind
+abbrev pub bind_of : List WireArgument → Option (List ℕ × (ℕ × ℕ))
+bind_of (_ ∷ arg.Str (Some name) ∷ arg.Uint version ∷ arg.NewId number ∷ []) = Some (name, (version, number))
+bind_of _ = None
+
+-- the interface that a bind names; one that the table lacks is anonymous in a log, and else there is none
+abbrev pub IsBound : List InterfaceRow → Mode → List ℕ → Option InterfaceId → Type 0
+IsBound table mode name (Some interface) =
+    ((interface.0 < length table) × (name_of table interface.0 ≡ name)) ⊎ (LacksName table name × (mode ≡ Log) × (interface ≡ anonymous_id))
+IsBound table mode name None = LacksName table name × (mode ≡ HandOn)
+
+abbrev pub PutsBound : Store (Unit {0}) → ℕ → Option InterfaceId → ℕ → Option Fault → Store (Unit {0}) → Type 0
+PutsBound objects number (Some interface) version f objects' = Puts objects number interface version f objects'
+PutsBound objects number None version f objects' = (f ≡ Some fault.UnknownInterface) × (objects' ≡ objects)
+
+abbrev pub NotesBind : List InterfaceRow → Mode → Store (Unit {0}) → List WireArgument → Option Fault → Store (Unit {0}) → Type 0
+NotesBind table mode objects args f objects' =
+    MatchOption (bind_of args) ((f ≡ Some fault.Malformed) × (objects' ≡ objects))
+    (λ b. (interface : Option InterfaceId) × IsBound table mode b.0 interface × PutsBound objects b.1.1 interface b.1.0 f objects')
+
+-- ---- other messages
+
+-- the event `wl_display.delete_id`
+abbrev pub is_deletion : Side → InterfaceId → ℕ → Bool
+is_deletion Client interface opcode = false
+is_deletion Server interface opcode = interface.0 == 1 && opcode == 1
+
+-- the number that it tells is no object's any more
+abbrev pub without_deleted : Store (Unit {0}) → List WireArgument → Store (Unit {0})
+without_deleted objects (arg.Uint number ∷ []) = removed objects number
+without_deleted objects _ = objects
+
+-- the first new number among the arguments
+abbrev pub new_number : List WireArgument → Option ℕ
+new_number [] = None
+new_number (arg.NewId number ∷ args) = Some number
+new_number (_ ∷ args) = new_number args
+
+-- a message makes an object of the interface that its row names, of the version of its sender
+abbrev pub NotesChild : Store (Unit {0}) → InterfaceId → ℕ → List WireArgument → Option Fault → Store (Unit {0}) → Type 0
+NotesChild objects child version args f objects' =
+    MatchOption (new_number args) ((f ≡ None) × (objects' ≡ objects)) (λ number. Puts objects number child version f objects')
+
+-- ---- a message
+
+-- The objects after a message of this object, of this row of the table; or the fault for which they cannot be noted. A destructor
+-- changes nothing: the number stays that of its object until it is deleted or used again.
+abbrev pub NotesObjects : List InterfaceRow → Mode → Side → Object (Unit {0}) → MessageRow → WireMessage → Store (Unit {0}) → Option Fault
+    → Store (Unit {0}) → Type 0
+NotesObjects table mode side object row m objects f objects' =
+    MatchBool (is_bind side object.interface) (NotesBind table mode objects m.args f objects')
+    (MatchBool (is_deletion side object.interface m.opcode) ((f ≡ None) × (objects' ≡ without_deleted objects m.args))
+    (MatchOption row.child_interface ((f ≡ None) × (objects' ≡ objects))
+    (λ child. NotesChild objects child object.version m.args f objects')))
