@@ -7,18 +7,15 @@ use Rattle.wl_wire.specs.Message.{WireMessage}
 use Rattle.wl_wire.specs.Table.{InterfaceRow, name_of}
 use Rattle.wl_link.specs.Identity.{Id}
 use Rattle.wl_link.specs.Puts.{Said}
-use Rattle.wl_link.specs.Runs.{RunEntry}
-use Rattle.wl_server.specs.declared.runs.step.Reply.{Reply}
 use Rattle.wl_server.specs.declared.runs.step.Reply.TheVariants as reply
-use Rattle.wl_server.specs.declared.runs.step.Step.{Step}
 use Rattle.wl_server.specs.declared.runs.step.Step.TheVariants as step
 use Rattle.wl_server.specs.Deeds.{log_of, registries_in}
 use Rattle.wl_server.specs.Globals.{Offer, Shown, shown}
 use Rattle.wl_server.specs.Ids.{ClientParts, GlobalParts}
 use Rattle.wl_server.specs.Part.{id_of, same_id}
 use Rattle.wl_server.specs.PartStep.{Asked, Call, World}
-use Rattle.wl_server.specs.Runs.{AreOf, Leads, Own, history, mine}
-use Rattle.wl_server.specs.Server.{Seen, ServerState, new_server, seen}
+use Rattle.wl_server.specs.Runs.{Own, history, mine}
+use Rattle.wl_server.specs.Server.{Seen, ServerState, seen}
 use Rattle.wl_server.specs.Steps.{Entry}
 
 -- ---- what is announced
@@ -103,8 +100,3 @@ module _ {T U G C : Type 0} where
       (id : ClientParts) (transport : T) (client_data : C) (earlier later : List (Entry T U G C)) (e : Entry T U G C) →
       run ≡ earlier ++ e ∷ later → e.call ≡ Asked (step.InsertClient transport client_data) (reply.InsertClient (Ok id)) →
       AnnouncesShown w id after.offer (mine id later) (seen id after)
-
-  -- steps of a new server, with these replies, are the calls of a run in which that is so
-  abbrev pub HaveAnnouncements : World T G C → List InterfaceRow → List (RunEntry (Step T U G C) (Reply T U)) → ServerState T U G C → Type 0
-  HaveAnnouncements w table steps after =
-      (run : List (Entry T U G C)) × AreOf steps run × Leads w (new_server table) run after × EachAnnouncesShown w run after

@@ -3,16 +3,13 @@ use Rattle.std.specs.Prelude.{◌≡◌, ◌⊎◌, ℕ, ◌<◌, List, [], ◌�
 use Rattle.wl_wire.specs.declared.interface.InterfaceId.{InterfaceId}
 use Rattle.wl_wire.specs.Table.{InterfaceRow}
 use Rattle.wl_link.specs.declared.object.Object.{Object}
-use Rattle.wl_link.specs.Runs.{RunEntry}
 use Rattle.wl_server.specs.declared.globals.KeptGlobal.{KeptGlobal}
-use Rattle.wl_server.specs.declared.runs.step.Reply.{Reply}
 use Rattle.wl_server.specs.declared.runs.step.Reply.TheVariants as reply
-use Rattle.wl_server.specs.declared.runs.step.Step.{Step}
 use Rattle.wl_server.specs.declared.runs.step.Step.TheVariants as step
 use Rattle.wl_server.specs.Globals.{as_disabled, global_of, new_global}
 use Rattle.wl_server.specs.Ids.{ClientParts, GlobalParts}
 use Rattle.wl_server.specs.PartStep.{Asked, Call, World}
-use Rattle.wl_server.specs.Runs.{AreOf, Inserts, Leads}
+use Rattle.wl_server.specs.Runs.{Inserts, Leads}
 use Rattle.wl_server.specs.Server.{ServerState, new_server, seen}
 use Rattle.wl_server.specs.Steps.{Entry}
 
@@ -76,8 +73,3 @@ module _ {T U G C : Type 0} where
     pub no_global_again : (g : GlobalParts) (done later : List (Entry T U G C)) (point : ServerState T U G C) → run ≡ done ++ later
         → Leads w (new_server table) done point → Leads w point later after → SomeCall (Offers g) done → global_of point.offer.globals g ≡ None
         → global_of after.offer.globals g ≡ None
-
-  -- steps of a new server, with these replies, are the calls of such a run
-  abbrev pub HaveGivenOnce : World T G C → List InterfaceRow → List (RunEntry (Step T U G C) (Reply T U)) → ServerState T U G C → Type 0
-  HaveGivenOnce w table steps after =
-      (run : List (Entry T U G C)) × AreOf steps run × Leads w (new_server table) run after × GivesOnce w table run after

@@ -9,15 +9,12 @@ use Rattle.wl_link.specs.declared.object.Object.{Object}
 use Rattle.wl_link.specs.Identity.{Birth, Change, HasIdentity, IsBornInStep, IsMadeIn, IsMadeInStep, Objects, StepEnds, births_of, ended_in, ended_over, Found, HandedId, New}
 use Rattle.wl_link.specs.Identity as objects
 use Rattle.wl_link.specs.Link.{LinkState, IsFresh}
-use Rattle.wl_link.specs.Runs.{RunEntry}
 use Rattle.wl_link.specs.Store.{held}
 use Rattle.wl_server.specs.declared.error.ActionError.{ActionError}
 use Rattle.wl_server.specs.declared.objects.Kept.{Kept}
 use Rattle.wl_server.specs.declared.notes.Happening.{Happening}
 use Rattle.wl_server.specs.declared.notes.Happening.TheVariants.{Destroyed}
-use Rattle.wl_server.specs.declared.runs.step.Reply.{Reply}
 use Rattle.wl_server.specs.declared.runs.step.Reply.TheVariants as reply
-use Rattle.wl_server.specs.declared.runs.step.Step.{Step}
 use Rattle.wl_server.specs.declared.runs.step.Step.TheVariants as step
 use Rattle.wl_server.specs.HandedIds.{action_ids, made_ids}
 use Rattle.wl_server.specs.Deeds.{Handed, left_in, notes_in, taken_in}
@@ -27,8 +24,8 @@ use Rattle.wl_server.specs.Lookups.{and_then}
 use Rattle.wl_server.specs.Part.{Part, display_object, id_of, named, null_id, objects_of, serial_of}
 use Rattle.wl_server.specs.PartStep.{Asked, Call, PartCall, World}
 use Rattle.wl_server.specs.Reading.{action_content}
-use Rattle.wl_server.specs.Runs.{AreOf, Leads, Own, just_inserted, history, mine, offer_over}
-use Rattle.wl_server.specs.Server.{Seen, ServerState, new_server, seen}
+use Rattle.wl_server.specs.Runs.{Own, just_inserted, history, mine, offer_over}
+use Rattle.wl_server.specs.Server.{Seen, ServerState, seen}
 use Rattle.wl_server.specs.Steps.{Entry, offer_after}
 
 -- ---- the ids of a reply
@@ -127,8 +124,3 @@ module _ {T U G C : Type 0} where
       run ≡ earlier ++ e ∷ later → e.call ≡ Asked (step.InsertClient transport client_data) (reply.InsertClient (Ok id)) →
       (link : LinkState T) × IsFresh transport (Some (offer_over (new_offer table) earlier).default_limit) link
       × HasOwnIds w id (offer_over (new_offer table) (earlier ++ e ∷ [])) (just_inserted link client_data) (mine id later) (seen id after)
-
-  -- steps of a new server, with these replies, are the calls of a run in which that is so
-  abbrev pub HaveOwnIds : World T G C → List InterfaceRow → List (RunEntry (Step T U G C) (Reply T U)) → ServerState T U G C → Type 0
-  HaveOwnIds w table steps after =
-      (run : List (Entry T U G C)) × AreOf steps run × Leads w (new_server table) run after × EachHasOwnIds w table run after

@@ -3,17 +3,14 @@ use Rattle.std.specs.Prelude.{◌≡◌, List, [], ◌∷◌, ◌++◌, true, No
 use Rattle.std.specs.Global.{Global}
 use Rattle.wl_wire.specs.declared.error.IoFault.TheVariants as fault
 use Rattle.wl_wire.specs.Table.{InterfaceRow}
-use Rattle.wl_link.specs.Runs.{RunEntry}
 use Rattle.wl_server.specs.declared.error.ActionError.{ActionError}
 use Rattle.wl_server.specs.declared.error.ActionError.TheVariants.{ActionOpen, Io}
-use Rattle.wl_server.specs.declared.runs.step.Reply.{Reply}
 use Rattle.wl_server.specs.declared.runs.step.Reply.TheVariants as reply
-use Rattle.wl_server.specs.declared.runs.step.Step.{Step}
 use Rattle.wl_server.specs.declared.runs.step.Step.TheVariants as step
 use Rattle.wl_server.specs.Bounded.{receives_over}
 use Rattle.wl_server.specs.Ids.{ClientParts, same_client}
 use Rattle.wl_server.specs.PartStep.{Asked, Call, World, share_of}
-use Rattle.wl_server.specs.Runs.{AreOf, Leads}
+use Rattle.wl_server.specs.Runs.{Leads}
 use Rattle.wl_server.specs.Server.{Seen, ServerState, new_server, seen}
 use Rattle.wl_server.specs.Steps.{Entry}
 
@@ -70,8 +67,3 @@ module _ {T U G C : Type 0} where
       (id : ClientParts) (done later : List (Entry T U G C)) (point : ServerState T U G C) → run ≡ done ++ later
       → Leads w (new_server table) done point → Leads w point later after → IsKilled (seen id point)
       → StaysKilled id (seen id point) later (seen id after)
-
-  -- steps of a new server, with these replies, are the calls of a run in which that is so
-  abbrev pub HaveKilled : World T G C → List InterfaceRow → List (RunEntry (Step T U G C) (Reply T U)) → ServerState T U G C → Type 0
-  HaveKilled w table steps after =
-      (run : List (Entry T U G C)) × AreOf steps run × Leads w (new_server table) run after × EachStaysKilled w table run after

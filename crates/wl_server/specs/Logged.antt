@@ -1,20 +1,16 @@
 -- What a client's transport took, and what waits for it: the spelling of what was put.
 use Rattle.std.specs.Prelude.{◌≡◌, List, ◌∷◌, ◌++◌, Ok, MatchOption}
-use Rattle.wl_wire.specs.Table.{InterfaceRow}
 use Rattle.wl_link.specs.Exchange.{Queue}
 use Rattle.wl_link.specs.NothingLost.{NoZero, taken}
 use Rattle.wl_link.specs.Puts.{messages_of}
-use Rattle.wl_link.specs.Runs.{RunEntry}
 use Rattle.wl_link.specs.Sides.{spelled_all}
-use Rattle.wl_server.specs.declared.runs.step.Reply.{Reply}
 use Rattle.wl_server.specs.declared.runs.step.Reply.TheVariants as reply
-use Rattle.wl_server.specs.declared.runs.step.Step.{Step}
 use Rattle.wl_server.specs.declared.runs.step.Step.TheVariants as step
 use Rattle.wl_server.specs.Deeds.{Deed, log_of, sends_of}
 use Rattle.wl_server.specs.Ids.{ClientParts}
-use Rattle.wl_server.specs.PartStep.{Asked, World}
-use Rattle.wl_server.specs.Runs.{AreOf, Leads, history, mine}
-use Rattle.wl_server.specs.Server.{Seen, ServerState, new_server, seen}
+use Rattle.wl_server.specs.PartStep.{Asked}
+use Rattle.wl_server.specs.Runs.{history, mine}
+use Rattle.wl_server.specs.Server.{Seen, ServerState, seen}
 use Rattle.wl_server.specs.Steps.{Entry}
 
 -- What the transport took, and then what waits, is the spelling of the messages that were put. So are the tokens, if no
@@ -35,8 +31,3 @@ module _ {T U G C : Type 0} where
       (id : ClientParts) (transport : T) (client_data : C) (earlier later : List (Entry T U G C)) (e : Entry T U G C) →
       run ≡ earlier ++ e ∷ later → e.call ≡ Asked (step.InsertClient transport client_data) (reply.InsertClient (Ok id)) →
       (waits : Queue) × WaitsFor (seen id after) waits × LogIsSpelled (history (mine id later)) waits
-
-  -- steps of a new server, with these replies, are the calls of a run in which that is so
-  abbrev pub HaveSpelledLogs : World T G C → List InterfaceRow → List (RunEntry (Step T U G C) (Reply T U)) → ServerState T U G C → Type 0
-  HaveSpelledLogs w table steps after =
-      (run : List (Entry T U G C)) × AreOf steps run × Leads w (new_server table) run after × EachLogIsSpelled run after

@@ -4,17 +4,14 @@ use Rattle.wl_server.specs.declared.notes.Happening.TheVariants.{Destroyed}
 use Rattle.wl_server.specs.declared.runs.step.Reply.{Reply}
 use Rattle.wl_server.specs.declared.runs.step.Reply.TheVariants as reply
 use Rattle.wl_server.specs.declared.runs.step.Step.TheVariants as step
-use Rattle.wl_link.specs.Runs.{RunEntry}
-use Rattle.wl_wire.specs.Table.{InterfaceRow}
-use Rattle.wl_server.specs.declared.runs.step.Step.{Step}
 use Rattle.wl_server.specs.Deeds.{Deed, left_in, notes_in, taken_in}
 use Rattle.wl_server.specs.Identified.{waiting_of}
 use Rattle.wl_server.specs.Ids.{ClientParts, IdParts}
 use Rattle.wl_server.specs.NotedOnce.{destroyed_in}
 use Rattle.wl_server.specs.Part.{id_of}
 use Rattle.wl_server.specs.PartStep.{Asked, World}
-use Rattle.wl_server.specs.Runs.{AreOf, Leads, history, mine}
-use Rattle.wl_server.specs.Server.{Seen, ServerState, new_server, seen}
+use Rattle.wl_server.specs.Runs.{history, mine}
+use Rattle.wl_server.specs.Server.{Seen, ServerState, seen}
 use Rattle.wl_server.specs.Steps.{Entry, OneStep}
 
 -- Each note of a destroyed object, whether it was handed out, was made or waits, has the id of an object of this client that
@@ -30,11 +27,6 @@ module _ {T U G C : Type 0} where
       (id : ClientParts) (transport : T) (client_data : C) (earlier later : List (Entry T U G C)) (e : Entry T U G C) →
       run ≡ earlier ++ e ∷ later → e.call ≡ Asked (step.InsertClient transport client_data) (reply.InsertClient (Ok id)) →
       NotesAreOfEnds id (history (mine id later)) (seen id after)
-
-  -- steps of a new server, with these replies, are the calls of a run in which that is so
-  abbrev pub HaveNotesOfEnds : World T G C → List InterfaceRow → List (RunEntry (Step T U G C) (Reply T U)) → ServerState T U G C → Type 0
-  HaveNotesOfEnds w table steps after =
-      (run : List (Entry T U G C)) × AreOf steps run × Leads w (new_server table) run after × EachNoteIsOfAnEnd run after
 
 -- If an object with user data leaves by the end of a request, its note is made in that call.
 abbrev pub EndIsNotedAtOnce : {T G C : Type 0} (U : Type 0) → World T G C → Type 0

@@ -13,7 +13,7 @@ use Rattle.wl_server.specs.Globals.{Offer, new_offer}
 use Rattle.wl_server.specs.Ids.{ClientParts, same_client}
 use Rattle.wl_server.specs.Part.{fresh_part, last_possible_serial}
 use Rattle.wl_server.specs.PartStep.{Asked, Call, Changed, PartCall, World}
-use Rattle.wl_server.specs.Server.{Seen, ServerState, new_server, nothing_seen, seen}
+use Rattle.wl_server.specs.Server.{Seen, ServerState, nothing_seen, seen}
 use Rattle.wl_server.specs.Steps.{Entry, AnswersShared, OneStep, StepOf, inserted_by, offer_after}
 
 -- ---- runs of a server
@@ -158,8 +158,3 @@ pub record IsIsolated {T U G C : Type 0} (w : World T G C) (table : List Interfa
   pub each : EachAlone w table run after
   pub unseen : NoneUnseen w table run after
   pub shared : SharedAlone (new_offer table) 0 run after.offer after.last_client
-
--- steps of a new server, with these replies, are the calls of such a run
-abbrev pub AreIsolated : {T U G C : Type 0} → World T G C → List InterfaceRow → List (RunEntry (Step T U G C) (Reply T U)) → ServerState T U G C → Type 0
-AreIsolated {T = T} {U = U} {G = G} {C = C} w table steps after =
-    (run : List (Entry T U G C)) × AreOf steps run × Leads w (new_server table) run after × IsIsolated w table run after

@@ -13,8 +13,9 @@
 //! - A *token* stands for a file descriptor.
 //! - The *transport by script* is `wl_link::Memory`, whose answers are given beforehand.
 //!
-//! A clause whose name begins with `script` is about steps with their replies, over the transport by script. It says of
-//! them what the other clauses of its function say of calls over every transport.
+//! A clause whose name begins with `script` is about runs over the transport by script, among whose calls may be those of
+//! the script. It says of them what the other clauses of its function say of runs over every transport. For seven laws
+//! [`each_client_of_a_script_is_accounted_for`] says so.
 
 ghost use Rattle.std.specs.Prelude.{◌≡◌, ◌≢◌, ◌<◌, ◌≤◌, ◌∷◌, ◌++◌, [], ℕ, Bool, false, List, None, Option, Some, Result, Err};
 ghost use Rattle.wl_wire.specs.Table.{AnswersGrowth, InterfaceRow};
@@ -34,28 +35,28 @@ ghost use Rattle.wl_server.specs.declared.error.InsertClientError.TheVariants as
 ghost use Rattle.wl_server.specs.declared.runs.step.Reply.{Reply};
 ghost use Rattle.wl_server.specs.declared.runs.step.Step.{Step};
 ghost use Rattle.wl_server.specs.Accounts.{AreAccountedFor, IsAccountedFor};
-ghost use Rattle.wl_server.specs.Announced.{EachAnnouncesShown, HaveAnnouncements};
+ghost use Rattle.wl_server.specs.Announced.{EachAnnouncesShown};
 ghost use Rattle.wl_server.specs.Backend.{BackendState};
 ghost use Rattle.wl_server.specs.Bounded.{EachIsBounded, EachPartIsBounded, receives_over};
 ghost use Rattle.wl_server.specs.Cutting.{EachIsServed, GoesOn, HistoriesAreCut, IsServed};
 ghost use Rattle.wl_server.specs.Dispatch.{EachIsDispatched, EndsDispatch, IsDispatched, answering};
 ghost use Rattle.wl_server.specs.Outcome.Dispatches.{DispatchesHaveOneOutcome, IsDeterministic, IsDeterministicIfSpared, ManyDispatchesHaveOneOutcome, ManySparedDispatchesHaveOneOutcome, SparedDispatchesHaveOneOutcome};
-ghost use Rattle.wl_server.specs.GivenOnce.{GivesOnce, HaveGivenOnce};
+ghost use Rattle.wl_server.specs.GivenOnce.{GivesOnce};
 ghost use Rattle.wl_server.specs.Globals.{CreatesGlobal, Globals, Offer};
 ghost use Rattle.wl_server.specs.Ids.{ClientParts, GlobalParts};
 ghost use Rattle.wl_server.specs.Outcome.{ClientsHaveOneOutcome, OffersHaveOneOutcome, OwnRunsHaveOneOutcome, StepsHaveOneOutcome};
-ghost use Rattle.wl_server.specs.Identified.{EachHasOwnIds, HaveOwnIds};
-ghost use Rattle.wl_server.specs.Killed.{EachStaysKilled, HaveKilled};
+ghost use Rattle.wl_server.specs.Identified.{EachHasOwnIds};
+ghost use Rattle.wl_server.specs.Killed.{EachStaysKilled};
 ghost use Rattle.wl_server.specs.Named.{EachKeepsNaming, EachNamesNoneAgain};
-ghost use Rattle.wl_server.specs.Logged.{EachLogIsSpelled, HaveSpelledLogs};
-ghost use Rattle.wl_server.specs.NotedEnds.{EachNoteIsOfAnEnd, EndIsNotedAtOnce, HaveNotesOfEnds};
-ghost use Rattle.wl_server.specs.NotedOnce.{CleanupNotesAll, EachIsNoted, FinishNotesAtOnce, HaveNotes};
+ghost use Rattle.wl_server.specs.Logged.{EachLogIsSpelled};
+ghost use Rattle.wl_server.specs.NotedEnds.{EachNoteIsOfAnEnd, EndIsNotedAtOnce};
+ghost use Rattle.wl_server.specs.NotedOnce.{CleanupNotesAll, EachIsNoted, FinishNotesAtOnce};
 ghost use Rattle.wl_server.specs.NoteOrder.Ordered.{EarlierNotesFirst};
 ghost use Rattle.wl_server.specs.Part.{Part};
 ghost use Rattle.wl_server.specs.PartStep.{Call, around, over, over_scripts, share_of};
 ghost use Rattle.wl_server.specs.Reading.{Around, answered, reads_on, server};
 ghost use Rattle.wl_server.specs.ReadingEnds.{ReadingEnds};
-ghost use Rattle.wl_server.specs.Runs.{Alone, AreIsolated, IsIsolated, Leads, Own, Performs, history};
+ghost use Rattle.wl_server.specs.Runs.{Alone, IsIsolated, Leads, Own, Performs, history};
 ghost use Rattle.wl_server.specs.Server.{Seen, ServerState, Stored, new_server};
 ghost use Rattle.wl_server.specs.Steps.{RiseBySlot, Entry, InsertsNext, OneStep, StepOf};
 ghost use Rattle.wl_server.specs.Stretches.{StretchIsServed, IsStretch, IsStretchWithin, SameLeft, handed_out, arrived, beside_exchanges, finished};
@@ -76,8 +77,6 @@ use wl_link::Transport;
 pub fn each_client_is_alone<T: Transport, U, G: GlobalHandler<C>, C>()
     ensures run { (table : List InterfaceRow) (run : List (Entry T U G C)) (after : ServerState T U G C) →
         Leads (over T.sends T.receives G.views) (new_server table) run after → IsIsolated (over T.sends T.receives G.views) table run after }
-    ensures script { (table : List InterfaceRow) (steps : List (RunEntry (Step Script U G C) (Reply Script U))) (after : ServerState Script U G C) →
-        Performs (over_scripts G.views) (new_server table) steps after → AreIsolated (over_scripts G.views) table steps after }
 {}
 
 /// What a server does with a client has one outcome, over every transport whose answers follow from its value.
@@ -172,8 +171,6 @@ pub fn each_dispatch_has_one_outcome<
 pub fn each_id_names_its_own_object<T: Transport, U, G: GlobalHandler<C>, C>()
     ensures run { (table : List InterfaceRow) (run : List (Entry T U G C)) (after : ServerState T U G C) →
         Leads (over T.sends T.receives G.views) (new_server table) run after → EachHasOwnIds (over T.sends T.receives G.views) table run after }
-    ensures script { (table : List InterfaceRow) (steps : List (RunEntry (Step Script U G C) (Reply Script U))) (after : ServerState Script U G C) →
-        Performs (over_scripts G.views) (new_server table) steps after → HaveOwnIds (over_scripts G.views) table steps after }
 {}
 
 /// The identity law of any id, no matter where it comes from, for instance from `object_for_protocol_id`.
@@ -206,8 +203,6 @@ pub fn each_id_that_names_an_object_keeps_it<T: Transport, U, G: GlobalHandler<C
 pub fn no_id_is_given_twice<T: Transport, U, G: GlobalHandler<C>, C>()
     ensures run { (table : List InterfaceRow) (run : List (Entry T U G C)) (after : ServerState T U G C) →
         Leads (over T.sends T.receives G.views) (new_server table) run after → GivesOnce (over T.sends T.receives G.views) table run after }
-    ensures script { (table : List InterfaceRow) (steps : List (RunEntry (Step Script U G C) (Reply Script U))) (after : ServerState Script U G C) →
-        Performs (over_scripts G.views) (new_server table) steps after → HaveGivenOnce (over_scripts G.views) table steps after }
 {}
 
 /// The log law, over every transport: the bytes that are sent are those of the messages that were put.
@@ -218,8 +213,6 @@ pub fn no_id_is_given_twice<T: Transport, U, G: GlobalHandler<C>, C>()
 pub fn log_is_what_was_sent<T: Transport, U, G: GlobalHandler<C>, C>()
     ensures run { (table : List InterfaceRow) (run : List (Entry T U G C)) (after : ServerState T U G C) →
         Leads (over T.sends T.receives G.views) (new_server table) run after → EachLogIsSpelled run after }
-    ensures script { (table : List InterfaceRow) (steps : List (RunEntry (Step Script U G C) (Reply Script U))) (after : ServerState Script U G C) →
-        Performs (over_scripts G.views) (new_server table) steps after → HaveSpelledLogs (over_scripts G.views) table steps after }
 {}
 
 /// The law of notes, over every transport: each object that leaves with user data has one note.
@@ -239,12 +232,10 @@ pub fn each_object_that_leaves_is_noted_once<T: Transport, U, G: GlobalHandler<C
     ensures of_ends { (table : List InterfaceRow) (run : List (Entry T U G C)) (after : ServerState T U G C) →
         Leads (over T.sends T.receives G.views) (new_server table) run after → EachNoteIsOfAnEnd run after }
     ensures at_once { EndIsNotedAtOnce U (over {C = C} T.sends T.receives G.views) }
-    ensures script_noted { (table : List InterfaceRow) (steps : List (RunEntry (Step Script U G C) (Reply Script U))) (after : ServerState Script U G C) →
-        Performs (over_scripts G.views) (new_server table) steps after → HaveNotes (over_scripts G.views) table steps after }
     ensures script_cleanup { CleanupNotesAll U (over_scripts {C = C} G.views) }
     ensures script_finish { FinishNotesAtOnce U (over_scripts {C = C} G.views) }
-    ensures script_of_ends { (table : List InterfaceRow) (steps : List (RunEntry (Step Script U G C) (Reply Script U))) (after : ServerState Script U G C) →
-        Performs (over_scripts G.views) (new_server table) steps after → HaveNotesOfEnds (over_scripts G.views) table steps after }
+    ensures script_of_ends { (table : List InterfaceRow) (run : List (Entry Script U G C)) (after : ServerState Script U G C) →
+        Leads (over_scripts G.views) (new_server table) run after → EachNoteIsOfAnEnd run after }
     ensures script_at_once { EndIsNotedAtOnce U (over_scripts {C = C} G.views) }
 {}
 
@@ -269,8 +260,6 @@ pub fn notes_come_in_the_order_of_time<T: Transport, U, G: GlobalHandler<C>, C>(
 pub fn a_killed_client_stays_killed<T: Transport, U, G: GlobalHandler<C>, C>()
     ensures run { (table : List InterfaceRow) (run : List (Entry T U G C)) (after : ServerState T U G C) →
         Leads (over T.sends T.receives G.views) (new_server table) run after → EachStaysKilled (over T.sends T.receives G.views) table run after }
-    ensures script { (table : List InterfaceRow) (steps : List (RunEntry (Step Script U G C) (Reply Script U))) (after : ServerState Script U G C) →
-        Performs (over_scripts G.views) (new_server table) steps after → HaveKilled (over_scripts G.views) table steps after }
 {}
 
 /// The law of announcements, over every transport: a registry announces the globals that its client may see.
@@ -282,8 +271,6 @@ pub fn a_killed_client_stays_killed<T: Transport, U, G: GlobalHandler<C>, C>()
 pub fn registries_announce_what_is_shown<T: Transport, U, G: GlobalHandler<C>, C>()
     ensures run { (table : List InterfaceRow) (run : List (Entry T U G C)) (after : ServerState T U G C) →
         Leads (over T.sends T.receives G.views) (new_server table) run after → EachAnnouncesShown (over T.sends T.receives G.views) run after }
-    ensures script { (table : List InterfaceRow) (steps : List (RunEntry (Step Script U G C) (Reply Script U))) (after : ServerState Script U G C) →
-        Performs (over_scripts G.views) (new_server table) steps after → HaveAnnouncements (over_scripts G.views) table steps after }
 {}
 
 /// Over the transport by script a call is the same as its step in `Backend::replay`.

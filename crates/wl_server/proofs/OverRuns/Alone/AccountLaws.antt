@@ -10,7 +10,7 @@ use Rattle.wl_server.proofs.OverRuns.Announced.AnnouncedLaw.{each_announces}
 use Rattle.wl_server.specs.Backend.{BackendState, Calls, IsChange}
 use Rattle.wl_server.proofs.OverRuns.Ids.GivenLaws.{gives_once}
 use Rattle.wl_server.proofs.OverRuns.Ids.IdentityLaws.{each_has_own_ids}
-use Rattle.wl_server.proofs.OverRuns.Alone.IsolationLaw.{are_isolated, is_isolated, join_runs}
+use Rattle.wl_server.proofs.OverRuns.Alone.IsolationLaw.{is_isolated, join_runs, performed}
 use Rattle.wl_server.proofs.OverRuns.Killed.KilledLaws.{each_stays_killed}
 use Rattle.wl_server.proofs.OverRuns.Log.LogLaws.{each_log}
 use Rattle.wl_server.proofs.OverRuns.Noted.NotedLaws.{each_is_noted}
@@ -35,7 +35,7 @@ is_accounted_for w within table run after leads = record {
 pub are_accounted_for : {T U G C : Type 0} (w : World T G C) → IsWithinOffer w.sends → (table : List InterfaceRow) (steps : List (RunEntry (Step T U G C) (Reply T U)))
     (after : ServerState T U G C) → Performs w (new_server table) steps after → AreAccountedFor w table steps after
 are_accounted_for w within table steps after performs =
-    let (run, are, leads, isolated) = are_isolated w table steps after performs in (run, are, leads, is_accounted_for w within table run after leads)
+    let (run, are, leads) = performed w (new_server table) after steps performs in (run, are, leads, is_accounted_for w within table run after leads)
 
 -- ---- a public call
 

@@ -18,7 +18,7 @@ use Rattle.wl_server.specs.Globals.{Offer}
 use Rattle.wl_server.specs.Ids.{ClientParts, same_client}
 use Rattle.wl_server.specs.Part.{Part, fresh_part}
 use Rattle.wl_server.specs.PartStep.{Asked, Call, Changed, Inserted, InsertedAs, OfClient, PartCall, PartStep, Unfelt, World}
-use Rattle.wl_server.specs.Runs.{Alone, AreIsolated, AreOf, EachAlone, Inserts, IsIsolated, IsNeverInserted, IsNotInserted, Leads, Performs, SharedAlone, just_inserted, concerns, is_about, mine, offer_over, own_of}
+use Rattle.wl_server.specs.Runs.{Alone, AreOf, EachAlone, Inserts, IsIsolated, IsNeverInserted, IsNotInserted, Leads, Performs, SharedAlone, just_inserted, concerns, is_about, mine, offer_over, own_of}
 use Rattle.wl_server.specs.Server.{Seen, ServerState, new_server, nothing_seen, seen}
 use Rattle.wl_server.specs.Steps.{Entry, InsertsNext, NumbersClient, OneStep, inserted_by, offer_after}
 
@@ -335,8 +335,3 @@ module _ {T U G C : Type 0} where
   performed w before after [] same = ([], tt, same)
   performed w before after (r ∷ steps) (mid, (e, call, refused, by), leads) =
       let (run, are, rest) = performed w mid after steps leads in (e ∷ run, (call, refused, are), (mid, by, rest))
-
-  pub are_isolated : (w : World T G C) (table : List InterfaceRow) (steps : List (RunEntry (Step T U G C) (Reply T U))) (after : ServerState T U G C)
-      → Performs w (new_server table) steps after → AreIsolated w table steps after
-  are_isolated w table steps after performs =
-      let (run, are, leads) = performed w (new_server table) after steps performs in (run, are, leads, is_isolated w table run after leads)

@@ -15,7 +15,6 @@ use Rattle.wl_link.proofs.Calls.Branches.{either_bool, either_option}
 use Rattle.wl_link.specs.Identity.{Id}
 use Rattle.wl_link.specs.Link.{LinkState, with_transport}
 use Rattle.wl_link.specs.Puts.{Said}
-use Rattle.wl_link.specs.Runs.{RunEntry}
 use Rattle.wl_link.specs.Store.{empty_store, held, stored}
 use Rattle.wl_link.proofs.Ids.StoreLaws.{held_empty, stored_here, stored_other}
 use Rattle.wl_server.specs.declared.error.GlobalError.{GlobalError}
@@ -27,17 +26,17 @@ use Rattle.wl_server.specs.declared.runs.step.Reply.{Reply}
 use Rattle.wl_server.specs.declared.runs.step.Step.{Step}
 use Rattle.wl_server.specs.declared.runs.step.Step.TheVariants as step
 use Rattle.wl_server.proofs.OverRuns.Ids.AmongLaws.{among_contains, contains_among}
-use Rattle.wl_server.specs.Announced.{AreSameGlobals, EachAnnouncesShown, HaveAnnouncements, IsAlwaysLeftAlone, IsLeftAlone, announced, shown_of}
+use Rattle.wl_server.specs.Announced.{AreSameGlobals, EachAnnouncesShown, IsAlwaysLeftAlone, IsLeftAlone, announced, shown_of}
 use Rattle.wl_server.specs.Deeds.{Deed, NoteTaken, Noted, log_of, registries_in}
 use Rattle.wl_server.specs.Felt.{Cleaned, Hears, news, removals}
 use Rattle.wl_server.specs.Globals.{CreatesGlobal, Globals, Offer, disabled, freed, global_of, is_enabled, new_offer, with_created, with_globals, with_table}
 use Rattle.wl_server.specs.Ids.{ClientParts, GlobalParts, same_client}
-use Rattle.wl_server.proofs.OverRuns.Alone.IsolationLaw.{are_isolated, is_isolated, offer_of_other, offer_run, shared_run, split_run}
+use Rattle.wl_server.proofs.OverRuns.Alone.IsolationLaw.{is_isolated, offer_of_other, offer_run, shared_run, split_run}
 use Rattle.wl_server.specs.Moves.{Move, Moved}
 use Rattle.wl_server.proofs.OverRuns.Alone.OwnRuns.{AreMine, are_mine}
 use Rattle.wl_server.specs.Part.{Part, display_object, id_of}
 use Rattle.wl_server.specs.PartStep.{Asked, Call, Changed, CleanedAs, FeelsGlobal, FeelsLoss, FlushedFor, MovedFor, NotesTaken, OfClient, OnPart, PartCall, PartStep, ReadsFor, Unfelt, World}
-use Rattle.wl_server.specs.Runs.{Alone, Leads, Own, Performs, SharedAlone, just_inserted, concerns, history, is_about, mine, offer_over, own_of}
+use Rattle.wl_server.specs.Runs.{Alone, Leads, Own, SharedAlone, just_inserted, concerns, history, is_about, mine, offer_over, own_of}
 use Rattle.wl_server.specs.Server.{Seen, ServerState, new_server, seen}
 use Rattle.wl_server.proofs.OverRuns.Announced.InterfaceLaws.{HasInterfaces, after_call, after_run, at_first}
 use Rattle.wl_server.proofs.OverRuns.Announced.ShownLaws.{among_shown, disabled_one, disabled_stays, freed_one, freed_stays, shown_among, Hides, StaysShown}
@@ -443,8 +442,3 @@ module _ {T U G C : Type 0} where
       subst (λ (o : Offer G). MatchOption (seen id after).part (Unit {0})
       (λ p. p.is_killed ≡ false → AreSameGlobals (announced (log_of (history (mine id later))) r) (shown_of w.views o id p.client_data))) ends
       (own_announced w id r offer known link client_data (mine id later) (seen id after) (are_mine id later) numbered left alone there)
-
-  pub have_announcements : (w : World T G C) (table : List InterfaceRow) (steps : List (RunEntry (Step T U G C) (Reply T U))) (after : ServerState T U G C)
-      → Performs w (new_server table) steps after → HaveAnnouncements w table steps after
-  have_announcements w table steps after performs =
-      let (run, are, leads, isolated) = are_isolated w table steps after performs in (run, are, leads, each_announces w table run after leads)

@@ -9,22 +9,19 @@ use Rattle.wl_wire.specs.Table.{InterfaceRow}
 use Rattle.wl_link.specs.declared.object.Object.{Object}
 use Rattle.wl_link.proofs.Calls.Branches.{either_bool, either_option}
 use Rattle.wl_link.specs.Identity.{named_in}
-use Rattle.wl_link.specs.Runs.{RunEntry}
 use Rattle.wl_link.specs.Store.{held, stored}
 use Rattle.wl_link.proofs.Ids.StoreLaws.{held_empty, removed_here, removed_other, rewritten_here, rewritten_other, stored_here, stored_other}
 use Rattle.wl_server.specs.declared.globals.KeptGlobal.{KeptGlobal}
-use Rattle.wl_server.specs.declared.runs.step.Reply.{Reply}
 use Rattle.wl_server.specs.declared.runs.step.Reply.TheVariants as reply
-use Rattle.wl_server.specs.declared.runs.step.Step.{Step}
 use Rattle.wl_server.specs.declared.runs.step.Step.TheVariants as step
-use Rattle.wl_server.specs.GivenOnce.{ClientsRise, EachNamesItsGlobal, GivesOnce, GlobalsRise, HaveGivenOnce, Offers, SomeCall, global_by, global_over, same_global}
+use Rattle.wl_server.specs.GivenOnce.{ClientsRise, EachNamesItsGlobal, GivesOnce, GlobalsRise, Offers, SomeCall, global_by, global_over, same_global}
 use Rattle.wl_server.specs.Globals.{CreatesGlobal, Globals, IsNextGlobal, Offer, as_disabled, disabled, disabled_at, freed, freed_at, global_of, global_serial, new_global, new_offer}
 use Rattle.wl_server.specs.Ids.{ClientParts, GlobalParts, same_client}
 use Rattle.wl_server.specs.PartStep.{Asked, Call, Changed, World}
-use Rattle.wl_server.specs.Runs.{Inserts, IsNotInserted, Leads, Performs, SharedAlone}
+use Rattle.wl_server.specs.Runs.{Inserts, IsNotInserted, Leads, SharedAlone}
 use Rattle.wl_server.specs.Server.{ServerState, new_server, seen}
 use Rattle.wl_server.specs.Steps.{AnswersShared, Entry, inserted_by, offer_after}
-use Rattle.wl_server.proofs.OverRuns.Alone.IsolationLaw.{one_more, performed, shared_run, split_run}
+use Rattle.wl_server.proofs.OverRuns.Alone.IsolationLaw.{one_more, shared_run, split_run}
 use Rattle.wl_server.proofs.OverRuns.Announced.ShownLaws.{global_held}
 use Rattle.wl_server.proofs.OverRuns.Killed.KilledLaws.{out_next, out_run}
 use Rattle.wl_server.proofs.OverRuns.Outcome.NumberLaws.{client_is, global_is}
@@ -474,8 +471,3 @@ module _ {T U G C : Type 0} where
             ∙ ap (global_over g later) none ∙ none_over g later
             );
       }
-
-  pub have_given_once : (w : World T G C) (table : List InterfaceRow) (steps : List (RunEntry (Step T U G C) (Reply T U))) (after : ServerState T U G C)
-      → Performs w (new_server table) steps after → HaveGivenOnce w table steps after
-  have_given_once w table steps after performs =
-      let (run, are, leads) = performed w (new_server table) after steps performs in (run, are, leads, gives_once w table run after leads)

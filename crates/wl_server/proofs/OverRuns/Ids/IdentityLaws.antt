@@ -8,14 +8,11 @@ use Rattle.wl_link.specs.Identity.{Change, Id, IsMadeIn, Objects, OwnsExactly, R
 use Rattle.wl_link.specs.Identity as objects
 use Rattle.wl_link.proofs.Ids.IdentityLaw.{identity_law}
 use Rattle.wl_link.specs.Link.{LinkState}
-use Rattle.wl_link.specs.Runs.{RunEntry}
 use Rattle.wl_link.specs.Store.{empty_store, held}
 use Rattle.wl_link.proofs.Ids.StoreLaws.{held_empty, stored_other}
 use Rattle.wl_server.specs.declared.objects.Kept.{Kept}
 use Rattle.wl_server.specs.declared.notes.Happening.{Happening}
 use Rattle.wl_server.specs.declared.notes.Happening.TheVariants.{Destroyed, Initialized}
-use Rattle.wl_server.specs.declared.runs.step.Reply.{Reply}
-use Rattle.wl_server.specs.declared.runs.step.Step.{Step}
 use Rattle.wl_server.specs.Deeds.{IsAmong, Deed, left_in, notes_in, taken_in}
 use Rattle.wl_server.proofs.OverRuns.Moves.BaseMoves.{Doings, doings_of, handed_by}
 use Rattle.wl_server.proofs.OverRuns.Moves.BaseMovesLaw.{call_goes}
@@ -23,16 +20,16 @@ use Rattle.wl_server.proofs.OverRuns.Moves.DoingsLaws.{doings_in_both}
 use Rattle.wl_server.proofs.OverRuns.Ids.ChangeLaws.{CallChanging, goes_change, in_three}
 use Rattle.wl_server.proofs.OverRuns.Ids.ReplyLaws.{covers}
 use Rattle.wl_server.specs.Globals.{Offer, new_offer}
-use Rattle.wl_server.specs.Identified.{AreObjectsOf, EachHasOwnIds, Follows, HasOwnIds, HaveOwnIds, IsHandedIn, IsNotedIn, has_data, ids_in, is_over, named_of, waiting_of}
+use Rattle.wl_server.specs.Identified.{AreObjectsOf, EachHasOwnIds, Follows, HasOwnIds, IsHandedIn, IsNotedIn, has_data, ids_in, is_over, named_of, waiting_of}
 use Rattle.wl_server.specs.Ids.{ClientParts, IdParts}
-use Rattle.wl_server.proofs.OverRuns.Alone.IsolationLaw.{are_isolated, is_isolated}
+use Rattle.wl_server.proofs.OverRuns.Alone.IsolationLaw.{is_isolated}
 use Rattle.wl_server.specs.Lookups.{and_then}
 use Rattle.wl_server.proofs.OverRuns.Ids.AmongLaws.{all_among, among_contains, among_first, among_later, contains_among}
 use Rattle.wl_server.proofs.OverRuns.Alone.OwnRuns.{AreMine, are_mine}
 use Rattle.wl_server.specs.Named.{offer_through}
 use Rattle.wl_server.specs.Part.{Part, display_object, id_of, named, objects_of, serial_of}
 use Rattle.wl_server.specs.PartStep.{PartCall, World}
-use Rattle.wl_server.specs.Runs.{Alone, Leads, Own, Performs, just_inserted, concerns, history, mine, offer_over}
+use Rattle.wl_server.specs.Runs.{Alone, Leads, Own, just_inserted, concerns, history, mine, offer_over}
 use Rattle.wl_server.specs.Server.{Seen, ServerState, new_server, seen}
 use Rattle.wl_server.specs.Steps.{Entry, offer_after}
 
@@ -269,9 +266,3 @@ module _ {T U G C : Type 0} where
   each_has_own_ids w table run after leads id transport client_data earlier later e split inserts =
       let (link, fresh, alone) = (is_isolated w table run after leads).each id transport client_data earlier later e split inserts in
       (link, fresh, own_ids w id (offer_over (new_offer table) (earlier ++ e ∷ [])) link client_data (mine id later) (seen id after) (are_mine id later) alone)
-
-  -- and over steps with their replies
-  pub have_own_ids : (w : World T G C) (table : List InterfaceRow) (steps : List (RunEntry (Step T U G C) (Reply T U))) (after : ServerState T U G C)
-      → Performs w (new_server table) steps after → HaveOwnIds w table steps after
-  have_own_ids w table steps after performs =
-      let (run, are, leads, isolated) = are_isolated w table steps after performs in (run, are, leads, each_has_own_ids w table run after leads)

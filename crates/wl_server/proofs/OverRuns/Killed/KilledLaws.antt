@@ -4,20 +4,17 @@ use mathlib.Core.Logic.{inl, inr}
 use Rattle.wl_wire.specs.declared.error.IoFault.TheVariants as fault
 use Rattle.wl_wire.specs.Table.{InterfaceRow}
 use Rattle.wl_link.proofs.Calls.Branches.{either_option}
-use Rattle.wl_link.specs.Runs.{RunEntry}
 use Rattle.wl_server.specs.declared.error.ActionError.TheVariants.{ActionOpen, Io}
 use Rattle.wl_server.specs.declared.reading.action.OpenAction.{OpenAction}
-use Rattle.wl_server.specs.declared.runs.step.Reply.{Reply}
-use Rattle.wl_server.specs.declared.runs.step.Step.{Step}
 use Rattle.wl_server.specs.Bounded.{receives_in, receives_over}
 use Rattle.wl_server.specs.Ids.{ClientParts}
-use Rattle.wl_server.specs.Killed.{AllAnswer, EachStaysKilled, HasNoAction, HaveKilled, IsKilled, ReadingAnswers, StaysOrIsTakenOut, TakesOut}
+use Rattle.wl_server.specs.Killed.{AllAnswer, EachStaysKilled, HasNoAction, IsKilled, ReadingAnswers, StaysOrIsTakenOut, TakesOut}
 use Rattle.wl_server.specs.Part.{Part}
 use Rattle.wl_server.specs.PartStep.{World}
-use Rattle.wl_server.specs.Runs.{IsNotInserted, Leads, Performs}
+use Rattle.wl_server.specs.Runs.{IsNotInserted, Leads}
 use Rattle.wl_server.specs.Server.{Seen, ServerState, new_server, seen}
 use Rattle.wl_server.specs.Steps.{Entry, OneStep}
-use Rattle.wl_server.proofs.OverRuns.Alone.IsolationLaw.{known_before, not_again, performed}
+use Rattle.wl_server.proofs.OverRuns.Alone.IsolationLaw.{known_before, not_again}
 use Rattle.wl_server.proofs.OverRuns.Killed.KilledCalls.{DeadOrOut, dead_or_out, dead_says, dead_silent, out_says, out_silent, out_stays, refusal_with}
 
 none_some : {A : Type 0} {x : A} → None ≡ Some x → ⊥
@@ -170,8 +167,3 @@ module _ {T U G C : Type 0} where
               receives = over.receives;
             }
       ]
-
-  pub have_killed : (w : World T G C) (table : List InterfaceRow) (steps : List (RunEntry (Step T U G C) (Reply T U))) (after : ServerState T U G C)
-      → Performs w (new_server table) steps after → HaveKilled w table steps after
-  have_killed w table steps after performs =
-      let (run, are, leads) = performed w (new_server table) after steps performs in (run, are, leads, each_stays_killed w table run after leads)

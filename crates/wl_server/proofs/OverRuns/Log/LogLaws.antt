@@ -11,23 +11,20 @@ use Rattle.wl_link.proofs.Calls.NothingLostLaws.{flush_kept, gone-taken}
 use Rattle.wl_link.specs.Link.{LinkState, IsFresh}
 use Rattle.wl_link.proofs.Readings.LogLaws.{kept_still, kept_then, puts_kept}
 use Rattle.wl_link.specs.Puts.{Said, messages_of}
-use Rattle.wl_link.specs.Runs.{RunEntry}
 use Rattle.wl_link.specs.Sides.{spelled_all}
 use Rattle.wl_link.proofs.Streams.StreamLaws.{spelled_all-append}
-use Rattle.wl_server.specs.declared.runs.step.Reply.{Reply}
-use Rattle.wl_server.specs.declared.runs.step.Step.{Step}
 use Rattle.wl_server.proofs.OverRuns.Moves.BaseMoves.{Doings, Goes, Moves, born, cleaned, finished, doings_of, ended, flushed, followed, found, found_none, handed_by, handed_out, joined, notes_taken, opens, putting, received, relinked, remembered, sending, stayed, taken_out, told, unfelt, went, within, wrote}
 use Rattle.wl_server.proofs.OverRuns.Moves.BaseMovesLaw.{call_goes}
 use Rattle.wl_server.specs.Deeds.{log_of, sends_of}
 use Rattle.wl_server.proofs.OverRuns.Moves.DoingsLaws.{doings_in_both}
 use Rattle.wl_server.specs.Globals.{Offer, new_offer}
 use Rattle.wl_server.specs.Ids.{ClientParts}
-use Rattle.wl_server.proofs.OverRuns.Alone.IsolationLaw.{are_isolated, is_isolated}
-use Rattle.wl_server.specs.Logged.{EachLogIsSpelled, HaveSpelledLogs, LogIsSpelled, WaitsFor}
+use Rattle.wl_server.proofs.OverRuns.Alone.IsolationLaw.{is_isolated}
+use Rattle.wl_server.specs.Logged.{EachLogIsSpelled, LogIsSpelled, WaitsFor}
 use Rattle.wl_server.proofs.OverRuns.Alone.OwnRuns.{AreMine, are_mine}
 use Rattle.wl_server.specs.Part.{Part}
 use Rattle.wl_server.specs.PartStep.{World}
-use Rattle.wl_server.specs.Runs.{Alone, Leads, Own, Performs, just_inserted, history, mine, offer_over}
+use Rattle.wl_server.specs.Runs.{Alone, Leads, Own, just_inserted, history, mine, offer_over}
 use Rattle.wl_server.specs.Server.{Seen, ServerState, new_server, seen}
 use Rattle.wl_server.specs.Steps.{Entry, offer_after}
 
@@ -172,8 +169,3 @@ module _ {T U G C : Type 0} where
   each_log w within' table run after leads id transport client_data earlier later e split inserts =
       let (link, fresh, alone) = (is_isolated w table run after leads).each id transport client_data earlier later e split inserts in
       own_log w within' id (offer_over (new_offer table) (earlier ++ e ∷ [])) transport (Some (offer_over (new_offer table) earlier).default_limit) link client_data (mine id later) (seen id after) fresh (are_mine id later) alone
-
-  pub have_logs : (w : World T G C) → IsWithinOffer w.sends → (table : List InterfaceRow) (steps : List (RunEntry (Step T U G C) (Reply T U))) (after : ServerState T U G C)
-      → Performs w (new_server table) steps after → HaveSpelledLogs w table steps after
-  have_logs w within' table steps after performs =
-      let (run, are, leads, isolated) = are_isolated w table steps after performs in (run, are, leads, each_log w within' table run after leads)

@@ -13,29 +13,26 @@ use Rattle.wl_link.specs.Exchange.{Queue, Sending}
 use Rattle.wl_link.specs.Identity.{Id}
 use Rattle.wl_link.specs.Puts.{Said}
 use Rattle.wl_link.specs.Reader.{CarriesOut, Given, Verdict, came_to}
-use Rattle.wl_link.specs.Runs.{RunEntry}
 use Rattle.wl_server.specs.declared.error.FinishRefused.{FinishRefused}
 use Rattle.wl_server.specs.declared.notes.DisconnectReason.{DisconnectReason}
 use Rattle.wl_server.specs.declared.notes.Happening.{Happening}
 use Rattle.wl_server.specs.declared.notes.Happening.TheVariants.{Destroyed, Disconnected, Initialized}
 use Rattle.wl_server.specs.declared.objects.Kept.{Kept}
 use Rattle.wl_server.specs.declared.reading.action.OpenAction.TheVariants as opened
-use Rattle.wl_server.specs.declared.runs.step.Reply.{Reply}
-use Rattle.wl_server.specs.declared.runs.step.Step.{Step}
 use Rattle.wl_server.specs.Deeds.{Deed, Noted, Put, Sent, left_if, left_in, notes_in, taken_in}
 use Rattle.wl_server.specs.Finish.{FinishesRequest, ended_by, ending, ends, refusal}
 use Rattle.wl_server.specs.Globals.{Offer, new_offer}
 use Rattle.wl_server.specs.Identified.{waiting_of}
 use Rattle.wl_server.specs.Ids.{ClientParts, IdParts, same_client}
-use Rattle.wl_server.specs.NotedEnds.{EachNoteIsOfAnEnd, EndIsNotedAtOnce, HaveNotesOfEnds}
+use Rattle.wl_server.specs.NotedEnds.{EachNoteIsOfAnEnd, EndIsNotedAtOnce}
 use Rattle.wl_server.specs.NotedOnce.{destroyed_in}
 use Rattle.wl_server.specs.Part.{Part, end_note, id_at, id_of, named, note_of_end}
 use Rattle.wl_server.specs.PartStep.{OfClient, PartCall, World}
-use Rattle.wl_server.specs.Runs.{Leads, Performs, history, mine, offer_over}
+use Rattle.wl_server.specs.Runs.{Leads, history, mine, offer_over}
 use Rattle.wl_server.specs.Server.{Seen, ServerState, new_server, seen}
 use Rattle.wl_server.specs.Steps.{Entry}
 use Rattle.wl_server.specs.Telling.{Core, Did, Tells, Told, core_of, deeds_in, end_deeds, speaker}
-use Rattle.wl_server.proofs.OverRuns.Alone.IsolationLaw.{are_isolated, is_isolated}
+use Rattle.wl_server.proofs.OverRuns.Alone.IsolationLaw.{is_isolated}
 use Rattle.wl_server.proofs.OverRuns.Alone.OwnRuns.{are_mine}
 use Rattle.wl_server.proofs.OverRuns.Ids.IdentityLaws.{own_ids}
 use Rattle.wl_server.proofs.OverRuns.Moves.BaseMoves.{Doings}
@@ -97,11 +94,6 @@ module _ {T U G C : Type 0} where
         Contains-permutation (destroyed_in told) (left_in (history (mine id later))) (id_of o)
             (IsPermutation-sym (left_in (history (mine id later))) (destroyed_in told) notes.destroyed) (destroyed_among told o u among),
       )
-
-  pub have_notes_of_ends : (w : World T G C) (table : List InterfaceRow) (steps : List (RunEntry (Step T U G C) (Reply T U))) (after : ServerState T U G C)
-      → Performs w (new_server table) steps after → HaveNotesOfEnds w table steps after
-  have_notes_of_ends w table steps after performs =
-      let (run, are, leads, isolated) = are_isolated w table steps after performs in (run, are, leads, each_note_is_of_an_end w table run after leads)
 
 -- ---- the end of a request
 

@@ -8,13 +8,10 @@ use Rattle.wl_link.specs.declared.object.Object.{Object}
 use Rattle.wl_link.specs.Exchange.{Queue}
 use Rattle.wl_link.specs.Identity.{Id}
 use Rattle.wl_link.specs.Link.{LinkState}
-use Rattle.wl_link.specs.Runs.{RunEntry}
 use Rattle.wl_server.specs.declared.objects.Kept.{Kept}
 use Rattle.wl_server.specs.declared.notes.DisconnectReason.{DisconnectReason}
 use Rattle.wl_server.specs.declared.notes.Happening.{Happening}
 use Rattle.wl_server.specs.declared.notes.Happening.TheVariants.{Destroyed, Disconnected, Initialized}
-use Rattle.wl_server.specs.declared.runs.step.Reply.{Reply}
-use Rattle.wl_server.specs.declared.runs.step.Step.{Step}
 use Rattle.wl_server.proofs.OverRuns.Moves.BaseMoves.{Doings, Goes, Moves, born, cleaned, finished, doings_of, end_notes, ended, flushed, followed, found, found_none, handed_by, handed_out, joined, left_id, notes_taken, opens, received, relinked, remembered, stayed, taken_out, told, unfelt, went, within, wrote}
 use Rattle.wl_server.proofs.OverRuns.Moves.BaseMovesLaw.{call_goes}
 use Rattle.wl_server.proofs.OverRuns.Ids.ChangeLaws.{moves_take}
@@ -24,12 +21,12 @@ use Rattle.wl_server.specs.Globals.{Offer, new_offer}
 use Rattle.wl_server.specs.Identified.{HasOwnIds, waiting_of}
 use Rattle.wl_server.proofs.OverRuns.Ids.IdentityLaws.{own_ids}
 use Rattle.wl_server.specs.Ids.{ClientParts, IdParts}
-use Rattle.wl_server.proofs.OverRuns.Alone.IsolationLaw.{are_isolated, is_isolated}
-use Rattle.wl_server.specs.NotedOnce.{EachIsNoted, HaveNotes, NotesEach, destroyed_in, ended_times, ends_in, one_if}
+use Rattle.wl_server.proofs.OverRuns.Alone.IsolationLaw.{is_isolated}
+use Rattle.wl_server.specs.NotedOnce.{EachIsNoted, NotesEach, destroyed_in, ended_times, ends_in, one_if}
 use Rattle.wl_server.proofs.OverRuns.Alone.OwnRuns.{AreMine, are_mine}
 use Rattle.wl_server.specs.Part.{Part, end_note, id_at, id_of, note_of_end}
 use Rattle.wl_server.specs.PartStep.{World}
-use Rattle.wl_server.specs.Runs.{Alone, Leads, Own, Performs, just_inserted, history, mine, offer_over}
+use Rattle.wl_server.specs.Runs.{Alone, Leads, Own, just_inserted, history, mine, offer_over}
 use Rattle.wl_server.specs.Server.{Seen, ServerState, new_server, seen}
 use Rattle.wl_server.specs.Steps.{Entry, offer_after}
 
@@ -307,8 +304,3 @@ module _ {T U G C : Type 0} where
       let (link, fresh, alone) = (is_isolated w table run after leads).each id transport client_data earlier later e split inserts in
       let offer : Offer G = offer_over (new_offer table) (earlier ++ e ∷ []) in
       own_notes w id offer link client_data (mine id later) (seen id after) (are_mine id later) (own_ids w id offer link client_data (mine id later) (seen id after) (are_mine id later) alone) alone
-
-  pub have_notes : (w : World T G C) (table : List InterfaceRow) (steps : List (RunEntry (Step T U G C) (Reply T U))) (after : ServerState T U G C)
-      → Performs w (new_server table) steps after → HaveNotes w table steps after
-  have_notes w table steps after performs =
-      let (run, are, leads, isolated) = are_isolated w table steps after performs in (run, are, leads, each_is_noted w table run after leads)

@@ -1,5 +1,5 @@
-use Rattle.wl_server.proofs.OverRuns.Noted.NotedLaws.{each_is_noted, have_notes}
-use Rattle.wl_server.proofs.OverRuns.Noted.NotedEnds.{each_note_is_of_an_end, end_is_noted_at_once, have_notes_of_ends}
+use Rattle.wl_server.proofs.OverRuns.Noted.NotedLaws.{each_is_noted}
+use Rattle.wl_server.proofs.OverRuns.Noted.NotedEnds.{each_note_is_of_an_end, end_is_noted_at_once}
 use Rattle.wl_server.proofs.OverRuns.Noted.NotedSoon.{cleanup_notes_all, finish_notes_at_once}
 use Rattle.wl_server.proofs.laws.each_object_that_leaves_is_noted_once.Goals as goal
 
@@ -11,9 +11,6 @@ returns-clause-cleanup g c = λ before after e out by call id. cleanup_notes_all
 
 pub returns-clause-finish : goal.returns-clause-finish
 returns-clause-finish g c = λ before after e target u answer by call id. finish_notes_at_once _ before after e target u answer by call id
-
-pub returns-clause-script_noted : goal.returns-clause-script_noted
-returns-clause-script_noted g c = λ table steps after performs. have_notes _ table steps after performs
 
 pub returns-clause-script_cleanup : goal.returns-clause-script_cleanup
 returns-clause-script_cleanup g c = λ before after e out by call id. cleanup_notes_all _ before after e out by call id
@@ -28,7 +25,7 @@ pub returns-clause-at_once : goal.returns-clause-at_once
 returns-clause-at_once g c = λ before after e target u answer by call id. end_is_noted_at_once _ before after e target u answer by call id
 
 pub returns-clause-script_of_ends : goal.returns-clause-script_of_ends
-returns-clause-script_of_ends g c = λ table steps after performs. have_notes_of_ends _ table steps after performs
+returns-clause-script_of_ends g c = λ table run after leads. each_note_is_of_an_end _ table run after leads
 
 pub returns-clause-script_at_once : goal.returns-clause-script_at_once
 returns-clause-script_at_once g c = λ before after e target u answer by call id. end_is_noted_at_once _ before after e target u answer by call id
