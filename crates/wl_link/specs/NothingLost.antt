@@ -45,13 +45,15 @@ abbrev pub FlushKeeps : {T : Type 0} → (T → Queue → Result ℕ IoFault →
 FlushKeeps sends before answer after =
     (es : List Sending) × FlushedBy sends before es answer after × LosesNothing es before.outgoing nothing after.outgoing
 
--- If a flush is answered by Ok, and no send in it answered 0, it leaves no bytes, and of the tokens those after the first
--- 28 for each byte.
+-- If a flush with these sends is answered by Ok, and none of them answered 0, it leaves no bytes, and of the tokens those
+-- after the first 28 for each byte.
+abbrev pub Drains : List Sending → Queue → Result (Unit {0}) IoFault → Queue → Type 0
+Drains es before answer after =
+    answer ≡ Ok tt → NoZero es → (after.bytes ≡ []) × (after.tokens ≡ drop (28 * length before.bytes) before.tokens)
+
+-- so does a flush with its sends
 abbrev pub FlushDrains : {T : Type 0} → (T → Queue → Result ℕ IoFault → T → Type 0) → LinkState T → Result (Unit {0}) IoFault → LinkState T → Type 0
-FlushDrains sends before answer after =
-    (es : List Sending) × FlushedBy sends before es answer after
-    × (answer ≡ Ok tt → NoZero es → (after.outgoing.bytes ≡ [])
-    × (after.outgoing.tokens ≡ drop (28 * length before.outgoing.bytes) before.outgoing.tokens))
+FlushDrains sends before answer after = (es : List Sending) × FlushedBy sends before es answer after × Drains es before.outgoing answer after.outgoing
 
 -- A write that is answered by Ok adds one message to what was taken and what waits; another adds nothing.
 abbrev pub WriteKeeps : {T : Type 0} → (T → Queue → Result ℕ IoFault → T → Type 0) → LinkState T → WireMessage → Result (Unit {0}) IoFault → LinkState T → Type 0

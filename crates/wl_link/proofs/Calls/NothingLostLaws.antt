@@ -9,7 +9,7 @@ use Rattle.wl_wire.specs.declared.error.IoFault.TheVariants as fault
 use Rattle.wl_wire.specs.Message.{WireMessage, size}
 use Rattle.wl_link.specs.Exchange.{Queue, Sending, Chain, joined, nothing, IsWithinOffer}
 use Rattle.wl_link.specs.Link.{LinkState, offer_size, offer_of, left_of, AfterSend, Flushes, FlushedBy, Flushed, Put, PlacedBy, WroteBy, Wrote, spelled, has_room, ignoring, needed, Wants, Grown}
-use Rattle.wl_link.specs.NothingLost.{taken_by, taken, gone_by, gone, NoZero, LosesNothing, queued_by, FlushKeeps, FlushDrains, WriteKeeps}
+use Rattle.wl_link.specs.NothingLost.{taken_by, taken, gone_by, gone, NoZero, LosesNothing, queued_by, Drains, FlushKeeps, FlushDrains, WriteKeeps}
 
 take_within : (n m : ℕ) (xs : List ℕ) → n ≤ length (take m xs) → take n (take m xs) ≡ take n xs
 take_within n m xs le = sym (take-append-le n (take m xs) (drop m xs) le) ∙ ap (λ (ys : List ℕ). take n ys) (take-append-drop m xs)
@@ -211,12 +211,13 @@ drains sends within t t' q after (e ∷ es) chain flushes none =
         let bytes : e.offer.bytes ≡ (offer_of q).bytes = ap (λ (o : Queue). o.bytes) flushes.1 in
         (left.0, left.1 ∙ tokens_left q n (omega (arith, more)) (omega (arith, le n refl, ap length bytes)))
 
+pub flush_drained : {T : Type 0} (sends : T → Queue → Result ℕ IoFault → T → Type 0) → IsWithinOffer sends
+    → (before after : LinkState T) (es : List Sending) (answer : Result (Unit {0}) IoFault) → FlushedBy sends before es answer after
+    → Drains es before.outgoing answer after.outgoing
+flush_drained sends within before after es answer f done none =
+    drains sends within before.transport after.transport before.outgoing after.outgoing es f.0
+    (subst (λ (a : Result (Unit {0}) IoFault). Flushes before.outgoing es a after.outgoing) done f.1) none
+
 pub flush_drains : {T : Type 0} (sends : T → Queue → Result ℕ IoFault → T → Type 0) → IsWithinOffer sends
     → (before after : LinkState T) (answer : Result (Unit {0}) IoFault) → Flushed sends before answer after → FlushDrains sends before answer after
-flush_drains sends within before after answer f = (
-  f.0,
-  f.1,
-  λ done none.
-      drains sends within before.transport after.transport before.outgoing after.outgoing f.0 f.1.0
-      (subst (λ (a : Result (Unit {0}) IoFault). Flushes before.outgoing f.0 a after.outgoing) done f.1.1) none,
-)
+flush_drains sends within before after answer f = (f.0, f.1, flush_drained sends within before after f.0 answer f.1)

@@ -13,7 +13,7 @@ ghost use Rattle.wl_link.specs.Mailbox.{MailboxState, MailboxSends, MailboxRecei
 ghost use Rattle.wl_link.specs.MailboxCalls.{DoesAll, MailboxCall, MailboxKeeps, StaysWithinRoom};
 ghost use Rattle.wl_link.specs.MailboxLink.{KeepsWhatCame, KeepsWhatGoes};
 ghost use Rattle.wl_link.specs.Link.{LinkState, Filled, Flushed, FlushedBy, Wrote, WroteBy, FilledBy, ReadOne};
-ghost use Rattle.wl_link.specs.NothingLost.{FlushKeeps, FlushDrains, LosesNothing, WriteKeeps, queued_by};
+ghost use Rattle.wl_link.specs.NothingLost.{Drains, FlushKeeps, FlushDrains, LosesNothing, WriteKeeps, queued_by};
 ghost use Rattle.wl_link.specs.Relayed.{RelayLaw};
 ghost use Rattle.wl_link.specs.Outcome.{SameCall, SameFill, SameRead};
 ghost use Rattle.wl_link.specs.Sides.{StreamLaw, AllReadLaw, CuttingLaw, ReadTakes, RoomLaw};
@@ -21,11 +21,12 @@ ghost use Rattle.wl_link.specs.Sides.{StreamLaw, AllReadLaw, CuttingLaw, ReadTak
 use crate::limit::{DEFAULT_MAX_BUFFER_SIZE, INCOMING_LIMIT};
 use crate::transport::{MAX_BYTES_OUT, MAX_FDS_OUT, Transport};
 
-/// A flush loses nothing, except the tokens that were offered to a send which took no bytes. `each` says so of any list of sends
-/// that the flush may have made.
+/// A flush loses nothing, except the tokens that were offered to a send which took no bytes.
 ///
 /// If a flush returns `Ok`, and each of its sends took bytes, then no bytes wait after it. Tokens wait only if there were
 /// more than 28 for each byte; then the first 28 for each byte are gone.
+///
+/// `each` and `each_drained` say so of any list of sends that the flush may have made.
 pub fn flush_loses_nothing<T: Transport>()
     ensures kept { (before after : LinkState T) (answer : _) →
         Flushed T.sends before answer after → FlushKeeps T.sends before answer after }
@@ -33,6 +34,8 @@ pub fn flush_loses_nothing<T: Transport>()
         Flushed T.sends before answer after → FlushDrains T.sends before answer after }
     ensures each { (before after : LinkState T) (es : List Sending) (answer : _) →
         FlushedBy T.sends before es answer after → LosesNothing es before.outgoing nothing after.outgoing }
+    ensures each_drained { (before after : LinkState T) (es : List Sending) (answer : _) →
+        FlushedBy T.sends before es answer after → Drains es before.outgoing answer after.outgoing }
 {}
 
 /// A write that returns `Ok` adds the message's bytes, once, to what was sent and what waits, and its tokens to these and
