@@ -18,6 +18,7 @@ pub mod Named
 pub mod Noted
 pub mod Failed
 pub mod Replies
+pub mod OneOutcome
 pub mod Cutting
 pub mod Stretches
 pub mod Heard

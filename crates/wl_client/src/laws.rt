@@ -32,6 +32,7 @@ ghost use Rattle.wl_client.specs.Histories.{Called, Changed, Deed, History, call
 ghost use Rattle.wl_client.specs.Named.{KeepsNaming};
 ghost use Rattle.wl_client.specs.ObjectId.{IdParts};
 ghost use Rattle.wl_client.specs.Noted.{NotesWhatEnded};
+ghost use Rattle.wl_client.specs.OneOutcome.{SameAnswers, SameDeeds};
 ghost use Rattle.wl_client.specs.Replies.{SameReply, SameReplies};
 ghost use Rattle.wl_client.specs.Scripted.{Arrives, Becomes};
 ghost use Rattle.wl_client.specs.Session.{Core, SessionState, IsConnected, named, over_transport};
@@ -151,16 +152,20 @@ pub fn calls_of_a_script_are_steps<U>()
         History StepOf mid (Changed t ∷ later) after → History StepOf begun (earlier ++ Called e ∷ later) after }
 {}
 
-/// If memory is not refused, each step over the transport by script has one outcome, and so has each run.
+/// If memory is not refused, each step over the transport by script has one outcome (`step`), and so has each run (`run`).
 ///
 /// The session before a step, and the step, determine the reply and the session after it. This leaves open only the
-/// addresses of a reply's lists in memory. Over another transport the same holds of a call, if each send and each receive
-/// of the transport has one outcome (`call`).
+/// addresses of a reply's lists in memory. Over another transport the same holds of a call (`call`) and of a history
+/// (`history`), if each send and each receive of the transport has one outcome.
 pub fn each_run_has_one_outcome<T: Transport, U>()
     ensures call { IsFunction T.sends → IsReceiveFunction T.receives →
         (before after after' : SessionState T U) (step : Step U) (answer answer' : Reply U) →
         CallOf T.sends T.receives before step answer false after → CallOf T.sends T.receives before step answer' false after' →
         SameReply answer answer' × (after ≡ after') }
+    ensures history { IsFunction T.sends → IsReceiveFunction T.receives →
+        (before after after' : SessionState T U) (deeds others : List (Deed T U)) → SameDeeds deeds others →
+        History (CallOf T.sends T.receives) before deeds after → History (CallOf T.sends T.receives) before others after' →
+        SameAnswers deeds others × (after ≡ after') }
     ensures step { (before after after' : SessionState Script U) (step : Step U) (answer answer' : Reply U) →
         StepOf before step answer false after → StepOf before step answer' false after' →
         SameReply answer answer' × (after ≡ after') }

@@ -1,5 +1,5 @@
 -- That each step has one outcome where memory is not refused, and so each run.
-use Rattle.std.proofs.Common.{◌≡◌, ◌≢◌, ℕ, Bool, true, false, eqb, List, length, Option, None, Some, is_some, Result, Ok, Err, MatchBool, refl, sym, ap, subst, ◌∙◌, true≢false}
+use Rattle.std.proofs.Common.{◌≡◌, ◌≢◌, ℕ, Bool, true, false, eqb, List, [], ◌∷◌, length, Option, None, Some, is_some, Result, Ok, Err, MatchBool, refl, sym, ap, subst, ◌∙◌, true≢false}
 use mathlib.Core.Logic.{inl, inr}
 use Rattle.wl_wire.specs.declared.error.IoFault.{IoFault}
 use Rattle.wl_wire.specs.declared.error.IoFault.TheVariants as fault
@@ -29,14 +29,16 @@ use Rattle.wl_client.specs.declared.step.Reply.{Reply}
 use Rattle.wl_client.specs.declared.step.Reply.TheVariants as reply
 use Rattle.wl_client.specs.declared.step.Step.{Step}
 use Rattle.wl_client.specs.declared.step.Step.TheVariants as step
+use Rattle.wl_client.specs.Histories.{Called, Changed, Deed, History}
 use Rattle.wl_client.specs.ObjectId.{IdParts}
 use Rattle.wl_client.specs.Finish.{FinishesEvent, Finishes, FlushEnds, refusal, SessionFlushed}
 use Rattle.wl_client.specs.Objects.{DataSet, DestroyedBy, destroyable}
 use Rattle.wl_client.specs.Reading.{event_content}
 use Rattle.wl_client.proofs.OverRuns.ReadingLaws.{SameEnd, next_event_one, same_end}
+use Rattle.wl_client.specs.OneOutcome.{SameAnswers, SameDeeds}
 use Rattle.wl_client.specs.Replies.{SameReply, SameReplies}
 use Rattle.wl_client.specs.Requests.{Numbered, Requested, Sent, SentAs, SentWithChild, SessionMessage, Spec, Written, ended_by, error_after, id_of_new, new_child, number_of_new, request_check, session_content, wire_message, with_born, with_ended}
-use Rattle.wl_client.specs.Session.{SessionState, last_possible_serial, named}
+use Rattle.wl_client.specs.Session.{SessionState, last_possible_serial, named, over_transport}
 use Rattle.wl_client.specs.Steps.{ArrivesWith, CallOf, Scripts, InterfacesAdded, StepOf, Leads, entries, refused_arrive, refused_destroy, refused_finish, refused_flush, refused_request, refused_script}
 
 -- an answer by which memory was not refused is not one by which it was
@@ -277,3 +279,23 @@ module _ {U : Type 0} where
   pub run_one : (s x y : SessionState Script U) (steps : List (Step U)) (replies replies' : List (Reply U)) → length replies ≡ length steps
       → length replies' ≡ length steps → Leads s (entries steps replies) x → Leads s (entries steps replies') y → SameReplies replies replies' × (x ≡ y)
   run_one s x y steps replies replies' n n' h g = each_run_one StepOf SameReply step_one s x y steps replies replies' n n' h g
+
+-- ---- a history
+
+module _ {T U : Type 0} (sends : T → Queue → Result ℕ IoFault → T → Type 0) (receives : T → ℕ → Result Queue IoFault → T → Type 0)
+    (function : IsFunction sends) (receiving : IsReceiveFunction receives) where
+  -- so has each history over any such transport
+  pub history_one : (s x y : SessionState T U) (deeds others : List (Deed T U)) → SameDeeds deeds others → History (CallOf sends receives) s deeds x
+      → History (CallOf sends receives) s others y → SameAnswers deeds others × (x ≡ y)
+  history_one s x y [] [] same h g = (tt, h ∙ sym g)
+  history_one s x y (Called e ∷ deeds) (Called f ∷ others) (is, fine, fine', same) (m, by, h) (n, by', g) =
+      let there : CallOf sends receives s e.step f.answer f.refused n = subst (λ (c : Step U). CallOf sends receives s c f.answer f.refused n) (sym is) by' in
+      let one = call_one sends receives function receiving s m n e.step e.answer f.answer
+      (subst (λ (b : Bool). CallOf sends receives s e.step e.answer b m) fine by)
+      (subst (λ (b : Bool). CallOf sends receives s e.step f.answer b n) fine' there) in
+      let rest = history_one m x y deeds others same h (subst (λ (k : SessionState T U). History (CallOf sends receives) k others y) (sym one.1) g) in
+      ((one.0, rest.0), rest.1)
+  history_one s x y (Changed t ∷ deeds) (Changed t' ∷ others) (is, same) (m, by, h) (n, by', g) =
+      let at : n ≡ m = by' ∙ ap (over_transport s) (sym is) ∙ sym by in
+      history_one m x y deeds others same h (subst (λ (k : SessionState T U). History (CallOf sends receives) k others y) at g)
+  history_one s x y _ _ same h g = absurd same

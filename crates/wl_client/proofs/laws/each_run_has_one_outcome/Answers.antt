@@ -1,4 +1,4 @@
-use Rattle.wl_client.proofs.OverRuns.OutcomeLaws.{call_one, run_one, step_one}
+use Rattle.wl_client.proofs.OverRuns.OutcomeLaws.{call_one, history_one, run_one, step_one}
 use Rattle.wl_client.proofs.laws.each_run_has_one_outcome.Goals as goal
 
 pub returns-clause-call : goal.returns-clause-call
@@ -9,3 +9,6 @@ returns-clause-step g c = step_one
 
 pub returns-clause-run : goal.returns-clause-run
 returns-clause-run g c = run_one
+
+pub returns-clause-history : goal.returns-clause-history
+returns-clause-history g c function receiving = history_one g.T.Transport.sends g.T.Transport.receives function receiving
