@@ -26,6 +26,8 @@ enum Call {
     SetData,
     /// `set_data`, of an object that is not there.
     SetMissing,
+    /// `with_data`, of the callback.
+    LendData,
     /// `set_max_buffer_size`.
     Limit,
     /// `dispatch_inner_queue`.
@@ -41,11 +43,12 @@ enum Call {
 }
 
 /// The calls, in order, each with its name.
-static CALLS: [(&str, Call); 11] = [
+static CALLS: [(&str, Call); 12] = [
     ("control: send_request", Call::Send),
     ("look-ups", Call::LookUp),
     ("set_data", Call::SetData),
     ("set_data of no object", Call::SetMissing),
+    ("with_data", Call::LendData),
     ("set_max_buffer_size", Call::Limit),
     ("dispatch_inner_queue", Call::Dispatch),
     ("transport_mut", Call::Transport),
@@ -91,6 +94,10 @@ fn make<'a>(
         Call::SetMissing => {
             let missing = Object::Quad.id();
             Ok(client.set_data(&missing, Counted::new(drops, 1)).is_err())
+        }
+        Call::LendData => {
+            let callback = Object::Callback.id();
+            Ok(client.with_data(&callback, |_data| ()).is_ok())
         }
         _ => Ok(make_of_all(client, call)),
     }

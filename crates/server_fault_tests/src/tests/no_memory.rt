@@ -46,6 +46,8 @@ enum Call {
     SetData,
     /// `set_object_data`, of an object that is not there.
     SetMissing,
+    /// `with_object_data`, of the object that was made.
+    LendData,
     /// `set_default_max_buffer_size`.
     DefaultLimit,
     /// `set_client_max_buffer_size`.
@@ -71,7 +73,7 @@ enum Call {
 }
 
 /// The calls, in order, each with its name if it is counted.
-static CALLS: [(&str, Call); 22] = [
+static CALLS: [(&str, Call); 23] = [
     ("control: insert_client", Call::Insert),
     ("", Call::Insert),
     ("", Call::Create),
@@ -80,6 +82,7 @@ static CALLS: [(&str, Call); 22] = [
     ("look-ups", Call::LookUp),
     ("set_object_data", Call::SetData),
     ("set_object_data of no object", Call::SetMissing),
+    ("with_object_data", Call::LendData),
     ("set_default_max_buffer_size", Call::DefaultLimit),
     ("set_client_max_buffer_size", Call::Limit),
     ("transport_mut", Call::Transport),
@@ -100,8 +103,10 @@ static CALLS: [(&str, Call); 22] = [
 fn is_looked_up(server: &Server) -> bool {
     let mut count = 0u32;
     server.with_all_clients(|_| count = count.wrapping_add(1));
-    let has_clients = count == 2 && server.next_client_id().is_some();
+    server.visit_clients(&mut |_| count = count.wrapping_add(1));
+    let has_clients = count == 4 && server.all_clients().count() == 2;
     has_clients
+        && server.next_client_id().is_some()
         && server.get_client_data(&FIRST.id()).is_ok()
         && server.transport(&FIRST.id()).is_ok()
         && are_objects_looked_up(server)
@@ -112,9 +117,13 @@ fn is_looked_up(server: &Server) -> bool {
 fn are_objects_looked_up(server: &Server) -> bool {
     let mut count = 0u32;
     let answer = server.with_all_objects_for(&FIRST.id(), |_| count = count.wrapping_add(1));
+    let visited = server.visit_objects(&FIRST.id(), &mut |_| count = count.wrapping_add(1));
+    let walked = server.all_objects_for(&FIRST.id()).map(|walk| walk.count());
     // The display, the registry, what is bound, and what was made.
     answer.is_ok()
-        && count == 4
+        && visited.is_ok()
+        && count == 8
+        && walked == Ok(4)
         && server.object_info(&MADE.id()).is_ok()
         && server.get_client(&MADE.id()).is_ok()
         && server.get_object_data(&MADE.id()).is_ok()
@@ -208,6 +217,7 @@ fn make_of_ends(server: &mut Server, call: Call) -> bool {
 fn make_of_all(server: &mut Server, call: Call) -> bool {
     match call {
         Call::LookUp => is_looked_up(server),
+        Call::LendData => server.with_object_data(&MADE.id(), |_data| ()).is_ok(),
         Call::DefaultLimit | Call::Limit => {
             set_limit(server, call);
             true
