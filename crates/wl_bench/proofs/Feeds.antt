@@ -1,9 +1,10 @@
--- That no line which a command prints has a line feed, so that a text of lines has these lines. Lines of notes are apart.
-use Rattle.std.proofs.Common.{◌≡◌, ◌∙◌, ℕ, zero, suc, ◌+◌, ◌/◌, ◌%◌, ◌<◌, ◌==◌, nat_lt, Bool, true, false, List, [], ◌∷◌, ◌++◌, length, map, cond, Option, None, Some, Ok, Err, ℤ, pos, negsuc, refl, sym, ap, subst, append_assoc, arith, codes, true≢false}
+-- That no line which a command prints has a line feed, so that a text of lines has these lines. Lines of notes are in `NoteLines`.
+use Rattle.std.proofs.Common.{◌≡◌, ◌≢◌, ◌∙◌, ℕ, zero, suc, ◌+◌, ◌/◌, ◌%◌, ◌<◌, ◌==◌, nat_lt, Bool, true, false, List, [], ◌∷◌, ◌++◌, length, map, cond, Option, None, Some, Ok, Err, ℤ, pos, negsuc, refl, sym, ap, subst, append_assoc, arith, codes, true≢false}
 use Rattle.std.specs.Prelude.{⊤, if◌then◌else◌}
 use Rattle.std.specs.Fmt.{decimal, digit_glyph, digits, digits_onto, signed_decimal}
-use Rattle.std.specs.List.{flat_map, onto_first}
+use Rattle.std.specs.List.{All, flat_map, onto_first}
 use Rattle.std.proofs.lemmas.Bool.{ne_eqb}
+use Rattle.std.proofs.lemmas.List.Elements.{All-head, All-tail}
 use Rattle.wl_wire.specs.declared.argument.Argument.{Argument}
 use Rattle.wl_wire.specs.declared.argument.Argument.TheVariants as arg
 use Rattle.wl_wire.specs.declared.argument.Token.{Token}
@@ -27,8 +28,9 @@ use Rattle.wl_bench.specs.declared.command.Command.{Command}
 use Rattle.wl_bench.specs.declared.command.Command.TheVariants.{Insert, Client, Dispatch, Create, Disable, Remove, Flush, Cleanup, Notes}
 use Rattle.wl_bench.specs.Answers.{Line, action_text, after_byte, answer_lines, answer_text, argument_text, arguments_text, bytes_of, created_text, effect_text, fault_text, finish_name, flag_text, global_name, hex, insert_name, joined, record_lines, records_lines, refusal_text, script_name, sent_lines, share_lines, taken_out_lines, token_text, tokens_of, tokens_text}
 use Rattle.wl_bench.specs.Bench.{BenchReply, BenchState, Does, DoesForAll, all_clients, client_calls, heard_by, printed, take_step}
-use Rattle.wl_bench.specs.Commands.{IsLine, parts}
-use Rattle.wl_bench.specs.Record.{Leads, Recorded, lines, quoted, record_of, recording_of, text_of, whole_lines}
+use Rattle.wl_bench.specs.Commands.{parts}
+use Rattle.wl_bench.specs.OneLine.{IsOneLine, PrintsLines}
+use Rattle.wl_bench.specs.Record.{Recorded, lines, quoted, record_of, recording_of, text_of, whole_lines}
 use Rattle.wl_bench.proofs.InputLines.{goes_on}
 use Rattle.wl_bench.proofs.OneOutcome.{IsQuiet, first_told, quiet_tells, speaks_tells, tells}
 use Rattle.wl_bench.proofs.Others.{calls_stay, last_speaks}
@@ -46,14 +48,14 @@ byte_first : (b : ℕ) (text : List ℕ) → (b == 10) ≡ false → Unfed text 
 byte_first b text other rest = ap (λ (c : Bool). cond c false (unfed text)) other ∙ rest
 
 -- the first byte, and those behind it
-byte_parts : (b : ℕ) (text : List ℕ) → Unfed (b ∷ text) → ((b == 10) ≡ false) × Unfed text
+pub byte_parts : (b : ℕ) (text : List ℕ) → Unfed (b ∷ text) → ((b == 10) ≡ false) × Unfed text
 byte_parts b text all = at (b == 10) refl
   where
     at : (c : Bool) → (b == 10) ≡ c → ((b == 10) ≡ false) × Unfed text
     at true is = absurd (true≢false (sym all ∙ ap (λ (c : Bool). cond c false (unfed text)) is))
     at false is = (is, sym (ap (λ (c : Bool). cond c false (unfed text)) is) ∙ all)
 
-both : (a b : List ℕ) → Unfed a → Unfed b → Unfed (a ++ b)
+pub both : (a b : List ℕ) → Unfed a → Unfed b → Unfed (a ++ b)
 both [] b first rest = rest
 both (x ∷ a) b first rest = let p = byte_parts x a first in byte_first x (a ++ b) p.0 (both a b p.1 rest)
 
@@ -77,7 +79,7 @@ digits_unfed (suc k) n behind rest =
     one_of (n / 10 == 0) (digit_glyph false (n % 10) ∷ behind) (digits_onto k 10 false (n / 10) (digit_glyph false (n % 10) ∷ behind)) more
     (digits_unfed k (n / 10) (digit_glyph false (n % 10) ∷ behind) more)
 
-number : (n : ℕ) → Unfed (decimal n)
+pub number : (n : ℕ) → Unfed (decimal n)
 unfolding digits
 number n = digits_unfed 64 n [] refl
 
@@ -85,7 +87,7 @@ signed : (z : ℤ) → Unfed (signed_decimal z)
 signed (pos n) = number n
 signed (negsuc n) = byte_first 45 (decimal (suc n)) refl (number (suc n))
 
-hex_unfed : (bytes : List ℕ) → Unfed (hex bytes)
+pub hex_unfed : (bytes : List ℕ) → Unfed (hex bytes)
 hex_unfed [] = refl
 hex_unfed (b ∷ bytes) =
     byte_first (digit_glyph false (b / 16)) (digit_glyph false (b % 16) ∷ hex bytes) (glyph (b / 16))
@@ -128,7 +130,7 @@ effect_unfed is_destructor created =
     both (codes " destructor=" ++ flag_text is_destructor ++ codes " created=") (created_text created) named (created_unfed created)
 
 -- two numbers behind a text
-two_numbers : (front : List ℕ) (m n : ℕ) → Unfed front → Unfed (front ++ decimal m ++ codes " " ++ decimal n)
+pub two_numbers : (front : List ℕ) (m n : ℕ) → Unfed front → Unfed (front ++ decimal m ++ codes " " ++ decimal n)
 two_numbers front m n plain =
     let one = both front (decimal m) plain (number m) in
     both (front ++ decimal m ++ codes " ") (decimal n) (both (front ++ decimal m) (codes " ") one refl) (number n)
@@ -241,10 +243,14 @@ records_unfed [] taken = tt
 records_unfed (c ∷ heard) [] = tt
 records_unfed (c ∷ heard) (p ∷ taken) = all_both (record_lines c p) (records_lines heard taken) (record_unfed c p) (records_unfed heard taken)
 
-printed_unfed : (heard : List ClientParts) (p : BenchReply) (taken : List BenchReply) → tells p ≡ true → AllUnfed (printed heard p taken)
-printed_unfed heard p taken some =
-    all_both (answer_lines p) (taken_out_lines p ++ records_lines heard taken) (answers_unfed p some)
+-- what is printed behind the answer
+pub printed_behind : (heard : List ClientParts) (p : BenchReply) (taken : List BenchReply) → AllUnfed (answer_lines p) → AllUnfed (printed heard p taken)
+printed_behind heard p taken answer =
+    all_both (answer_lines p) (taken_out_lines p ++ records_lines heard taken) answer
     (all_both (taken_out_lines p) (records_lines heard taken) (taken_out_unfed p) (records_unfed heard taken))
+
+printed_unfed : (heard : List ClientParts) (p : BenchReply) (taken : List BenchReply) → tells p ≡ true → AllUnfed (printed heard p taken)
+printed_unfed heard p taken some = printed_behind heard p taken (answers_unfed p some)
 
 -- ---- a command
 
@@ -253,19 +259,19 @@ quiet_unfed b x command out quiet (s, call, p, taken, makes, printed_is, clients
     let some = quiet_tells command quiet b b.server s p call (first_told s (heard_by b command) p taken b.server x.server makes) in
     subst AllUnfed (sym printed_is) (printed_unfed (heard_by b command) p taken some)
 
-pub does_unfed : (b x : BenchState) (n : ℕ) (command : Command) (out : List Line) → (command ≡ Notes → ⊥) → Does b n command out x → AllUnfed out
-does_unfed b x n (Client slot c) out is (seat, here, p, taken, makes, printed_is, clients, globals) =
+pub does_unfed : (b x : BenchState) (n : ℕ) (command : Command) (out : List Line) → (DoesForAll b Notes out x → AllUnfed out) → Does b n command out x → AllUnfed out
+does_unfed b x n (Client slot c) out notes (seat, here, p, taken, makes, printed_is, clients, globals) =
     let speaking = last_speaks seat.client (client_calls seat n c) (take_step seat.client ∷ []) makes.0 p taken b.server x.server (calls_stay seat n c) makes.1 makes.3 in
     subst AllUnfed (sym printed_is) (printed_unfed (seat.client ∷ []) p taken (speaks_tells p speaking))
-does_unfed b x n (Dispatch slots) out is (clients, are, count, mid, does, taken, takes, printed_is, kept, globals) =
+does_unfed b x n (Dispatch slots) out notes (clients, are, count, mid, does, taken, takes, printed_is, kept, globals) =
     subst AllUnfed (sym printed_is) (both (codes "dispatched ") (decimal count) refl (number count), records_unfed (all_clients b) taken)
-does_unfed b x n Insert out is does = quiet_unfed b x Insert out tt does
-does_unfed b x n (Create name version) out is does = quiet_unfed b x (Create name version) out tt does
-does_unfed b x n (Disable name) out is does = quiet_unfed b x (Disable name) out tt does
-does_unfed b x n (Remove name) out is does = quiet_unfed b x (Remove name) out tt does
-does_unfed b x n Flush out is does = quiet_unfed b x Flush out tt does
-does_unfed b x n Cleanup out is does = quiet_unfed b x Cleanup out tt does
-does_unfed b x n Notes out is does = absurd (is refl)
+does_unfed b x n Insert out notes does = quiet_unfed b x Insert out tt does
+does_unfed b x n (Create name version) out notes does = quiet_unfed b x (Create name version) out tt does
+does_unfed b x n (Disable name) out notes does = quiet_unfed b x (Disable name) out tt does
+does_unfed b x n (Remove name) out notes does = quiet_unfed b x (Remove name) out tt does
+does_unfed b x n Flush out notes does = quiet_unfed b x Flush out tt does
+does_unfed b x n Cleanup out notes does = quiet_unfed b x Cleanup out tt does
+does_unfed b x n Notes out notes does = notes does
 
 -- ---- records
 
@@ -274,22 +280,23 @@ abbrev pub LinesUnfed : List Recorded → Type 0
 LinesUnfed [] = ⊤
 LinesUnfed (t ∷ told) = Unfed t.line × LinesUnfed told
 
--- none of the commands takes notes
-abbrev pub NoneIsNotes : List Recorded → Type 0
-NoneIsNotes [] = ⊤
-NoneIsNotes (t ∷ told) = (IsLine Notes t.line → ⊥) × NoneIsNotes told
+line_unfed : (line : Line) → IsOneLine line → Unfed line
+line_unfed [] one = refl
+line_unfed (b ∷ line) one = byte_first b line (ne_eqb b 10 (All-head (λ (c : ℕ). c ≢ 10) b line one)) (line_unfed line (All-tail (λ (c : ℕ). c ≢ 10) b line one))
 
-quoted_unfed : (output : List Line) → AllUnfed output → AllUnfed (map quoted output)
+quoted_unfed : (output : List Line) → All IsOneLine output → AllUnfed (map quoted output)
 quoted_unfed [] all = tt
-quoted_unfed (line ∷ output) all = (byte_first 62 (32 ∷ line) refl (byte_first 32 line refl all.0), quoted_unfed output all.1)
+quoted_unfed (line ∷ output) all =
+    let first = line_unfed line (All-head IsOneLine line output all) in
+    (byte_first 62 (32 ∷ line) refl (byte_first 32 line refl first), quoted_unfed output (All-tail IsOneLine line output all))
 
-pub recording_unfed : (b x : BenchState) (told : List Recorded) → NoneIsNotes told → LinesUnfed told → Leads b told x → AllUnfed (recording_of told)
-recording_unfed b x [] none plain leads = tt
-recording_unfed b x (t ∷ told) none plain (command, is_line, mid, does, leads) =
+pub recording_unfed : (told : List Recorded) → All PrintsLines told → LinesUnfed told → AllUnfed (recording_of told)
+recording_unfed [] prints plain = tt
+recording_unfed (t ∷ told) prints plain =
     all_both (record_of t) (recording_of told) (
       both (decimal t.number) (32 ∷ t.line) (number t.number) (byte_first 32 t.line refl plain.0),
-      quoted_unfed t.answer (does_unfed b mid t.number command t.answer (λ is. none.0 (subst (λ (c : Command). IsLine c t.line) is is_line)) does),
-    ) (recording_unfed mid x told none.1 plain.1 leads)
+      quoted_unfed t.answer (All-head PrintsLines t told prints),
+    ) (recording_unfed told (All-tail PrintsLines t told prints) plain.1)
 
 -- ---- a text of lines
 

@@ -6,6 +6,7 @@ mod InputLines
 mod Lines
 mod Making
 pub mod OneCommand
+mod NoteLines
 pub mod Numbers
 mod OneOutcome
 mod Others

@@ -3,6 +3,7 @@ pub mod Apart
 pub mod Bench
 pub mod Commands
 pub mod Hex
+pub mod OneLine
 pub mod OneOutcome
 pub mod Record
 pub mod Rows

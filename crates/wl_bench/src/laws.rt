@@ -1,14 +1,21 @@
 //! What follows from the definition of a command alone. Each function has a law as its contract, and does nothing.
 
 ghost use Rattle.std.specs.Prelude.{◌≡◌, ℕ, List};
+ghost use Rattle.std.specs.List.{All};
 ghost use Rattle.wl_bench.specs.Answers.{Line};
 ghost use Rattle.wl_bench.specs.Apart.{StaysWith};
-ghost use Rattle.wl_bench.specs.Bench.{BenchState, Does};
+ghost use Rattle.wl_bench.specs.Bench.{BenchState, Does, new_bench};
+ghost use Rattle.wl_bench.specs.OneLine.{PrintsLines};
 ghost use Rattle.wl_bench.specs.OneOutcome.{LookSame, OfSameLines};
 ghost use Rattle.wl_bench.specs.Record.{Leads, Recorded};
+ghost use Rattle.wl_bench.specs.Table.{bench_rows};
 ghost use Rattle.wl_bench.specs.declared.command.Command.{Command};
 ghost use Rattle.wl_bench.specs.declared.command.ClientCommand.{ClientCommand as OfClient};
 ghost use Rattle.wl_bench.specs.declared.command.Command.TheVariants as command;
+
+use wl_link::Memory;
+use wl_server::ShownToAll;
+use wl_server::laws::each_error_in_a_note_has_a_cause;
 
 /// A command about one client concerns only that client. No line that it prints says what another client was sent. All that
 /// is held of another client is as before, also what it was sent and what waits for it.
@@ -16,6 +23,16 @@ pub fn a_command_about_one_client_stays_with_it()
     ensures { (before after : BenchState) (n slot : ℕ) (c : OfClient) (out : List Line) →
         Does before n (command.Client slot c) out after → StaysWith slot before out after }
 {}
+
+/// Each line that a command prints is one line: it has no line feed in it.
+///
+/// The commands are those of a run over the table of the program. The line of a note may have the name of an interface. That
+/// is the name of the display, since no command posts an error, or kills a client for one.
+pub fn each_line_that_is_printed_is_one_line()
+    ensures { (all : List Recorded) (after : BenchState) → Leads (new_bench bench_rows) all after → All PrintsLines all }
+{
+    each_error_in_a_note_has_a_cause::<Memory, u64, ShownToAll, ()>();
+}
 
 /// A command has one outcome.
 ///

@@ -10,7 +10,7 @@
 //! | which lines are commands | `command`, `words` | `Commands` |
 //! | what a command does, and what it prints | `bench`, `latest`, `table`, `answer` | `Bench`, `Table`, `Answers` |
 //! | runs and records | `commands`, `stop` | `Record` |
-//! | laws of commands | `laws` | `Apart`, `OneOutcome` |
+//! | laws of commands | `laws` | `Apart`, `OneLine`, `OneOutcome` |
 #![tactic(auto)]
 
 mod answer;
@@ -19,7 +19,7 @@ pub mod command;
 pub mod commands;
 pub mod hex;
 mod latest;
-mod laws;
+pub mod laws;
 pub mod stop;
 pub mod sync;
 mod table;

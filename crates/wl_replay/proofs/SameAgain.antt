@@ -1,20 +1,20 @@
 -- That a replay says "same" of what was recorded of the same commands.
 use Rattle.std.proofs.Common.{◌≡◌, ◌≢◌, ◌∙◌, ℕ, suc, ◌+◌, ◌<◌, ◌≤◌, List, [], ◌∷◌, ◌++◌, length, length-append, Some, Result, Ok, Err, refl, sym, ap, subst, arith}
+use Rattle.std.specs.List.{All}
 use Rattle.std.proofs.lemmas.List.{append_cancel_left}
 use Rattle.wl_server.specs.NoteOrder.{AllNumbered}
-use Rattle.wl_bench.specs.declared.command.Command.TheVariants.{Notes}
 use Rattle.wl_bench.specs.declared.commands.Form.TheVariants as form
 use Rattle.wl_bench.specs.declared.stop.Stop.{Stop}
 use Rattle.wl_bench.specs.declared.stop.Stop.TheVariants.{BadLine, Failed, Usage, Differs}
 use Rattle.wl_bench.specs.Answers.{Line}
 use Rattle.wl_bench.specs.Bench.{BenchState}
-use Rattle.wl_bench.specs.Commands.{IsLine}
+use Rattle.wl_bench.specs.OneLine.{PrintsLines}
 use Rattle.wl_bench.specs.OneOutcome.{OfSameLines}
 use Rattle.wl_bench.specs.Record.{AreOf, Leads, Recorded, Runs, lines, recording_of, text_of}
-use Rattle.wl_bench.proofs.Feeds.{AllUnfed, LinesUnfed, NoneIsNotes, Unfed, lines_text, lines_unfed, recording_unfed}
+use Rattle.wl_bench.proofs.Feeds.{AllUnfed, LinesUnfed, Unfed, lines_text, lines_unfed, recording_unfed}
 use Rattle.wl_replay.specs.declared.recording.Replayed.{Replayed}
 use Rattle.wl_replay.specs.declared.recording.Replayed.TheVariants as replayed
-use Rattle.wl_replay.specs.OneVerdict.{ComparesWith, DifferAtOnce, IsSameRecord, NoneTakesNotes}
+use Rattle.wl_replay.specs.OneVerdict.{ComparesWith, DifferAtOnce, IsSameRecord}
 use Rattle.wl_replay.specs.Replay.{Ascend, Replays}
 use Rattle.wl_replay.proofs.Compared.{compares}
 
@@ -29,14 +29,6 @@ rises last n ((b ∷ line) ∷ rest) (t ∷ told) low few are =
     let number = are.0 in
     (omega (arith, low, number), omega (arith, few, number), rises t.number (suc n) rest told (omega (arith, number)) (omega (arith, few)) are.2)
 
-settle : (n : ℕ) (all : List Line) (told : List Recorded) → NoneTakesNotes all → AreOf n all told → NoneIsNotes told
-settle n [] [] none are = tt
-settle n [] (t ∷ told) none are = absurd are
-settle n ([] ∷ rest) told none are = settle (suc n) rest told none.1 are
-settle n ((b ∷ line) ∷ rest) [] none are = absurd are
-settle n ((b ∷ line) ∷ rest) (t ∷ told) none are =
-    (λ (is : IsLine Notes t.line). none.0 (subst (λ (l : Line). IsLine Notes l) are.1 is), settle (suc n) rest told none.1 are.2)
-
 unfed : (n : ℕ) (all : List Line) (told : List Recorded) → AllUnfed all → AreOf n all told → LinesUnfed told
 unfed n [] [] plain are = tt
 unfed n [] (t ∷ told) plain are = absurd are
@@ -45,10 +37,6 @@ unfed n ((b ∷ line) ∷ rest) [] plain are = absurd are
 unfed n ((b ∷ line) ∷ rest) (t ∷ told) plain are = (subst Unfed (sym are.1) plain.0, unfed (suc n) rest told plain.1 are.2)
 
 -- what is said of lines is said of those at the front
-none_front : (front rest : List Line) → NoneTakesNotes (front ++ rest) → NoneTakesNotes front
-none_front [] rest none = tt
-none_front (line ∷ front) rest none = (none.0, none_front front rest none.1)
-
 unfed_front : (front rest : List Line) → AllUnfed (front ++ rest) → AllUnfed front
 unfed_front [] rest plain = tt
 unfed_front (line ∷ front) rest plain = (plain.0, unfed_front front rest plain.1)
@@ -74,27 +62,30 @@ same_verdict told (Err Failed) worked compared = absurd (worked refl)
 same_verdict told (Err Usage) worked compared = absurd compared
 same_verdict told (Err Differs) worked compared = absurd compared
 
+-- what commands print from here on is lines
+abbrev pub PrintLines : BenchState → Type 0
+PrintLines b = (told : List Recorded) (x : BenchState) → Leads b told x → All PrintsLines told
+
 -- the text of what these lines recorded
-recorded : (b x : BenchState) (all : List Line) (told : List Recorded) (text : List ℕ) (verdict : Result Replayed Stop) → AllNumbered b.server.clients → NoneTakesNotes all → AllUnfed all
+recorded : (b x : BenchState) (all : List Line) (told : List Recorded) (text : List ℕ) (verdict : Result Replayed Stop) → AllNumbered b.server.clients → PrintLines b → AllUnfed all
     → length all ≤ 4294967295 → AreOf 1 all told → Leads b told x → text ≡ text_of (recording_of told) → verdict ≢ Err Failed → Replays b (lines text) verdict
     → IsSameRecord text verdict
-recorded b x all told text verdict numbered none plain few are leads is worked replays =
-    let settled = settle 1 all told none are in
+recorded b x all told text verdict numbered prints plain few are leads is worked replays =
     let whole : lines text ≡ recording_of told
-    = ap lines is ∙ lines_text (recording_of told) (recording_unfed b x told settled (unfed 1 all told plain are) leads) in
+    = ap lines is ∙ lines_text (recording_of told) (recording_unfed told (prints told x leads) (unfed 1 all told plain are)) in
     let compared = compares b x told told (as_itself told) (rises 0 1 all told (omega arith) (omega (arith, few)) are) leads numbered verdict
     (subst (λ (l : List Line). Replays b l verdict) whole replays) in
     (told, is, same_verdict told verdict worked compared)
 
-pub same_again : (b : BenchState) (input text : List ℕ) (ended : Result (Unit {0}) Stop) (verdict : Result Replayed Stop) → AllNumbered b.server.clients → NoneTakesNotes (lines input)
+pub same_again : (b : BenchState) (input text : List ℕ) (ended : Result (Unit {0}) Stop) (verdict : Result Replayed Stop) → AllNumbered b.server.clients → PrintLines b
     → length (lines input) ≤ 4294967295 → ended ≢ Err Failed → Runs form.Record 1 b (lines input) ended (Some []) (Some text) → verdict ≢ Err Failed
     → Replays b (lines text) verdict → IsSameRecord text verdict
-same_again b input text (Ok u) verdict numbered none few ran (told, x, are, leads, appends) worked replays =
-    recorded b x (lines input) told text verdict numbered none (lines_unfed input) few are leads appends worked replays
-same_again b input text (Err (BadLine m)) verdict numbered none few ran (front, rest, line, told, x, is, m_is, are, leads, bad, appends) worked replays =
+same_again b input text (Ok u) verdict numbered prints few ran (told, x, are, leads, appends) worked replays =
+    recorded b x (lines input) told text verdict numbered prints (lines_unfed input) few are leads appends worked replays
+same_again b input text (Err (BadLine m)) verdict numbered prints few ran (front, rest, line, told, x, is, m_is, are, leads, bad, appends) worked replays =
     let long = ap length is ∙ length-append front (line ∷ rest) in
-    recorded b x front told text verdict numbered (none_front front (line ∷ rest) (subst NoneTakesNotes is none))
+    recorded b x front told text verdict numbered prints
     (unfed_front front (line ∷ rest) (subst AllUnfed is (lines_unfed input))) (omega (arith, few, long)) are leads appends worked replays
-same_again b input text (Err Failed) verdict numbered none few ran runs worked replays = absurd (ran refl)
-same_again b input text (Err Usage) verdict numbered none few ran runs worked replays = absurd runs
-same_again b input text (Err Differs) verdict numbered none few ran runs worked replays = absurd runs
+same_again b input text (Err Failed) verdict numbered prints few ran runs worked replays = absurd (ran refl)
+same_again b input text (Err Usage) verdict numbered prints few ran runs worked replays = absurd runs
+same_again b input text (Err Differs) verdict numbered prints few ran runs worked replays = absurd runs

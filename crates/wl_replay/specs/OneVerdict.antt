@@ -1,10 +1,8 @@
 -- That a recording has one verdict: it is compared with what its commands print today.
 use Rattle.std.specs.Prelude.{◌≡◌, ◌≢◌, ℕ, suc, List, [], ◌∷◌, ◌++◌, length, ⊤, Result, Ok, Err}
-use Rattle.wl_bench.specs.declared.command.Command.TheVariants.{Notes}
 use Rattle.wl_bench.specs.declared.stop.Stop.{Stop}
 use Rattle.wl_bench.specs.declared.stop.Stop.TheVariants.{BadLine, Failed, Usage, Differs}
 use Rattle.wl_bench.specs.Answers.{Line}
-use Rattle.wl_bench.specs.Commands.{IsLine}
 use Rattle.wl_bench.specs.Record.{Recorded, recording_of, text_of}
 use Rattle.wl_replay.specs.declared.recording.Replayed.{Replayed}
 use Rattle.wl_replay.specs.declared.recording.Replayed.TheVariants as replayed
@@ -30,11 +28,6 @@ ComparesWith all today (Err (BadLine place)) = ⊥
 ComparesWith all today (Err Failed) = ⊤
 ComparesWith all today (Err Usage) = ⊥
 ComparesWith all today (Err Differs) = ⊥
-
--- none of the lines is a command that takes notes
-abbrev pub NoneTakesNotes : List Line → Type 0
-NoneTakesNotes [] = ⊤
-NoneTakesNotes (line ∷ all) = (IsLine Notes line → ⊥) × NoneTakesNotes all
 
 -- The verdict is that the text is the same, and the record of so many commands.
 abbrev pub IsSameRecord : List ℕ → Result Replayed Stop → Type 0

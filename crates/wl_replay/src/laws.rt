@@ -10,9 +10,11 @@ ghost use Rattle.wl_bench.specs.Table.{bench_rows};
 ghost use Rattle.wl_bench.specs.declared.commands.Form.TheVariants as shape;
 ghost use Rattle.wl_bench.specs.declared.stop.Stop.{Stop};
 ghost use Rattle.wl_bench.specs.declared.stop.Stop.TheVariants.{Failed};
-ghost use Rattle.wl_replay.specs.OneVerdict.{ComparesWith, IsSameRecord, NoneTakesNotes};
+ghost use Rattle.wl_replay.specs.OneVerdict.{ComparesWith, IsSameRecord};
 ghost use Rattle.wl_replay.specs.Replay.{Ascend, Replays};
 ghost use Rattle.wl_replay.specs.declared.recording.Replayed.{Replayed};
+
+use wl_bench::laws::each_line_that_is_printed_is_one_line;
 
 /// A recording has one verdict: it is compared with what its commands print today.
 ///
@@ -31,12 +33,13 @@ pub fn a_recording_is_compared_with_today()
 /// A replay answers that a recording is the same, if `wl_bench::commands::record` wrote it.
 ///
 /// The record was written to a writer that held nothing, and both runs are over the table of the program. If the record
-/// ended at a bad line, this holds of what was written by then. The input has at most 4294967295 lines. None of them takes
-/// notes, since a note may tell the name of an interface, and a line feed in that name would end the line. Neither run fails:
+/// ended at a bad line, this holds of what was written by then. The input has at most 4294967295 lines. Neither run fails:
 /// memory is not refused, and the readers and writers do not fail.
 pub fn what_was_recorded_is_the_same_again()
     ensures { (input text : List ℕ) (ended : Result (Unit {0}) Stop) (verdict : Result Replayed Stop) →
-        NoneTakesNotes (lines input) → length (lines input) ≤ 4294967295 → ended ≢ Err Failed →
+        length (lines input) ≤ 4294967295 → ended ≢ Err Failed →
         Runs shape.Record 1 (new_bench bench_rows) (lines input) ended (Some []) (Some text) →
         verdict ≢ Err Failed → Replays (new_bench bench_rows) (lines text) verdict → IsSameRecord text verdict }
-{}
+{
+    each_line_that_is_printed_is_one_line();
+}

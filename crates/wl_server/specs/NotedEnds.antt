@@ -1,4 +1,5 @@
 -- Which objects the notes of a client tell of: those that ended.
+pub mod Errors
 use Rattle.std.specs.Prelude.{◌≡◌, List, ◌∷◌, ◌++◌, Contains, Ok}
 use Rattle.wl_server.specs.declared.notes.Happening.TheVariants.{Destroyed}
 use Rattle.wl_server.specs.declared.runs.step.Reply.{Reply}

@@ -50,6 +50,7 @@ ghost use Rattle.wl_server.specs.Killed.{EachStaysKilled};
 ghost use Rattle.wl_server.specs.Named.{EachKeepsNaming, EachNamesNoneAgain};
 ghost use Rattle.wl_server.specs.Logged.{EachLogIsSpelled};
 ghost use Rattle.wl_server.specs.NotedEnds.{EachNoteIsOfAnEnd, EndIsNotedAtOnce};
+ghost use Rattle.wl_server.specs.NotedEnds.Errors.{EachCallCausesItsErrors, EachErrorIsCaused};
 ghost use Rattle.wl_server.specs.NotedOnce.{CleanupNotesAll, EachIsNoted, FinishNotesAtOnce};
 ghost use Rattle.wl_server.specs.NoteOrder.Ordered.{EarlierNotesFirst};
 ghost use Rattle.wl_server.specs.Part.{Part};
@@ -237,6 +238,24 @@ pub fn each_object_that_leaves_is_noted_once<T: Transport, U, G: GlobalHandler<C
     ensures script_of_ends { (table : List InterfaceRow) (run : List (Entry Script U G C)) (after : ServerState Script U G C) →
         Leads (over_scripts G.views) (new_server table) run after → EachNoteIsOfAnEnd run after }
     ensures script_at_once { EndIsNotedAtOnce U (over_scripts {C = C} G.views) }
+{}
+
+/// The law of errors, over every transport: each error that a note tells of was given by the program, or is about the
+/// client's display.
+///
+/// The program gives an error with `post_error`, or as the reason of `kill_client`. Else a reading found that the client
+/// broke the protocol. Then the error is about the client's display, and the interface in it is the display's.
+///
+/// Take the notes of a client that are not handed out yet, also those that wait. If one tells after a call that the client
+/// was killed for an error, one told so before the call, or the call may kill the client for that error (clause `call`).
+/// So in each run of a new server some call may have killed the client for it (clause `run`).
+pub fn each_error_in_a_note_has_a_cause<T: Transport, U, G: GlobalHandler<C>, C>()
+    ensures call { EachCallCausesItsErrors U (over {C = C} T.sends T.receives G.views) }
+    ensures run { (table : List InterfaceRow) (run : List (Entry T U G C)) (after : ServerState T U G C) →
+        Leads (over T.sends T.receives G.views) (new_server table) run after → EachErrorIsCaused table run after }
+    ensures script_call { EachCallCausesItsErrors U (over_scripts {C = C} G.views) }
+    ensures script { (table : List InterfaceRow) (run : List (Entry Script U G C)) (after : ServerState Script U G C) →
+        Leads (over_scripts G.views) (new_server table) run after → EachErrorIsCaused table run after }
 {}
 
 /// The law of the order of notes, over every transport: what happened earlier is handed out earlier.

@@ -33,10 +33,10 @@
 //! The laws of runs are the contracts of the functions of [`laws`]. A *run* is a list of calls, one after another. The
 //! words of each law stand in a file of `specs/`: `Runs` (each client is alone), `Identified` (ids), `Logged` (what was
 //! sent), `Announced` (globals), `NotedOnce` (notes), `Killed` (killed clients), `GivenOnce` (ids of clients and globals),
-//! `Accounts` (these seven, of one history), `Named` (what any id names), `NotedEnds` (which objects notes tell of),
-//! `NoteOrder` with its folder (in which order notes come), `Cutting` and `Stretches` (it does not matter how the bytes
-//! are cut into receives), `Outcome` with its folder (there is one outcome), `Bounded` (how often is received),
-//! `ReadingEnds` (why a reading ends). That a message always has room in the buffer (`Room`) is a clause of
+//! `Accounts` (these seven, of one history), `Named` (what any id names), `NotedEnds` with its folder (which objects and
+//! errors notes tell of), `NoteOrder` with its folder (in which order notes come), `Cutting` and `Stretches` (it does not
+//! matter how the bytes are cut into receives), `Outcome` with its folder (there is one outcome), `Bounded` (how often is
+//! received), `ReadingEnds` (why a reading ends). That a message always has room in the buffer (`Room`) is a clause of
 //! `next_action` itself.
 #![tactic(auto)]
 

@@ -4,3 +4,4 @@ pub mod NotedSoon
 pub mod NotedEnds
 pub mod PlacesInOrder
 pub mod NotesInOrder
+pub mod ErrorLaws

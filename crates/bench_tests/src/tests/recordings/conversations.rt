@@ -13,7 +13,7 @@ struct Conversation {
 }
 
 /// The conversations.
-static CONVERSATIONS: [Conversation; 2] = [
+static CONVERSATIONS: [Conversation; 3] = [
     // A client gets its registry, binds a global, and destroys what it bound.
     Conversation {
         name: "bound object",
@@ -65,6 +65,27 @@ notes
 > destroyed 0 3 9
 ",
         verdict: "same 14\n",
+    },
+    // A client breaks the protocol: its note names an interface.
+    Conversation {
+        name: "an error in a note",
+        lines: b"client
+in 0 0100000000000c0005000000 -
+read 0
+notes
+",
+        recording: "1 client
+> client 0 1
+2 in 0 0100000000000c0005000000 -
+> ok
+3 read 0
+> fault Pipe
+> out 0 0100000000002800010000000000000013000000496e76616c6964206e65775f69643a20352e0000 -
+4 notes
+> initialized 0
+> disconnected 0 error 0 1 wl_display 496e76616c6964206e65775f69643a20352e
+",
+        verdict: "same 4\n",
     },
     // A transport that takes a byte, then would block, and then fails to receive.
     Conversation {
