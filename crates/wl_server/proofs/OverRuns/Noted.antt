@@ -4,3 +4,5 @@ pub mod NotedSoon
 pub mod NotedEnds
 pub mod PlacesInOrder
 pub mod NotesInOrder
+pub mod WaitingPlaces
+pub mod WaitingInOrder
