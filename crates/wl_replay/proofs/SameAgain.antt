@@ -1,7 +1,6 @@
 -- That a replay says "same" of what was recorded of the same commands.
 use Rattle.std.proofs.Common.{◌≡◌, ◌≢◌, ◌∙◌, ℕ, suc, ◌+◌, ◌<◌, ◌≤◌, List, [], ◌∷◌, ◌++◌, length, length-append, Some, Result, Ok, Err, refl, sym, ap, subst, arith}
 use Rattle.std.proofs.lemmas.List.{append_cancel_left}
-use Rattle.wl_server.specs.NoteOrder.{AllNumbered}
 use Rattle.wl_bench.specs.declared.command.Command.TheVariants.{Notes}
 use Rattle.wl_bench.specs.declared.commands.Form.TheVariants as form
 use Rattle.wl_bench.specs.declared.stop.Stop.{Stop}
@@ -75,26 +74,26 @@ same_verdict told (Err Usage) worked compared = absurd compared
 same_verdict told (Err Differs) worked compared = absurd compared
 
 -- the text of what these lines recorded
-recorded : (b x : BenchState) (all : List Line) (told : List Recorded) (text : List ℕ) (verdict : Result Replayed Stop) → AllNumbered b.server.clients → NoneTakesNotes all → AllUnfed all
+recorded : (b x : BenchState) (all : List Line) (told : List Recorded) (text : List ℕ) (verdict : Result Replayed Stop) → NoneTakesNotes all → AllUnfed all
     → length all ≤ 4294967295 → AreOf 1 all told → Leads b told x → text ≡ text_of (recording_of told) → verdict ≢ Err Failed → Replays b (lines text) verdict
     → IsSameRecord text verdict
-recorded b x all told text verdict numbered none plain few are leads is worked replays =
+recorded b x all told text verdict none plain few are leads is worked replays =
     let settled = settle 1 all told none are in
     let whole : lines text ≡ recording_of told
     = ap lines is ∙ lines_text (recording_of told) (recording_unfed b x told settled (unfed 1 all told plain are) leads) in
-    let compared = compares b x told told (as_itself told) (rises 0 1 all told (omega arith) (omega (arith, few)) are) leads numbered verdict
+    let compared = compares b x told told (as_itself told) (rises 0 1 all told (omega arith) (omega (arith, few)) are) leads verdict
     (subst (λ (l : List Line). Replays b l verdict) whole replays) in
     (told, is, same_verdict told verdict worked compared)
 
-pub same_again : (b : BenchState) (input text : List ℕ) (ended : Result (Unit {0}) Stop) (verdict : Result Replayed Stop) → AllNumbered b.server.clients → NoneTakesNotes (lines input)
+pub same_again : (b : BenchState) (input text : List ℕ) (ended : Result (Unit {0}) Stop) (verdict : Result Replayed Stop) → NoneTakesNotes (lines input)
     → length (lines input) ≤ 4294967295 → ended ≢ Err Failed → Runs form.Record 1 b (lines input) ended (Some []) (Some text) → verdict ≢ Err Failed
     → Replays b (lines text) verdict → IsSameRecord text verdict
-same_again b input text (Ok u) verdict numbered none few ran (told, x, are, leads, appends) worked replays =
-    recorded b x (lines input) told text verdict numbered none (lines_unfed input) few are leads appends worked replays
-same_again b input text (Err (BadLine m)) verdict numbered none few ran (front, rest, line, told, x, is, m_is, are, leads, bad, appends) worked replays =
+same_again b input text (Ok u) verdict none few ran (told, x, are, leads, appends) worked replays =
+    recorded b x (lines input) told text verdict none (lines_unfed input) few are leads appends worked replays
+same_again b input text (Err (BadLine m)) verdict none few ran (front, rest, line, told, x, is, m_is, are, leads, bad, appends) worked replays =
     let long = ap length is ∙ length-append front (line ∷ rest) in
-    recorded b x front told text verdict numbered (none_front front (line ∷ rest) (subst NoneTakesNotes is none))
+    recorded b x front told text verdict (none_front front (line ∷ rest) (subst NoneTakesNotes is none))
     (unfed_front front (line ∷ rest) (subst AllUnfed is (lines_unfed input))) (omega (arith, few, long)) are leads appends worked replays
-same_again b input text (Err Failed) verdict numbered none few ran runs worked replays = absurd (ran refl)
-same_again b input text (Err Usage) verdict numbered none few ran runs worked replays = absurd runs
-same_again b input text (Err Differs) verdict numbered none few ran runs worked replays = absurd runs
+same_again b input text (Err Failed) verdict none few ran runs worked replays = absurd (ran refl)
+same_again b input text (Err Usage) verdict none few ran runs worked replays = absurd runs
+same_again b input text (Err Differs) verdict none few ran runs worked replays = absurd runs
