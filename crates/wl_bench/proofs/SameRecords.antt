@@ -25,7 +25,7 @@ use Rattle.wl_bench.specs.declared.command.Command.TheVariants.{Insert, Client, 
 use Rattle.wl_bench.specs.Answers.{Line}
 use Rattle.wl_bench.specs.Bench.{BenchReply, BenchServer, BenchState, BenchStep, Does, DoesDispatch, DoesFor, DoesForAll, Makes, accept_step, bench_world, client_calls}
 use Rattle.wl_bench.specs.Commands.{AskSame, AskSameOfClient, IsLine}
-use Rattle.wl_bench.specs.OneOutcome.{LookSame, OfSameLines}
+use Rattle.wl_bench.specs.OneOutcome.{AreSettled, LookSame, OfSameLines}
 use Rattle.wl_bench.specs.Record.{Leads, Recorded}
 use Rattle.wl_bench.proofs.OneCommand.{one_of_line}
 use Rattle.wl_bench.proofs.OneOutcome.{command_one, create_call}
@@ -137,16 +137,21 @@ recorded_same t u number line answer =
     ∙ (ap (λ (l : Line). let r : Recorded = record { number = u.number; line = l; answer = t.answer } in r) line
     ∙ ap (λ (a : List Line). let r : Recorded = record { number = u.number; line = u.line; answer = a } in r) answer)
 
-pub records_one : (a b x y : BenchState) (all all' : List Recorded) → LookSame a b → OfSameLines all all' → Leads a all x → Leads b all' y
-    → (all ≡ all') × LookSame x y
-records_one a b x y [] [] look same leads leads' =
-    (refl, subst (λ (z : BenchState). LookSame z y) (sym leads) (subst (λ (z : BenchState). LookSame a z) (sym leads') look))
-records_one a b x y [] (u ∷ all') look same leads leads' = absurd same
-records_one a b x y (t ∷ all) [] look same leads leads' = absurd same
-records_one a b x y (t ∷ all) (u ∷ all') look same (c, line, mid, does, leads) (d, line', mid', does', leads') =
+pub records_one : (ordered : Bool) (a b x y : BenchState) (all all' : List Recorded) → LookSame ordered a b → AreSettled ordered all → OfSameLines all all'
+    → Leads a all x → Leads b all' y → (all ≡ all') × LookSame ordered x y
+records_one ordered a b x y [] [] look settled same leads leads' =
+    (refl, subst (λ (z : BenchState). LookSame ordered z y) (sym leads) (subst (λ (z : BenchState). LookSame ordered a z) (sym leads') look))
+records_one ordered a b x y [] (u ∷ all') look settled same leads leads' = absurd same
+records_one ordered a b x y (t ∷ all) [] look settled same leads leads' = absurd same
+records_one ordered a b x y (t ∷ all) (u ∷ all') look settled same (c, line, mid, does, leads) (d, line', mid', does', leads') =
     let ask = one_of_line t.line c d line (subst (λ (l : Line). IsLine d l) (sym same.1) line') in
     let other : Does b t.number c u.answer mid' = subst (λ (m : ℕ). Does b m c u.answer mid') (sym same.0) (does_as b mid' u.number c d u.answer ask does') in
-    let one = command_one a b mid mid' t.number c t.answer u.answer look does other in
-    let rest = records_one mid mid' x y all all' one.1 same.2 leads leads' in
-    let first = recorded_same t u same.0 same.1 one.0 in
+    let one = command_one ordered a b mid mid' t.number c t.answer u.answer look does other in
+    let rest = records_one ordered mid mid' x y all all' one.1 settled.1 same.2 leads leads' in
+    let first = recorded_same t u same.0 same.1 (one.0.0 (settled.0 c line)) in
     (ap (λ (r : Recorded). r ∷ all) first ∙ ap (λ (l : List Recorded). u ∷ l) rest.0, rest.1)
+
+-- where the order of notes counts, each line has one answer
+pub all_settled : (all : List Recorded) → AreSettled true all
+all_settled [] = tt
+all_settled (t ∷ all) = (λ c line is. refl, all_settled all)

@@ -1,12 +1,12 @@
 //! What follows from the definition of a command alone. Each function has a law as its contract, and does nothing.
 
-ghost use Rattle.std.specs.Prelude.{◌≡◌, ℕ, List};
+ghost use Rattle.std.specs.Prelude.{◌≡◌, ℕ, Bool, List};
 ghost use Rattle.std.specs.List.{All};
 ghost use Rattle.wl_bench.specs.Answers.{Line};
 ghost use Rattle.wl_bench.specs.Apart.{StaysWith};
 ghost use Rattle.wl_bench.specs.Bench.{BenchState, Does, new_bench};
 ghost use Rattle.wl_bench.specs.OneLine.{PrintsLines};
-ghost use Rattle.wl_bench.specs.OneOutcome.{LookSame, OfSameLines};
+ghost use Rattle.wl_bench.specs.OneOutcome.{AreSettled, LookSame, OfSameLines, PrintSame};
 ghost use Rattle.wl_bench.specs.Record.{Leads, Recorded};
 ghost use Rattle.wl_bench.specs.Table.{bench_rows};
 ghost use Rattle.wl_bench.specs.declared.command.Command.{Command};
@@ -37,18 +37,20 @@ pub fn each_line_that_is_printed_is_one_line()
 /// A command has one outcome.
 ///
 /// Take two benches that look the same, and carry the same command out in each, under the same number. Both print the same
-/// lines, and the benches look the same afterwards.
+/// lines, and the benches look the same afterwards. If the order of the notes of different clients is left out (`ordered` is
+/// `false`), these notes alone may be printed in another order.
 pub fn a_command_has_one_outcome()
-    ensures { (first second after after_second : BenchState) (n : ℕ) (c : Command) (out out_second : List Line) →
-        LookSame first second → Does first n c out after → Does second n c out_second after_second →
-        (out ≡ out_second) × LookSame after after_second }
+    ensures { (ordered : Bool) (first second after after_second : BenchState) (n : ℕ) (c : Command) (out out_second : List Line) →
+        LookSame ordered first second → Does first n c out after → Does second n c out_second after_second →
+        PrintSame ordered c out out_second × LookSame ordered after after_second }
 {}
 
 /// Two records of the same lines, under the same numbers, are the same.
 ///
-/// The benches look the same before: both are new, say. They look the same afterwards.
+/// The benches look the same before: both are new, say. They look the same afterwards. If the order of the notes of different
+/// clients is left out (`ordered` is `false`), this holds if none of the lines asks for notes.
 pub fn two_records_of_the_same_commands_are_the_same()
-    ensures { (first second after after_second : BenchState) (all all_second : List Recorded) →
-        LookSame first second → OfSameLines all all_second → Leads first all after → Leads second all_second after_second →
-        (all ≡ all_second) × LookSame after after_second }
+    ensures { (ordered : Bool) (first second after after_second : BenchState) (all all_second : List Recorded) →
+        LookSame ordered first second → AreSettled ordered all → OfSameLines all all_second → Leads first all after →
+        Leads second all_second after_second → (all ≡ all_second) × LookSame ordered after after_second }
 {}

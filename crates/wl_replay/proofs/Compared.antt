@@ -1,5 +1,5 @@
 -- That a recording is compared with what its commands print today.
-use Rattle.std.proofs.Common.{◌≡◌, ◌≢◌, ◌∙◌, ℕ, zero, suc, ◌<◌, ◌≤◌, List, [], ◌∷◌, ◌++◌, length, map, get_or, append_assoc, append-nil, None, Some, is_some, Result, Ok, Err, refl, sym, ap, subst, arith, true≢false}
+use Rattle.std.proofs.Common.{◌≡◌, ◌≢◌, ◌∙◌, ℕ, zero, suc, ◌<◌, ◌≤◌, Bool, true, List, [], ◌∷◌, ◌++◌, length, map, get_or, append_assoc, append-nil, None, Some, is_some, Result, Ok, Err, refl, sym, ap, subst, arith, true≢false}
 use Rattle.std.specs.Prelude.{⊤, ◌⊎◌, option_map}
 use Rattle.std.specs.Fmt.{decimal}
 use Rattle.std.proofs.lemmas.Fmt.{decimal_injective, decimal_nonempty, digits_decimal}
@@ -7,7 +7,6 @@ use Rattle.std.proofs.lemmas.Grind.{flat_map-append}
 use Rattle.std.proofs.lemmas.Str.Parse.{digit_at}
 use mathlib.Core.Logic.{inl, inr}
 use Rattle.wl_server.specs.Ids.{ClientParts}
-use Rattle.wl_server.specs.NoteOrder.{AllNumbered}
 use Rattle.wl_bench.specs.declared.command.Command.{Command}
 use Rattle.wl_bench.specs.declared.command.Command.TheVariants.{Insert, Client, Dispatch, Create, Disable, Remove, Flush, Cleanup, Notes}
 use Rattle.wl_bench.specs.declared.stop.Stop.{Stop}
@@ -17,7 +16,7 @@ use Rattle.wl_bench.specs.Bench.{BenchState, Does, NamesNone, client_at, client_
 use Rattle.wl_bench.specs.OneOutcome.{LookSame, OfSameLines}
 use Rattle.wl_bench.specs.Record.{Leads, Recorded, command_line, quoted, record_of, recording_of}
 use Rattle.wl_bench.proofs.Numbers.{own}
-use Rattle.wl_bench.proofs.SameRecords.{records_one}
+use Rattle.wl_bench.proofs.SameRecords.{all_settled, records_one}
 use Rattle.wl_replay.specs.declared.recording.Replayed.{Replayed}
 use Rattle.wl_replay.specs.declared.recording.Replayed.TheVariants as replayed
 use Rattle.wl_replay.specs.OneVerdict.{ComparesWith, DifferAtOnce}
@@ -131,7 +130,7 @@ record Stands (x y : BenchState) (claimed told run : List Recorded) (missing res
   later : List Recorded
   mid : BenchState
   are : told ≡ run ++ later
-  look : LookSame mid y
+  look : LookSame true mid y
   leads : Leads mid later x
   left : missing ≡ [] → IsPlainStart rest → (cs : List Recorded) × (rest ≡ recording_of cs) × OfSameLines cs later
 
@@ -148,16 +147,16 @@ stands_more x y c t u claimed told run missing rest same s = record {
 }
 
 -- two commands of one line look the same, and print the same
-heads : (a b mid mid' : BenchState) (c t u : Recorded) → LookSame a b → c.number ≡ t.number → c.line ≡ t.line → t.number ≤ 4294967295 → u.number ≤ 4294967295
-    → command_line c ≡ command_line u → Leads a (t ∷ []) mid → Leads b (u ∷ []) mid' → (t ≡ u) × LookSame mid mid'
+heads : (a b mid mid' : BenchState) (c t u : Recorded) → LookSame true a b → c.number ≡ t.number → c.line ≡ t.line → t.number ≤ 4294967295 → u.number ≤ 4294967295
+    → command_line c ≡ command_line u → Leads a (t ∷ []) mid → Leads b (u ∷ []) mid' → (t ≡ u) × LookSame true mid mid'
 heads a b mid mid' c t u look number line few few' same leads leads' =
     let parts = same_command c u (omega (arith, number, few)) few' same in
-    let one = records_one a b mid mid' (t ∷ []) (u ∷ []) look (sym number ∙ parts.0, sym line ∙ parts.1, tt) leads leads' in
+    let one = records_one true a b mid mid' (t ∷ []) (u ∷ []) look (all_settled (t ∷ [])) (sym number ∙ parts.0, sym line ∙ parts.1, tt) leads leads' in
     let all = one.0 in
     (cc, one.1)
 
 -- it was the last command of the replay
-stands_last : (x y mid mid' : BenchState) (c t u : Recorded) (claimed told : List Recorded) (front missing rest : List Line) → t ≡ u → LookSame mid mid' → y ≡ mid'
+stands_last : (x y mid mid' : BenchState) (c t u : Recorded) (claimed told : List Recorded) (front missing rest : List Line) → t ≡ u → LookSame true mid mid' → y ≡ mid'
     → OfSameLines claimed told → Leads mid told x → IsPlainStart (recording_of claimed) → map quoted u.answer ++ [] ≡ front ++ map quoted missing
     → map quoted c.answer ++ recording_of claimed ≡ front ++ rest → Stands x y (c ∷ claimed) (t ∷ told) (u ∷ []) missing rest
 stands_last x y mid mid' c t u claimed told front missing rest here look is same leads starts at_end all =
@@ -166,7 +165,7 @@ stands_last x y mid mid' c t u claimed told front missing rest here look is same
       later = told;
       mid = mid;
       are = refl;
-      look = subst (λ (z : BenchState). LookSame mid z) (sym is) look;
+      look = subst (λ (z : BenchState). LookSame true mid z) (sym is) look;
       leads = leads;
       left = λ found plain.
           let whole = sym (append-nil (map quoted u.answer)) ∙ at_end ∙ ap (λ (m : List Line). front ++ map quoted m) found ∙ append-nil front in
@@ -199,14 +198,14 @@ stands_next x y c t u v claimed told run front missing rest here few starts at_e
     go (inl (f, is, left)) = more f is left
     go (inr (p, is, left)) = absurd (no_command p missing v (map quoted v.answer ++ recording_of run) few (sym left))
 
-stands : (last : ℕ) (a b x y : BenchState) (claimed told run : List Recorded) (front missing rest : List Line) → LookSame a b → OfSameLines claimed told → Ascend last told
+stands : (last : ℕ) (a b x y : BenchState) (claimed told run : List Recorded) (front missing rest : List Line) → LookSame true a b → OfSameLines claimed told → Ascend last told
     → Ascend last run → Leads a told x → Leads b run y → recording_of run ≡ front ++ map quoted missing → recording_of claimed ≡ front ++ rest
     → Stands x y claimed told run missing rest
 stands last a b x y claimed told [] [] missing rest look same up up' leads leads' is claimed_is = record {
   later = told;
   mid = a;
   are = refl;
-  look = subst (λ (z : BenchState). LookSame a z) (sym leads') look;
+  look = subst (λ (z : BenchState). LookSame true a z) (sym leads') look;
   leads = leads;
   left = λ none plain. (claimed, sym claimed_is, same);
 }
@@ -241,16 +240,11 @@ stands last a b x y (c ∷ claimed) (t ∷ told) (u ∷ v ∷ run) (line ∷ fro
 
 -- ---- the verdict
 
-look_self : (b : BenchState) → AllNumbered b.server.clients → LookSame b b
-look_self b numbered = record {
+look_self : (b : BenchState) → LookSame true b b
+look_self b = record {
   server = record {
-    offer = refl;
-    last = refl;
-    each = λ (id : ClientParts). refl;
-    notes = refl;
-    numbers = refl;
-    times = λ slot. refl;
-    numbered = (numbered, numbered);
+    held = record { offer = refl; last = refl; each = λ (id : ClientParts). refl };
+    order = λ counts. record { notes = refl; numbers = refl; times = λ slot. refl };
   };
   clients = refl;
   globals = refl;
@@ -295,14 +289,14 @@ go_off [] (line ∷ rest) last [] up off = tt
 go_off [] (line ∷ rest) last (t ∷ later) up off = λ (same : line ≡ command_line t). not_output t off.0 up.1 (sym off.1 ∙ same)
 go_off (output ∷ missing) (line ∷ rest) last later up off = off
 
-module _ (b x : BenchState) (claimed told : List Recorded) (same : OfSameLines claimed told) (up : Ascend 0 told) (leads : Leads b told x) (numbered : AllNumbered b.server.clients) where
+module _ (b x : BenchState) (claimed told : List Recorded) (same : OfSameLines claimed told) (up : Ascend 0 told) (leads : Leads b told x) where
   abbrev StandsAt : BenchState → List Recorded → List Line → List Line → Type 0
   StandsAt y run missing rest = Stands x y claimed told run missing rest
 
   stands_at : (y : BenchState) (run : List Recorded) (front missing rest : List Line) → IsRecord b front run missing y → recording_of claimed ≡ front ++ rest
       → StandsAt y run missing rest
   stands_at y run front missing rest (recorded, up', leads') is =
-      stands 0 b b x y claimed told run front missing rest (look_self b numbered) same up up' leads leads' recorded is
+      stands 0 b b x y claimed told run front missing rest (look_self b) same up up' leads leads' recorded is
 
   -- the record of today, of which the replay has come to these lines
   today : (y : BenchState) (run : List Recorded) (front missing rest : List Line) → recording_of run ≡ front ++ map quoted missing → (s : StandsAt y run missing rest)
@@ -318,7 +312,7 @@ module _ (b x : BenchState) (claimed told : List Recorded) (same : OfSameLines c
   all_found run (c ∷ cs) later y are left same = let n = ap length left in absurd (omega (arith, n))
 
   -- the line is a command
-  is_command : (y mid : BenchState) (run cs later : List Recorded) (line : Line) (rest : List Line) → told ≡ run ++ later → LookSame mid y → Leads mid later x
+  is_command : (y mid : BenchState) (run cs later : List Recorded) (line : Line) (rest : List Line) → told ≡ run ++ later → LookSame true mid y → Leads mid later x
       → line ∷ rest ≡ recording_of cs → OfSameLines cs later → IsNoCommand (last_number 0 run) y line → ⊥
   is_command y mid run [] later line rest are look leads is same none = let n = ap length is in omega (arith, n)
   is_command y mid run (c ∷ cs) [] line rest are look leads is same none = same

@@ -2,7 +2,6 @@
 use Rattle.std.proofs.Common.{◌≡◌, ◌≢◌, ◌∙◌, ℕ, suc, ◌+◌, ◌<◌, ◌≤◌, List, [], ◌∷◌, ◌++◌, length, length-append, Some, Result, Ok, Err, refl, sym, ap, subst, arith}
 use Rattle.std.specs.List.{All}
 use Rattle.std.proofs.lemmas.List.{append_cancel_left}
-use Rattle.wl_server.specs.NoteOrder.{AllNumbered}
 use Rattle.wl_bench.specs.declared.commands.Form.TheVariants as form
 use Rattle.wl_bench.specs.declared.stop.Stop.{Stop}
 use Rattle.wl_bench.specs.declared.stop.Stop.TheVariants.{BadLine, Failed, Usage, Differs}
@@ -67,25 +66,25 @@ abbrev pub PrintLines : BenchState → Type 0
 PrintLines b = (told : List Recorded) (x : BenchState) → Leads b told x → All PrintsLines told
 
 -- the text of what these lines recorded
-recorded : (b x : BenchState) (all : List Line) (told : List Recorded) (text : List ℕ) (verdict : Result Replayed Stop) → AllNumbered b.server.clients → PrintLines b → AllUnfed all
+recorded : (b x : BenchState) (all : List Line) (told : List Recorded) (text : List ℕ) (verdict : Result Replayed Stop) → PrintLines b → AllUnfed all
     → length all ≤ 4294967295 → AreOf 1 all told → Leads b told x → text ≡ text_of (recording_of told) → verdict ≢ Err Failed → Replays b (lines text) verdict
     → IsSameRecord text verdict
-recorded b x all told text verdict numbered prints plain few are leads is worked replays =
+recorded b x all told text verdict prints plain few are leads is worked replays =
     let whole : lines text ≡ recording_of told
     = ap lines is ∙ lines_text (recording_of told) (recording_unfed told (prints told x leads) (unfed 1 all told plain are)) in
-    let compared = compares b x told told (as_itself told) (rises 0 1 all told (omega arith) (omega (arith, few)) are) leads numbered verdict
+    let compared = compares b x told told (as_itself told) (rises 0 1 all told (omega arith) (omega (arith, few)) are) leads verdict
     (subst (λ (l : List Line). Replays b l verdict) whole replays) in
     (told, is, same_verdict told verdict worked compared)
 
-pub same_again : (b : BenchState) (input text : List ℕ) (ended : Result (Unit {0}) Stop) (verdict : Result Replayed Stop) → AllNumbered b.server.clients → PrintLines b
+pub same_again : (b : BenchState) (input text : List ℕ) (ended : Result (Unit {0}) Stop) (verdict : Result Replayed Stop) → PrintLines b
     → length (lines input) ≤ 4294967295 → ended ≢ Err Failed → Runs form.Record 1 b (lines input) ended (Some []) (Some text) → verdict ≢ Err Failed
     → Replays b (lines text) verdict → IsSameRecord text verdict
-same_again b input text (Ok u) verdict numbered prints few ran (told, x, are, leads, appends) worked replays =
-    recorded b x (lines input) told text verdict numbered prints (lines_unfed input) few are leads appends worked replays
-same_again b input text (Err (BadLine m)) verdict numbered prints few ran (front, rest, line, told, x, is, m_is, are, leads, bad, appends) worked replays =
+same_again b input text (Ok u) verdict prints few ran (told, x, are, leads, appends) worked replays =
+    recorded b x (lines input) told text verdict prints (lines_unfed input) few are leads appends worked replays
+same_again b input text (Err (BadLine m)) verdict prints few ran (front, rest, line, told, x, is, m_is, are, leads, bad, appends) worked replays =
     let long = ap length is ∙ length-append front (line ∷ rest) in
-    recorded b x front told text verdict numbered prints
+    recorded b x front told text verdict prints
     (unfed_front front (line ∷ rest) (subst AllUnfed is (lines_unfed input))) (omega (arith, few, long)) are leads appends worked replays
-same_again b input text (Err Failed) verdict numbered prints few ran runs worked replays = absurd (ran refl)
-same_again b input text (Err Usage) verdict numbered prints few ran runs worked replays = absurd runs
-same_again b input text (Err Differs) verdict numbered prints few ran runs worked replays = absurd runs
+same_again b input text (Err Failed) verdict prints few ran runs worked replays = absurd (ran refl)
+same_again b input text (Err Usage) verdict prints few ran runs worked replays = absurd runs
+same_again b input text (Err Differs) verdict prints few ran runs worked replays = absurd runs

@@ -2,7 +2,6 @@
 //! nothing.
 
 ghost use Rattle.std.specs.Prelude.{◌≢◌, ◌≤◌, ℕ, List, [], Err, Result, Some, length};
-ghost use Rattle.wl_server.specs.NoteOrder.{AllNumbered};
 ghost use Rattle.wl_bench.specs.Bench.{BenchState, new_bench};
 ghost use Rattle.wl_bench.specs.OneOutcome.{OfSameLines};
 ghost use Rattle.wl_bench.specs.Record.{Leads, Recorded, Runs, lines, recording_of};
@@ -22,11 +21,9 @@ use wl_bench::laws::each_line_that_is_printed_is_one_line;
 /// may have printed something else. A replay over a server in the same state answers that both are the same, if they are,
 /// and else which line is the first that differs. It does not call a line bad. It may fail, for want of memory or because
 /// its reader failed.
-///
-/// In the state before, each note that is kept with a client has a number, as in each state that commands lead to.
 pub fn a_recording_is_compared_with_today()
     ensures { (before after : BenchState) (claimed today : List Recorded) (verdict : Result Replayed Stop) →
-        AllNumbered before.server.clients → OfSameLines claimed today → Ascend 0 today → Leads before today after →
+        OfSameLines claimed today → Ascend 0 today → Leads before today after →
         Replays before (recording_of claimed) verdict → ComparesWith (recording_of claimed) today verdict }
 {}
 

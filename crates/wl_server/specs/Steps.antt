@@ -130,16 +130,17 @@ module _ {T U G C : Type 0} where
 -- ---- the order of notes
 
 -- What was gathered stays. The notes that are made, or wait, get numbers of their own, which are the next ones, client after client.
+-- Each note that is kept with its client has a number afterwards.
 pub record MakesNotes {T U G C : Type 0} (before after : ServerState T U G C) : Type 0 where
   pub gathered : after.notes ≡ before.notes
   pub times : AllInTime (map times_of before.clients) before.numbers (map times_of after.clients) after.numbers
-  pub numbered : AllNumbered before.clients → AllNumbered after.clients
+  pub numbered : AllNumbered after.clients
 
 -- the notes that were made come behind those that were gathered, in order of time, and are handed out
 pub record HandsOutNotes {T U G C : Type 0} (before : ServerState T U G C) (out : List (Note U)) (after : ServerState T U G C) : Type 0 where
   pub in_order : IsInOrder false before.clients before.notes out
   pub none : after.notes ≡ []
-  pub numbered : AllNumbered before.clients → AllNumbered after.clients
+  pub numbered : AllNumbered after.clients
   pub first : AllTakeFirst (map times_of before.clients) (map times_of after.clients)
   pub numbers : after.numbers ≡ before.numbers
 
@@ -154,7 +155,7 @@ pub record GathersNotes {T U G C : Type 0} (before after : ServerState T U G C) 
   pub first : AllTakeFirst (map times_of before.clients) (map times_of after.clients)
   pub none_left : (id : ClientParts) → option_map_or (λ s. s.made) (client_at id after.clients) [] ≡ []
   pub none_waits : NoneWaits (map times_of after.clients)
-  pub numbered : AllNumbered before.clients → AllNumbered after.clients
+  pub numbered : AllNumbered after.clients
   pub numbers : after.numbers ≡ record before.numbers { waiting = 0 }
 
 module _ {T U G C : Type 0} where

@@ -68,7 +68,7 @@ impl<T, U, G, C> Model for Backend<T, U, G, C> {
     ghost use Rattle.wl_link.specs.ObjectMap.{store_code};
     ghost use Rattle.wl_server.specs.Backend.{BackendState};
     ghost use Rattle.wl_server.specs.Inside.Inserting.{HasSlots};
-    ghost use Rattle.wl_server.specs.NoteOrder.{HasNumbers, times_of};
+    ghost use Rattle.wl_server.specs.NoteOrder.{AllNumbered, HasNumbers, times_of};
 
     ghost Value = { BackendState T U G C };
 
@@ -89,7 +89,7 @@ impl<T, U, G, C> Model for Backend<T, U, G, C> {
       refused = b.refused;
     } };
 
-    ghost invariant = { λ b. HasSlots (vec_len b.clients) b.free_from b.clients.items × HasNumbers b.numbers (map times_of b.clients.items) };
+    ghost invariant = { λ b. HasSlots (vec_len b.clients) b.free_from b.clients.items × HasNumbers b.numbers (map times_of b.clients.items) × AllNumbered b.clients.items };
 }
 
 impl<T: Drop, U: Drop, G: Drop, C: Drop> Backend<T, U, G, C> {

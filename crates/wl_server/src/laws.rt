@@ -52,7 +52,7 @@ ghost use Rattle.wl_server.specs.Logged.{EachLogIsSpelled};
 ghost use Rattle.wl_server.specs.NotedEnds.{EachNoteIsOfAnEnd, EndIsNotedAtOnce};
 ghost use Rattle.wl_server.specs.NotedEnds.Errors.{EachCallCausesItsErrors, EachErrorIsCaused};
 ghost use Rattle.wl_server.specs.NotedOnce.{CleanupNotesAll, EachIsNoted, FinishNotesAtOnce};
-ghost use Rattle.wl_server.specs.NoteOrder.Ordered.{EarlierNotesFirst};
+ghost use Rattle.wl_server.specs.NoteOrder.Ordered.{EarlierNotesFirst, EarlierWaitFirst};
 ghost use Rattle.wl_server.specs.Part.{Part};
 ghost use Rattle.wl_server.specs.PartStep.{Call, around, over, over_scripts, share_of};
 ghost use Rattle.wl_server.specs.Reading.{Around, answered, reads_on, server};
@@ -102,9 +102,10 @@ pub fn each_client_has_one_outcome<T: Transport, U, G: GlobalHandler<C>, C>()
 /// A run of a server has one outcome, over every transport whose answers follow from its value.
 ///
 /// Take two runs of the same calls, in which memory is not refused, from servers that look the same to their program.
-/// Their replies are the same, also in the order of notes, and the servers look the same afterwards: what is held of each
-/// client id, the globals and limits, how many clients were inserted, and the order of the notes that are not taken yet.
-/// A program does not see where lists lie in memory.
+/// Their replies are the same, and the servers look the same afterwards: what is held of each client id, the globals and
+/// limits, how many clients were inserted, and the order of the notes that are not taken yet. A program does not see where
+/// lists lie in memory. The same holds if the order of the notes of different clients is left out (`ordered` is `false`),
+/// before and after.
 ///
 /// Servers of which the same is held return the same in look-ups (clause `answers`): which clients are live, what is
 /// known of a client, an object and a global, and which handler a global has. What calls return about all clients
@@ -137,7 +138,8 @@ pub fn each_run_of_a_server_has_one_outcome<T: Transport, U, G: GlobalHandler<C>
 ///
 /// Take two dispatches of one client (clause `client`), or of the same clients (clause `several`), with the same handler,
 /// over servers that look the same to their program. If `memory_refused` is false after both, they return the same, the
-/// handlers are the same afterwards, and the servers look the same.
+/// handlers are the same afterwards, and the servers look the same. Whether the order of notes counts in that is up to
+/// `ordered`, for the handler, too.
 ///
 /// `memory_refused` does not tell of the calls that the handler makes. A handler whose calls may lack memory is not
 /// deterministic in this sense, since what follows depends on whether they do. It may note in its own value that a call of it
@@ -150,16 +152,16 @@ pub fn each_dispatch_has_one_outcome<
     C,
     H: Handler<T, U, G, C>,
 >()
-    ensures client { IsFunction T.sends → IsReceiveFunction T.receives → IsDeterministic (answering H.requests H.binds) →
-        DispatchesHaveOneOutcome (over T.sends T.receives G.views) (answering H.requests H.binds) }
-    ensures several { IsFunction T.sends → IsReceiveFunction T.receives → IsDeterministic (answering H.requests H.binds) →
-        ManyDispatchesHaveOneOutcome (over T.sends T.receives G.views) (answering H.requests H.binds) }
-    ensures spared_client { IsFunction T.sends → IsReceiveFunction T.receives → (spared : H → Bool) →
-        IsDeterministicIfSpared (answering H.requests H.binds) spared →
-        SparedDispatchesHaveOneOutcome (over T.sends T.receives G.views) (answering H.requests H.binds) spared }
-    ensures spared_several { IsFunction T.sends → IsReceiveFunction T.receives → (spared : H → Bool) →
-        IsDeterministicIfSpared (answering H.requests H.binds) spared →
-        ManySparedDispatchesHaveOneOutcome (over T.sends T.receives G.views) (answering H.requests H.binds) spared }
+    ensures client { IsFunction T.sends → IsReceiveFunction T.receives → (ordered : Bool) → IsDeterministic ordered (answering H.requests H.binds) →
+        DispatchesHaveOneOutcome ordered (over T.sends T.receives G.views) (answering H.requests H.binds) }
+    ensures several { IsFunction T.sends → IsReceiveFunction T.receives → (ordered : Bool) → IsDeterministic ordered (answering H.requests H.binds) →
+        ManyDispatchesHaveOneOutcome ordered (over T.sends T.receives G.views) (answering H.requests H.binds) }
+    ensures spared_client { IsFunction T.sends → IsReceiveFunction T.receives → (ordered : Bool) (spared : H → Bool) →
+        IsDeterministicIfSpared ordered (answering H.requests H.binds) spared →
+        SparedDispatchesHaveOneOutcome ordered (over T.sends T.receives G.views) (answering H.requests H.binds) spared }
+    ensures spared_several { IsFunction T.sends → IsReceiveFunction T.receives → (ordered : Bool) (spared : H → Bool) →
+        IsDeterministicIfSpared ordered (answering H.requests H.binds) spared →
+        ManySparedDispatchesHaveOneOutcome ordered (over T.sends T.receives G.views) (answering H.requests H.binds) spared }
 {}
 
 /// The identity law of a server, over every transport: each id that is handed out names its own object.
@@ -264,10 +266,16 @@ pub fn each_error_in_a_note_has_a_cause<T: Transport, U, G: GlobalHandler<C>, C>
 /// `take_notes` would have returned at the earlier point comes first in what it returns at the later one. The rest is what
 /// happened since then, to whichever client. Cleanups may be in between: what they add comes behind, too.
 ///
-/// This holds as long as fewer than 2^128 - 1 notes were made.
+/// The same holds of notes that wait for a cleanup (clause `waiting`): a cleanup leaves the notes that were made, those that
+/// waited, and those of the ends of clients. What waited at an earlier point comes first in what waited at a later one, if
+/// no cleanup succeeded in between.
+///
+/// This holds as long as fewer than 2^128 - 1 notes were made, or began to wait since the last cleanup.
 pub fn notes_come_in_the_order_of_time<T: Transport, U, G: GlobalHandler<C>, C>()
     ensures run { (table : List InterfaceRow) → EarlierNotesFirst U (over {C = C} T.sends T.receives G.views) table }
+    ensures waiting { (table : List InterfaceRow) → EarlierWaitFirst U (over {C = C} T.sends T.receives G.views) table }
     ensures script { (table : List InterfaceRow) → EarlierNotesFirst U (over_scripts {C = C} G.views) table }
+    ensures script_waiting { (table : List InterfaceRow) → EarlierWaitFirst U (over_scripts {C = C} G.views) table }
 {}
 
 /// The law of killed clients, over every transport: a killed client stays killed until a cleanup takes it out.

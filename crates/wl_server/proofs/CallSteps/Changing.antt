@@ -7,6 +7,7 @@ use Rattle.std.proofs.lemmas.Bool.{false≢true}
 use Rattle.wl_server.specs.declared.notes.Happening.{Happening}
 use Rattle.wl_server.specs.Deeds.{Deed}
 use Rattle.wl_server.specs.Ids.{ClientParts, same_client}
+use Rattle.wl_server.specs.NoteOrder.{AllNumbered}
 use Rattle.wl_server.specs.Lending.{over_transport, server_over}
 use Rattle.wl_server.specs.Part.{Part}
 use Rattle.wl_server.specs.PartStep.{Changed, Quietly, WithTransport, World}
@@ -23,9 +24,9 @@ module _ {T U G C : Type 0} (w : World T G C) (before : ServerState T U G C) (ta
   none_lacks true is = is
   none_lacks false is = is
 
-  changed_at : (c : Stored T U C) → slice_get before.clients target.slot ≡ Some (Some c) → c.serial ≡ target.serial
+  changed_at : (c : Stored T U C) → slice_get before.clients target.slot ≡ Some (Some c) → c.serial ≡ target.serial → AllNumbered before.clients
       → Makes w before (Changed target t) false (record before { clients = slice_set before.clients target.slot (Some (over_transport c t)) })
-  changed_at c here known = (
+  changed_at c here known all = (
     record { call = Changed target t; refused = false; lacks = λ id. lacks_at (same_client target id) false; did = λ id. did_at (same_client target id) [] },
     refl,
     refl,
@@ -40,7 +41,7 @@ module _ {T U G C : Type 0} (w : World T G C) (before : ServerState T U G C) (ta
       notes = record {
         gathered = refl;
         times = set_in_time before.clients target.slot (Some c) (Some (over_transport c t)) before.numbers before.numbers here (in_time_none c.times before.numbers);
-        numbered = numbered_set before.clients target.slot (Some c) (Some (over_transport c t)) here (λ is. is);
+        numbered = numbered_set before.clients target.slot (Some c) (Some (over_transport c t)) here (λ is. is) all;
       };
       each = λ id. each_set before.clients before.notes target c (over_transport c t) changes (Unit {0}) false [] _ here known (refl, refl, (t, refl, refl)) made id;
     },
@@ -57,10 +58,10 @@ module _ {T U G C : Type 0} (w : World T G C) (before : ServerState T U G C) (ta
       was_refused (inr (id, lacks)) = none_lacks (same_client target id) lacks
 
   -- whatever is left in the transport of a stored client
-  pub changed : (c : Stored T U C) → slice_get before.clients target.slot ≡ Some (Some c) → c.serial ≡ target.serial
+  pub changed : (c : Stored T U C) → slice_get before.clients target.slot ≡ Some (Some c) → c.serial ≡ target.serial → AllNumbered before.clients
       → Makes w before (Changed target t) false (server_over before target t)
-  changed c here known =
+  changed c here known all =
       subst (λ (o : Option (Option (Stored T U C))). Makes w before (Changed target t) false (record before {
         clients = slice_set before.clients target.slot (option_map (λ s. over_transport s t) (option_map_or (λ y. y) o None));
       }))
-      (sym here) (changed_at c here known)
+      (sym here) (changed_at c here known all)

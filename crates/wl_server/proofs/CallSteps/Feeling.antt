@@ -198,7 +198,7 @@ module _ {T U G C : Type 0} (w : World T G C) (before : ServerState T U G C) (s 
       → offer ≡ offer_after before.offer (Asked s answer) → AnswersShared before.offer (Asked s answer) → lacks_growth (Asked s answer) ≡ false
       → ((id : ClientParts) (lacked : Bool) (did : List (Deed U)) (b a : Seen T U C) → Feels b (λ p q. R id p lacked did q) lacked did a
       → PartStep w id before.offer s answer b lacked did a)
-      → AllFeel R refused (length before.clients) before.clients clients → AllInTime (map times_of before.clients) before.numbers (map times_of clients) numbers' → (AllNumbered before.clients → AllNumbered clients)
+      → AllFeel R refused (length before.clients) before.clients clients → AllInTime (map times_of before.clients) before.numbers (map times_of clients) numbers' → AllNumbered clients
       → Calls w (record { server = before; refused = was }) s answer (record { server = record before { offer = offer; clients = clients; numbers = numbers' }; refused = refused })
   felt_call R refused offer clients numbers' becomes numbers growth to all times numbered = calls _ _ _ _ _ (
     record { call = Asked s answer; refused = refused; lacks = λ id. lacks_of R refused before.clients clients all id; did = λ id. (by id).0 },
@@ -226,9 +226,9 @@ module _ {T U G C : Type 0} (w : World T G C) (before : ServerState T U G C) (s 
 
   -- no client made anything of it
   pub unfelt_call : {was : Bool} (refused : Bool) (offer : Offer G) → offer ≡ offer_after before.offer (Asked s answer) → AnswersShared before.offer (Asked s answer)
-      → lacks_growth (Asked s answer) ≡ refused → ((id : ClientParts) (b : Seen T U C) → PartStep w id before.offer s answer b false [] b)
+      → lacks_growth (Asked s answer) ≡ refused → ((id : ClientParts) (b : Seen T U C) → PartStep w id before.offer s answer b false [] b) → AllNumbered before.clients
       → Calls w (record { server = before; refused = was }) s answer (record { server = record before { offer = offer }; refused = refused })
-  unfelt_call refused offer becomes numbers growth to = calls _ _ _ _ _ (
+  unfelt_call refused offer becomes numbers growth to all = calls _ _ _ _ _ (
     record { call = Asked s answer; refused = refused; lacks = λ id. false; did = λ id. [] },
     refl,
     refl,
@@ -240,7 +240,7 @@ module _ {T U G C : Type 0} (w : World T G C) (before : ServerState T U G C) (s 
       order = felt.order;
       room = felt.room before;
       refused = (λ is. inl (growth ∙ is), λ h. was_refused h);
-      notes = felt.notes before _ (record { gathered = refl; times = all_none _ _; numbered = λ all. all });
+      notes = felt.notes before _ (record { gathered = refl; times = all_none _ _; numbered = all });
       each = λ id. to id _;
     },
   )

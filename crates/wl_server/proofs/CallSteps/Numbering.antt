@@ -319,6 +319,16 @@ all_each ts a ts' b (slots, all) k = at (nat_lt k slots) refl
         subst (λ (t : NoteTimes). GivesWithin (times_at k ts).made a.made t.made b.made) (sym (all.others k (ltb-false k slots past)))
         (within_none (times_at k ts).made a.made b.made (turn_up (λ t. t.made) slots ts a.made ts' b.made all.made))
 
+pub all_waiting : (ts : List NoteTimes) (a : NoteNumbers) (ts' : List NoteTimes) (b : NoteNumbers) → AllInTime ts a ts' b → (k : ℕ)
+    → GivesWithin (times_at k ts).waiting a.waiting (times_at k ts').waiting b.waiting
+all_waiting ts a ts' b (slots, all) k = at (nat_lt k slots) refl
+  where
+    at : (x : Bool) → nat_lt k slots ≡ x → GivesWithin (times_at k ts).waiting a.waiting (times_at k ts').waiting b.waiting
+    at true less = turn_each (λ t. t.waiting) slots k ts a.waiting ts' b.waiting (ltb-true k slots less) all.waiting
+    at false past =
+        subst (λ (t : NoteTimes). GivesWithin (times_at k ts).waiting a.waiting t.waiting b.waiting) (sym (all.others k (ltb-false k slots past)))
+        (within_none (times_at k ts).waiting a.waiting b.waiting (turn_up (λ t. t.waiting) slots ts a.waiting ts' b.waiting all.waiting))
+
 pub below_none : (n : ℕ) (ts : List NoteTimes) (a : NoteNumbers) → InTimeBelow n ts a ts a
 below_none n ts a = record {
   made = turn_still (λ t. t.made) n ts ts a.made (λ k below. refl);
@@ -429,6 +439,11 @@ module _ {T U C : Type 0} where
           (stays (subst (λ (o : Option (Option (Stored T U C))). IsNumbered (option_map_or (λ s. s) o None)) here (all i))))
       at false other =
           subst (λ (o : Option (Option (Stored T U C))). IsNumbered (option_map_or (λ s. s) o None)) (sym (get_set_other clients i k x' (other_of i k other))) (all k)
+
+  -- the client of an id was written
+  pub numbered_at : (clients : List (Option (Stored T U C))) (id : ClientParts) (s s' : Stored T U C) → Some s ≡ client_at id clients
+      → (IsNumbered (Some s) → IsNumbered (Some s')) → AllNumbered clients → AllNumbered (slice_set clients id.slot (Some s'))
+  numbered_at clients id s s' is stays all = numbered_set clients id.slot (Some s) (Some s') (slot_of_client clients id s is).0 stays all
 
   pub numbered_put : (clients clients' : List (Option (Stored T U C))) (i : ℕ) (s : Stored T U C) → IsPut clients i s clients' → IsNumbered (Some s)
       → AllNumbered clients → AllNumbered clients'

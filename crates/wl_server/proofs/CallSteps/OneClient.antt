@@ -13,7 +13,7 @@ use Rattle.wl_server.specs.declared.runs.step.Step.{Step}
 use Rattle.wl_server.proofs.OverRuns.Alone.AccountLaws.{calls}
 use Rattle.wl_server.specs.Backend.{Calls}
 use Rattle.wl_server.specs.Inside.Client.{Does}
-use Rattle.wl_server.specs.NoteOrder.{IsNumbered, NotesInTime}
+use Rattle.wl_server.specs.NoteOrder.{AllNumbered, IsNumbered, NotesInTime}
 use Rattle.wl_server.specs.Deeds.{Deed}
 use Rattle.wl_server.specs.Globals.{Offer}
 use Rattle.wl_server.specs.Ids.{ClientParts, same_client}
@@ -54,9 +54,9 @@ module _ {T U G C : Type 0} (w : World T G C) (before : ServerState T U G C) (s 
   -- it was done to the client of that slot
   own_call : (c c' : Stored T U C) (lacked : Bool) → slice_get before.clients target.slot ≡ Some (Some c) → c.serial ≡ target.serial
       → Does c (λ p did q. R target p lacked did q) c' → (numbers' : NoteNumbers) → NotesInTime c.times before.numbers c'.times numbers'
-      → (IsNumbered (Some c) → IsNumbered (Some c'))
+      → (IsNumbered (Some c) → IsNumbered (Some c')) → AllNumbered before.clients
       → StepOf w before s answer lacked (with_clients (slice_set before.clients target.slot (Some c')) numbers')
-  own_call c c' lacked here known (did, q, does, is) numbers' times numbered = (
+  own_call c c' lacked here known (did, q, does, is) numbers' times numbered all = (
     record { call = Asked s answer; refused = lacked; lacks = λ id. lacks_at (same_client target id) lacked; did = λ id. did_at (same_client target id) did },
     refl,
     refl,
@@ -68,7 +68,7 @@ module _ {T U G C : Type 0} (w : World T G C) (before : ServerState T U G C) (s 
       order = own.order;
       room = own.room before;
       refused = (is_refused, λ h. was_refused h);
-      notes = own.notes before _ (record { gathered = refl; times = set_in_time before.clients target.slot (Some c) (Some c') before.numbers numbers' here times; numbered = numbered_set before.clients target.slot (Some c) (Some c') here numbered });
+      notes = own.notes before _ (record { gathered = refl; times = set_in_time before.clients target.slot (Some c) (Some c') before.numbers numbers' here times; numbered = numbered_set before.clients target.slot (Some c) (Some c') here numbered all });
       each = λ id. to id _ _ _ _ (each_set before.clients before.notes target c c' R missing lacked did q here known does is id);
     },
   )
@@ -90,17 +90,17 @@ module _ {T U G C : Type 0} (w : World T G C) (before : ServerState T U G C) (s 
   -- the same of the client that was looked up by the id, as this was read
   pub done_to : {was : Bool} (read : ClientParts) (c c' : Stored T U C) (lacked : Bool) → read ≡ target → Some c ≡ client_at read before.clients
       → Does c (λ p did q. R target p lacked did q) c' → (numbers' : NoteNumbers) → NotesInTime c.times before.numbers c'.times numbers'
-      → (IsNumbered (Some c) → IsNumbered (Some c'))
+      → (IsNumbered (Some c) → IsNumbered (Some c')) → AllNumbered before.clients
       → Calls w (record { server = before; refused = was }) s answer (record { server = with_clients (slice_set before.clients read.slot (Some c')) numbers'; refused = lacked })
-  done_to read c c' lacked same is does numbers' times numbered =
+  done_to read c c' lacked same is does numbers' times numbered all =
       let has = slot_of_client before.clients target c (is ∙ ap (λ (id : ClientParts). client_at id before.clients) same) in
       calls _ _ _ _ _
       (subst (λ (id : ClientParts). StepOf w before s answer lacked (with_clients (slice_set before.clients id.slot (Some c')) numbers')) (sym same)
-      (own_call c c' lacked has.0 has.1 does numbers' times numbered))
+      (own_call c c' lacked has.0 has.1 does numbers' times numbered all))
 
   -- there is no such client
-  no_such_client : client_at target before.clients ≡ None → missing → StepOf w before s answer false before
-  no_such_client none is = (
+  no_such_client : client_at target before.clients ≡ None → missing → AllNumbered before.clients → StepOf w before s answer false before
+  no_such_client none is all = (
     record { call = Asked s answer; refused = false; lacks = λ id. false; did = λ id. [] },
     refl,
     refl,
@@ -112,7 +112,7 @@ module _ {T U G C : Type 0} (w : World T G C) (before : ServerState T U G C) (s 
       order = own.order;
       room = own.room before;
       refused = (λ h. absurd (false≢true h), λ h. was_refused h);
-      notes = own.notes before before (record { gathered = refl; times = all_none _ _; numbered = λ all. all });
+      notes = own.notes before before (record { gathered = refl; times = all_none _ _; numbered = all });
       each = λ id. to id _ _ _ _ (each_missing before.clients before.notes target R missing none is id);
     },
   )
@@ -124,6 +124,6 @@ module _ {T U G C : Type 0} (w : World T G C) (before : ServerState T U G C) (s 
       was_refused (inl growth) = absurd (false≢true (sym own.growth ∙ growth))
       was_refused (inr (id, lacks)) = lacks
 
-  pub none_stored : {was : Bool} (read : ClientParts) → read ≡ target → None ≡ client_at read before.clients → missing
+  pub none_stored : {was : Bool} (read : ClientParts) → read ≡ target → None ≡ client_at read before.clients → missing → AllNumbered before.clients
       → Calls w (record { server = before; refused = was }) s answer (record { server = before; refused = false })
-  none_stored read same none is = calls _ _ _ _ _ (no_such_client (sym (none ∙ ap (λ (id : ClientParts). client_at id before.clients) same)) is)
+  none_stored read same none is all = calls _ _ _ _ _ (no_such_client (sym (none ∙ ap (λ (id : ClientParts). client_at id before.clients) same)) is all)

@@ -14,7 +14,7 @@ use Rattle.wl_server.specs.Backend.{Calls}
 use Rattle.wl_server.specs.Deeds.{Handed}
 use Rattle.wl_server.specs.Globals.{Offer}
 use Rattle.wl_server.specs.Inside.Client.{Does}
-use Rattle.wl_server.specs.NoteOrder.{IsNumbered, NotesInTime}
+use Rattle.wl_server.specs.NoteOrder.{AllNumbered, IsNumbered, NotesInTime}
 use Rattle.wl_server.specs.declared.notes.queues.NoteNumbers.{NoteNumbers}
 use Rattle.wl_server.specs.Ids.{ClientParts, GlobalParts}
 use Rattle.wl_server.specs.PartStep.{Asked, World, around, over}
@@ -43,22 +43,23 @@ module _ {T U G C : Type 0} (sends : T → Queue → Result ℕ IoFault → T �
   reads from = reads_kind there before.offer from (action_content answer) r'
 
   -- there is no such client
-  pub next_missing : {was : Bool} → None ≡ client_at id before.clients → action_content answer ≡ Err (Io fault.InvalidInput) → r' ≡ r → r ≡ new_reading
+  pub next_missing : {was : Bool} → None ≡ client_at id before.clients → action_content answer ≡ Err (Io fault.InvalidInput) → r' ≡ r → r ≡ new_reading → AllNumbered before.clients
       → Calls there (record { server = before; refused = was }) (step.NextAction id) (reply.NextAction answer) (record { server = before; refused = false })
-  next_missing none is same fresh =
+  next_missing none is same fresh all =
       none_stored there before (step.NextAction id) (reply.NextAction answer) (own_next id answer) id (reads new_reading) _
-      (λ i l d b a h. (answer, r', refl, h)) id refl none (is, same ∙ fresh)
+      (λ i l d b a h. (answer, r', refl, h)) id refl none (is, same ∙ fresh) all
 
-  pub within_missing : {was : Bool} → None ≡ client_at id before.clients → action_content answer ≡ Err (Io fault.InvalidInput) → r' ≡ r
+  pub within_missing : {was : Bool} → None ≡ client_at id before.clients → action_content answer ≡ Err (Io fault.InvalidInput) → r' ≡ r → AllNumbered before.clients
       → Calls there (record { server = before; refused = was }) (step.NextActionWithin id r) (reply.NextActionWithin answer r') (record { server = before; refused = false })
-  within_missing none is same =
+  within_missing none is same all =
       none_stored there before (step.NextActionWithin id r) (reply.NextActionWithin answer r') (own_within id r answer r') id (reads r) _
-      (λ i l d b a h. (answer, r', refl, h)) id refl none (is, same)
+      (λ i l d b a h. (answer, r', refl, h)) id refl none (is, same) all
 
   -- it was done to the client that was looked up
   module _ (c c' : Stored T U C) (lacked : Bool) (is : Some c ≡ client_at id before.clients)
       (does : Does c (λ p did q. NextAction sends receives (around there id before.offer) r p (action_content answer) r' lacked did q) c') (numbers' : NoteNumbers)
-      (times : NotesInTime c.times before.numbers c'.times numbers') (numbered : IsNumbered (Some c) → IsNumbered (Some c')) where
+      (times : NotesInTime c.times before.numbers c'.times numbers') (numbered : IsNumbered (Some c) → IsNumbered (Some c'))
+      (all : AllNumbered before.clients) where
     abbrev after : ServerState T U G C
     after = record before { clients = slice_set before.clients id.slot (Some c'); numbers = numbers' }
 
@@ -67,10 +68,10 @@ module _ {T U G C : Type 0} (sends : T → Queue → Result ℕ IoFault → T �
     next_done fresh =
         done_to there before (step.NextAction id) (reply.NextAction answer) (own_next id answer) id (reads new_reading) _
         (λ i l d b a h. (answer, r', refl, h)) id c c' lacked refl is
-        (subst (λ (from : Reading). Does c (λ p did q. NextAction sends receives (around there id before.offer) from p (action_content answer) r' lacked did q) c') fresh does) numbers' times numbered
+        (subst (λ (from : Reading). Does c (λ p did q. NextAction sends receives (around there id before.offer) from p (action_content answer) r' lacked did q) c') fresh does) numbers' times numbered all
 
     pub within_done : {was : Bool}
         → Calls there (record { server = before; refused = was }) (step.NextActionWithin id r) (reply.NextActionWithin answer r') (record { server = after; refused = lacked })
     within_done =
         done_to there before (step.NextActionWithin id r) (reply.NextActionWithin answer r') (own_within id r answer r') id (reads r) _
-        (λ i l d b a h. (answer, r', refl, h)) id c c' lacked refl is does numbers' times numbered
+        (λ i l d b a h. (answer, r', refl, h)) id c c' lacked refl is does numbers' times numbered all

@@ -50,7 +50,7 @@ module _ {T U G C : Type 0} (w : World T G C) (before : ServerState T U G C) whe
 
   pub cleaned_up : {was : Bool} (refused : Bool) (clients' : List (Option (Stored T U C))) (notes' : List (Note U)) (out : Vec (ClientParts × T) Global) (given : List (ClientParts × T)) → out.items ≡ given
       → CleansUp w.sends before.clients before.notes refused clients' notes' given → (numbers' : NoteNumbers) → AllTakeFirst (map times_of before.clients) (map times_of clients')
-      → NoneWaits (map times_of clients') → (AllNumbered before.clients → AllNumbered clients') → numbers' ≡ record before.numbers { waiting = 0 }
+      → NoneWaits (map times_of clients') → AllNumbered clients' → numbers' ≡ record before.numbers { waiting = 0 }
       → Calls w (record { server = before; refused = was }) step.Cleanup (reply.Cleanup (Ok out))
       (record { server = record before { clients = clients'; notes = notes'; numbers = numbers' }; refused = refused })
   cleaned_up refused clients' notes' out given are by numbers' first none_waits numbered anew = calls _ _ _ _ _ (
@@ -94,9 +94,9 @@ module _ {T U G C : Type 0} (w : World T G C) (before : ServerState T U G C) whe
       was_refused (inr (id, lacks)) = one_lacks flush refused before.clients by.flushed by.flushes id lacks
 
   -- there is no memory for it
-  not_cleaned : (e : OutOfMemory) → 0 < count_leaving true before.clients + length (collected given_at 0 before.clients)
+  not_cleaned : (e : OutOfMemory) → 0 < count_leaving true before.clients + length (collected given_at 0 before.clients) → AllNumbered before.clients
       → StepOf w before step.Cleanup (reply.Cleanup (Err e)) true before
-  not_cleaned e some = (
+  not_cleaned e some all = (
     record { call = Asked step.Cleanup (reply.Cleanup (Err e)); refused = true; lacks = λ id. false; did = λ id. [] },
     refl,
     refl,
@@ -108,13 +108,13 @@ module _ {T U G C : Type 0} (w : World T G C) (before : ServerState T U G C) whe
       order = tt;
       room = cleanup_asks before.clients some;
       refused = (λ h. inl refl, λ h. refl);
-      notes = record { gathered = refl; times = all_none _ _; numbered = λ all. all };
+      notes = record { gathered = refl; times = all_none _ _; numbered = all };
       each = λ id. (Err e, refl, (refl, refl, refl));
     },
   )
 
   pub cleanup_starved : {was : Bool} (e : OutOfMemory) (notes' : List (Note U)) → notes' ≡ before.notes
-      → 0 < count_leaving true before.clients + length (collected given_at 0 before.clients)
+      → 0 < count_leaving true before.clients + length (collected given_at 0 before.clients) → AllNumbered before.clients
       → Calls w (record { server = before; refused = was }) step.Cleanup (reply.Cleanup (Err e)) (record { server = record before { notes = notes' }; refused = true })
-  cleanup_starved e notes' same some =
-      calls _ _ _ _ _ (subst (λ (ns : List (Note U)). StepOf w before step.Cleanup (reply.Cleanup (Err e)) true (record before { notes = ns })) (sym same) (not_cleaned e some))
+  cleanup_starved e notes' same some all =
+      calls _ _ _ _ _ (subst (λ (ns : List (Note U)). StepOf w before step.Cleanup (reply.Cleanup (Err e)) true (record before { notes = ns })) (sym same) (not_cleaned e some all))

@@ -100,7 +100,7 @@ module _ {T U G C : Type 0} (w : World T G C) (before : ServerState T U G C) whe
   -- ---- the step
 
   taken_so : (clients' : List (Option (Stored T U C))) (out : Vec (Note U) Global) → Gathers false before.clients before.notes clients' out.items → AllLeft false clients'
-      → IsInOrder false before.clients before.notes out.items → AllTakeFirst (map times_of before.clients) (map times_of clients') → (AllNumbered before.clients → AllNumbered clients')
+      → IsInOrder false before.clients before.notes out.items → AllTakeFirst (map times_of before.clients) (map times_of clients') → AllNumbered clients'
       → StepOf w before step.TakeNotes (reply.TakeNotes (Ok out)) false (record before { clients = clients'; notes = [] })
   taken_so clients' out by left in_order first numbered = (
     record {
@@ -130,7 +130,7 @@ module _ {T U G C : Type 0} (w : World T G C) (before : ServerState T U G C) whe
 
   pub notes_taken : {was : Bool} (clients' : List (Option (Stored T U C))) (gathered : List (Note U)) (out : Vec (Note U) Global) (notes' : List (Note U)) → out.items ≡ gathered → notes' ≡ []
       → Gathers false before.clients before.notes clients' gathered → AllLeft false clients' → IsInOrder false before.clients before.notes gathered
-      → AllTakeFirst (map times_of before.clients) (map times_of clients') → (AllNumbered before.clients → AllNumbered clients')
+      → AllTakeFirst (map times_of before.clients) (map times_of clients') → AllNumbered clients'
       → Calls w (record { server = before; refused = was }) step.TakeNotes (reply.TakeNotes (Ok out)) (record { server = record before { clients = clients'; notes = notes' }; refused = false })
   notes_taken clients' gathered out notes' are none by left in_order first numbered =
       calls _ _ _ _ _
@@ -139,8 +139,8 @@ module _ {T U G C : Type 0} (w : World T G C) (before : ServerState T U G C) whe
       (subst (λ (ns : List (Note U)). IsInOrder false before.clients before.notes ns) (sym are) in_order) first numbered))
 
   -- there is no memory for it
-  not_taken : (e : OutOfMemory) → SomeClient before.clients (λ s. s.made ≢ []) → StepOf w before step.TakeNotes (reply.TakeNotes (Err e)) true before
-  not_taken e some = (
+  not_taken : (e : OutOfMemory) → SomeClient before.clients (λ s. s.made ≢ []) → AllNumbered before.clients → StepOf w before step.TakeNotes (reply.TakeNotes (Err e)) true before
+  not_taken e some all = (
     record { call = Asked step.TakeNotes (reply.TakeNotes (Err e)); refused = true; lacks = λ id. false; did = λ id. [] },
     refl,
     refl,
@@ -152,15 +152,15 @@ module _ {T U G C : Type 0} (w : World T G C) (before : ServerState T U G C) whe
       order = tt;
       room = some;
       refused = (λ h. inl refl, λ h. refl);
-      notes = record { gathered = refl; times = all_none _ _; numbered = λ all. all };
+      notes = record { gathered = refl; times = all_none _ _; numbered = all };
       each = λ id. (Err e, refl, (refl, refl, refl));
     },
   )
 
   pub notes_starved : {was : Bool} (e : OutOfMemory) (clients' : List (Option (Stored T U C))) (notes' : List (Note U)) → clients' ≡ before.clients → notes' ≡ before.notes
-      → 0 < count_leaving false before.clients
+      → 0 < count_leaving false before.clients → AllNumbered before.clients
       → Calls w (record { server = before; refused = was }) step.TakeNotes (reply.TakeNotes (Err e)) (record { server = record before { clients = clients'; notes = notes' }; refused = true })
-  notes_starved e clients' notes' same same' some =
+  notes_starved e clients' notes' same same' some all =
       calls _ _ _ _ _
       (subst (λ (xs : List (Option (Stored T U C))). StepOf w before step.TakeNotes (reply.TakeNotes (Err e)) true (record before { clients = xs; notes = notes' })) (sym same)
-      (subst (λ (ns : List (Note U)). StepOf w before step.TakeNotes (reply.TakeNotes (Err e)) true (record before { notes = ns })) (sym same') (not_taken e (notes_ask before.clients some))))
+      (subst (λ (ns : List (Note U)). StepOf w before step.TakeNotes (reply.TakeNotes (Err e)) true (record before { notes = ns })) (sym same') (not_taken e (notes_ask before.clients some) all)))

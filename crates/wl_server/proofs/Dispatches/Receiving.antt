@@ -50,7 +50,7 @@ module _ {U : Type 0} where
   came_of d e is nothing' = ap (λ (x : Doings U). x.came) is ∙ nothing'
 
 module _ {T U C : Type 0} (sends : T → Queue → Result ℕ IoFault → T → Type 0) (client : ClientParts) where
-  moves_quiet : (p q : Part T U C) (d : Doings U) → Moves sends never client p d q → d.came ≡ []
+  moves_quiet : (p q : Part T U C) (d : Doings U) → Moves true sends never client p d q → d.came ≡ []
   moves_quiet p q d (stayed is same) = came_of d _ is refl
   moves_quiet p q d (followed {m = m} {a = a} {b = b} first second is) =
       ap (λ (x : Doings U). x.came) is ∙ no_more a.came b.came (moves_quiet p m a first) (moves_quiet m q b second)
@@ -68,12 +68,12 @@ module _ {T U C : Type 0} (sends : T → Queue → Result ℕ IoFault → T → 
   moves_quiet p q d (remembered n x holds registry is same) = came_of d _ is refl
   moves_quiet p q d (opens action h so is same) = came_of d _ is refl
   moves_quiet p q d (finished is same) = came_of d _ is refl
-  moves_quiet p q d (cleaned is same) = came_of d _ is refl
+  moves_quiet p q d (cleaned on is same) = came_of d _ is refl
 
-  goes_quiet : (s t : Seen T U C) (d : Doings U) → Goes sends never client s d t → d.came ≡ []
+  goes_quiet : (s t : Seen T U C) (d : Doings U) → Goes true sends never client s d t → d.came ≡ []
   goes_quiet s t d (unfelt is same) = came_of d _ is refl
   goes_quiet s t d (within p q there moves same) = moves_quiet p q d moves
-  goes_quiet s t d (taken_out p q there killed moves gone no_notes same) = moves_quiet p q d moves
+  goes_quiet s t d (taken_out p q on there killed moves gone no_notes same) = moves_quiet p q d moves
   goes_quiet s t d (notes_taken is same) = came_of d _ is refl
 
 -- ---- a call that does not read the client
@@ -100,7 +100,7 @@ module _ {T U G C : Type 0} (w : World T G C) (id : ClientParts) (offer : Offer 
       not_inserted new (transport, client_data, is) = absurd (true≢false (sym (ap is_insertion is) ∙ old))
 
       go : (b : Bool) → concerns id call ≡ b → Quiet
-      go true about = goes_quiet w.sends id before after _ (call_goes unheard id offer call before lacked did after about h')
+      go true about = goes_quiet w.sends id before after _ (call_goes true unheard id offer call before lacked did after about h' (λ cleans. refl))
       go false far = unfelt_quiet (other_call w id offer call before lacked did after not_inserted far h)
 
   inserted_quiet : (transport : T) (client_data : C) (r : Result ClientParts InsertClientError) → InsertedAs w id offer transport client_data r before lacked did after → Quiet

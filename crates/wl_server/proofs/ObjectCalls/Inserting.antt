@@ -143,7 +143,7 @@ module _ {T U G C : Type 0} (w : World T G C) where
   pub inserted : {was : Bool} (before : ServerState T U G C) (transport : T) (client_data : C) (new : ClientParts) (s : Stored T U C) (clients' : List (Option (Stored T U C)))
       → IsLeastFree before.clients new.slot → before.last_client < last_possible_serial → new.serial ≡ before.last_client + 1
       → IsInserted new.serial transport (Some before.offer.default_limit) client_data s → IsPut before.clients new.slot s clients'
-      → (numbers' : NoteNumbers) → AllInTime (map times_of before.clients) before.numbers (map times_of clients') numbers' → (AllNumbered before.clients → AllNumbered clients')
+      → (numbers' : NoteNumbers) → AllInTime (map times_of before.clients) before.numbers (map times_of clients') numbers' → AllNumbered clients'
       → Calls w (record { server = before; refused = was }) (step.InsertClient transport client_data) (reply.InsertClient (Ok new))
       (record { server = record before { last_client = before.last_client + 1; clients = clients'; numbers = numbers' }; refused = false })
   inserted before transport client_data new s clients' free below serial is put numbers' times numbered = calls _ _ _ _ _ (
@@ -173,9 +173,9 @@ module _ {T U G C : Type 0} (w : World T G C) where
       was_refused (inr (id, h)) = h
 
   -- no slot or no serial is left
-  pub not_inserted : {was : Bool} (before : ServerState T U G C) (transport : T) (client_data : C) → LacksSlot before.last_client before.clients
+  pub not_inserted : {was : Bool} (before : ServerState T U G C) (transport : T) (client_data : C) → LacksSlot before.last_client before.clients → AllNumbered before.clients
       → Calls w (record { server = before; refused = was }) (step.InsertClient transport client_data) (reply.InsertClient (Err insert.Full)) (record { server = before; refused = false })
-  not_inserted before transport client_data lacks = calls _ _ _ _ _ (
+  not_inserted before transport client_data lacks all = calls _ _ _ _ _ (
     record { call = Asked (step.InsertClient transport client_data) (reply.InsertClient (Err insert.Full)); refused = false; lacks = λ id. false; did = λ id. [] },
     refl,
     refl,
@@ -187,7 +187,7 @@ module _ {T U G C : Type 0} (w : World T G C) where
       order = tt;
       room = tt;
       refused = (λ h. absurd (false≢true h), λ h. was_refused h);
-      notes = record { gathered = refl; times = all_none _ _; numbered = λ all. all };
+      notes = record { gathered = refl; times = all_none _ _; numbered = all };
       each = λ id. (Err insert.Full, refl, (refl, refl, refl));
     },
   )
@@ -199,9 +199,9 @@ module _ {T U G C : Type 0} (w : World T G C) where
   -- there is no memory for the client of this id
   starved_so : (before : ServerState T U G C) (transport : T) (client_data : C) (new : ClientParts) → IsLeastFree before.clients new.slot
       → before.last_client < last_possible_serial → new.serial ≡ before.last_client + 1
-      → (numbers' : NoteNumbers) → AllInTime (map times_of before.clients) before.numbers (map times_of before.clients) numbers'
+      → (numbers' : NoteNumbers) → AllInTime (map times_of before.clients) before.numbers (map times_of before.clients) numbers' → AllNumbered before.clients
       → StepOf w before (step.InsertClient transport client_data) (reply.InsertClient (Err insert.OutOfMemory)) true (record before { numbers = numbers' })
-  starved_so before transport client_data new free below serial numbers' times = (
+  starved_so before transport client_data new free below serial numbers' times all = (
     record { call = Asked (step.InsertClient transport client_data) (reply.InsertClient (Err insert.OutOfMemory)); refused = true; lacks = λ id. false; did = λ id. [] },
     refl,
     refl,
@@ -213,19 +213,19 @@ module _ {T U G C : Type 0} (w : World T G C) where
       order = tt;
       room = tt;
       refused = (λ h. inl refl, λ h. refl);
-      notes = record { gathered = refl; times = times; numbered = λ all. all };
+      notes = record { gathered = refl; times = times; numbered = all };
       each = λ id. (Err insert.OutOfMemory, refl, (refl, refl, refl));
     },
   )
 
   pub insertion_starved : {was : Bool} (before : ServerState T U G C) (transport : T) (client_data : C) (new : ClientParts) (clients' : List (Option (Stored T U C)))
       → IsLeastFree before.clients new.slot → before.last_client < last_possible_serial → new.serial ≡ before.last_client + 1 → clients' ≡ before.clients
-      → (numbers' : NoteNumbers) → AllInTime (map times_of before.clients) before.numbers (map times_of clients') numbers' → (AllNumbered before.clients → AllNumbered clients')
+      → (numbers' : NoteNumbers) → AllInTime (map times_of before.clients) before.numbers (map times_of clients') numbers' → AllNumbered before.clients
       → Calls w (record { server = before; refused = was }) (step.InsertClient transport client_data) (reply.InsertClient (Err insert.OutOfMemory))
       (record { server = record before { clients = clients'; numbers = numbers' }; refused = true })
-  insertion_starved before transport client_data new clients' free below serial same numbers' times numbered =
+  insertion_starved before transport client_data new clients' free below serial same numbers' times all =
       calls _ _ _ _ _
       (subst (λ (xs : List (Option (Stored T U C))). StepOf w before (step.InsertClient transport client_data) (reply.InsertClient (Err insert.OutOfMemory)) true
       (record before { clients = xs; numbers = numbers' }))
       (sym same) (starved_so before transport client_data new free below serial numbers'
-      (subst (λ (xs : List (Option (Stored T U C))). AllInTime (map times_of before.clients) before.numbers (map times_of xs) numbers') same times)))
+      (subst (λ (xs : List (Option (Stored T U C))). AllInTime (map times_of before.clients) before.numbers (map times_of xs) numbers') same times) all))

@@ -11,6 +11,7 @@ use Rattle.wl_server.specs.Backend.{BackendState, Calls}
 use Rattle.wl_server.specs.Plain.DataInPlace.{LendsDataIn, LendsObjectData}
 use Rattle.wl_server.specs.Ids.{ClientParts, IdParts}
 use Rattle.wl_server.specs.Lookups.{and_then, object_data_of}
+use Rattle.wl_server.specs.NoteOrder.{AllNumbered}
 use Rattle.wl_server.specs.Part.{named, with_user_data}
 use Rattle.wl_server.specs.PartStep.{World}
 use Rattle.wl_server.specs.Plain.{SetsObjectData}
@@ -37,7 +38,8 @@ module _ {T U G C R : Type 0} (call : U → R → U → Type 0) (w : World T G C
       → LendsObjectData call w (record { server = before; refused = was }) o answer (record { server = before; refused = false })
   lends_none read same none is = rw (looked_up read None same none) (is, refl)
 
-  module _ (read : ClientParts) (s : Stored T U C) (same : read ≡ o.client) (there : Some s ≡ client_at read before.clients) where
+  module _ (read : ClientParts) (s : Stored T U C) (same : read ≡ o.client) (there : Some s ≡ client_at read before.clients)
+      (all : AllNumbered before.clients) where
     abbrev at_slot : Stored T U C → BackendState T U G C
     at_slot c = record { server = record before { clients = slice_set before.clients read.slot (Some c) }; refused = false }
 
@@ -64,7 +66,7 @@ module _ {T U G C R : Type 0} (call : U → R → U → Type 0) (w : World T G C
     set_to x left store found written =
         done_to _ _ _ _ (own o left (Ok tt)) o.client (sets o left (Ok tt)) (◌≡◌ {A = Result (Unit {0}) InvalidId} (Ok tt) (Err _))
         (λ i l d b a h. (_, refl, h)) read s (having store) false same there
-        (set_does s o left (Ok tt) store (rw found refl) (rw found written)) before.numbers (in_time_none s.times before.numbers) (λ is. is)
+        (set_does s o left (Ok tt) store (rw found refl) (rw found written)) before.numbers (in_time_none s.times before.numbers) (λ is. is) all
 
     lent_with : (x : Object (Kept U)) (kept_data : Option U) → named s.part.store o ≡ Some x → x.value.user_data ≡ kept_data → (store : Store (Kept U))
         → MatchOption kept_data ((answer ≡ Err _) × (store ≡ s.part.store))

@@ -5,3 +5,5 @@ pub mod NotedEnds
 pub mod PlacesInOrder
 pub mod NotesInOrder
 pub mod ErrorLaws
+pub mod WaitingPlaces
+pub mod WaitingInOrder

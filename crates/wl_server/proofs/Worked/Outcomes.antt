@@ -1,7 +1,7 @@
 -- What one outcome leaves open and what it does not: worked values.
-use Rattle.std.proofs.Common.{◌≡◌, ℕ, ◌⊎◌, inl, inr, Bool, List, [], ◌∷◌, Result, Ok, Err, true, false, refl, sym, ap, ◌∙◌, lit<, arith, true≢false}
+use Rattle.std.proofs.Common.{◌≡◌, ℕ, ◌⊎◌, inl, inr, Bool, List, [], ◌∷◌, ◌++◌, None, Result, Ok, Err, true, false, refl, sym, ap, ◌∙◌, lit<, arith, true≢false}
 use Rattle.std.specs.Prelude.{◌==◌, is_ok}
-use Rattle.std.proofs.lemmas.Bool.{cases_Bool}
+use Rattle.std.proofs.lemmas.Bool.{cases_Bool, false≢true}
 use Rattle.wl_wire.specs.declared.error.IoFault.{IoFault}
 use Rattle.wl_wire.specs.declared.error.IoFault.TheVariants as fault
 use Rattle.wl_link.specs.Exchange.{Queue, nothing, IsFunction}
@@ -40,7 +40,7 @@ one_order = Initialized first ∷ Initialized second ∷ []
 abbrev other_order : List (Note ℕ)
 other_order = Initialized second ∷ Initialized first ∷ []
 
--- servers that differ in it are not the same to their program, though each client finds the same
+-- servers that differ in it are the same only where it does not count: each client finds the same
 either_order : (id : ClientParts) → notes_of id one_order ≡ notes_of id other_order
 either_order id = at (cases_Bool (same_client first id)) (cases_Bool (same_client second id))
   where
@@ -51,8 +51,18 @@ either_order id = at (cases_Bool (same_client first id)) (cases_Bool (same_clien
     at (inr one) (inl two) = rw (one, two) refl
     at (inr one) (inr two) = rw (one, two) refl
 
-orders_differ : SameServer (noted one_order) (noted other_order) → ⊥
-orders_differ same = true≢false (ap tells_first same.notes)
+orders_alike : SameServer false (noted one_order) (noted other_order)
+orders_alike = record {
+  held = record {
+    offer = refl;
+    last = refl;
+    each = λ id. ap (λ notes. let s : Seen ℕ ℕ Bool = record { part = None; made = notes ++ [] } in s) (either_order id);
+  };
+  order = λ counts. absurd (false≢true counts);
+}
+
+orders_differ : SameServer true (noted one_order) (noted other_order) → ⊥
+orders_differ same = true≢false (ap tells_first (same.order refl).notes)
   where
     tells_first : List (Note ℕ) → Bool
     tells_first (Initialized client ∷ _) = client.slot == first.slot
@@ -69,8 +79,8 @@ ended = Disconnected first ConnectionClosed ∷ Initialized first ∷ []
 abbrev begun : List (Note ℕ)
 begun = Initialized first ∷ Disconnected first ConnectionClosed ∷ []
 
-not_turned : SameServer (noted ended) (noted begun) → ⊥
-not_turned same = true≢false (sym (ap (λ (s : Seen ℕ ℕ Bool). is_first s.made) (same.each first)))
+not_turned : (ordered : Bool) → SameServer ordered (noted ended) (noted begun) → ⊥
+not_turned ordered same = true≢false (sym (ap (λ (s : Seen ℕ ℕ Bool). is_first s.made) (same.held.each first)))
 
 -- ---- a cleanup's list
 

@@ -2,7 +2,7 @@
 //!
 //! A *note* tells the program what happened to a client or an object (`Note`).
 
-ghost use Rattle.std.specs.Prelude.{◌≡◌, ◌++◌, List, [], true, false, IfOk, IfErr, IsOk, is_err, length};
+ghost use Rattle.std.specs.Prelude.{◌≡◌, ◌++◌, Bool, List, [], true, false, IfOk, IfErr, IsOk, is_err, length};
 ghost use Rattle.wl_link.specs.Runs.{AllSame, RunEntry, entries};
 ghost use Rattle.wl_link.specs.Script.{Script};
 ghost use Rattle.wl_server.specs.declared.runs.step.Reply.{Reply};
@@ -221,7 +221,7 @@ impl<U: Drop, G: GlobalHandler<C> + Drop, C: Drop> Backend<Memory, U, G, C> {
     /// - If bytes arrive for a client and its actions are read and finished, it does not matter how the bytes were cut
     ///   into arrivals.
     /// - The same steps on a server that looks the same to its program get the same replies, and leave a server that
-    ///   looks the same, if neither stops.
+    ///   looks the same, if neither stops. The order of notes may be left out of that (`ordered` is `false`).
     pub fn replay(
         &mut self,
         steps: Vec<Step<Memory, U, G, C>>,
@@ -233,10 +233,10 @@ impl<U: Drop, G: GlobalHandler<C> + Drop, C: Drop> Backend<Memory, U, G, C> {
             Performs (over_scripts G.views) begun run self.old.server →
             Performs (over_scripts G.views) begun (run ++ entries steps.items replies.items) self.new.server) }
         ensures history { IfOk result (λ replies. Extends G.views self.old.server (entries steps.items replies.items) self.new.server) }
-        ensures outcome { IfOk result (λ replies. (same other : ServerState Script U G C) (others : List (Reply Script U)) →
-            SameServer self.old.server same → length others ≡ length steps.items →
+        ensures outcome { IfOk result (λ replies. (ordered : Bool) (same other : ServerState Script U G C) (others : List (Reply Script U)) →
+            SameServer ordered self.old.server same → length others ≡ length steps.items →
             Performs (over_scripts G.views) same (entries steps.items others) other →
-            AllSame WholeReply replies.items others × SameServer self.new.server other) }
+            AllSame (WholeReply ordered) replies.items others × SameServer ordered self.new.server other) }
         ensures stopped_history { IfErr result (λ stopped. ExtendsUpTo G.views self.old.server steps.items stopped.replies.items self.new.server) }
         ensures stopped { IfErr result (λ stopped. StopsAt (over_scripts G.views) self.old.server steps.items stopped.step stopped.replies.items self.new.server) }
         ensures refused { self.new.refused ≡ is_err result }

@@ -1,6 +1,6 @@
 -- That the storage for what is sent of each stored client holds a byte, an induction over base moves; and so something is
 -- served of each.
-use Rattle.std.proofs.Common.{◌≡◌, ℕ, ◌<◌, List, [], ◌∷◌, ◌++◌, Option, Some, Result, sym, ap, subst, arith}
+use Rattle.std.proofs.Common.{◌≡◌, ℕ, ◌<◌, List, [], ◌∷◌, ◌++◌, Option, Some, Result, sym, ap, subst, arith, true, refl}
 use Rattle.std.specs.Prelude.{MatchOption}
 use Rattle.wl_wire.specs.declared.error.IoFault.{IoFault}
 use Rattle.wl_wire.specs.Table.{InterfaceRow}
@@ -44,7 +44,7 @@ module _ {T U C : Type 0} where
 
 module _ {T U C : Type 0} (sends : T → Queue → Result ℕ IoFault → T → Type 0) (receives : T → ℕ → Result Queue IoFault → T → Type 0)
     (client : ClientParts) where
-  moves_hold : (p q : Part T U C) (d : Doings U) → Moves sends receives client p d q → Holds p → Holds q
+  moves_hold : (p q : Part T U C) (d : Doings U) → Moves true sends receives client p d q → Holds p → Holds q
   moves_hold p q d (stayed is same) holds = as_before p q same holds
   moves_hold p q d (followed {m = m} {a = a} {b = b} first second is) holds = moves_hold m q b second (moves_hold p m a first holds)
   moves_hold p q d (handed_out {a = a} ids moves among is) holds = moves_hold p q a moves holds
@@ -61,20 +61,20 @@ module _ {T U C : Type 0} (sends : T → Queue → Result ℕ IoFault → T → 
   moves_hold p q d (remembered n x kept registry is same) holds = subst Holds (sym same) holds
   moves_hold p q d (opens action h so is same) holds = subst Holds (sym same) holds
   moves_hold p q d (finished is same) holds = subst Holds (sym same) holds
-  moves_hold p q d (cleaned is same) holds = subst Holds (sym same) holds
+  moves_hold p q d (cleaned on is same) holds = subst Holds (sym same) holds
 
-  goes_hold : (s t : Seen T U C) (d : Doings U) → Goes sends receives client s d t → SeenHolds s → SeenHolds t
+  goes_hold : (s t : Seen T U C) (d : Doings U) → Goes true sends receives client s d t → SeenHolds s → SeenHolds t
   goes_hold s t d (unfelt none same) holds = subst SeenHolds (sym same) holds
   goes_hold s t d (notes_taken none same) holds = subst SeenHolds (sym same) holds
   goes_hold s t d (within p q there moves same) holds = subst SeenHolds (sym same) (moves_hold p q d moves (holds_at s p there holds))
-  goes_hold s t d (taken_out p q there killed moves none noted same) holds = subst SeenHolds (sym same) tt
+  goes_hold s t d (taken_out p q on there killed moves none noted same) holds = subst SeenHolds (sym same) tt
 
 module _ {T U G C : Type 0} (w : World T G C) (id : ClientParts) where
   run_holds : (offer : Offer G) (s : Seen T U C) (run : List (Own T U G C)) (t : Seen T U C) → AreMine id run → Alone w id offer s run t → SeenHolds s → SeenHolds t
   run_holds offer s [] t own same holds = subst SeenHolds (sym same) holds
   run_holds offer s (e ∷ run) t own (mid, by, alone) holds =
       run_holds (offer_after offer e.call) mid run t own.1 alone
-      (goes_hold w.sends w.receives id s mid (doings_of (handed_by id e.call e.did) e.did) (call_goes w id offer e.call s e.lacked e.did mid own.0 by) holds)
+      (goes_hold w.sends w.receives id s mid (doings_of (handed_by id e.call e.did) e.did) (call_goes true w id offer e.call s e.lacked e.did mid own.0 by (λ cleans. refl)) holds)
 
 fresh_holds : {T : Type 0} (transport : T) (limit : Option ℕ) (link : LinkState T) → IsFresh transport limit link → 0 < link.outgoing_capacity
 fresh_holds {T = T} transport limit link (l, limits, fresh) =

@@ -259,7 +259,7 @@ module _ {T U C : Type 0} (sends : T → Queue → Result ℕ IoFault → T → 
       later false h among = inl among
 
   -- each move changes the objects so
-  pub moves_change : (p q : Part T U C) (d : Doings U) → held p.store 0 ≡ None → Moves sends receives client p d q → Changing p d q
+  pub moves_change : (p q : Part T U C) (d : Doings U) → held p.store 0 ≡ None → Moves true sends receives client p d q → Changing p d q
   moves_change p q d empty (stayed is same) = changing_so p p q nothing_done d is same (still p empty)
   moves_change p q d empty (followed {m = m} {a = a} {b = b} first second is) =
       let one = moves_change p m a empty first in
@@ -300,7 +300,7 @@ module _ {T U C : Type 0} (sends : T → Queue → Result ℕ IoFault → T → 
       (quiet p (record p { action = Some action }) (record nothing_done { acted = h ∷ [] }) empty refl refl refl refl (λ h among. absurd among))
   moves_change p q d empty (finished is same) =
       changing_so p (record p { action = None }) q nothing_done d is same (quiet p (record p { action = None }) nothing_done empty refl refl refl refl (λ h among. absurd among))
-  moves_change p q d empty (cleaned is same) =
+  moves_change p q d empty (cleaned on is same) =
       changing_so p (record p { waiting = [] }) q (noting p.waiting) d is same (record {
         changes = [];
         ends = refl;
@@ -312,7 +312,7 @@ module _ {T U C : Type 0} (sends : T → Queue → Result ℕ IoFault → T → 
       })
 
   -- no note is handed out by moves of the part
-  pub moves_take : (p q : Part T U C) (d : Doings U) → Moves sends receives client p d q → d.taken ≡ []
+  pub moves_take : (p q : Part T U C) (d : Doings U) → Moves true sends receives client p d q → d.taken ≡ []
   moves_take p q d (stayed is same) = ap (λ (x : Doings U). x.taken) is
   moves_take p q d (followed {m = m} {a = a} {b = b} first second is) =
       ap (λ (x : Doings U). x.taken) is ∙ ap (λ l. l ++ b.taken) (moves_take p m a first) ∙ moves_take m q b second
@@ -330,7 +330,7 @@ module _ {T U C : Type 0} (sends : T → Queue → Result ℕ IoFault → T → 
   moves_take p q d (remembered n x holds registry is same) = ap (λ (x : Doings U). x.taken) is
   moves_take p q d (opens action h so is same) = ap (λ (x : Doings U). x.taken) is
   moves_take p q d (finished is same) = ap (λ (x : Doings U). x.taken) is
-  moves_take p q d (cleaned is same) = ap (λ (x : Doings U). x.taken) is
+  moves_take p q d (cleaned on is same) = ap (λ (x : Doings U). x.taken) is
 
   -- ---- what is held of a client
 
@@ -373,7 +373,7 @@ module _ {T U C : Type 0} (sends : T → Queue → Result ℕ IoFault → T → 
     new = λ h among. inl among;
   }
 
-  goes_within : (p q : Part T U C) (made : List (Happening U)) (d : Doings U) → d.taken ≡ [] → held p.store 0 ≡ None → Moves sends receives client p d q
+  goes_within : (p q : Part T U C) (made : List (Happening U)) (d : Doings U) → d.taken ≡ [] → held p.store 0 ≡ None → Moves true sends receives client p d q
       → CallChanging (record { part = Some p; made = made }) (objects_of p) d (record { part = Some q; made = made ++ d.notes })
   goes_within p q made d none_taken empty moves =
       let changing = moves_change p q d empty moves in
@@ -405,7 +405,7 @@ module _ {T U C : Type 0} (sends : T → Queue → Result ℕ IoFault → T → 
       waited h changes (inr new) = inr new
 
   -- a client that is taken out leaves no objects
-  goes_out : (p q : Part T U C) (made : List (Happening U)) (d : Doings U) → d.taken ≡ [] → held p.store 0 ≡ None → Moves sends receives client p d q
+  goes_out : (p q : Part T U C) (made : List (Happening U)) (d : Doings U) → d.taken ≡ [] → held p.store 0 ≡ None → Moves true sends receives client p d q
       → ((n : ℕ) → held q.store n ≡ None) → CallChanging (record { part = Some p; made = made }) (objects_of p) d (record { part = None; made = made ++ d.notes })
   goes_out p q made d none_taken empty moves none =
       let changing = goes_within p q made d none_taken empty moves in
@@ -437,7 +437,7 @@ module _ {T U C : Type 0} (sends : T → Queue → Result ℕ IoFault → T → 
       subst (λ (x : Objects (Kept U)). CallChanging s x d t) (sym at)
       (subst (λ (x : Option (Part T U C)). CallChanging (record { part = x; made = s.made }) (objects_of p) d t) (sym there) changing)
 
-  pub goes_change : (s t : Seen T U C) (o : Objects (Kept U)) (d : Doings U) → AreObjectsOf s o → held o.store 0 ≡ None → Goes sends receives client s d t → CallChanging s o d t
+  pub goes_change : (s t : Seen T U C) (o : Objects (Kept U)) (d : Doings U) → AreObjectsOf s o → held o.store 0 ≡ None → Goes true sends receives client s d t → CallChanging s o d t
   goes_change s t o d are empty (unfelt is same) =
       subst (λ (x : Doings U). CallChanging s o x t) (sym is) (subst (λ (x : Seen T U C). CallChanging s o nothing_done x) (sym same) (goes_unfelt s o are empty))
   goes_change s t o d are empty (notes_taken is same) =
@@ -448,7 +448,7 @@ module _ {T U C : Type 0} (sends : T → Queue → Result ℕ IoFault → T → 
       let start : held p.store 0 ≡ None = subst (λ (x : Objects (Kept U)). held x.store 0 ≡ None) at empty in
       subst (λ (x : Seen T U C). CallChanging s o d x) (sym same)
       (moved_from s p o d (record { part = Some q; made = s.made ++ d.notes }) there at (goes_within p q s.made d (moves_take p q d moves) start moves))
-  goes_change s t o d are empty (taken_out p q there killed moves none waiting same) =
+  goes_change s t o d are empty (taken_out p q on there killed moves none waiting same) =
       let at : o ≡ objects_of p = objects_at s p o there are in
       let start : held p.store 0 ≡ None = subst (λ (x : Objects (Kept U)). held x.store 0 ≡ None) at empty in
       subst (λ (x : Seen T U C). CallChanging s o d x) (sym same)

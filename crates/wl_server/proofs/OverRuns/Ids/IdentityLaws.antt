@@ -126,7 +126,7 @@ module _ {T U G C : Type 0} (w : World T G C) (id : ClientParts) where
       → held o.store 0 ≡ None → PartCall w id offer e.call s e.lacked e.did mid
       → CallChanging w.sends w.receives id s o (doings_of (handed_by id e.call e.did) e.did) mid
   one_change offer s o e mid own are empty by =
-      goes_change w.sends w.receives id s mid o (doings_of (handed_by id e.call e.did) e.did) are empty (call_goes w id offer e.call s e.lacked e.did mid own by)
+      goes_change w.sends w.receives id s mid o (doings_of (handed_by id e.call e.did) e.did) are empty (call_goes true w id offer e.call s e.lacked e.did mid own by (λ cleans. refl))
 
   pub run_change : (offer : Offer G) (s : Seen T U C) (o : Objects (Kept U)) (run : List (Own T U G C)) (t : Seen T U C) → AreMine id run → AreObjectsOf s o
       → held o.store 0 ≡ None → Alone w id offer s run t → RunChanging offer s o run t

@@ -269,10 +269,10 @@ module _ {T U G C : Type 0} (w : World T G C) (id : ClientParts) (offer : Offer 
   out_silent (Asked call answer) h = call_quiet w id offer before after lacked did (Asked call answer) refl h
   out_silent (Changed target t) h = call_quiet w id offer before after lacked did (Changed target t) refl h
 
-  goes_out : (d : _) → Goes w.sends w.receives id before d after → after.part ≡ None
+  goes_out : (d : _) → Goes true w.sends w.receives id before d after → after.part ≡ None
   goes_out d (unfelt is same) = ap (λ (s : Seen T U C). s.part) same ∙ gone
   goes_out d (within p q there moves same) = absurd (none_some (sym gone ∙ there))
-  goes_out d (taken_out p q there killed moves empty no_notes same) = ap (λ (s : Seen T U C). s.part) same
+  goes_out d (taken_out p q on there killed moves empty no_notes same) = ap (λ (s : Seen T U C). s.part) same
   goes_out d (notes_taken is same) = ap (λ (s : Seen T U C). s.part) same ∙ gone
 
   -- it is not stored again, if it is not inserted again
@@ -280,5 +280,5 @@ module _ {T U G C : Type 0} (w : World T G C) (id : ClientParts) (offer : Offer 
   out_stays call other h = go (concerns id call) refl
     where
       go : (b : Bool) → concerns id call ≡ b → after.part ≡ None
-      go true about = goes_out _ (call_goes w id offer call before lacked did after about h)
+      go true about = goes_out _ (call_goes true w id offer call before lacked did after about h (λ cleans. refl))
       go false far = ap (λ (s : Seen T U C). s.part) (other_call w id offer call before lacked did after other far h).2 ∙ gone

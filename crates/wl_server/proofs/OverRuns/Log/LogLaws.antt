@@ -66,7 +66,7 @@ module _ {T U C : Type 0} (sends : T → Queue → Result ℕ IoFault → T → 
   quiet_move : (p q r : Part T U C) (d e : Doings U) → d ≡ e → q ≡ r → e.sends ≡ [] → e.put ≡ [] → out r ≡ out p → Keeps (out p) d (out q)
   quiet_move p q r d e is same no_sends no_puts waits = keeps_so (out p) (out r) (out q) e d is (ap out same) (keeps_quiet (out p) (out r) e no_sends no_puts waits)
 
-  moves_keep : (p q : Part T U C) (d : Doings U) → Moves sends receives client p d q → Keeps (out p) d (out q)
+  moves_keep : (p q : Part T U C) (d : Doings U) → Moves true sends receives client p d q → Keeps (out p) d (out q)
   moves_keep p q d (stayed is same) = quiet_move p q p d _ is same refl refl refl
   moves_keep p q d (followed {m = m} {a = a} {b = b} first second is) =
       keeps_so (out p) (out q) (out q) (joined a b) d is refl (keeps_then (out p) (out m) (out q) a b (moves_keep p m a first) (moves_keep m q b second))
@@ -87,7 +87,7 @@ module _ {T U C : Type 0} (sends : T → Queue → Result ℕ IoFault → T → 
   moves_keep p q d (remembered n x holds registry is same) = quiet_move p q _ d _ is same refl refl refl
   moves_keep p q d (opens action h so is same) = quiet_move p q _ d _ is same refl refl refl
   moves_keep p q d (finished is same) = quiet_move p q _ d _ is same refl refl refl
-  moves_keep p q d (cleaned is same) = quiet_move p q _ d _ is same refl refl refl
+  moves_keep p q d (cleaned on is same) = quiet_move p q _ d _ is same refl refl refl
 
   -- ---- what is held of a client
 
@@ -100,7 +100,7 @@ module _ {T U C : Type 0} (sends : T → Queue → Result ℕ IoFault → T → 
   waits_at s p waits there is =
       subst (λ (x : Option (Part T U C)). MatchOption x (Unit {0}) (λ q. waits ≡ out q)) {x = s.part} {y = Some p} there is
 
-  goes_keep : (s t : Seen T U C) (d : Doings U) (waits : Queue) → WaitsFor s waits → Goes sends receives client s d t → GoneOn waits d t
+  goes_keep : (s t : Seen T U C) (d : Doings U) (waits : Queue) → WaitsFor s waits → Goes true sends receives client s d t → GoneOn waits d t
   goes_keep s t d waits is (unfelt none same) = record {
     after = waits;
     waiting = subst (λ (x : Seen T U C). WaitsFor x waits) (sym same) is;
@@ -116,7 +116,7 @@ module _ {T U C : Type 0} (sends : T → Queue → Result ℕ IoFault → T → 
     waiting = subst (λ (x : Seen T U C). WaitsFor x (out q)) (sym same) refl;
     keeps = subst (λ (x : Queue). Keeps x d (out q)) (sym (waits_at s p waits there is)) (moves_keep p q d moves);
   }
-  goes_keep s t d waits is (taken_out p q there killed moves none noted same) = record {
+  goes_keep s t d waits is (taken_out p q on there killed moves none noted same) = record {
     after = out q;
     waiting = subst (λ (x : Seen T U C). WaitsFor x (out q)) (sym same) tt;
     keeps = subst (λ (x : Queue). Keeps x d (out q)) (sym (waits_at s p waits there is)) (moves_keep p q d moves);
@@ -138,7 +138,7 @@ module _ {T U G C : Type 0} (w : World T G C) (within' : IsWithinOffer w.sends) 
     keeps = keeps_quiet waits waits (doings_of {U = U} [] []) refl refl refl;
   }
   run_keeps offer s waits (e ∷ run) t own is (mid, by, alone) =
-      let first = goes_keep w.sends w.receives id within' s mid (doings_of (handed_by id e.call e.did) e.did) waits is (call_goes w id offer e.call s e.lacked e.did mid own.0 by) in
+      let first = goes_keep w.sends w.receives id within' s mid (doings_of (handed_by id e.call e.did) e.did) waits is (call_goes true w id offer e.call s e.lacked e.did mid own.0 by (λ cleans. refl)) in
       let rest = run_keeps (offer_after offer e.call) mid first.after run t own.1 first.waiting alone in
       record {
         after = rest.after;

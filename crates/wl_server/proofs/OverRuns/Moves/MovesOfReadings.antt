@@ -69,23 +69,23 @@ module _ {U C : Type 0} where
   live_of : (c : Core U C) → reads_on c ≡ true → c.is_killed ≡ false
   live_of c on = not_true c.is_killed (both (not c.is_killed) (is_none c.action) on).0
 
-module _ {T U G C : Type 0} (sends : T → Queue → Result ℕ IoFault → T → Type 0) (receives : T → ℕ → Result Queue IoFault → T → Type 0)
+module _ {T U G C : Type 0} (gathers : Bool) (sends : T → Queue → Result ℕ IoFault → T → Type 0) (receives : T → ℕ → Result Queue IoFault → T → Type 0)
     (a : Around G C) where
   abbrev Step : Part T U C → Doings U → Part T U C → Type 0
-  Step p d q = Go sends receives a.client p d q
+  Step p d q = Go gathers sends receives a.client p d q
 
   abbrev Calm : Core U C → Type 0
-  Calm c = IsCalm sends receives a.client c
+  Calm c = IsCalm gathers sends receives a.client c
 
   -- a turn: bytes are read, and a verdict carried out
   turn_moves : (before : ReaderState T (Core U C)) (link : LinkState T) (v : Verdict (Core U C) (Told U)) → link.outgoing ≡ before.link.outgoing
-      → link.outgoing_capacity ≡ before.link.outgoing_capacity → Comes sends receives a.client before.core v → Calm before.core → (es : List Sending) (first : List (Given (Told U))) (lacked : Bool) (mid : ReaderState T (Core U C))
+      → link.outgoing_capacity ≡ before.link.outgoing_capacity → Comes gathers sends receives a.client before.core v → Calm before.core → (es : List Sending) (first : List (Given (Told U))) (lacked : Bool) (mid : ReaderState T (Core U C))
       → CarriesOut sends (server a) v link es first lacked mid
       → before.core.ended ≡ None
       → Step (part_of before) (doings_in (deeds_of (map Sent es) first mid.core)) (part_of mid) × Calm mid.core × IsQuiet (deeds_in first)
   turn_moves before link v waits stays comes calm es first lacked mid by none =
-      let c = carried sends receives a.client (server a) (λ d f. refl) before.core v comes calm link es first lacked mid by in
-      let so : notes_at_end sends receives a.client mid.core ≡ c.notes =
+      let c = carried gathers sends receives a.client (server a) (λ d f. refl) before.core v comes calm link es first lacked mid by in
+      let so : notes_at_end gathers sends receives a.client mid.core ≡ c.notes =
       c.so ∙ ap (λ (o : Option _). notes_in (end_deeds {U = U} o) ++ c.notes) none in (
         followed (relinked link waits stays refl refl) c.moves
             (verdict_done es c.put c.made first mid.core c.deeds
@@ -95,10 +95,10 @@ module _ {T U G C : Type 0} (sends : T → Queue → Result ℕ IoFault → T �
       )
 
   -- a receive that failed ends the client, or leaves it
-  faulted_ends : (c : Core U C) (f : IoFault) → Calm c → Ends sends receives a.client c (faulted c f)
-  faulted_ends c fault.WouldBlock calm = ends_not sends receives a.client c calm
-  faulted_ends c fault.OutOfMemory calm = ends_not sends receives a.client c calm
-  faulted_ends c _ calm = ends_killed sends receives a.client c ConnectionClosed calm
+  faulted_ends : (c : Core U C) (f : IoFault) → Calm c → Ends gathers sends receives a.client c (faulted c f)
+  faulted_ends c fault.WouldBlock calm = ends_not gathers sends receives a.client c calm
+  faulted_ends c fault.OutOfMemory calm = ends_not gathers sends receives a.client c calm
+  faulted_ends c _ calm = ends_killed gathers sends receives a.client c ConnectionClosed calm
 
   pub gave_none : (left : ℕ) (mid : ReaderState T (Core U C)) (rest : Gives (Told U)) → Stops sends (server a) left mid rest → rest.gave ≡ []
   gave_none left mid rest ends =
@@ -139,7 +139,7 @@ module _ {T U G C : Type 0} (sends : T → Queue → Result ℕ IoFault → T �
         | inr on ↦
             let none : mid.core.ended ≡ None = calm (live_of mid.core on) in
             followed
-            (same_doings sends receives a.client (part_of before) (part_of mid) (doings_in (deeds_of (map Sent es) first mid.core)) (joined (sending es) (doings_in (deeds_in first)))
+            (same_doings gathers sends receives a.client (part_of before) (part_of mid) (doings_in (deeds_of (map Sent es) first mid.core)) (joined (sending es) (doings_in (deeds_in first)))
             (sym (deeds_done (map Sent es) first mid.core
             ∙ ap (λ (d : Doings U). joined d (joined (doings_in (deeds_in first)) (end_of mid.core))) (doings_sends es)
             ∙ ap (λ (o : Option _). joined (sending es) (joined (doings_in (deeds_in first)) (noting (notes_in (end_deeds {U = U} o))))) none
@@ -164,7 +164,7 @@ module _ {T U G C : Type 0} (sends : T → Queue → Result ℕ IoFault → T �
         | inr (f, (over, stopped, same)) ↦
             let ends = faulted_ends before.core f calm in
             let end : ReaderState T (Core U C) = record { core = faulted before.core f; link = link } in
-            let so : notes_at_end sends receives a.client end.core ≡ ends.notes =
+            let so : notes_at_end gathers sends receives a.client end.core ≡ ends.notes =
             ends.so ∙ ap (λ (o : Option _). notes_in (end_deeds {U = U} o) ++ ends.notes) none in
             subst (λ (e : ReaderState T (Core U C)). Step (part_of before) (doings_in (deeds_of (Came r ∷ exchanges_in turns) out.gave e.core)) (part_of e)) (sym same)
             (subst (λ (ts : List Turn). Step (part_of before) (doings_in (deeds_of (Came r ∷ exchanges_in ts) out.gave end.core)) (part_of end)) (sym over)
@@ -176,12 +176,12 @@ module _ {T U G C : Type 0} (sends : T → Queue → Result ℕ IoFault → T �
       then_moves left before mid after es turns first lacked rest out split
       (turn_moves before link v (read_waits (λ sender opcode found. found ≡ (server a).signature before.core sender opcode) before.link link (Ok m) read)
       (read_stays (λ sender opcode found. found ≡ (server a).signature before.core sender opcode) before.link link m read)
-      (subst (λ (w : Verdict (Core U C) (Told U)). Comes sends receives a.client before.core w) (sym is) (handles_comes sends receives a before.core m calm)) calm es first lacked mid by none)
+      (subst (λ (w : Verdict (Core U C) (Told U)). Comes gathers sends receives a.client before.core w) (sym is) (handles_comes gathers sends receives a before.core m calm)) calm es first lacked mid by none)
       more (λ no_end calm'. reads_moves left mid turns rest after no_end calm' more)
   reads_moves left before (Unread es ∷ turns) out after none calm (on, (v, link, first, lacked, mid, rest, (read, same, is), by, split, more)) =
       then_moves left before mid after es turns first lacked rest out split
       (turn_moves before link v (ap (λ (l : LinkState T). l.outgoing) same) (ap (λ (l : LinkState T). l.outgoing_capacity) same)
-      (subst (λ (w : Verdict (Core U C) (Told U)). Comes sends receives a.client before.core w) (sym is) (malformed_comes sends receives a before.core calm)) calm es first lacked mid by none)
+      (subst (λ (w : Verdict (Core U C) (Told U)). Comes gathers sends receives a.client before.core w) (sym is) (malformed_comes gathers sends receives a before.core calm)) calm es first lacked mid by none)
       more (λ no_end calm'. reads_moves left mid turns rest after no_end calm' more)
 
   -- ---- a reading

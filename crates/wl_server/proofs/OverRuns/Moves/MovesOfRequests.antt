@@ -63,22 +63,22 @@ valid_new o n valid =
       λ zero. true≢false (sym (both (nat_lt 0 n) _ (both (not (is_some (held o.store n))) _ free).1).0 ∙ ap (nat_lt 0) zero),
     )
 
-module _ {T U G C : Type 0} (sends : T → Queue → Result ℕ IoFault → T → Type 0) (receives : T → ℕ → Result Queue IoFault → T → Type 0)
+module _ {T U G C : Type 0} (gathers : Bool) (sends : T → Queue → Result ℕ IoFault → T → Type 0) (receives : T → ℕ → Result Queue IoFault → T → Type 0)
     (a : Around G C) where
   abbrev Move : Part T U C → Doings U → Part T U C → Type 0
-  Move p d q = Go sends receives a.client p d q
+  Move p d q = Go gathers sends receives a.client p d q
 
   abbrev place : Core U C → LinkState T → Part T U C
-  place c l = at sends receives a.client c l
+  place c l = at gathers sends receives a.client c l
 
   abbrev IsQuietCore : Core U C → Type 0
-  IsQuietCore c = IsCalm sends receives a.client c
+  IsQuietCore c = IsCalm gathers sends receives a.client c
 
   abbrev pub Lead : Core U C → List (Deed U) → Core U C → Type 0
-  Lead c made e = Lands sends receives a.client c made e
+  Lead c made e = Lands gathers sends receives a.client c made e
 
   abbrev pub Come : Core U C → Verdict (Core U C) (Told U) → Type 0
-  Come c v = Comes sends receives a.client c v
+  Come c v = Comes gathers sends receives a.client c v
 
   -- the ids that came up are not handed out
   dropped : (p q : Part T U C) (ids : List (HandedId IdParts)) → Move p (handing ids) q → Move p nothing_done q
@@ -190,7 +190,7 @@ module _ {T U G C : Type 0} (sends : T → Queue → Result ℕ IoFault → T �
   garbled_comes : (c : Core U C) → IsQuietCore c → Come c (garbled c)
   garbled_comes c calm = record {
     made = [];
-    lands = lands_then sends receives a.client c c (closed_down c) [] (lands_not sends receives a.client c calm) (ends_killed sends receives a.client c ConnectionClosed calm);
+    lands = lands_then gathers sends receives a.client c c (closed_down c) [] (lands_not gathers sends receives a.client c calm) (ends_killed gathers sends receives a.client c ConnectionClosed calm);
     events = λ e same. refl;
     quiet = (refl, refl);
     last = inl refl;
@@ -208,7 +208,7 @@ module _ {T U G C : Type 0} (sends : T → Queue → Result ℕ IoFault → T �
   }
 
   breaks_here : (c : Core U C) (code : ℕ) (text : List ℕ) → IsQuietCore c → Come c (breaks a c code text)
-  breaks_here c code text calm = breaks_comes c c code text (lands_not sends receives a.client c calm)
+  breaks_here c code text calm = breaks_comes c c code text (lands_not gathers sends receives a.client c calm)
 
   replies_comes : (c m : Core U C) (puts : List Said) (did : List (Deed U)) → Lead c did m → IsQuiet did → Come c (replies m puts did)
   replies_comes c m puts did lead quiet = record {
@@ -234,7 +234,7 @@ module _ {T U G C : Type 0} (sends : T → Queue → Result ℕ IoFault → T �
 
   syncs_comes : (c : Core U C) (n : ℕ) → IsQuietCore c → is_valid_new (objects_in c) n ≡ true → Come c (syncs a c n)
   syncs_comes c n calm valid =
-      replies_comes c (synced a c n) _ [] (lands_at sends receives a.client c [] (synced a c n) calm refl moves) (refl, refl)
+      replies_comes c (synced a c n) _ [] (lands_at gathers sends receives a.client c [] (synced a c n) calm refl moves) (refl, refl)
     where
       made : Core U C
       made = with_objects c (with_made (objects_in c) n callback_id 1)
@@ -254,7 +254,7 @@ module _ {T U G C : Type 0} (sends : T → Queue → Result ℕ IoFault → T �
   registers_comes : (c : Core U C) (n : ℕ) → IsQuietCore c → is_valid_new (objects_in c) n ≡ true → Come c (registers a c n)
   registers_comes c n calm valid =
       replies_comes c (with_registry a c n) _ (Remembered (new_at a c n) ∷ [])
-      (lands_at sends receives a.client c (Remembered (new_at a c n) ∷ []) (with_registry a c n) calm refl moves) (refl, refl)
+      (lands_at gathers sends receives a.client c (Remembered (new_at a c n) ∷ []) (with_registry a c n) calm refl moves) (refl, refl)
     where
       made : Core U C
       made = with_objects c (with_made (objects_in c) n registry_id 1)
@@ -271,7 +271,7 @@ module _ {T U G C : Type 0} (sends : T → Queue → Result ℕ IoFault → T �
   binds_comes : (c : Core U C) (g version n : ℕ) (x : Object (KeptGlobal G)) → IsQuietCore c → is_valid_new (objects_in c) n ≡ true → Come c (binds a c g version n x)
   binds_comes c g version n x calm valid =
       hands_out_comes c made (opened.Bind id) h
-      (lands_at sends receives a.client c (Acted h ∷ []) (record made { action = Some (opened.Bind id) }) calm refl
+      (lands_at gathers sends receives a.client c (Acted h ∷ []) (record made { action = Some (opened.Bind id) }) calm refl
       (λ l. followed (makes_object c version (objects_in c) n x.interface valid l) (opens (opened.Bind id) h refl refl refl) refl))
     where
       id : IdParts
@@ -293,7 +293,7 @@ module _ {T U G C : Type 0} (sends : T → Queue → Result ℕ IoFault → T �
         → Come c (converted a c m receiver row (Whole d args))
     hands_out_converted d args so =
         hands_out_comes c (with_objects c d.objects) action h
-        (lands_at sends receives a.client c (Acted h ∷ []) (record (with_objects c d.objects) { action = Some action }) calm refl
+        (lands_at gathers sends receives a.client c (Acted h ∷ []) (record (with_objects c d.objects) { action = Some action }) calm refl
         (λ l. handed_out (all_action_ids (h ∷ []))
         (followed (opens {p = place c l} {q = place opening l} action h ((receiver, holds, refl, other), refl, refl, refl) refl refl)
         (followed (found {p = place opening l} {q = place opening l} m.sender receiver holds refl refl) ((so opening).0 l) refl) refl)
@@ -323,7 +323,7 @@ module _ {T U G C : Type 0} (sends : T → Queue → Result ℕ IoFault → T �
         → Come c (converted a c m receiver row outcome)
     converted_comes (Wrong w objects) came =
         breaks_comes c (with_objects c objects) 0 (fault_text a.table receiver.interface row w)
-        (lands_at sends receives a.client c [] (with_objects c objects) calm refl (came c))
+        (lands_at gathers sends receives a.client c [] (with_objects c objects) calm refl (came c))
     converted_comes (Whole d args) came = hands_out_converted d args came
 
     other_comes : Come c (other_request a c m receiver row)

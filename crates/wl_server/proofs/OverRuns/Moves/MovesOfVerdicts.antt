@@ -20,10 +20,10 @@ use Rattle.wl_server.specs.Ids.{ClientParts}
 use Rattle.wl_server.specs.Part.{Part}
 use Rattle.wl_server.specs.Telling.{Core, Finish, Tells, Told, closed_down, core_of, deeds_in, end_deeds, killed, part_of, speaker}
 
-module _ {T U C : Type 0} (sends : T → Queue → Result ℕ IoFault → T → Type 0) (receives : T → ℕ → Result Queue IoFault → T → Type 0)
+module _ {T U C : Type 0} (gathers : Bool) (sends : T → Queue → Result ℕ IoFault → T → Type 0) (receives : T → ℕ → Result Queue IoFault → T → Type 0)
     (client : ClientParts) where
   abbrev pub Go : Part T U C → Doings U → Part T U C → Type 0
-  Go p d q = Moves sends receives client p d q
+  Go p d q = Moves gathers sends receives client p d q
 
   -- a core over a link
   abbrev pub at : Core U C → LinkState T → Part T U C

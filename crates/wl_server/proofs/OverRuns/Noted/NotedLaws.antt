@@ -140,7 +140,7 @@ module _ {T U C : Type 0} (sends : T → Queue → Result ℕ IoFault → T → 
         none = ap ends_in waits ∙ none;
       }
 
-  moves_note : (p q : Part T U C) (d : Doings U) → ends_in p.waiting ≡ 0 → Moves sends receives client p d q → Noting p d q
+  moves_note : (p q : Part T U C) (d : Doings U) → ends_in p.waiting ≡ 0 → Moves true sends receives client p d q → Noting p d q
   moves_note p q d none (stayed is same) = quiet p q p d _ none is same refl refl refl refl
   moves_note p q d none (followed {m = m} {a = a} {b = b} first second is) =
       let one = moves_note p m a none first in
@@ -172,7 +172,7 @@ module _ {T U C : Type 0} (sends : T → Queue → Result ℕ IoFault → T → 
   moves_note p q d none (remembered n x holds registry is same) = quiet p q _ d _ none is same refl refl refl refl
   moves_note p q d none (opens action h so is same) = quiet p q _ d _ none is same refl refl refl refl
   moves_note p q d none (finished is same) = quiet p q _ d _ none is same refl refl refl refl
-  moves_note p q d none (cleaned is same) =
+  moves_note p q d none (cleaned on is same) =
       subst (λ (y : Doings U). Noting p y q) (sym is)
       (subst (λ (y : Part T U C). Noting p (record (doings_of [] []) { notes = p.waiting }) y) (sym same)
       (record {
@@ -210,7 +210,7 @@ module _ {T U C : Type 0} (sends : T → Queue → Result ℕ IoFault → T → 
       (subst (λ (l : List Id). IsPermutation (destroyed_in made ++ (destroyed_in p.waiting ++ d.left)) l) (sym (append_assoc (destroyed_in made) (destroyed_in d.notes) (destroyed_in q.waiting)))
       (IsPermutation-append_right (destroyed_in made) (destroyed_in p.waiting ++ d.left) (destroyed_in d.notes ++ destroyed_in q.waiting) noting.objects)))
 
-  within_notes : (made : List (Happening U)) (p q : Part T U C) (d : Doings U) → ends_in p.waiting ≡ 0 → d.taken ≡ [] → Moves sends receives client p d q
+  within_notes : (made : List (Happening U)) (p q : Part T U C) (d : Doings U) → ends_in p.waiting ≡ 0 → d.taken ≡ [] → Moves true sends receives client p d q
       → SeenNoting (record { part = Some p; made = made }) d (record { part = Some q; made = made ++ d.notes })
   within_notes made p q d none no_taken moves =
       let noting = moves_note p q d none moves in record {
@@ -224,7 +224,7 @@ module _ {T U C : Type 0} (sends : T → Queue → Result ℕ IoFault → T → 
       }
 
   out_notes : (made : List (Happening U)) (p q : Part T U C) (d : Doings U) → ends_in p.waiting ≡ 0 → d.taken ≡ [] → p.is_killed ≡ true → q.waiting ≡ []
-      → Moves sends receives client p d q → SeenNoting (record { part = Some p; made = made }) d (record { part = None; made = made ++ d.notes })
+      → Moves true sends receives client p d q → SeenNoting (record { part = Some p; made = made }) d (record { part = None; made = made ++ d.notes })
   out_notes made p q d none no_taken killed nothing moves =
       let noting = moves_note p q d none moves in record {
         objects = subst (λ (l : List (Happening U)). IsPermutation ((destroyed_in made ++ destroyed_in p.waiting) ++ d.left) (destroyed_in l ++ (destroyed_in (made ++ d.notes) ++ [])))
@@ -243,7 +243,7 @@ module _ {T U C : Type 0} (sends : T → Queue → Result ℕ IoFault → T → 
       at_most true = omega arith
       at_most false = omega arith
 
-  goes_note : (s t : Seen T U C) (d : Doings U) → ends_in (waiting_of s.part) ≡ 0 → Goes sends receives client s d t → SeenNoting s d t
+  goes_note : (s t : Seen T U C) (d : Doings U) → ends_in (waiting_of s.part) ≡ 0 → Goes true sends receives client s d t → SeenNoting s d t
   goes_note s t d none (unfelt is same) =
       subst (λ (x : Doings U). SeenNoting s x t) (sym is) (subst (λ (x : Seen T U C). SeenNoting s (doings_of [] []) x) (sym same) (unfelt_notes s none))
   goes_note s t d none (notes_taken is same) =
@@ -253,7 +253,7 @@ module _ {T U C : Type 0} (sends : T → Queue → Result ℕ IoFault → T → 
       subst (λ (x : Seen T U C). SeenNoting s d x) (sym same)
       (subst (λ (x : Option (Part T U C)). SeenNoting (record { part = x; made = s.made }) d (record { part = Some q; made = s.made ++ d.notes })) (sym there)
       (within_notes s.made p q d (sym (ap (λ (x : Option (Part T U C)). ends_in (waiting_of x)) there) ∙ none) (moves_take sends receives client p q d moves) moves))
-  goes_note s t d none (taken_out p q there killed moves empty nothing same) =
+  goes_note s t d none (taken_out p q on there killed moves empty nothing same) =
       subst (λ (x : Seen T U C). SeenNoting s d x) (sym same)
       (subst (λ (x : Option (Part T U C)). SeenNoting (record { part = x; made = s.made }) d (record { part = None; made = s.made ++ d.notes })) (sym there)
       (out_notes s.made p q d (sym (ap (λ (x : Option (Part T U C)). ends_in (waiting_of x)) there) ∙ none) (moves_take sends receives client p q d moves) killed nothing moves))
@@ -266,7 +266,7 @@ module _ {T U G C : Type 0} (w : World T G C) (id : ClientParts) where
   run_notes offer s [] t own none same =
       subst (λ (x : Seen T U C). SeenNoting w.sends w.receives id s (doings_of [] []) x) (sym same) (unfelt_notes w.sends w.receives id s none)
   run_notes offer s (e ∷ run) t own none (mid, by, alone) =
-      let first = goes_note w.sends w.receives id s mid (doings_of (handed_by id e.call e.did) e.did) none (call_goes w id offer e.call s e.lacked e.did mid own.0 by) in
+      let first = goes_note w.sends w.receives id s mid (doings_of (handed_by id e.call e.did) e.did) none (call_goes true w id offer e.call s e.lacked e.did mid own.0 by (λ cleans. refl)) in
       let rest = run_notes (offer_after offer e.call) mid run t own.1 first.none alone in
       let all = doings_in_both e.did (history run) in
       let left : left_in (e.did ++ history run) ≡ left_in e.did ++ left_in (history run) = ap (λ (d : Doings U). d.left) all in

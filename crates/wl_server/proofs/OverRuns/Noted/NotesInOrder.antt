@@ -247,7 +247,7 @@ module _ {T U G C : Type 0} where
   numbers_rise before _ after h below = let more = all_each _ _ _ _ h.times 0 in rise_up before.numbers.made more.more after.numbers.made (more.rise below)
 
 module _ {T U G C : Type 0} (w : World T G C) where
-  run_numbers : (before : ServerState T U G C) (run : List (Entry T U G C)) (after : ServerState T U G C) → Leads w before run after
+  pub run_numbers : (before : ServerState T U G C) (run : List (Entry T U G C)) (after : ServerState T U G C) → Leads w before run after
       → HasNumbers before.numbers (map times_of before.clients) → HasNumbers after.numbers (map times_of after.clients)
   run_numbers before [] after same has = subst (λ (s : ServerState T U G C). HasNumbers s.numbers (map times_of s.clients)) (sym same) has
   run_numbers before (e ∷ run) after (mid, one, leads) has = run_numbers mid run after leads (numbers_go before e.call mid one.notes has)

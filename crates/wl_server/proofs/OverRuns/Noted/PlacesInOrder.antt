@@ -21,7 +21,7 @@ all_more : (P Q : NotePlace → Type 0) → ((p : NotePlace) → P p → Q p) �
 all_more P Q more [] all = tt
 all_more P Q more (p ∷ ps) (here, all) = (more p here, all_more P Q more ps all)
 
-all_append : (P : NotePlace → Type 0) (ps qs : List NotePlace) → AllByRecursion P ps → AllByRecursion P qs → AllByRecursion P (ps ++ qs)
+pub all_append : (P : NotePlace → Type 0) (ps qs : List NotePlace) → AllByRecursion P ps → AllByRecursion P qs → AllByRecursion P (ps ++ qs)
 all_append P [] qs all more = more
 all_append P (p ∷ ps) qs (here, all) more = (here, all_append P ps qs all more)
 
@@ -117,7 +117,7 @@ abbrev pub IsEarly : ℕ → NotePlace → Type 0
 IsEarly below p = (p.waits ≡ false) × (p.number < below)
 
 module _ (below : ℕ) (In : ℕ → ℕ → Type 0) (apart : (i j n : ℕ) → In i n → In j n → i ≡ j) where
-  early_so : (a b : List NotePlace) → Sorted a → Sorted b → AllByRecursion (IsEarly below) a
+  pub early_so : (a b : List NotePlace) → Sorted a → Sorted b → AllByRecursion (IsEarly below) a
       → ((slot n : ℕ) → n < below → times_at_time slot n a ≡ times_at_time slot n b) → ((slot n : ℕ) → 1 ≤ times_at_time slot n b → In slot n)
       → (rest : List NotePlace) × (b ≡ a ++ rest)
   early_so [] b up up' early same known = (b, refl)
@@ -195,7 +195,7 @@ none_waiting k slot n (m ∷ ns) =
     let more = none_waiting k slot n ns in
     omega (arith, count, more)
 
-of_made : (k slot n : ℕ) (b : Bool) → (k == slot) ≡ b → (ns : List ℕ) → times_at_time slot n (map (place_at false k) ns) ≡ (if b then often n ns else 0)
+pub of_made : (k slot n : ℕ) (b : Bool) → (k == slot) ≡ b → (ns : List ℕ) → times_at_time slot n (map (place_at false k) ns) ≡ (if b then often n ns else 0)
 of_made k slot n true is [] = refl
 of_made k slot n false is [] = refl
 of_made k slot n b is (m ∷ ns) = at b is (of_made k slot n b is ns) (m == n) refl
@@ -290,7 +290,7 @@ as_often ns more ns' next next' n is rise less =
 
 -- ---- the places of what was made are early
 
-last_up : (low : ℕ) (ns : List ℕ) (next : ℕ) → RiseWithin low ns next → low ≤ next
+pub last_up : (low : ℕ) (ns : List ℕ) (next : ℕ) → RiseWithin low ns next → low ≤ next
 last_up low [] next is = is
 last_up low (n ∷ ns) next (first, rest) = let more = last_up (n + 1) ns next rest in omega (arith, first, more)
 

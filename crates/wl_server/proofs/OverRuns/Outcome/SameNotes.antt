@@ -24,6 +24,7 @@ use Rattle.wl_server.specs.Events.{session_content}
 use Rattle.wl_server.specs.Ids.{ClientParts}
 use Rattle.wl_server.specs.NoteOrder.{AllNumbered, AllTakeFirst, GivesNumbers, InTurn, IsInOrder, IsNoLater, IsNumbered, Rise, RiseFromSlot, all_places, number_past, numbers_from, places_of, slot_of, times_at, times_of}
 use Rattle.wl_server.specs.Outcome.{AddsSame, ArrivesSame, SameCall, SameStep, SendsSame}
+use Rattle.wl_server.specs.Outcome.Whole.{OrdersSame}
 use Rattle.wl_server.specs.Part.{Part}
 use Rattle.wl_server.specs.PartStep.{Asked, Call, Changed, PartCall, World}
 use Rattle.wl_server.specs.Server.{NoteTimes, Seen, ServerState, Stored, client_at, if_serial, no_times, note_of, notes_of, seen, stored_at, told_of}
@@ -48,7 +49,7 @@ cons_one {A = A} x y xs ys is = (ap first is, ap rest is)
     rest (z ∷ zs) = zs
 
 -- two fronts of the same list are one if they are as long
-fronts_one : {A : Type 0} (xs ys zs ws : List A) → xs ++ ys ≡ zs ++ ws → length xs ≡ length zs → (xs ≡ zs) × (ys ≡ ws)
+pub fronts_one : {A : Type 0} (xs ys zs ws : List A) → xs ++ ys ≡ zs ++ ws → length xs ≡ length zs → (xs ≡ zs) × (ys ≡ ws)
 fronts_one [] ys [] ws is long = (refl, is)
 fronts_one [] ys (z ∷ zs) ws is long = absurd (omega (arith, long))
 fronts_one (x ∷ xs) ys [] ws is long = absurd (omega (arith, long))
@@ -312,7 +313,7 @@ module _ {T U C : Type 0} where
   Alike (Some x) (Some y) = (x.part ≡ y.part) × (x.made ≡ y.made)
   Alike _ _ = ⊥
 
-  times_stored : (clients : List (Option (Stored T U C))) (k : ℕ) → times_at k (map times_of clients) ≡ times_of (stored_at k clients)
+  pub times_stored : (clients : List (Option (Stored T U C))) (k : ℕ) → times_at k (map times_of clients) ≡ times_of (stored_at k clients)
   times_stored clients k = times_in clients k ∙ at (slice_get clients k)
     where
       at : (o : Option (Option (Stored T U C))) → time_in o ≡ times_of (option_map_or (λ s. s) o None)
@@ -326,13 +327,6 @@ module _ {T U C : Type 0} where
       (one.0 ∙ (ap length made ∙ sym two.0), one.1 ∙ (ap (λ (p : Part T U C). length p.waiting) part ∙ sym two.1))
   as_long None (Some y) same one two = absurd same
   as_long (Some x) None same one two = absurd same
-
--- two servers have the same notes, and give their notes the same numbers
-pub record SameNotes {T U G C : Type 0} (s t : ServerState T U G C) : Type 0 where
-  pub notes : s.notes ≡ t.notes
-  pub numbers : s.numbers ≡ t.numbers
-  pub times : (k : ℕ) → times_at k (map times_of s.clients) ≡ times_at k (map times_of t.clients)
-  pub numbered : AllNumbered s.clients × AllNumbered t.clients
 
 module _ {T U G C : Type 0} (s t : ServerState T U G C) (each : (id : ClientParts) → seen id s ≡ seen id t) (notes : s.notes ≡ t.notes) where
   made_one : (id : ClientParts) → made_of id s.clients ≡ made_of id t.clients
@@ -463,7 +457,7 @@ module _ {U : Type 0} where
 -- ---- calls
 
 module _ {T U G C : Type 0} where
-  stay_one : (s t x y : ServerState T U G C) → SameNotes s t → ((id : ClientParts) → seen id x ≡ seen id y) → x.notes ≡ y.notes → AllNumbered x.clients → AllNumbered y.clients
+  stay_one : (s t x y : ServerState T U G C) → OrdersSame s t → ((id : ClientParts) → seen id x ≡ seen id y) → x.notes ≡ y.notes → AllNumbered x.clients → AllNumbered y.clients
       → AllTakeFirst (map times_of s.clients) (map times_of x.clients) → AllTakeFirst (map times_of t.clients) (map times_of y.clients)
       → (k : ℕ) → times_at k (map times_of x.clients) ≡ times_at k (map times_of y.clients)
   stay_one s t x y same each notes one two first first' k =
@@ -476,22 +470,21 @@ module _ {T U G C : Type 0} where
       (ends_of_one here.waiting (times_at k (map times_of x.clients)).waiting there.waiting (times_at k (map times_of y.clients)).waiting
       (sym here.of_waiting ∙ (ap (λ (t : NoteTimes). t.waiting) (same.times k) ∙ there.of_waiting)) long.1)
 
-  makes_one : (s t x y : ServerState T U G C) → SameNotes s t → ((id : ClientParts) → seen id x ≡ seen id y) → MakesNotes s x → MakesNotes t y → SameNotes x y
+  makes_one : (s t x y : ServerState T U G C) → OrdersSame s t → ((id : ClientParts) → seen id x ≡ seen id y) → MakesNotes s x → MakesNotes t y → OrdersSame x y
   makes_one s t x y same each h g = record {
     notes = notes;
     numbers = both_numbers x.numbers y.numbers made.0 waiting.0;
     times = λ k. both_times (times_at k (map times_of x.clients)) (times_at k (map times_of y.clients)) (made.1 k) (waiting.1 k);
-    numbered = (one, two);
   }
     where
       notes : x.notes ≡ y.notes
       notes = h.gathered ∙ (same.notes ∙ sym g.gathered)
 
       one : AllNumbered x.clients
-      one = h.numbered same.numbered.0
+      one = h.numbered
 
       two : AllNumbered y.clients
-      two = g.numbered same.numbered.1
+      two = g.numbered
 
       made : (x.numbers.made ≡ y.numbers.made) × ((k : ℕ) → (times_at k (map times_of x.clients)).made ≡ (times_at k (map times_of y.clients)).made)
       made = turns_one (λ t. t.made) h.times.0 g.times.0 (map times_of s.clients) (map times_of t.clients) (map times_of x.clients) (map times_of y.clients)
@@ -516,7 +509,7 @@ module _ {T U G C : Type 0} where
       at None none = let long : 0 ≡ suc (length hs) = ap length (sym (stored id none) ∙ is) in absurd (omega (arith, long))
 
   -- the same is handed out
-  out_one : (s t : ServerState T U G C) → SameNotes s t → ((id : ClientParts) → seen id s ≡ seen id t) → (out out' : List (Note U)) → Takes s out → Takes t out' → out ≡ out'
+  out_one : (s t : ServerState T U G C) → OrdersSame s t → ((id : ClientParts) → seen id s ≡ seen id t) → (out out' : List (Note U)) → Takes s out → Takes t out' → out ≡ out'
   out_one s t same each out out' one two =
       one.behind ∙ (ap (λ (l : List (Note U)). l ++ one.more) same.notes ∙ (ap (λ (l : List (Note U)). t.notes ++ l) more ∙ sym two.behind))
     where
@@ -528,13 +521,12 @@ module _ {T U G C : Type 0} where
           (λ id. one.each id ∙ (made_one s t each same.notes id ∙ sym (two.each id)))
           (is_stored t two.more (λ id none. two.each id ∙ ap (λ (o : Option (Stored T U C)). option_map_or (λ s. s.made) o []) none))
 
-  hands_one : (s t x y : ServerState T U G C) → SameNotes s t → ((id : ClientParts) → seen id x ≡ seen id y) → (out out' : List (Note U)) → HandsOutNotes s out x
-      → HandsOutNotes t out' y → SameNotes x y
+  hands_one : (s t x y : ServerState T U G C) → OrdersSame s t → ((id : ClientParts) → seen id x ≡ seen id y) → (out out' : List (Note U)) → HandsOutNotes s out x
+      → HandsOutNotes t out' y → OrdersSame x y
   hands_one s t x y same each out out' h g = record {
     notes = notes;
     numbers = h.numbers ∙ (same.numbers ∙ sym g.numbers);
-    times = stay_one s t x y same each notes (h.numbered same.numbered.0) (g.numbered same.numbered.1) h.first g.first;
-    numbered = (h.numbered same.numbered.0, g.numbered same.numbered.1);
+    times = stay_one s t x y same each notes h.numbered g.numbered h.first g.first;
   }
     where
       notes : x.notes ≡ y.notes
@@ -542,7 +534,7 @@ module _ {T U G C : Type 0} where
 
 module _ {T U G C : Type 0} (w : World T G C) where
   -- the same is gathered
-  gathered_one : (s t x y : ServerState T U G C) → SameNotes s t → ((id : ClientParts) → seen id x ≡ seen id y) → (h : GathersNotes s x) → (g : GathersNotes t y)
+  gathered_one : (s t x y : ServerState T U G C) → OrdersSame s t → ((id : ClientParts) → seen id x ≡ seen id y) → (h : GathersNotes s x) → (g : GathersNotes t y)
       → ((id : ClientParts) → client_at id t.clients ≡ None → notes_of id (g.in_order.2.0 ++ g.ends) ≡ []) → x.notes ≡ y.notes
   gathered_one s t x y same each h g stored = at h.in_order g.in_order stored
     where
@@ -616,13 +608,12 @@ module _ {T U G C : Type 0} (w : World T G C) where
           ends : h.ends ≡ g.ends
           ends = ends_one (IsStored t) (one_client t.clients) 0 0 h.ends g.ends h.by_slot g.by_slot told_ends is_ends
 
-  gathers_one : (s t x y : ServerState T U G C) (f : Entry T U G C) (out : Vec (ClientParts × T) Global) → SameNotes s t → ((id : ClientParts) → seen id x ≡ seen id y)
-      → f.call ≡ Asked step.Cleanup (reply.Cleanup (Ok out)) → OneStep w t f y → GathersNotes s x → GathersNotes t y → SameNotes x y
+  gathers_one : (s t x y : ServerState T U G C) (f : Entry T U G C) (out : Vec (ClientParts × T) Global) → OrdersSame s t → ((id : ClientParts) → seen id x ≡ seen id y)
+      → f.call ≡ Asked step.Cleanup (reply.Cleanup (Ok out)) → OneStep w t f y → GathersNotes s x → GathersNotes t y → OrdersSame x y
   gathers_one s t x y f out same each is by h g = record {
     notes = notes;
     numbers = h.numbers ∙ (ap (λ (n : NoteNumbers). record n { waiting = 0 }) same.numbers ∙ sym g.numbers);
-    times = stay_one s t x y same each notes (h.numbered same.numbered.0) (g.numbered same.numbered.1) h.first g.first;
-    numbered = (h.numbered same.numbered.0, g.numbered same.numbered.1);
+    times = stay_one s t x y same each notes h.numbered g.numbered h.first g.first;
   }
     where
       drains : Drains t y.notes
@@ -709,19 +700,19 @@ module _ {T U G C : Type 0} where
         at call is h ample part = inr (inr (ap call_kind is, h))
 
     -- the same notes are handed out
-    pub took_one : (s t x y : ServerState T U G C) (e f : Entry T U G C) → SameNotes s t → ((id : ClientParts) → seen id s ≡ seen id t) → OneStep w s e x → OneStep w t f y
+    pub took_one : (s t x y : ServerState T U G C) (e f : Entry T U G C) → OrdersSame s t → ((id : ClientParts) → seen id s ≡ seen id t) → OneStep w s e x → OneStep w t f y
         → (out out' : Vec (Note U) Global) → e.call ≡ Asked step.TakeNotes (reply.TakeNotes (Ok out)) → f.call ≡ Asked step.TakeNotes (reply.TakeNotes (Ok out')) → out.items ≡ out'.items
     took_one s t x y e f same each by by' out out' is is' =
         out_one s t same each out.items out'.items (takes_of w s e x out is by) (takes_of w t f y out' is' by')
 
-    pub notes_one : (s t x y : ServerState T U G C) (e f : Entry T U G C) → SameNotes s t → ((id : ClientParts) → seen id x ≡ seen id y) → SameCall e.call f.call
-        → lacks_growth e.call ≡ false → lacks_growth f.call ≡ false → OneStep w s e x → OneStep w t f y → SameNotes x y
+    pub notes_one : (s t x y : ServerState T U G C) (e f : Entry T U G C) → OrdersSame s t → ((id : ClientParts) → seen id x ≡ seen id y) → SameCall e.call f.call
+        → lacks_growth e.call ≡ false → lacks_growth f.call ≡ false → OneStep w s e x → OneStep w t f y → OrdersSame x y
     notes_one s t x y e f same each calls ample ample' by by' = at (moves_so s e x by ample) (moves_so t f y by' ample')
       where
         kinds : call_kind e.call ≡ call_kind f.call
         kinds = call_kinds e.call f.call calls
 
-        at : MovesSo s e x → MovesSo t f y → SameNotes x y
+        at : MovesSo s e x → MovesSo t f y → OrdersSame x y
         at (inl (out, kind, is, h)) (inl (out', kind', is', g)) = hands_one s t x y same each out.items out'.items h g
         at (inl (out, kind, is, h)) (inr (inl (out', kind', is', g))) = absurd (omega (arith, kinds, kind, kind'))
         at (inl (out, kind, is, h)) (inr (inr (kind', g))) = absurd (omega (arith, kinds, kind, kind'))

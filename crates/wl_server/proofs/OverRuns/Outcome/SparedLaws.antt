@@ -26,11 +26,11 @@ module _ {H T U G C : Type 0} (answers : Answering H T U G C) (spared : H → Bo
     binds = λ h a client global object u h1 x. answers.binds h a client global object u h1 x × (spared h1 ≡ true);
   }
 
-module _ {H T U G C : Type 0} (w : World T G C) (answers : Answering H T U G C) (spared : H → Bool) (acts : IsDeterministicIfSpared answers spared) where
+module _ {H T U G C : Type 0} (w : World T G C) (answers : Answering H T U G C) (spared : H → Bool) (ordered : Bool) (acts : IsDeterministicIfSpared ordered answers spared) where
   abbrev Server : Type 0
   Server = ServerState T U G C
 
-  deterministic : IsDeterministic (with_memory answers spared)
+  deterministic : IsDeterministic ordered (with_memory answers spared)
   deterministic = record {
     requests = λ h h1 h2 a b x y client sender opcode args created u v same so so'.
         acts.requests h h1 h2 a b x y client sender opcode args created u v same so.0 so'.0 so.1 so'.1;
@@ -151,12 +151,12 @@ module _ {H T U G C : Type 0} (w : World T G C) (answers : Answering H T U G C) 
   each_so {ids} {h} {h'} {s} {s'} {run} {lacked} {total} is (more id answer each serves ids_are run_is lacked_is total_is) =
       more id answer (each_so (dispatched_back id is serves) each) (dispatched_so id is serves) ids_are run_is lacked_is total_is
 
-  pub spared_dispatch_one : IsDetermined w → SparedDispatchesHaveOneOutcome w answers spared
+  pub spared_dispatch_one : IsDetermined w → SparedDispatchesHaveOneOutcome ordered w answers spared
   spared_dispatch_one known id h h1 h2 s t x y result result' same (calls, lacked, answer, mid, serves, ends) (calls', lacked', answer', mid', serves', ends') calm calm' is is' =
-      dispatch_one w known (with_memory answers spared) deterministic id h h1 h2 s t x y result result' same
+      dispatch_one w known ordered (with_memory answers spared) deterministic id h h1 h2 s t x y result result' same
       (calls, lacked, answer, mid, dispatched_so id is serves, ends) (calls', lacked', answer', mid', dispatched_so id is' serves', ends') calm calm'
 
-  pub spared_dispatches_one : IsDetermined w → ManySparedDispatchesHaveOneOutcome w answers spared
+  pub spared_dispatches_one : IsDetermined w → ManySparedDispatchesHaveOneOutcome ordered w answers spared
   spared_dispatches_one known ids h h1 h2 s t x y result result' same (calls, lacked, total, mid, each, ends) (calls', lacked', total', mid', each', ends') calm calm' is is' =
-      dispatches_one w known (with_memory answers spared) deterministic ids h h1 h2 s t x y result result' same
+      dispatches_one w known ordered (with_memory answers spared) deterministic ids h h1 h2 s t x y result result' same
       (calls, lacked, total, mid, each_so is each, ends) (calls', lacked', total', mid', each_so is' each', ends') calm calm'

@@ -2,7 +2,7 @@
 -- replies.
 use Rattle.std.proofs.Common.{◌≡◌, ℕ, Bool, true, false, List, Option, None, Some, is_some, Result, Ok, Err, Vec, refl, sym, ap, subst, ◌∙◌, true≢false}
 use Rattle.std.specs.Global.{Global}
-use Rattle.std.specs.Prelude.{option_map}
+use Rattle.std.specs.Prelude.{IsTrue, option_map}
 use Rattle.std.proofs.lemmas.Bool.{eq-eqb}
 use mathlib.Core.Logic.{inl, inr}
 use Rattle.wl_server.specs.declared.error.InsertClientError.{InsertClientError}
@@ -23,7 +23,7 @@ use Rattle.wl_server.specs.Runs.{is_about}
 use Rattle.wl_server.specs.Server.{Seen, ServerState, Stored, client_at, if_serial, seen, stored_at}
 use Rattle.wl_server.proofs.OverRuns.Outcome.ShareLaws.{shares_one}
 use Rattle.wl_server.specs.Steps.{Entry, InsertsNext, IsLeastFree, IsRefused, RisesBySlot, lacks_growth}
-use Rattle.wl_server.specs.Outcome.Whole.{SameServer, WholeReply}
+use Rattle.wl_server.specs.Outcome.Whole.{HoldsSame, WholeReply}
 
 is_none_by : {A : Type 0} (o : Option A) → is_some o ≡ false → o ≡ None
 is_none_by None is = refl
@@ -77,7 +77,7 @@ module _ {T U G C : Type 0} where
       absurd (true≢false (sym (ap has_part there) ∙ sym (ap (λ (z : Seen T U C). is_some z.part) (each id)) ∙ ap has_part here))
 
   -- servers of which the same is held have the same slots free
-  pub slots_same : (s t : ServerState T U G C) → SameServer s t → SameSlots s.clients t.clients
+  pub slots_same : (s t : ServerState T U G C) → HoldsSame s t → SameSlots s.clients t.clients
   slots_same s t same k = slot_same s t same.each k (stored_at k s.clients) (stored_at k t.clients) refl refl
 
   -- ---- memory
@@ -93,13 +93,13 @@ module _ {T U G C : Type 0} where
 
 module _ {T U : Type 0} where
   -- two replies are the same where what they are is
-  same_whole : (p q p' q' : Reply T U) → p ≡ p' → q ≡ q' → WholeReply p' q' → WholeReply p q
-  same_whole p q p' q' is is' same = subst (λ r. WholeReply r q) (sym is) (subst (λ r. WholeReply p' r) (sym is') same)
+  same_whole : (ordered : Bool) (p q p' q' : Reply T U) → p ≡ p' → q ≡ q' → WholeReply ordered p' q' → WholeReply ordered p q
+  same_whole ordered p q p' q' is is' same = subst (λ r. WholeReply ordered r q) (sym is) (subst (λ r. WholeReply ordered p' r) (sym is') same)
 
   same_here : (id : ClientParts) (p q p' q' : Reply T U) → p ≡ p' → q ≡ q' → SameReply id p q → SameReply id p' q'
   same_here id p q p' q' is is' same = subst (λ r. SameReply id r q') is (subst (λ r. SameReply id p r) is' same)
 
-module _ {T U G C : Type 0} (w : World T G C) (any : ClientParts) (offer : Offer G) (before : Seen T U C) (d e : List (Deed U)) (x y : Seen T U C) where
+module _ {T U G C : Type 0} (ordered : Bool) (w : World T G C) (any : ClientParts) (offer : Offer G) (before : Seen T U C) (d e : List (Deed U)) (x y : Seen T U C) where
   abbrev Ample : Step T U G C → Reply T U → Type 0
   Ample s answer = lacks_growth (Asked s answer) ≡ false
 
@@ -107,7 +107,7 @@ module _ {T U G C : Type 0} (w : World T G C) (any : ClientParts) (offer : Offer
   Rises s answer = RisesBySlot (Asked s answer)
 
   cleanup_one : (r r' : _) → Ample step.Cleanup (reply.Cleanup r) → Ample step.Cleanup (reply.Cleanup r') → Rises step.Cleanup (reply.Cleanup r) → Rises step.Cleanup (reply.Cleanup r')
-      → ((id : ClientParts) → SameReply {T = T} {U = U} id (reply.Cleanup r) (reply.Cleanup r')) → WholeReply {T = T} {U = U} (reply.Cleanup r) (reply.Cleanup r')
+      → ((id : ClientParts) → SameReply {T = T} {U = U} id (reply.Cleanup r) (reply.Cleanup r')) → WholeReply {T = T} {U = U} ordered (reply.Cleanup r) (reply.Cleanup r')
   cleanup_one (Err f) r' ample ample' rises rises' same = absurd (true≢false ample)
   cleanup_one (Ok out) (Err f) ample ample' rises rises' same = absurd (true≢false ample')
   cleanup_one (Ok out) (Ok out') ample ample' rises rises' same = shares_one out.items out'.items rises rises' same
@@ -116,72 +116,74 @@ module _ {T U G C : Type 0} (w : World T G C) (any : ClientParts) (offer : Offer
   of_taken r = reply.TakeNotes r
 
   taken_one : (r r' : Result (Vec (Note U) Global) OutOfMemory) → Ample step.TakeNotes (reply.TakeNotes r) → Ample step.TakeNotes (reply.TakeNotes r')
-      → ((out out' : Vec (Note U) Global) → r ≡ Ok out → r' ≡ Ok out' → out.items ≡ out'.items)
-      → WholeReply {T = T} {U = U} (reply.TakeNotes r) (reply.TakeNotes r')
-  taken_one (Err f) r' ample ample' took = absurd (true≢false ample)
-  taken_one (Ok out) (Err f) ample ample' took = absurd (true≢false ample')
-  taken_one (Ok out) (Ok out') ample ample' took = took out out' refl refl
+      → ((id : ClientParts) → SameReply {T = T} {U = U} id (reply.TakeNotes r) (reply.TakeNotes r'))
+      → ((out out' : Vec (Note U) Global) → r ≡ Ok out → r' ≡ Ok out' → IsTrue ordered → out.items ≡ out'.items)
+      → WholeReply {T = T} {U = U} ordered (reply.TakeNotes r) (reply.TakeNotes r')
+  taken_one (Err f) r' ample ample' same took = absurd (true≢false ample)
+  taken_one (Ok out) (Err f) ample ample' same took = absurd (true≢false ample')
+  taken_one (Ok out) (Ok out') ample ample' same took = (same, took out out' refl refl)
 
-  -- replies that are the same to each client whose step it is are the same to the program, if they hand out the same notes
+  -- Replies that are the same to each client whose step it is are the same to the program, if they hand out the same notes where
+  -- the order counts.
   pub whole_one : (s : Step T U G C) (p q : Reply T U) → ((id : ClientParts) → is_about id s ≡ true → SameReply id p q) → SharedSame s p q
       → Ample s p → Ample s q → Rises s p → Rises s q
       → ((out out' : Vec (Note U) Global) → s ≡ step.TakeNotes → p ≡ reply.TakeNotes (Ok out) → q ≡ reply.TakeNotes (Ok out')
-      → out.items ≡ out'.items) → PartStep w any offer s p before false d x → PartStep w any offer s q before false e y → WholeReply p q
+      → IsTrue ordered → out.items ≡ out'.items) → PartStep w any offer s p before false d x → PartStep w any offer s q before false e y → WholeReply ordered p q
   whole_one (step.InsertClient transport client_data) p q one shared ample ample' rises rises' took (r, is, h) (r', is', g) =
-      same_whole p q (reply.InsertClient r) (reply.InsertClient r') is is' (λ id. sym is ∙ shared ∙ is')
+      same_whole ordered p q (reply.InsertClient r) (reply.InsertClient r') is is' (λ id. sym is ∙ shared ∙ is')
   whole_one (step.SetObjectData o u) p q one shared ample ample' rises rises' took (r, is, h) (r', is', g) =
-      same_whole p q (reply.SetObjectData r) (reply.SetObjectData r') is is' (let here = same_here o.client p q _ _ is is' (one o.client (same_self o.client)) in λ id. here)
+      same_whole ordered p q (reply.SetObjectData r) (reply.SetObjectData r') is is' (let here = same_here o.client p q _ _ is is' (one o.client (same_self o.client)) in λ id. here)
   whole_one (step.CreateObject target i version u) p q one shared ample ample' rises rises' took (r, is, h) (r', is', g) =
-      same_whole p q (reply.CreateObject r) (reply.CreateObject r') is is' (let here = same_here target p q _ _ is is' (one target (same_self target)) in λ id. here)
+      same_whole ordered p q (reply.CreateObject r) (reply.CreateObject r') is is' (let here = same_here target p q _ _ is is' (one target (same_self target)) in λ id. here)
   whole_one (step.DestroyObject o) p q one shared ample ample' rises rises' took (r, is, h) (r', is', g) =
-      same_whole p q (reply.DestroyObject r) (reply.DestroyObject r') is is' (let here = same_here o.client p q _ _ is is' (one o.client (same_self o.client)) in λ id. here)
+      same_whole ordered p q (reply.DestroyObject r) (reply.DestroyObject r') is is' (let here = same_here o.client p q _ _ is is' (one o.client (same_self o.client)) in λ id. here)
   whole_one (step.SendEvent m) p q one shared ample ample' rises rises' took (r, is, h) (r', is', g) =
-      same_whole p q (reply.SendEvent r) (reply.SendEvent r') is is'
+      same_whole ordered p q (reply.SendEvent r) (reply.SendEvent r') is is'
       (let here = same_here m.sender_id.client p q _ _ is is' (one m.sender_id.client (same_self m.sender_id.client)) in λ id. here)
   whole_one (step.PostError o code text) p q one shared ample ample' rises rises' took (is, h) (is', g) =
-      same_whole p q reply.PostError reply.PostError is is' (λ id. refl)
+      same_whole ordered p q reply.PostError reply.PostError is is' (λ id. refl)
   whole_one (step.KillClient target reason) p q one shared ample ample' rises rises' took (is, h) (is', g) =
-      same_whole p q reply.KillClient reply.KillClient is is' (λ id. refl)
+      same_whole ordered p q reply.KillClient reply.KillClient is is' (λ id. refl)
   whole_one (step.CreateGlobal i version handler) p q one shared ample ample' rises rises' took (r, is, h) (r', is', g) =
-      same_whole p q (reply.CreateGlobal r) (reply.CreateGlobal r') is is' (λ id. sym is ∙ shared ∙ is')
+      same_whole ordered p q (reply.CreateGlobal r) (reply.CreateGlobal r') is is' (λ id. sym is ∙ shared ∙ is')
   whole_one (step.DisableGlobal g) p q one shared ample ample' rises rises' took (is, h) (is', h') =
-      same_whole p q reply.DisableGlobal reply.DisableGlobal is is' (λ id. refl)
+      same_whole ordered p q reply.DisableGlobal reply.DisableGlobal is is' (λ id. refl)
   whole_one (step.RemoveGlobal g) p q one shared ample ample' rises rises' took (is, h) (is', h') =
-      same_whole p q reply.RemoveGlobal reply.RemoveGlobal is is' (λ id. refl)
+      same_whole ordered p q reply.RemoveGlobal reply.RemoveGlobal is is' (λ id. refl)
   whole_one (step.Flush None) p q one shared ample ample' rises rises' took (r, is, h) (r', is', g) =
-      same_whole p q (reply.Flush r) (reply.Flush r') is is' (let here = same_here any p q _ _ is is' (one any refl) in λ id. here)
+      same_whole ordered p q (reply.Flush r) (reply.Flush r') is is' (let here = same_here any p q _ _ is is' (one any refl) in λ id. here)
   whole_one (step.Flush (Some target)) p q one shared ample ample' rises rises' took (r, is, h) (r', is', g) =
-      same_whole p q (reply.Flush r) (reply.Flush r') is is' (let here = same_here target p q _ _ is is' (one target (same_self target)) in λ id. here)
+      same_whole ordered p q (reply.Flush r) (reply.Flush r') is is' (let here = same_here target p q _ _ is is' (one target (same_self target)) in λ id. here)
   whole_one (step.SetDefaultMaxBufferSize limit) p q one shared ample ample' rises rises' took (is, h) (is', g) =
-      same_whole p q reply.SetDefaultMaxBufferSize reply.SetDefaultMaxBufferSize is is' (λ id. refl)
+      same_whole ordered p q reply.SetDefaultMaxBufferSize reply.SetDefaultMaxBufferSize is is' (λ id. refl)
   whole_one (step.AddInterfaces interfaces) p q one shared ample ample' rises rises' took (r, is, h) (r', is', g) =
-      let same = sym is ∙ shared ∙ is' in same_whole p q (reply.AddInterfaces r) (reply.AddInterfaces r') is is' (λ id. same)
+      let same = sym is ∙ shared ∙ is' in same_whole ordered p q (reply.AddInterfaces r) (reply.AddInterfaces r') is is' (λ id. same)
   whole_one (step.SetClientMaxBufferSize target limit) p q one shared ample ample' rises rises' took (is, h) (is', g) =
-      same_whole p q reply.SetClientMaxBufferSize reply.SetClientMaxBufferSize is is' (λ id. refl)
+      same_whole ordered p q reply.SetClientMaxBufferSize reply.SetClientMaxBufferSize is is' (λ id. refl)
   whole_one (step.NextAction target) p q one shared ample ample' rises rises' took (r, left, is, h) (r', left', is', g) =
-      same_whole p q (reply.NextAction r) (reply.NextAction r') is is' (let here = same_here target p q (reply.NextAction r) (reply.NextAction r') is is' (one target (same_self target)) in λ id. here)
+      same_whole ordered p q (reply.NextAction r) (reply.NextAction r') is is' (let here = same_here target p q (reply.NextAction r) (reply.NextAction r') is is' (one target (same_self target)) in λ id. here)
   whole_one (step.NextActionWithin target reading) p q one shared ample ample' rises rises' took (r, left, is, h) (r', left', is', g) =
-      same_whole p q (reply.NextActionWithin r left) (reply.NextActionWithin r' left') is is'
+      same_whole ordered p q (reply.NextActionWithin r left) (reply.NextActionWithin r' left') is is'
       (let here = same_here target p q (reply.NextActionWithin r left) (reply.NextActionWithin r' left') is is' (one target (same_self target)) in λ id. here)
   whole_one (step.FinishRequest target u) p q one shared ample ample' rises rises' took (r, is, h) (r', is', g) =
-      same_whole p q (reply.FinishRequest r) (reply.FinishRequest r') is is' (let here = same_here target p q _ _ is is' (one target (same_self target)) in λ id. here)
+      same_whole ordered p q (reply.FinishRequest r) (reply.FinishRequest r') is is' (let here = same_here target p q _ _ is is' (one target (same_self target)) in λ id. here)
   whole_one (step.FinishBind target u) p q one shared ample ample' rises rises' took (r, is, h) (r', is', g) =
-      same_whole p q (reply.FinishBind r) (reply.FinishBind r') is is' (let here = same_here target p q _ _ is is' (one target (same_self target)) in λ id. here)
+      same_whole ordered p q (reply.FinishBind r) (reply.FinishBind r') is is' (let here = same_here target p q _ _ is is' (one target (same_self target)) in λ id. here)
   whole_one step.Cleanup p q one shared ample ample' rises rises' took (r, is, h) (r', is', g) =
-      same_whole p q (reply.Cleanup r) (reply.Cleanup r') is is'
+      same_whole ordered p q (reply.Cleanup r) (reply.Cleanup r') is is'
       (cleanup_one r r' (subst (λ z. Ample step.Cleanup z) is ample) (subst (λ z. Ample step.Cleanup z) is' ample') (subst (λ z. Rises step.Cleanup z) is rises)
       (subst (λ z. Rises step.Cleanup z) is' rises') (λ id. same_here id p q (reply.Cleanup r) (reply.Cleanup r') is is' (one id refl)))
   whole_one step.TakeNotes p q one shared ample ample' rises rises' took (r, is, h) (r', is', g) =
-      same_whole p q (reply.TakeNotes r) (reply.TakeNotes r') is is'
+      same_whole ordered p q (reply.TakeNotes r) (reply.TakeNotes r') is is'
       (taken_one r r' (subst (λ z. Ample step.TakeNotes z) is ample) (subst (λ z. Ample step.TakeNotes z) is' ample')
-      (λ out out' here there. took out out' refl (is ∙ ap of_taken here) (is' ∙ ap of_taken there)))
+      (λ id. same_here id p q (reply.TakeNotes r) (reply.TakeNotes r') is is' (one id refl)) (λ out out' here there. took out out' refl (is ∙ ap of_taken here) (is' ∙ ap of_taken there)))
   whole_one (step.Arrive target bytes tokens) p q one shared ample ample' rises rises' took (r, is, h) (r', is', g) =
-      same_whole p q (reply.Arrive r) (reply.Arrive r') is is' (let here = same_here target p q _ _ is is' (one target (same_self target)) in λ id. here)
+      same_whole ordered p q (reply.Arrive r) (reply.Arrive r') is is' (let here = same_here target p q _ _ is is' (one target (same_self target)) in λ id. here)
   whole_one (step.ArriveFault target f) p q one shared ample ample' rises rises' took (r, is, h) (r', is', g) =
-      same_whole p q (reply.ArriveFault r) (reply.ArriveFault r') is is' (let here = same_here target p q _ _ is is' (one target (same_self target)) in λ id. here)
+      same_whole ordered p q (reply.ArriveFault r) (reply.ArriveFault r') is is' (let here = same_here target p q _ _ is is' (one target (same_self target)) in λ id. here)
   whole_one (step.Accept target n) p q one shared ample ample' rises rises' took (r, is, h) (r', is', g) =
-      same_whole p q (reply.Accept r) (reply.Accept r') is is' (let here = same_here target p q _ _ is is' (one target (same_self target)) in λ id. here)
+      same_whole ordered p q (reply.Accept r) (reply.Accept r') is is' (let here = same_here target p q _ _ is is' (one target (same_self target)) in λ id. here)
   whole_one (step.AcceptFault target f) p q one shared ample ample' rises rises' took (r, is, h) (r', is', g) =
-      same_whole p q (reply.AcceptFault r) (reply.AcceptFault r') is is' (let here = same_here target p q _ _ is is' (one target (same_self target)) in λ id. here)
+      same_whole ordered p q (reply.AcceptFault r) (reply.AcceptFault r') is is' (let here = same_here target p q _ _ is is' (one target (same_self target)) in λ id. here)
   whole_one (step.TakeSent target) p q one shared ample ample' rises rises' took (r, is, h) (r', is', g) =
-      same_whole p q (reply.TakeSent r) (reply.TakeSent r') is is' (let here = same_here target p q (reply.TakeSent r) (reply.TakeSent r') is is' (one target (same_self target)) in λ id. here)
+      same_whole ordered p q (reply.TakeSent r) (reply.TakeSent r') is is' (let here = same_here target p q (reply.TakeSent r) (reply.TakeSent r') is is' (one target (same_self target)) in λ id. here)

@@ -1,6 +1,7 @@
 -- That each call of a server has one outcome, where memory is not refused, and so each run of calls.
 use Rattle.std.proofs.Common.{◌≡◌, ◌≢◌, ℕ, ◌+◌, Bool, false, List, [], ◌∷◌, Result, Ok, Err, Vec, refl, sym, ap, subst, ◌∙◌, true≢false, arith}
 use Rattle.std.specs.Global.{Global}
+use Rattle.std.specs.Prelude.{IsTrue}
 use Rattle.wl_wire.specs.Table.{interface_rows}
 use Rattle.wl_server.specs.declared.error.InsertClientError.{InsertClientError}
 use Rattle.wl_server.specs.declared.error.InsertClientError.TheVariants as insert
@@ -22,9 +23,9 @@ use Rattle.wl_server.specs.PartStep.{Asked, Call, Changed, PartCall, PartStep, W
 use Rattle.wl_server.proofs.OverRuns.Outcome.OfferLaws.{answered_step, numbers_as, offer_as, offer_one, shared_same}
 use Rattle.wl_server.specs.Server.{Seen, ServerState, seen}
 use Rattle.wl_server.specs.Steps.{Entry, InsertsNext, NumbersClient, AnswersShared, OneStep, RisesBySlot, inserted_by, lacks_growth, offer_after}
-use Rattle.wl_server.proofs.OverRuns.Outcome.SameNotes.{SameNotes, notes_one, took_one}
+use Rattle.wl_server.proofs.OverRuns.Outcome.SameNotes.{notes_one, took_one}
 use Rattle.wl_server.proofs.OverRuns.Outcome.WholeLaws.{ample_by, inserts_there, slots_same, whole_one}
-use Rattle.wl_server.specs.Outcome.Whole.{PerformancesHaveOneOutcome, RunsHaveOneOutcome, SameServer, WholeAnswer, WholeReply}
+use Rattle.wl_server.specs.Outcome.Whole.{HoldsSame, PerformancesHaveOneOutcome, RunsHaveOneOutcome, SameServer, WholeAnswer, WholeReply}
 
 module _ {T U G C : Type 0} where
   -- ---- what a call counts and numbers, by its step and its answer
@@ -78,7 +79,7 @@ module _ {T U G C : Type 0} where
 
   -- ---- a call
 
-  module _ (w : World T G C) (known : IsDetermined w) (s t : ServerState T U G C) (same_server : SameServer s t) (d e : ClientParts → List (Deed U)) (x y : ClientParts → Seen T U C) where
+  module _ (w : World T G C) (known : IsDetermined w) (ordered : Bool) (s t : ServerState T U G C) (same_server : HoldsSame s t) (d e : ClientParts → List (Deed U)) (x y : ClientParts → Seen T U C) where
     abbrev Ample : Step T U G C → Reply T U → Type 0
     Ample step answer = lacks_growth (Asked step answer) ≡ false
 
@@ -114,14 +115,14 @@ module _ {T U G C : Type 0} where
     call_whole : (call call' : Call T U G C) → SameCall call call' → lacks_growth call ≡ false → lacks_growth call' ≡ false → NumbersClient s call → NumbersClient t call'
         → AnswersShared s.offer call → AnswersShared s.offer call' → RisesBySlot call → RisesBySlot call'
         → ((out out' : Vec (Note U) Global) → call ≡ Asked step.TakeNotes (reply.TakeNotes (Ok out))
-        → call' ≡ Asked step.TakeNotes (reply.TakeNotes (Ok out')) → out.items ≡ out'.items)
+        → call' ≡ Asked step.TakeNotes (reply.TakeNotes (Ok out')) → IsTrue ordered → out.items ≡ out'.items)
         → ((id : ClientParts) → PartCall w id s.offer call (seen id s) false (d id) (x id)) → ((id : ClientParts) → PartCall w id s.offer call' (seen id s) false (e id) (y id))
-        → WholeAnswer call call' × SharedAnswer call call' × ((id : ClientParts) → SameFelt (d id) (e id) (x id) (y id))
+        → WholeAnswer ordered call call' × SharedAnswer call call' × ((id : ClientParts) → SameFelt (d id) (e id) (x id) (y id))
     call_whole (Asked k p) (Asked k' q) same ample ample' c c' n n' rises rises' took h g =
         let any : ClientParts = record { slot = 0; serial = 0 } in
         let there = part_as w known any s.offer (seen any s) (d any) (e any) (x any) (y any) k k' q same (g any) in
         let shared = whole_shared any k p q ample ample' c (clients_as t k k' q same c') n (numbers_as s.offer k k' q same n') (h any) there in (
-          whole_one w any s.offer (seen any s) (d any) (e any) (x any) (y any) k p q
+          whole_one ordered w any s.offer (seen any s) (d any) (e any) (x any) (y any) k p q
               (λ id own. (call_one w known id s.offer (seen id s) (d id) (e id) (x id) (y id) (Asked k p) (Asked k' q) same ample ample' shared (h id) (g id)).0 own)
               shared ample ample' rises (rises_as k k' q same rises')
               (λ out out' taking is is'. took out out' (ap (λ (z : Step T U G C). Asked z p) taking ∙ ap (Asked step.TakeNotes) is)
@@ -135,14 +136,12 @@ module _ {T U G C : Type 0} where
     call_whole (Asked k p) (Changed target v) same ample ample' c c' n n' rises rises' took h g = absurd same
     call_whole (Changed target v) (Asked k p) same ample ample' c c' n n' rises rises' took h g = absurd same
 
-  noted : {s t : ServerState T U G C} → SameServer s t → SameNotes s t
-  noted same = record { notes = same.notes; numbers = same.numbers; times = same.times; numbered = same.numbered }
-
   -- each call has one outcome
-  pub entry_one : (w : World T G C) → IsDetermined w → (s t x y : ServerState T U G C) (e f : Entry T U G C) → SameServer s t → SameCall e.call f.call
+  pub entry_one : (w : World T G C) → IsDetermined w → (s t x y : ServerState T U G C) (e f : Entry T U G C) (ordered : Bool) → SameServer ordered s t → SameCall e.call f.call
       → e.refused ≡ false → f.refused ≡ false → OneStep w s e x → OneStep w t f y
-      → WholeAnswer e.call f.call × ((id : ClientParts) → e.did id ≡ f.did id) × SameServer x y
-  entry_one w known s t x y e f same same_call none none' by by' =
+      → WholeAnswer ordered e.call f.call × ((id : ClientParts) → e.did id ≡ f.did id) × SameServer ordered x y
+  entry_one w known s t x y e f ordered whole same_call none none' by by' =
+      let same = whole.held in
       let ample = ample_by e by.refused none in
       let ample' = ample_by f by'.refused none' in
       let here : (id : ClientParts) → PartCall w id s.offer e.call (seen id s) false (e.did id) (seen id x)
@@ -152,32 +151,30 @@ module _ {T U G C : Type 0} where
       (subst (λ (z : Seen T U C). PartCall w id t.offer f.call z false (f.did id) (seen id y)) (sym (same.each id))
       (subst (λ (b : Bool). PartCall w id t.offer f.call (seen id t) b (f.did id) (seen id y)) (ample'.1 id) (by'.each id))) in
       let numbers = subst (λ (o : Offer G). AnswersShared o f.call) (sym same.offer) by'.global in
-      let one = call_whole w known s t same (λ id. e.did id) (λ id. f.did id) (λ id. seen id x) (λ id. seen id y) e.call f.call same_call ample.0 ample'.0 by.client by'.client
-      by.global numbers by.order by'.order (took_one w s t x y e f (noted same) same.each by by') here there in
-      let notes = notes_one w s t x y e f (noted same) (λ id. (one.2 id).after) same_call ample.0 ample'.0 by by' in (
+      let one = call_whole w known ordered s t same (λ id. e.did id) (λ id. f.did id) (λ id. seen id x) (λ id. seen id y) e.call f.call same_call ample.0 ample'.0 by.client by'.client
+      by.global numbers by.order by'.order (λ out out' is is' counts. took_one w s t x y e f (whole.order counts) same.each by by' out out' is is') here there in (
         one.0,
         λ id. (one.2 id).did,
         record {
-          offer = by.offer ∙ call_offer s.offer e.call f.call same_call one.1 ∙ ap (λ (o : Offer G). offer_after o f.call) same.offer ∙ sym by'.offer;
-          last = by.last ∙ ap (λ (n : ℕ). s.last_client + n) (call_inserted e.call f.call same_call one.1) ∙ ap (λ (n : ℕ). n + inserted_by f.call) same.last ∙ sym by'.last;
-          each = λ id. (one.2 id).after;
-          notes = notes.notes;
-          numbers = notes.numbers;
-          times = notes.times;
-          numbered = notes.numbered;
+          held = record {
+            offer = by.offer ∙ call_offer s.offer e.call f.call same_call one.1 ∙ ap (λ (o : Offer G). offer_after o f.call) same.offer ∙ sym by'.offer;
+            last = by.last ∙ ap (λ (n : ℕ). s.last_client + n) (call_inserted e.call f.call same_call one.1) ∙ ap (λ (n : ℕ). n + inserted_by f.call) same.last ∙ sym by'.last;
+            each = λ id. (one.2 id).after;
+          };
+          order = λ counts. notes_one w s t x y e f (whole.order counts) (λ id. (one.2 id).after) same_call ample.0 ample'.0 by by';
         },
       )
 
   -- ---- runs
 
   pub run_one : (w : World T G C) → IsDetermined w → RunsHaveOneOutcome U w
-  run_one w known s t x y [] [] same calls h g =
-      (tt, subst (λ (z : ServerState T U G C). SameServer z y) (sym h) (subst (λ (z : ServerState T U G C). SameServer s z) (sym g) same))
-  run_one w known s t x y [] (f ∷ run') same calls h g = absurd calls
-  run_one w known s t x y (e ∷ run) [] same calls h g = absurd calls
-  run_one w known s t x y (e ∷ run) (f ∷ run') same (call, none, none', calls) (mid, by, leads) (mid', by', leads') =
-      let one = entry_one w known s t mid mid' e f same call none none' by by' in
-      let rest = run_one w known mid mid' x y run run' one.2 calls leads leads' in
+  run_one w known ordered s t x y [] [] same calls h g =
+      (tt, subst (λ (z : ServerState T U G C). SameServer ordered z y) (sym h) (subst (λ (z : ServerState T U G C). SameServer ordered s z) (sym g) same))
+  run_one w known ordered s t x y [] (f ∷ run') same calls h g = absurd calls
+  run_one w known ordered s t x y (e ∷ run) [] same calls h g = absurd calls
+  run_one w known ordered s t x y (e ∷ run) (f ∷ run') same (call, none, none', calls) (mid, by, leads) (mid', by', leads') =
+      let one = entry_one w known s t mid mid' e f ordered same call none none' by by' in
+      let rest = run_one w known ordered mid mid' x y run run' one.2 calls leads leads' in
       ((one.0, one.1, rest.0), rest.1)
 
   -- ---- steps with their replies
@@ -191,19 +188,19 @@ module _ {T U G C : Type 0} where
   asked_one c c' k p q is is' =
       subst (λ (z : Call T U G C). SameCall z c') (sym is) (subst (λ (z : Call T U G C). SameCall (Asked k p) z) (sym is') (same_as_itself k))
 
-  pub replied_one : (c c' : Call T U G C) (k : Step T U G C) (p q : Reply T U) → c ≡ Asked k p → c' ≡ Asked k q → WholeAnswer c c' → WholeReply p q
-  replied_one c c' k p q is is' same =
-      let here = subst (λ (z : Call T U G C). WholeAnswer z c') is same in
-      subst (λ (z : Call T U G C). WholeAnswer (Asked k p) z) is' here
+  pub replied_one : (ordered : Bool) (c c' : Call T U G C) (k : Step T U G C) (p q : Reply T U) → c ≡ Asked k p → c' ≡ Asked k q → WholeAnswer ordered c c' → WholeReply ordered p q
+  replied_one ordered c c' k p q is is' same =
+      let here = subst (λ (z : Call T U G C). WholeAnswer ordered z c') is same in
+      subst (λ (z : Call T U G C). WholeAnswer ordered (Asked k p) z) is' here
 
   pub performance_one : (w : World T G C) → IsDetermined w → PerformancesHaveOneOutcome U w
-  performance_one w known s t x y [] [] [] n n' same h g =
-      (tt, subst (λ (z : ServerState T U G C). SameServer z y) (sym h) (subst (λ (z : ServerState T U G C). SameServer s z) (sym g) same))
-  performance_one w known s t x y [] (p ∷ replies) replies' n n' same h g = absurd (omega (arith, n))
-  performance_one w known s t x y [] [] (q ∷ replies') n n' same h g = absurd (omega (arith, n'))
-  performance_one w known s t x y (k ∷ steps) [] replies' n n' same h g = absurd (omega (arith, n))
-  performance_one w known s t x y (k ∷ steps) (p ∷ replies) [] n n' same h g = absurd (omega (arith, n'))
-  performance_one w known s t x y (k ∷ steps) (p ∷ replies) (q ∷ replies') n n' same (mid, (e, call, none, by), leads) (mid', (f, call', none', by'), leads') =
-      let one = entry_one w known s t mid mid' e f same (asked_one e.call f.call k p q call call') none none' by by' in
-      let rest = performance_one w known mid mid' x y steps replies replies' (omega (arith, n)) (omega (arith, n')) one.2 leads leads' in
-      ((replied_one e.call f.call k p q call call' one.0, rest.0), rest.1)
+  performance_one w known ordered s t x y [] [] [] n n' same h g =
+      (tt, subst (λ (z : ServerState T U G C). SameServer ordered z y) (sym h) (subst (λ (z : ServerState T U G C). SameServer ordered s z) (sym g) same))
+  performance_one w known ordered s t x y [] (p ∷ replies) replies' n n' same h g = absurd (omega (arith, n))
+  performance_one w known ordered s t x y [] [] (q ∷ replies') n n' same h g = absurd (omega (arith, n'))
+  performance_one w known ordered s t x y (k ∷ steps) [] replies' n n' same h g = absurd (omega (arith, n))
+  performance_one w known ordered s t x y (k ∷ steps) (p ∷ replies) [] n n' same h g = absurd (omega (arith, n'))
+  performance_one w known ordered s t x y (k ∷ steps) (p ∷ replies) (q ∷ replies') n n' same (mid, (e, call, none, by), leads) (mid', (f, call', none', by'), leads') =
+      let one = entry_one w known s t mid mid' e f ordered same (asked_one e.call f.call k p q call call') none none' by by' in
+      let rest = performance_one w known ordered mid mid' x y steps replies replies' (omega (arith, n)) (omega (arith, n')) one.2 leads leads' in
+      ((replied_one ordered e.call f.call k p q call call' one.0, rest.0), rest.1)

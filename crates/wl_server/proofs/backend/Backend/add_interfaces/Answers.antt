@@ -32,7 +32,7 @@ returns-clause-call g c =
     } in
     rw (← c.self.view_is)
     (unfelt_call _ _ _ _ (felt c.args.interfaces c.extend-answer.result) c.lacks_memory-self-inside.result _ (ap offer_of c.extend-answer.ensures.table)
-    c.extend-answer.ensures.answer (lacked g.row.T.Denot g.row.U.Denot g.row.G.Denot g.row.C.Denot c.args.interfaces c.extend-answer.result _ c.lacks_memory-self-inside.ensures) (λ id b. (_, refl, (refl, refl, refl))))
+    c.extend-answer.ensures.answer (lacked g.row.T.Denot g.row.U.Denot g.row.G.Denot g.row.C.Denot c.args.interfaces c.extend-answer.result _ c.lacks_memory-self-inside.ensures) (λ id b. (_, refl, (refl, refl, refl))) c.self.invariant.2)
 
 pub returns-clause-answer : goal.returns-clause-answer
 returns-clause-answer g c = rw (← c.self.view_is) c.extend-answer.ensures.answer

@@ -24,12 +24,13 @@ returns-in-Ok-clause-call g c =
     c.clean_up-self-inside.new.notes.items c.clean_up-self-inside.new.memory.given.items) c.memory_for.ensures.items c.clean_up-self-inside.ensures.cleaned
     in
     rw (← c.self.view_is) (cleaned_up _ _ _ _ _ c.clean_up-self-inside.new.memory.given _ refl by c.clean_up-self-inside.new.numbers
-    c.clean_up-self-inside.ensures.first c.clean_up-self-inside.ensures.none_waits c.clean_up-self-inside.ensures.numbered c.clean_up-self-inside.ensures.numbers)
+    c.clean_up-self-inside.ensures.first c.clean_up-self-inside.ensures.none_waits
+    (c.clean_up-self-inside.ensures.numbered c.self.invariant.2) c.clean_up-self-inside.ensures.numbers)
 
 pub returns-in-Err-clause-call : goal.returns-in-Err-clause-call
 returns-in-Err-clause-call g c =
     let some = subst (λ xs. 0 < count_leaving true xs + length (collected given_at 0 xs)) c.deref.ensures.value c.in-Err.ensures.some in
-    rw (← c.self.view_is) (cleanup_starved _ _ _ c.memory_for.new.notes.items c.memory_for.ensures.items some)
+    rw (← c.self.view_is) (cleanup_starved _ _ _ c.memory_for.new.notes.items c.memory_for.ensures.items some c.self.invariant.2)
 
 pub invariant_of-self : goal.invariant_of-self
 invariant_of-self g c =
@@ -40,6 +41,7 @@ invariant_of-self g c =
       record { within = omega (arith, same, before, after, within); taken = none_taken _ },
       subst (λ (n : NoteNumbers). HasNumbers n (map times_of c.clean_up-self-inside.new.clients.items)) (sym c.clean_up-self-inside.ensures.numbers)
           (waiting_anew _ _ c.clean_up-self-inside.ensures.none_waits (numbers_left _ _ _ c.clean_up-self-inside.ensures.first c.self.invariant.1)),
+      c.clean_up-self-inside.ensures.numbered c.self.invariant.2,
     )
 
 pub returns-in-Ok-clause-plain : goal.returns-in-Ok-clause-plain

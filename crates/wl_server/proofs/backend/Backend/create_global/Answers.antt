@@ -48,7 +48,7 @@ returns-after-matches-clause-call g c = rw (← c.self.view_is)
       | in-OutOfMemory w ↦ ap is_out_of_memory w.in-OutOfMemory.is ∙ sym w.self-is
       | in_default w ↦ no_memory c.in-Err.error w.in_default.not-OutOfMemory ∙ sym w.self-is
     ])
-    (λ id b. (_, refl, (refl, refl, refl))))
+    (λ id b. (_, refl, (refl, refl, refl))) c.self.invariant.2)
 
 pub returns-in-Ok-clause-call : goal.returns-in-Ok-clause-call
 returns-in-Ok-clause-call g c =
@@ -66,7 +66,7 @@ returns-in-Ok-clause-call g c =
     c.tell_named-self-inside.result _ c.tell_named-self-inside.new.clients c.tell_named-self-inside.new.numbers
     (ap (λ (gs : Globals _). let o : Offer _ = record { table = c.self.inside.protocol; globals = gs; default_limit = c.self.inside.default_limit } in o) c.in-Ok.ensures.globals)
     c.in-Ok.ensures.answer refl (λ i l d b a h. (_, refl, h)) all numbers
-    (subst (λ (xs : List (Option (Stored _ _ _))). AllNumbered xs → AllNumbered c.tell_named-self-inside.new.clients) c.deref_mut.ensures.value c.tell_named-self-inside.ensures.numbered))
+    (subst (λ (xs : List (Option (Stored _ _ _))). AllNumbered xs → AllNumbered c.tell_named-self-inside.new.clients) c.deref_mut.ensures.value c.tell_named-self-inside.ensures.numbered c.self.invariant.2))
 
 pub invariant_of-self : goal.invariant_of-self
 invariant_of-self g c =
@@ -79,7 +79,11 @@ invariant_of-self g c =
     let len : length c.tell_named-self-inside.new.clients ≡ vec_len c.self.inside.clients = all.len ∙ sym c.self.inside.clients.ok.0 in
     let numbers = subst (λ (xs : List (Option (Stored _ _ _))). AllInTime (map times_of xs) c.self.inside.numbers (map times_of c.tell_named-self-inside.new.clients)
     c.tell_named-self-inside.new.numbers) c.deref_mut.ensures.value c.tell_named-self-inside.ensures.in_time in
-    rw (with_items_is c.self.inside.clients c.tell_named-self-inside.new.clients len) (slots_felt _ _ _ _ _ _ all c.self.invariant.0, numbers.1.keeps c.self.invariant.1)
+    rw (with_items_is c.self.inside.clients c.tell_named-self-inside.new.clients len) (
+      slots_felt _ _ _ _ _ _ all c.self.invariant.0,
+      numbers.1.keeps c.self.invariant.1,
+      subst (λ (xs : List (Option (Stored _ _ _))). AllNumbered xs → AllNumbered c.tell_named-self-inside.new.clients) c.deref_mut.ensures.value c.tell_named-self-inside.ensures.numbered c.self.invariant.2,
+    )
 
 pub returns-after-matches-clause-plain : goal.returns-after-matches-clause-plain
 returns-after-matches-clause-plain g c = offers_global _ _ _ _ (returns-after-matches-clause-call g c)

@@ -10,7 +10,7 @@ use Rattle.wl_server.specs.PartStep.{Asked, lacks_create}
 use Rattle.wl_server.specs.Server.{Stored}
 use Rattle.wl_server.specs.declared.runs.step.Reply.TheVariants as reply
 use Rattle.wl_server.specs.declared.runs.step.Step.TheVariants as step
-use Rattle.wl_server.proofs.CallSteps.Numbering.{in_time_same, numbers_stay}
+use Rattle.wl_server.proofs.CallSteps.Numbering.{in_time_same, numbered_at, numbers_stay}
 use Rattle.wl_server.proofs.CallSteps.OneClient.{IsOwn, done_to, none_stored}
 use Rattle.wl_server.proofs.CallSteps.Slots.{Kind}
 use Rattle.wl_server.proofs.CleanupSteps.Taken.{slots_set}
@@ -33,17 +33,17 @@ does table id before after i version u answer lacked refused (did, q, (none, mak
 pub returns-in_default-clause-call : goal.returns-in_default-clause-call
 returns-in_default-clause-call g c = rw (← c.self.view_is)
     (none_stored _ _ _ _ (own _ _ _ _ _) c.args.client.now (creates _ c.args.interface c.args.version c.args.user_data (Err create.InvalidId))
-    (◌≡◌ {A = Result IdParts CreateError} (Err create.InvalidId) (Err create.InvalidId)) (λ i l d b a h. (_, refl, h)) _ refl c.in_default.ensures.value refl)
+    (◌≡◌ {A = Result IdParts CreateError} (Err create.InvalidId) (Err create.InvalidId)) (λ i l d b a h. (_, refl, h)) _ refl c.in_default.ensures.value refl c.self.invariant.2)
 
 pub returns-clause-call : goal.returns-clause-call
 returns-clause-call g c = rw (← c.self.view_is)
     (done_to _ _ _ _ (own _ _ _ _ _) c.args.client.now (creates _ c.args.interface c.args.version c.args.user_data c.create_object-answer.result)
     (c.create_object-answer.result ≡ Err create.InvalidId) (λ i l d b a h. (_, refl, h)) _ c.in-Some.stored.now c.create_object-answer.new.self
     c.lacks_memory-self-inside.result refl c.in-Some.ensures.value
-    (does c.self.inside.protocol c.args.client.now c.in-Some.stored.now c.create_object-answer.new.self c.args.interface c.args.version c.args.user_data c.create_object-answer.result _ c.lacks_memory-self-inside.ensures c.create_object-answer.ensures.does) _ (in_time_same _ _ _ _ c.create_object-answer.ensures.times refl) c.create_object-answer.ensures.numbered)
+    (does c.self.inside.protocol c.args.client.now c.in-Some.stored.now c.create_object-answer.new.self c.args.interface c.args.version c.args.user_data c.create_object-answer.result _ c.lacks_memory-self-inside.ensures c.create_object-answer.ensures.does) _ (in_time_same _ _ _ _ c.create_object-answer.ensures.times refl) c.create_object-answer.ensures.numbered c.self.invariant.2)
 
 pub invariant_of-self-2 : goal.invariant_of-self-2
-invariant_of-self-2 g c = (slots_set _ _ _ _ _ c.self.invariant.0, numbers_stay _ _ _ _ _ c.in-Some.ensures.value c.create_object-answer.ensures.times c.self.invariant.1)
+invariant_of-self-2 g c = (slots_set _ _ _ _ _ c.self.invariant.0, numbers_stay _ _ _ _ _ c.in-Some.ensures.value c.create_object-answer.ensures.times c.self.invariant.1, numbered_at _ _ _ _ c.in-Some.ensures.value c.create_object-answer.ensures.numbered c.self.invariant.2)
 
 pub returns-in_default-clause-plain : goal.returns-in_default-clause-plain
 returns-in_default-clause-plain g c = creates_object _ _ _ _ _ (returns-in_default-clause-call g c)

@@ -11,7 +11,7 @@ use Rattle.wl_server.specs.PartStep.{Asked}
 use Rattle.wl_server.specs.Server.{Stored}
 use Rattle.wl_server.specs.declared.runs.step.Reply.TheVariants as reply
 use Rattle.wl_server.specs.declared.runs.step.Step.TheVariants as step
-use Rattle.wl_server.proofs.CallSteps.Numbering.{numbers_set}
+use Rattle.wl_server.proofs.CallSteps.Numbering.{numbered_at, numbers_set}
 use Rattle.wl_server.proofs.CallSteps.OneClient.{IsOwn, done_to, none_stored}
 use Rattle.wl_server.proofs.CallSteps.Slots.{Kind}
 use Rattle.wl_server.proofs.CleanupSteps.Taken.{slots_set}
@@ -34,16 +34,16 @@ does sends o before after answer lacked is done = subst (λ (b : Bool). Does bef
 pub returns-in_default-clause-call : goal.returns-in_default-clause-call
 returns-in_default-clause-call g c = rw (← c.self.view_is)
     (none_stored _ _ _ _ (own _ _) c.args.id.now.client (destroys _ c.args.id.now (Err destroy.InvalidId)) (◌≡◌ {A = Result (Unit {0}) DestroyError} (Err destroy.InvalidId) (Err destroy.InvalidId))
-    (λ i l d b a h. (_, refl, h)) _ c.client-client.ensures c.in_default.ensures.value refl)
+    (λ i l d b a h. (_, refl, h)) _ c.client-client.ensures c.in_default.ensures.value refl c.self.invariant.2)
 
 pub returns-clause-call : goal.returns-clause-call
 returns-clause-call g c = rw (← c.self.view_is)
     (done_to _ _ _ _ (own _ _) c.args.id.now.client (destroys g.T.Transport.sends c.args.id.now c.destroy_object-answer.result) (c.destroy_object-answer.result ≡ Err destroy.InvalidId)
     (λ i l d b a h. (_, refl, h)) _ c.in-Some.client.now c.destroy_object-answer.new.self c.lacks_memory-self-inside.result
-    c.client-client.ensures c.in-Some.ensures.value (does g.T.Transport.sends c.args.id.now c.in-Some.client.now c.destroy_object-answer.new.self c.destroy_object-answer.result _ c.lacks_memory-self-inside.ensures c.destroy_object-answer.ensures.does) _ c.destroy_object-answer.ensures.in_time c.destroy_object-answer.ensures.numbered)
+    c.client-client.ensures c.in-Some.ensures.value (does g.T.Transport.sends c.args.id.now c.in-Some.client.now c.destroy_object-answer.new.self c.destroy_object-answer.result _ c.lacks_memory-self-inside.ensures c.destroy_object-answer.ensures.does) _ c.destroy_object-answer.ensures.in_time c.destroy_object-answer.ensures.numbered c.self.invariant.2)
 
 pub invariant_of-self-2 : goal.invariant_of-self-2
-invariant_of-self-2 g c = (slots_set _ _ _ _ _ c.self.invariant.0, numbers_set _ _ _ _ _ _ c.in-Some.ensures.value c.destroy_object-answer.ensures.in_time c.self.invariant.1)
+invariant_of-self-2 g c = (slots_set _ _ _ _ _ c.self.invariant.0, numbers_set _ _ _ _ _ _ c.in-Some.ensures.value c.destroy_object-answer.ensures.in_time c.self.invariant.1, numbered_at _ _ _ _ c.in-Some.ensures.value c.destroy_object-answer.ensures.numbered c.self.invariant.2)
 
 pub returns-in_default-clause-plain : goal.returns-in_default-clause-plain
 returns-in_default-clause-plain g c = destroys_object _ _ (returns-in_default-clause-call g c)

@@ -1,7 +1,7 @@
 use Rattle.std.proofs.Common.{◌≡◌, false, Option, Result, Ok, Err, ap, refl, sym}
 use Rattle.std.specs.Prelude.{option_map}
 use Rattle.std.specs.Result.{result_and}
-use Rattle.wl_server.proofs.CallSteps.Numbering.{in_time_same, numbers_stay}
+use Rattle.wl_server.proofs.CallSteps.Numbering.{in_time_same, numbered_at, numbers_stay}
 use Rattle.wl_server.proofs.OverRuns.Cut.CuttingLaws.{histories_cut}
 use Rattle.wl_server.specs.declared.error.FinishError.TheVariants as finish
 use Rattle.wl_server.specs.declared.error.FinishRefused.{FinishRefused}
@@ -32,12 +32,12 @@ pub returns-in_default-clause-call : goal.returns-in_default-clause-call
 returns-in_default-clause-call g c = rw (← c.self.view_is)
     (none_stored _ _ _ _ (own _ _ _) c.args.client.now (finishes c.args.user_data (Err (record { error = finish.InvalidId; user_data = c.args.user_data })))
     (Unknown c.args.user_data (Err (record { error = finish.InvalidId; user_data = c.args.user_data }))) (λ i l d b a h. (_, refl, h))
-    _ refl c.in_default.ensures.value refl)
+    _ refl c.in_default.ensures.value refl c.self.invariant.2)
 
 pub returns-clause-call : goal.returns-clause-call
 returns-clause-call g c = rw (← c.self.view_is)
     (done_to _ _ _ _ (own _ _ _) c.args.client.now (finishes c.args.user_data (result_and c.finish_bind.result (Ok tt))) (Unknown c.args.user_data (result_and c.finish_bind.result (Ok tt))) (λ i l d b a h. (_, refl, h))
-    _ c.in-Some.stored.now c.finish_bind.new.self false refl c.in-Some.ensures.value c.finish_bind.ensures.done _ (in_time_same _ _ _ _ c.finish_bind.ensures.times refl) c.finish_bind.ensures.numbered)
+    _ c.in-Some.stored.now c.finish_bind.new.self false refl c.in-Some.ensures.value c.finish_bind.ensures.done _ (in_time_same _ _ _ _ c.finish_bind.ensures.times refl) c.finish_bind.ensures.numbered c.self.invariant.2)
 
 pub returns-in_default-clause-cutting : goal.returns-in_default-clause-cutting
 returns-in_default-clause-cutting g c = ((returns-in_default-clause-call g c).step, histories_cut _ _ _ _)
@@ -46,7 +46,7 @@ pub returns-clause-cutting : goal.returns-clause-cutting
 returns-clause-cutting g c = ((returns-clause-call g c).step, histories_cut _ _ _ _)
 
 pub invariant_of-self-2 : goal.invariant_of-self-2
-invariant_of-self-2 g c = (slots_set _ _ _ _ _ c.self.invariant.0, numbers_stay _ _ _ _ _ c.in-Some.ensures.value c.finish_bind.ensures.times c.self.invariant.1)
+invariant_of-self-2 g c = (slots_set _ _ _ _ _ c.self.invariant.0, numbers_stay _ _ _ _ _ c.in-Some.ensures.value c.finish_bind.ensures.times c.self.invariant.1, numbered_at _ _ _ _ c.in-Some.ensures.value c.finish_bind.ensures.numbered c.self.invariant.2)
 
 pub returns-in_default-clause-plain : goal.returns-in_default-clause-plain
 returns-in_default-clause-plain g c = ends_bind _ _ _ (returns-in_default-clause-call g c)

@@ -7,7 +7,7 @@ use Rattle.wl_server.specs.Server.{Stored}
 use Rattle.wl_server.specs.Telling.{Kills}
 use Rattle.wl_server.specs.declared.runs.step.Reply.TheVariants as reply
 use Rattle.wl_server.specs.declared.runs.step.Step.TheVariants as step
-use Rattle.wl_server.proofs.CallSteps.Numbering.{numbers_set}
+use Rattle.wl_server.proofs.CallSteps.Numbering.{numbered_at, numbers_set}
 use Rattle.wl_server.proofs.CallSteps.OneClient.{IsOwn, done_to, none_stored}
 use Rattle.wl_server.proofs.CallSteps.Slots.{Kind}
 use Rattle.wl_server.proofs.CleanupSteps.Taken.{slots_set}
@@ -26,15 +26,15 @@ kill_does before reason after (did, q, does, is) = (did, q, (refl, does), is)
 
 pub returns-in_default-clause-call : goal.returns-in_default-clause-call
 returns-in_default-clause-call g c = rw (← c.self.view_is)
-    (none_stored _ _ _ _ (own _ _) c.args.id.now (kills c.args.reason) (Unit {0}) (λ i l d b a h. (refl, h)) _ refl c.in_default.ensures.value tt)
+    (none_stored _ _ _ _ (own _ _) c.args.id.now (kills c.args.reason) (Unit {0}) (λ i l d b a h. (refl, h)) _ refl c.in_default.ensures.value tt c.self.invariant.2)
 
 pub returns-clause-call : goal.returns-clause-call
 returns-clause-call g c = rw (← c.self.view_is)
     (done_to _ _ _ _ (own _ _) c.args.id.now (kills c.args.reason) (Unit {0}) (λ i l d b a h. (refl, h))
-    _ c.in-Some.client.now c.kill.new.self false refl c.in-Some.ensures.value (kill_does c.in-Some.client.now _ c.kill.new.self c.kill.ensures.killed) _ c.kill.ensures.in_time c.kill.ensures.numbered)
+    _ c.in-Some.client.now c.kill.new.self false refl c.in-Some.ensures.value (kill_does c.in-Some.client.now _ c.kill.new.self c.kill.ensures.killed) _ c.kill.ensures.in_time c.kill.ensures.numbered c.self.invariant.2)
 
 pub invariant_of-self-2 : goal.invariant_of-self-2
-invariant_of-self-2 g c = (slots_set _ _ _ _ _ c.self.invariant.0, numbers_set _ _ _ _ _ _ c.in-Some.ensures.value c.kill.ensures.in_time c.self.invariant.1)
+invariant_of-self-2 g c = (slots_set _ _ _ _ _ c.self.invariant.0, numbers_set _ _ _ _ _ _ c.in-Some.ensures.value c.kill.ensures.in_time c.self.invariant.1, numbered_at _ _ _ _ c.in-Some.ensures.value c.kill.ensures.numbered c.self.invariant.2)
 
 pub returns-in_default-clause-plain : goal.returns-in_default-clause-plain
 returns-in_default-clause-plain g c = kills_client _ _ (returns-in_default-clause-call g c)

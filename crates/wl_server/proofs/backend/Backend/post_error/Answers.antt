@@ -2,7 +2,7 @@ use Rattle.std.proofs.Common.{◌≡◌, ◌∙◌, ℕ, List, Option, None, Som
 use Rattle.std.specs.Option.{option_map}
 use Rattle.wl_server.specs.Posted.{PostsOn}
 use Rattle.wl_server.specs.Server.{client_at}
-use Rattle.wl_server.proofs.CallSteps.Numbering.{numbers_set}
+use Rattle.wl_server.proofs.CallSteps.Numbering.{numbered_at, numbers_set}
 use Rattle.wl_server.proofs.ObjectCalls.Told.{at_slot}
 use Rattle.wl_wire.specs.declared.error.IoFault.{IoFault}
 use Rattle.wl_wire.specs.Table.{InterfaceRow}
@@ -31,16 +31,16 @@ own o code text = record { offer = λ o. refl; last = refl; client = λ b. tt; g
 pub returns-in_default-clause-call : goal.returns-in_default-clause-call
 returns-in_default-clause-call g c = rw (← c.self.view_is)
     (none_stored _ _ _ _ (own _ _ _) c.args.id.now.client (posts g.T.Transport.sends c.self.inside.protocol c.args.id.now c.args.code c.args.text) (Unit {0})
-    (λ i l d b a h. (refl, h)) _ c.client-client.ensures c.in_default.ensures.value tt)
+    (λ i l d b a h. (refl, h)) _ c.client-client.ensures c.in_default.ensures.value tt c.self.invariant.2)
 
 pub returns-clause-call : goal.returns-clause-call
 returns-clause-call g c = rw (← c.self.view_is)
     (done_to _ _ _ _ (own _ _ _) c.args.id.now.client (posts g.T.Transport.sends c.self.inside.protocol c.args.id.now c.args.code c.args.text) (Unit {0})
     (λ i l d b a h. (refl, h)) _ c.in-Some.client.now c.post_error-self-inside.new.self c.post_error-self-inside.result
-    c.client-client.ensures c.in-Some.ensures.value c.post_error-self-inside.ensures.does _ c.post_error-self-inside.ensures.in_time c.post_error-self-inside.ensures.numbered)
+    c.client-client.ensures c.in-Some.ensures.value c.post_error-self-inside.ensures.does _ c.post_error-self-inside.ensures.in_time c.post_error-self-inside.ensures.numbered c.self.invariant.2)
 
 pub invariant_of-self-2 : goal.invariant_of-self-2
-invariant_of-self-2 g c = (slots_set _ _ _ _ _ c.self.invariant.0, numbers_set _ _ _ _ _ _ c.in-Some.ensures.value c.post_error-self-inside.ensures.in_time c.self.invariant.1)
+invariant_of-self-2 g c = (slots_set _ _ _ _ _ c.self.invariant.0, numbers_set _ _ _ _ _ _ c.in-Some.ensures.value c.post_error-self-inside.ensures.in_time c.self.invariant.1, numbered_at _ _ _ _ c.in-Some.ensures.value c.post_error-self-inside.ensures.numbered c.self.invariant.2)
 
 pub returns-in_default-clause-exactly : goal.returns-in_default-clause-exactly
 returns-in_default-clause-exactly g c = λ p q before after.

@@ -31,13 +31,13 @@ returns-then-was_enabled-clause-call g c =
     c.tell_loss-self-inside.result _ c.tell_loss-self-inside.new.clients c.tell_loss-self-inside.new.numbers
     (ap (λ (gs : Globals _). let o : Offer _ = record { table = c.self.inside.protocol; globals = gs; default_limit = c.self.inside.default_limit } in o) (c.remove.ensures c.self.inside.last_global))
     tt refl (λ i l d b a h. (refl, at_true _ _ (sym c.is_enabled-was_enabled.ensures ∙ c.if-was_enabled.true) h)) (rw (← c.name.ensures) all) numbers
-    (subst (λ (xs : List (Option (Stored _ _ _))). AllNumbered xs → AllNumbered c.tell_loss-self-inside.new.clients) c.deref_mut.ensures.value c.tell_loss-self-inside.ensures.numbered))
+    (subst (λ (xs : List (Option (Stored _ _ _))). AllNumbered xs → AllNumbered c.tell_loss-self-inside.new.clients) c.deref_mut.ensures.value c.tell_loss-self-inside.ensures.numbered c.self.invariant.2))
 
 pub returns-else-was_enabled-clause-call : goal.returns-else-was_enabled-clause-call
 returns-else-was_enabled-clause-call g c = rw (← c.self.view_is)
     (unfelt_call _ _ _ _ (felt _) _ _
     (ap (λ (gs : Globals _). let o : Offer _ = record { table = c.self.inside.protocol; globals = gs; default_limit = c.self.inside.default_limit } in o) (c.remove.ensures c.self.inside.last_global))
-    tt refl (λ i b. (refl, at_false _ _ (sym c.is_enabled-was_enabled.ensures ∙ c.if-was_enabled.false) (refl, refl, refl))))
+    tt refl (λ i b. (refl, at_false _ _ (sym c.is_enabled-was_enabled.ensures ∙ c.if-was_enabled.false) (refl, refl, refl))) c.self.invariant.2)
 
 pub invariant_of-self : goal.invariant_of-self
 invariant_of-self g c =
@@ -46,7 +46,11 @@ invariant_of-self g c =
     c.tell_loss-self-inside.result (length xs) xs c.tell_loss-self-inside.new.clients) c.deref_mut.ensures.value c.tell_loss-self-inside.ensures.felt in
     let numbers = subst (λ (xs : List (Option (Stored _ _ _))). AllInTime (map times_of xs) c.self.inside.numbers (map times_of c.tell_loss-self-inside.new.clients)
     c.tell_loss-self-inside.new.numbers) c.deref_mut.ensures.value c.tell_loss-self-inside.ensures.in_time in
-    rw (with_items_is c.self.inside.clients c.tell_loss-self-inside.new.clients len) (slots_felt _ _ _ _ _ _ all c.self.invariant.0, numbers.1.keeps c.self.invariant.1)
+    rw (with_items_is c.self.inside.clients c.tell_loss-self-inside.new.clients len) (
+      slots_felt _ _ _ _ _ _ all c.self.invariant.0,
+      numbers.1.keeps c.self.invariant.1,
+      subst (λ (xs : List (Option (Stored _ _ _))). AllNumbered xs → AllNumbered c.tell_loss-self-inside.new.clients) c.deref_mut.ensures.value c.tell_loss-self-inside.ensures.numbered c.self.invariant.2,
+    )
 
 pub returns-then-was_enabled-clause-plain : goal.returns-then-was_enabled-clause-plain
 returns-then-was_enabled-clause-plain g c = removes_global _ (returns-then-was_enabled-clause-call g c)

@@ -11,7 +11,7 @@ use Rattle.wl_server.specs.declared.runs.step.Step.TheVariants as step
 use Rattle.wl_server.specs.Events.{SendsEvent, session_content}
 use Rattle.wl_server.specs.Ids.{IdParts}
 use Rattle.wl_server.specs.PartStep.{Asked}
-use Rattle.wl_server.proofs.CallSteps.Numbering.{numbers_set}
+use Rattle.wl_server.proofs.CallSteps.Numbering.{numbered_at, numbers_set}
 use Rattle.wl_server.proofs.CallSteps.OneClient.{IsOwn, done_to, none_stored}
 use Rattle.wl_server.proofs.CallSteps.Slots.{Kind}
 use Rattle.wl_server.proofs.CleanupSteps.Taken.{slots_set}
@@ -30,7 +30,7 @@ unknown = Err refused.InvalidId
 pub returns-in_default-clause-call : goal.returns-in_default-clause-call
 returns-in_default-clause-call g c = rw (← c.self.view_is)
     (none_stored _ _ _ _ (own _ _) c.args.message.now.sender_id.client (sends_event g.T.Transport.sends c.self.inside.protocol c.args.message.now unknown) (unknown ≡ unknown)
-    (λ i l d b a h. (unknown, refl, h)) _ c.client-id.ensures c.in_default.ensures.value refl)
+    (λ i l d b a h. (unknown, refl, h)) _ c.client-id.ensures c.in_default.ensures.value refl c.self.invariant.2)
 
 pub returns-clause-call : goal.returns-clause-call
 returns-clause-call g c = rw (← c.self.view_is)
@@ -38,10 +38,10 @@ returns-clause-call g c = rw (← c.self.view_is)
     (c.send_event-answer.result.0 ≡ unknown) (λ i l d b a h. (c.send_event-answer.result.0, refl, h))
     _ c.in-Some.client.now c.send_event-answer.new.self c.send_event-answer.result.1
     c.client-id.ensures c.in-Some.ensures.value
-    c.send_event-answer.ensures.does _ c.send_event-answer.ensures.in_time c.send_event-answer.ensures.numbered)
+    c.send_event-answer.ensures.does _ c.send_event-answer.ensures.in_time c.send_event-answer.ensures.numbered c.self.invariant.2)
 
 pub invariant_of-self-2 : goal.invariant_of-self-2
-invariant_of-self-2 g c = (slots_set _ _ _ _ _ c.self.invariant.0, numbers_set _ _ _ _ _ _ c.in-Some.ensures.value c.send_event-answer.ensures.in_time c.self.invariant.1)
+invariant_of-self-2 g c = (slots_set _ _ _ _ _ c.self.invariant.0, numbers_set _ _ _ _ _ _ c.in-Some.ensures.value c.send_event-answer.ensures.in_time c.self.invariant.1, numbered_at _ _ _ _ c.in-Some.ensures.value c.send_event-answer.ensures.numbered c.self.invariant.2)
 
 pub returns-in_default-clause-plain : goal.returns-in_default-clause-plain
 returns-in_default-clause-plain g c = emits_event _ _ _ c.args.message.now _ (returns-in_default-clause-call g c)

@@ -8,7 +8,7 @@ use Rattle.wl_server.specs.PartStep.{Asked, Quietly}
 use Rattle.wl_server.specs.Server.{Stored, no_times}
 use Rattle.wl_server.specs.declared.runs.step.Reply.TheVariants as reply
 use Rattle.wl_server.specs.declared.runs.step.Step.TheVariants as step
-use Rattle.wl_server.proofs.CallSteps.Numbering.{in_time_same, numbers_stay}
+use Rattle.wl_server.proofs.CallSteps.Numbering.{in_time_same, numbered_at, numbers_stay}
 use Rattle.wl_server.proofs.CallSteps.OneClient.{IsOwn, done_to, none_stored}
 use Rattle.wl_server.proofs.CallSteps.Doing.{does_quietly}
 use Rattle.wl_server.proofs.CallSteps.Slots.{Kind}
@@ -35,7 +35,7 @@ limit_set {T} {U} {C} s limit before link is set =
 pub returns-in_default-clause-call : goal.returns-in_default-clause-call
 returns-in_default-clause-call g c = rw (← c.self.view_is)
     (none_stored _ _ _ _ (own _ _) c.args.client.now (limits c.args.max_buffer_size) (Unit {0}) (λ i l d b a h. (refl, h))
-    _ refl c.in_default.ensures.value tt)
+    _ refl c.in_default.ensures.value tt c.self.invariant.2)
 
 pub returns-clause-call : goal.returns-clause-call
 returns-clause-call g c = rw (← c.self.view_is)
@@ -44,10 +44,17 @@ returns-clause-call g c = rw (← c.self.view_is)
     (rw (← c.stored.view_is) (limit_set (record { serial = _; part = _; made = _; times = no_times }) c.args.max_buffer_size c.stored.inside.socket c.set_max_buffer_size.new.self refl c.set_max_buffer_size.ensures)) _ (in_time_same _ _ _ _ (ap (λ (s : Stored _ _ _). s.times) c.stored.view_is) refl) (λ is. (
       ap (λ (s : Stored _ _ _). length s.times.made) c.stored.view_is ∙ (is.0 ∙ sym (ap (λ (s : Stored _ _ _). length s.made) c.stored.view_is)),
       ap (λ (s : Stored _ _ _). length s.times.waiting) c.stored.view_is ∙ (is.1 ∙ sym (ap (λ (s : Stored _ _ _). length s.part.waiting) c.stored.view_is)),
-    )))
+    )) c.self.invariant.2)
 
 pub invariant_of-self-2 : goal.invariant_of-self-2
-invariant_of-self-2 g c = (slots_set _ _ _ _ _ c.self.invariant.0, numbers_stay _ _ _ _ _ c.in-Some.ensures.value (ap (λ (s : Stored _ _ _). s.times) c.stored.view_is) c.self.invariant.1)
+invariant_of-self-2 g c = (
+  slots_set _ _ _ _ _ c.self.invariant.0,
+  numbers_stay _ _ _ _ _ c.in-Some.ensures.value (ap (λ (s : Stored _ _ _). s.times) c.stored.view_is) c.self.invariant.1,
+  numbered_at _ _ _ _ c.in-Some.ensures.value (λ is. (
+    ap (λ (s : Stored _ _ _). length s.times.made) c.stored.view_is ∙ (is.0 ∙ sym (ap (λ (s : Stored _ _ _). length s.made) c.stored.view_is)),
+    ap (λ (s : Stored _ _ _). length s.times.waiting) c.stored.view_is ∙ (is.1 ∙ sym (ap (λ (s : Stored _ _ _). length s.part.waiting) c.stored.view_is)),
+  )) c.self.invariant.2,
+)
 
 pub returns-in_default-clause-plain : goal.returns-in_default-clause-plain
 returns-in_default-clause-plain g c = sets_limit _ _ (returns-in_default-clause-call g c)

@@ -10,7 +10,7 @@ felt : {T U G C : Type 0} (limit : ℕ) → IsFelt {T = T} {U = U} {G = G} {C = 
 felt limit = record { last = refl; client = λ b. tt; order = tt; room = λ b. tt; notes = λ b a h. h }
 
 pub returns-clause-call : goal.returns-clause-call
-returns-clause-call g c = rw (← c.self.view_is) (unfelt_call _ _ _ _ (felt _) _ _ refl tt refl (λ i b. (refl, (refl, refl, refl))))
+returns-clause-call g c = rw (← c.self.view_is) (unfelt_call _ _ _ _ (felt _) _ _ refl tt refl (λ i b. (refl, (refl, refl, refl))) c.self.invariant.2)
 
 pub returns-clause-plain : goal.returns-clause-plain
 returns-clause-plain g c = sets_default_limit _ (returns-clause-call g c)

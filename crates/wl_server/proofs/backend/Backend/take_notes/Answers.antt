@@ -10,10 +10,10 @@ pub returns-in-Ok-clause-call : goal.returns-in-Ok-clause-call
 returns-in-Ok-clause-call g c = rw (← c.self.view_is)
     (notes_taken _ _ c.gather_made.new.clients.items c.gather_made.new.notes.items c.replace.result c.replace.new.dest.items
     (ap (λ (v : Vec _ _). v.items) c.replace.ensures.value) (ap (λ (v : Vec _ _). v.items) c.replace.ensures.after ∙ c.new-none.ensures.items)
-    c.in-Ok.ensures.gathered c.in-Ok.ensures.ended c.in-Ok.ensures.in_order c.gather_made.ensures.first c.in-Ok.ensures.numbered)
+    c.in-Ok.ensures.gathered c.in-Ok.ensures.ended c.in-Ok.ensures.in_order c.gather_made.ensures.first (c.gather_made.ensures.numbered c.self.invariant.2))
 
 pub returns-in-Err-clause-call : goal.returns-in-Err-clause-call
-returns-in-Err-clause-call g c = rw (← c.self.view_is) (notes_starved _ _ _ _ _ c.in-Err.ensures.unchanged.0 c.in-Err.ensures.unchanged.1 c.in-Err.ensures.some)
+returns-in-Err-clause-call g c = rw (← c.self.view_is) (notes_starved _ _ _ _ _ c.in-Err.ensures.unchanged.0 c.in-Err.ensures.unchanged.1 c.in-Err.ensures.some c.self.invariant.2)
 
 pub invariant_of-self : goal.invariant_of-self
 invariant_of-self g c =
@@ -26,6 +26,21 @@ invariant_of-self g c =
         taken = taken_kept _ _ _ _ _ _ c.gather_made.ensures.gathered c.gather_made.ensures.unchanged c.self.invariant.0.taken;
       },
       numbers_left _ _ _ c.gather_made.ensures.first c.self.invariant.1,
+      c.gather_made.ensures.numbered c.self.invariant.2,
+    )
+
+pub invariant_of-self-in-Err : goal.invariant_of-self-in-Err
+invariant_of-self-in-Err g c =
+    let same = slots_kept _ _ _ _ _ c.gather_made.ensures.gathered c.gather_made.ensures.unchanged in
+    let before = c.self.inside.clients.ok.0 in
+    let after = c.gather_made.new.clients.ok.0 in
+    let within = c.self.invariant.0.within in (
+      record {
+        within = omega (arith, same, before, after, within);
+        taken = taken_kept _ _ _ _ _ _ c.gather_made.ensures.gathered c.gather_made.ensures.unchanged c.self.invariant.0.taken;
+      },
+      numbers_left _ _ _ c.gather_made.ensures.first c.self.invariant.1,
+      c.gather_made.ensures.numbered c.self.invariant.2,
     )
 
 pub returns-in-Ok-clause-plain : goal.returns-in-Ok-clause-plain

@@ -2,11 +2,12 @@ use Rattle.std.proofs.Common.{◌≡◌, ◌∙◌, List, Option, None, Some, op
 use Rattle.std.proofs.Math.Path.{fun_ext}
 use Rattle.std.specs.Prelude.{slice_set}
 use Rattle.std.specs.Option.{option_map_or}
-use Rattle.wl_server.proofs.CallSteps.Numbering.{numbers_stay}
+use Rattle.wl_server.proofs.CallSteps.Numbering.{numbered_at, numbers_stay}
 use Rattle.wl_server.proofs.OverRuns.Alone.AccountLaws.{is_change}
 use Rattle.wl_server.specs.Backend.{BackendState, IsChange}
 use Rattle.wl_server.specs.Ids.{ClientParts}
 use Rattle.wl_server.specs.Lending.{over_transport, server_over, state_over}
+use Rattle.wl_server.specs.NoteOrder.{AllNumbered}
 use Rattle.wl_server.specs.PartStep.{World}
 use Rattle.wl_server.specs.Server.{ServerState, Stored, client_at}
 use Rattle.wl_server.proofs.CallSteps.Changing.{changed}
@@ -29,10 +30,10 @@ lent_over {T} {U} {G} {C} b id s t is =
     (sym (slot_of_client b.server.clients id s is).0)
 
 lent_step : {T U G C : Type 0} (w : World T G C) (before : ServerState T U G C) (id : ClientParts) (s : Stored T U C) (t : T) → Some s ≡ client_at id before.clients
-    → IsChange w before id t (server_over before id t)
-lent_step w before id s t is =
+    → AllNumbered before.clients → IsChange w before id t (server_over before id t)
+lent_step w before id s t is all =
     let has = slot_of_client before.clients id s is in
-    is_change w before id t (server_over before id t) (changed w before id t s has.0 has.1)
+    is_change w before id t (server_over before id t) (changed w before id t s has.0 has.1 all)
 
 pub returns-in_default : goal.returns-in_default
 returns-in_default g c = (
@@ -46,9 +47,9 @@ returns g c = (
   record {
     lends = tt;
     value = rw (← c.self.view_is) (ap transport_in (sym c.in-Some.ensures.value) ∙ ap Some (sym c.transport_mut.ensures.value));
-    step = λ t. rw (← c.self.view_is) (lent_step _ _ c.args.id.now c.in-Some.client.now t c.in-Some.ensures.value);
+    step = λ t. rw (← c.self.view_is) (lent_step _ _ c.args.id.now c.in-Some.client.now t c.in-Some.ensures.value c.self.invariant.2);
   },
 )
 
 pub invariant_of-self-lent : goal.invariant_of-self-lent
-invariant_of-self-lent g c = λ w. (slots_set _ _ _ _ _ c.self.invariant.0, numbers_stay _ _ _ _ _ c.in-Some.ensures.value refl c.self.invariant.1)
+invariant_of-self-lent g c = λ w. (slots_set _ _ _ _ _ c.self.invariant.0, numbers_stay _ _ _ _ _ c.in-Some.ensures.value refl c.self.invariant.1, numbered_at _ _ _ _ c.in-Some.ensures.value (λ is. is) c.self.invariant.2)

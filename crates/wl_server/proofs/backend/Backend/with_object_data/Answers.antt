@@ -1,12 +1,19 @@
-use Rattle.std.proofs.Common.{◌∙◌, Some, ap, refl}
+use Rattle.std.proofs.Common.{◌∙◌, Some, ap, length, refl, sym}
 use Rattle.wl_server.specs.Server.{Stored}
-use Rattle.wl_server.proofs.CallSteps.Numbering.{numbers_stay}
+use Rattle.wl_server.proofs.CallSteps.Numbering.{numbered_at, numbers_stay}
 use Rattle.wl_server.proofs.CleanupSteps.Taken.{slots_set}
 use Rattle.wl_server.proofs.ObjectCalls.LendingData.{lends_none, lends_stored}
 use Rattle.wl_server.proofs.backend.Backend.with_object_data.Goals as goal
 
 pub invariant_of-self-2 : goal.invariant_of-self-2
-invariant_of-self-2 g c = (slots_set _ _ _ _ _ c.self.invariant.0, numbers_stay _ _ _ _ _ c.in-Some.ensures.value (ap (λ (s : Stored _ _ _). s.times) c.stored.view_is) c.self.invariant.1)
+invariant_of-self-2 g c = (
+  slots_set _ _ _ _ _ c.self.invariant.0,
+  numbers_stay _ _ _ _ _ c.in-Some.ensures.value (ap (λ (s : Stored _ _ _). s.times) c.stored.view_is) c.self.invariant.1,
+  numbered_at _ _ _ _ c.in-Some.ensures.value (λ is. (
+    ap (λ (s : Stored _ _ _). length s.times.made) c.stored.view_is ∙ (is.0 ∙ sym (ap (λ (s : Stored _ _ _). length s.made) c.stored.view_is)),
+    ap (λ (s : Stored _ _ _). length s.times.waiting) c.stored.view_is ∙ (is.1 ∙ sym (ap (λ (s : Stored _ _ _). length s.part.waiting) c.stored.view_is)),
+  )) c.self.invariant.2,
+)
 
 pub returns-in_default : goal.returns-in_default
 returns-in_default g c = record {
@@ -16,6 +23,6 @@ returns-in_default g c = record {
 pub returns : goal.returns
 returns g c = record {
   call = rw (← c.self.view_is)
-      (lends_stored _ _ _ _ c.args.id.now c.lend_data.result c.client-client.result _ c.client-client.ensures (ap Some c.stored.view_is ∙ c.in-Some.ensures.value) _
+      (lends_stored _ _ _ _ c.args.id.now c.lend_data.result c.client-client.result _ c.client-client.ensures (ap Some c.stored.view_is ∙ c.in-Some.ensures.value) c.self.invariant.2 _
       c.lend_data.ensures);
 }

@@ -32,9 +32,9 @@ returns-clause-joined g c begun run before =
     (returns-clause-steps g c)
 
 pub returns-clause-outcome : goal.returns-clause-outcome
-returns-clause-outcome g c same other others alike many leads =
+returns-clause-outcome g c ordered same other others alike many leads =
     performance_one (over_scripts g.G.GlobalHandler.views) (scripts_determined g.G.GlobalHandler.views)
-    c.args.self.now.server same c.perform_all.new.self.server other c.args.steps.items c.perform_all.new.replies.items others
+    ordered c.args.self.now.server same c.perform_all.new.self.server other c.args.steps.items c.perform_all.new.replies.items others
     (returns-clause-count g c) many alike (returns-clause-steps g c) leads
 
 pub returns-clause-history : goal.returns-clause-history

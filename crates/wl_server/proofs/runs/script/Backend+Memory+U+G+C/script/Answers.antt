@@ -11,7 +11,7 @@ use Rattle.wl_server.specs.Moves.{ScriptMoves, nothing_taken}
 use Rattle.wl_server.specs.PartStep.{Asked, OfClient, PartStep, WithTransport, lacks_move, over_scripts}
 use Rattle.wl_server.specs.Inside.Scripting.{Scripts, move_of, reply_to, step_of}
 use Rattle.wl_server.specs.Server.{Seen, ServerState, Stored, no_times}
-use Rattle.wl_server.proofs.CallSteps.Numbering.{in_time_same, numbers_stay}
+use Rattle.wl_server.proofs.CallSteps.Numbering.{in_time_same, numbered_at, numbers_stay}
 use Rattle.wl_server.proofs.CallSteps.OneClient.{IsOwn, done_to, held_by, none_stored}
 use Rattle.wl_server.proofs.CallSteps.Moved.{moved}
 use Rattle.wl_server.proofs.CallSteps.Slots.{Kind}
@@ -45,7 +45,7 @@ returns-in_default g c =
     rw (← c.self.view_is)
     (none_stored (over_scripts g.G.GlobalHandler.views) before (step_of c.args.id.now c.args.call) (reply_to c.args.call (Err refused.InvalidId)) (own _ _ _) c.args.id.now
     (scripts c.args.call (Err refused.InvalidId)) (nothing_taken (Err refused.InvalidId) ≡ Err refused.InvalidId) (to g.G.GlobalHandler.views before c.args.id.now c.args.call (Err refused.InvalidId))
-    _ refl c.in_default.ensures.value refl)
+    _ refl c.in_default.ensures.value refl c.self.invariant.2)
 
 pub returns : goal.returns
 returns g c =
@@ -63,7 +63,14 @@ returns g c =
     (λ is. (
       ap (λ (s : Stored _ _ _). length s.times.made) c.client.view_is ∙ (is.0 ∙ sym (ap (λ (s : Stored _ _ _). length s.made) c.client.view_is)),
       ap (λ (s : Stored _ _ _). length s.times.waiting) c.client.view_is ∙ (is.1 ∙ sym (ap (λ (s : Stored _ _ _). length s.part.waiting) c.client.view_is)),
-    )))
+    )) c.self.invariant.2)
 
 pub invariant_of-self-2 : goal.invariant_of-self-2
-invariant_of-self-2 g c = (slots_set _ _ _ _ _ c.self.invariant.0, numbers_stay _ _ _ _ _ c.in-Some.ensures.value (ap (λ (s : Stored _ _ _). s.times) c.client.view_is) c.self.invariant.1)
+invariant_of-self-2 g c = (
+  slots_set _ _ _ _ _ c.self.invariant.0,
+  numbers_stay _ _ _ _ _ c.in-Some.ensures.value (ap (λ (s : Stored _ _ _). s.times) c.client.view_is) c.self.invariant.1,
+  numbered_at _ _ _ _ c.in-Some.ensures.value (λ is. (
+    ap (λ (s : Stored _ _ _). length s.times.made) c.client.view_is ∙ (is.0 ∙ sym (ap (λ (s : Stored _ _ _). length s.made) c.client.view_is)),
+    ap (λ (s : Stored _ _ _). length s.times.waiting) c.client.view_is ∙ (is.1 ∙ sym (ap (λ (s : Stored _ _ _). length s.part.waiting) c.client.view_is)),
+  )) c.self.invariant.2,
+)

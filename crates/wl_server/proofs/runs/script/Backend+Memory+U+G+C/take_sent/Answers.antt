@@ -10,7 +10,7 @@ use Rattle.wl_server.specs.Moves.{Moved, ScriptMoves, TakeSent, taken}
 use Rattle.wl_server.specs.PartStep.{Asked, WithTransport, lacks_move}
 use Rattle.wl_server.specs.Inside.Scripting.{Scripts}
 use Rattle.wl_server.specs.Server.{Stored, no_times}
-use Rattle.wl_server.proofs.CallSteps.Numbering.{in_time_same, numbers_stay}
+use Rattle.wl_server.proofs.CallSteps.Numbering.{in_time_same, numbered_at, numbers_stay}
 use Rattle.wl_server.proofs.CallSteps.OneClient.{IsOwn, done_to, none_stored}
 use Rattle.wl_server.proofs.CallSteps.Moved.{moved}
 use Rattle.wl_server.proofs.CallSteps.Slots.{Kind}
@@ -29,7 +29,7 @@ does id before after answer calm (did, q, (none, moves), is) = (did, q, (sym cal
 
 pub returns-in_default : goal.returns-in_default
 returns-in_default g c = rw (← c.self.view_is)
-    (none_stored _ _ _ _ (own _ _) c.args.id.now (takes (taken (Err _))) _ (λ i l d b a h. (_, refl, h)) _ refl c.in_default.ensures.value refl)
+    (none_stored _ _ _ _ (own _ _) c.args.id.now (takes (taken (Err _))) _ (λ i l d b a h. (_, refl, h)) _ refl c.in_default.ensures.value refl c.self.invariant.2)
 
 abbrev emptied : Script → Script
 emptied s = record s { sent = [] }
@@ -48,7 +48,14 @@ returns g c =
     (λ is. (
       ap (λ (s : Stored _ _ _). length s.times.made) c.client.view_is ∙ (is.0 ∙ sym (ap (λ (s : Stored _ _ _). length s.made) c.client.view_is)),
       ap (λ (s : Stored _ _ _). length s.times.waiting) c.client.view_is ∙ (is.1 ∙ sym (ap (λ (s : Stored _ _ _). length s.part.waiting) c.client.view_is)),
-    )))
+    )) c.self.invariant.2)
 
 pub invariant_of-self-2 : goal.invariant_of-self-2
-invariant_of-self-2 g c = (slots_set _ _ _ _ _ c.self.invariant.0, numbers_stay _ _ _ _ _ c.in-Some.ensures.value (ap (λ (s : Stored _ _ _). s.times) c.client.view_is) c.self.invariant.1)
+invariant_of-self-2 g c = (
+  slots_set _ _ _ _ _ c.self.invariant.0,
+  numbers_stay _ _ _ _ _ c.in-Some.ensures.value (ap (λ (s : Stored _ _ _). s.times) c.client.view_is) c.self.invariant.1,
+  numbered_at _ _ _ _ c.in-Some.ensures.value (λ is. (
+    ap (λ (s : Stored _ _ _). length s.times.made) c.client.view_is ∙ (is.0 ∙ sym (ap (λ (s : Stored _ _ _). length s.made) c.client.view_is)),
+    ap (λ (s : Stored _ _ _). length s.times.waiting) c.client.view_is ∙ (is.1 ∙ sym (ap (λ (s : Stored _ _ _). length s.part.waiting) c.client.view_is)),
+  )) c.self.invariant.2,
+)
