@@ -1,5 +1,5 @@
 -- What is taken out of a link over a mailbox was the first that was to be sent, and what is written is the last.
-use Rattle.std.specs.Prelude.{◌≡◌, ℕ, zero, suc, ◌<◌, ◌⊎◌, Bool, true, false, List, [], ◌∷◌, ◌++◌, length, nat_le, take, ◌==◌, if◌then◌else◌, Option, None, Some, Result, Ok, Err, MatchBool, MatchResult}
+use Rattle.std.specs.Prelude.{◌≡◌, ◌≢◌, ℕ, zero, suc, ◌<◌, ◌⊎◌, Bool, true, false, List, [], ◌∷◌, ◌++◌, length, nat_le, take, ◌==◌, if◌then◌else◌, Option, None, Some, Result, Ok, Err, OnErr, MatchBool, MatchResult}
 use Rattle.std.proofs.Common.{ap, arith, inl, inr, refl, subst, sym, ◌∙◌}
 use Rattle.std.proofs.lemmas.Bool.{MatchBool-at_false, MatchBool-at_true, cases_Bool, eqb-true, ne_eqb}
 use Rattle.std.proofs.lemmas.List.{drop_all}
@@ -8,7 +8,7 @@ use Rattle.wl_wire.specs.declared.error.IoFault.{IoFault}
 use Rattle.wl_wire.specs.declared.error.IoFault.TheVariants as fault
 use Rattle.wl_wire.specs.Message.{WireMessage, size}
 use Rattle.wl_link.specs.Exchange.{Chain, Queue, Sending, joined, nothing}
-use Rattle.wl_link.specs.Link.{LinkState, AfterSend, Flushed, Flushes, Grown, PlacedBy, Put, Wants, Wrote, ignoring, left_of, needed, offer_of, offer_size, spelled, with_transport}
+use Rattle.wl_link.specs.Link.{LinkState, AfterSend, Flushed, Flushes, Grown, PlacedBy, Put, Wants, Wrote, ignoring, left_of, needed, offer_of, offer_size, spelled, with_outgoing, with_transport}
 use Rattle.wl_link.specs.Link.{has_room as room_of}
 use Rattle.wl_link.specs.Mailbox.{MailboxState, MailboxSends, answer_under, behind, has_room}
 use Rattle.wl_link.specs.MailboxLink.{still_to_read, still_to_send}
@@ -34,6 +34,10 @@ given_out l m bytes tokens n bytes_are tokens_are all some is =
       ap (λ (x : MailboxState). joined l.incoming x.arrived) is,
     )
 
+pub none_out : (l : LinkState MailboxState) (m : MailboxState) (n : ℕ) → n ≡ length l.transport.waiting.bytes → 0 < length l.transport.waiting.bytes
+    → m ≡ record l.transport { waiting = behind n l.transport.waiting } → (with_transport l m).transport.waiting ≡ nothing
+none_out l m n all some is = ap (λ (x : MailboxState). x.waiting) is ∙ none_left l.transport.waiting n all some
+
 pub flushed_gives_nothing : (before after : LinkState MailboxState) (answer : Result (Unit {0}) IoFault) → Flushed MailboxSends before answer after
     → GivesOut before nothing after
 flushed_gives_nothing before after answer flushed =
@@ -42,6 +46,10 @@ flushed_gives_nothing before after answer flushed =
 
 pub gives_after : (before mid after : LinkState MailboxState) (out : Queue) → GivesOut before nothing mid → GivesOut mid out after → GivesOut before out after
 gives_after before mid after out one two = (two.0 ∙ one.0, two.1 ∙ one.1)
+
+pub on_err_of : {A E : Type 0} (r : Result A E) (P : Type 0) → P → OnErr r P
+on_err_of (Ok x) P p = tt
+on_err_of (Err e) P p = p
 
 -- ---- a flush that is done leaves no bytes
 
@@ -54,12 +62,12 @@ takes_all : (before after : MailboxState) (offer : Queue) (n : ℕ) → MailboxS
 takes_all before after offer n (inl s) = answers_all before.send_fault (has_room before offer) (length offer.bytes) n s.0
 takes_all before after offer n (inr s) = let e = s.0 in absurd cc
 
-some_taken : (k : ℕ) (bs : List ℕ) → 0 < k → length (take k bs) ≡ 0 → bs ≡ []
+pub some_taken : (k : ℕ) (bs : List ℕ) → 0 < k → length (take k bs) ≡ 0 → bs ≡ []
 some_taken zero bs some none = absurd (omega arith)
 some_taken (suc k) [] some none = refl
 some_taken (suc k) (b ∷ bs) some none = absurd (omega (arith, none))
 
-offers_some : (tokens : List Token) → 0 < offer_size tokens
+pub offers_some : (tokens : List Token) → 0 < offer_size tokens
 offers_some tokens = elim (nat_le (length tokens) 28) as (λ b. 0 < (if b then 4096 else 1)) [ true ↦ omega arith | false ↦ omega arith ]
 
 drained : (es : List Sending) (m m' : MailboxState) (q q' : Queue) (answer : Result (Unit {0}) IoFault)
@@ -95,6 +103,45 @@ nothing_to_send before after answer f done empty =
     ap (λ (q : Queue). q.bytes) (sym kept.0)
     ∙ ap (λ (bs : List ℕ). bs ++ after.outgoing.bytes) empty
     ∙ drained f.0 before.transport after.transport before.outgoing after.outgoing answer f.1.0 f.1.1 done
+
+-- and nothing was changed
+nothing_behind : (xs ys : List ℕ) → xs ++ ys ≡ [] → ys ≡ []
+nothing_behind [] ys e = e
+nothing_behind (x ∷ xs) ys e = absurd cc
+
+pub nothing_changed : (before after : LinkState MailboxState) (answer : Result (Unit {0}) IoFault) → Flushed MailboxSends before answer after
+    → answer ≡ Ok tt → after.transport.waiting.bytes ≡ [] → after ≡ before
+nothing_changed before after answer f done empty = at f.0 f.1.0 f.1.1
+  where
+    none : before.outgoing.bytes ≡ []
+    none = nothing_behind before.transport.waiting.bytes before.outgoing.bytes (nothing_to_send before after answer f done empty)
+
+    at : (es : List Sending) → Chain MailboxSends before.transport es after.transport → Flushes before.outgoing es answer after.outgoing → after ≡ before
+    at [] chain flushes =
+        f.1.2 ∙ ap (λ (m : MailboxState). with_outgoing before m after.outgoing) chain
+        ∙ ap (λ (q : Queue). with_outgoing before before.transport q) flushes.1
+    at (e ∷ es) chain flushes = absurd (flushes.0 none)
+
+-- ---- a flush that is not done had bytes
+
+pub flush_had_bytes : (before after : LinkState MailboxState) (answer : Result (Unit {0}) IoFault) → Flushed MailboxSends before answer after
+    → ¬ (answer ≡ Ok tt) → (still_to_send before).bytes ≢ []
+flush_had_bytes before after answer f failed none = at f.0 f.1.1
+  where
+    at : (es : List Sending) → Flushes before.outgoing es answer after.outgoing → ⊥
+    at [] flushes = failed flushes.2
+    at (e ∷ es) flushes = flushes.0 (nothing_behind before.transport.waiting.bytes before.outgoing.bytes none)
+
+nothing_before : (xs ys : List ℕ) → xs ++ ys ≡ [] → xs ≡ []
+nothing_before [] ys e = refl
+nothing_before (x ∷ xs) ys e = absurd cc
+
+pub ready_had_bytes : (before after : LinkState MailboxState) (answer : Result (Unit {0}) IoFault) → Flushed MailboxSends before answer after
+    → 0 < length after.transport.waiting.bytes → (still_to_send before).bytes ≢ []
+ready_had_bytes before after answer f some none =
+    let kept = flush_keeps_all before after answer f in
+    let empty = nothing_before after.transport.waiting.bytes after.outgoing.bytes (ap (λ (q : Queue). q.bytes) kept.0 ∙ none) in
+    omega (arith, some, ap (λ (bs : List ℕ). length bs) empty)
 
 -- ---- a write that is answered by Ok adds the message to what is to be sent
 

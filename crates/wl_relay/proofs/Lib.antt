@@ -1,2 +1,4 @@
 pub mod Flows
 pub mod Lines
+pub mod OneSend
+pub mod Settings

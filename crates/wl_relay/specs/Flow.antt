@@ -1,5 +1,8 @@
 -- What is on its way through the relay, in both directions, and that nothing of it is lost, added or moved.
-use Rattle.std.specs.Prelude.{◌≡◌, ℕ, ◌≤◌, Bool, false, true, List, [], length}
+use Rattle.std.specs.Prelude.{◌≡◌, ◌≢◌, ℕ, ◌≤◌, Bool, false, true, List, [], length, nat_le, take, Option, None, if◌then◌else◌}
+use Rattle.wl_wire.specs.declared.error.IoFault.{IoFault}
+use Rattle.wl_link.specs.declared.mailbox.Ending.{Ending}
+use Rattle.wl_link.specs.declared.mailbox.Ending.TheVariants as ending
 use Rattle.wl_link.specs.Exchange.{Queue, joined, nothing}
 use Rattle.wl_link.specs.Link.{LinkState, with_transport}
 use Rattle.wl_link.specs.Mailbox.{MailboxState}
@@ -9,6 +12,24 @@ use Rattle.wl_relay.specs.Log.{GrowsLog, IsDone, Known, other_side}
 use Rattle.wl_relay.specs.Objects.{first_objects}
 use Rattle.wl_relay.specs.declared.side.Side.{Side}
 use Rattle.wl_relay.specs.declared.side.Side.TheVariants.{Client, Server}
+
+-- What may hold a link back: how far its buffers may grow, and what its mailbox answers beside what came and what waits.
+pub record Settings : Type 0 where
+  pub limit : Option ℕ
+  pub ending : Ending
+  pub room : ℕ
+  pub send_fault : Option IoFault
+
+abbrev pub settings : LinkState MailboxState → Settings
+settings l = record { limit = l.limit; ending = l.transport.ending; room = l.transport.room; send_fault = l.transport.send_fault }
+
+-- Nothing holds the link back: it has no limit, its side sends on, and its mailbox has room for all and refuses nothing.
+abbrev pub IsOpen : LinkState MailboxState → Type 0
+IsOpen l = settings l ≡ record { limit = None; ending = ending.Open; room = 18446744073709551615; send_fault = None }
+
+-- What goes in one send: all of it, if it has at most 28 tokens; else one byte with the first 28.
+abbrev pub one_send : Queue → Queue
+one_send q = if nat_le (length q.tokens) 28 then q else record { bytes = take 1 q.bytes; tokens = take 28 q.tokens }
 
 -- what goes from one link to another and was not taken out there: what waits to be sent, and then what was not handed on yet
 abbrev pub in_flight : LinkState MailboxState → LinkState MailboxState → Queue
@@ -57,6 +78,11 @@ abbrev pub to_send : Side → RelayState → Queue
 to_send Client r = still_to_send r.client
 to_send Server r = still_to_send r.server
 
+-- the part of it that a call made ready which then lacked memory: it goes out first
+abbrev pub made_ready : Side → RelayState → Queue
+made_ready Client r = r.client.transport.waiting
+made_ready Server r = r.server.transport.waiting
+
 -- what came from this side and was received, but not handed on
 abbrev pub received : Side → RelayState → Queue
 received Client r = r.client.incoming
@@ -67,6 +93,14 @@ abbrev pub not_received : Side → RelayState → Queue
 not_received Client r = r.client.transport.arrived
 not_received Server r = r.server.transport.arrived
 
+-- nothing holds back what goes to either side, or comes from it
+abbrev pub AreOpen : RelayState → Type 0
+AreOpen r = IsOpen r.client × IsOpen r.server
+
+-- nothing else was made ready for either side
+abbrev pub KeepsReady : RelayState → RelayState → Type 0
+KeepsReady before after = (made_ready Client after ≡ made_ready Client before) × (made_ready Server after ≡ made_ready Server before)
+
 -- A new relay has changed nothing, and nothing is on its way. It reads both sides, knows the display alone, and its log is empty.
 pub record Begins (r : RelayState) : Type 0 where
   pub unchanged : has_changed r ≡ false
@@ -76,6 +110,8 @@ pub record Begins (r : RelayState) : Type 0 where
   pub objects : r.known.objects ≡ first_objects
   pub follows_client : r.known.follows_client ≡ true
   pub follows_server : r.known.follows_server ≡ true
+  pub client_ready : made_ready Client r ≡ nothing
+  pub server_ready : made_ready Server r ≡ nothing
 
 -- This came from that side. It follows what is on its way, and the other direction has what it had; unless an announcement was
 -- dropped or lowered.
@@ -90,10 +126,15 @@ abbrev pub KeepsOtherWay : Side → RelayState → RelayState → Type 0
 KeepsOtherWay side before after =
     (to_send side after ≡ to_send side before) × (to_read (other_side side) after ≡ to_read (other_side side) before)
 
--- This was taken out for the side, with at most 28 tokens. It was the first that was to be sent to it. Nothing else is changed.
+-- This was taken out for the side, with at most 28 tokens. It was the first that was to be sent to it: what was made ready, or, if
+-- nothing was, all that one send takes. Nothing else is changed.
 pub record TakesOut (side : Side) (out : Queue) (before after : RelayState) : Type 0 where
   pub first : joined out (to_send side after) ≡ to_send side before
   pub few : length out.tokens ≤ 28
+  pub some : out.bytes ≢ []
+  pub whole : made_ready side before ≡ nothing → out ≡ one_send (to_send side before)
+  pub none_ready : made_ready side after ≡ nothing
+  pub other_ready : made_ready (other_side side) after ≡ made_ready (other_side side) before
   pub known : after.known ≡ before.known
   pub table : after.table ≡ before.table
   pub still_to_read : to_read side after ≡ to_read side before
@@ -101,6 +142,13 @@ pub record TakesOut (side : Side) (out : Queue) (before after : RelayState) : Ty
   pub other_reads : to_read (other_side side) after ≡ to_read (other_side side) before
   pub flow : joined out (flow_from (other_side side) after) ≡ flow_from (other_side side) before
   pub other_flow : flow_from side after ≡ flow_from side before
+
+-- nothing was taken out, and nothing is lost
+abbrev pub KeepsAll : RelayState → RelayState → Type 0
+KeepsAll before after =
+    (to_send Client after ≡ to_send Client before) × (to_send Server after ≡ to_send Server before)
+    × (to_read Client after ≡ to_read Client before) × (to_read Server after ≡ to_read Server before)
+    × (after.known ≡ before.known) × (after.table ≡ before.table)
 
 -- the log has grown by the lines of what was read of what came from that side, and what goes on is to be sent to the other
 abbrev pub LogsRead : Side → RelayState → RelayState → Type 0

@@ -6,8 +6,8 @@ ghost use Rattle.wl_wire.specs.Parse.{ReadsMessage};
 ghost use Rattle.wl_wire.specs.declared.message.TheConstants.{INLINE_ARGS};
 ghost use Rattle.wl_link.specs.MailboxLink.{still_to_read, still_to_send};
 ghost use Rattle.wl_relay.specs.Announcements.{is_change};
-ghost use Rattle.wl_relay.specs.Flow.{Kept, KeptUnlessChanged};
-ghost use Rattle.wl_relay.specs.Inside.Passing.{HandedAs, HandsOnAll, KeepsWayBack, LeavesWayBack, PassedOn, PassesAs, PassesUnknown, ReadsUpTo, ReceivedAs, TakenOff, TellsFault, turns_left};
+ghost use Rattle.wl_relay.specs.Flow.{IsOpen, Kept, KeptUnlessChanged};
+ghost use Rattle.wl_relay.specs.Inside.Passing.{HandedAs, HandsOnAll, KeepBoth, KeepsSettings, KeepsWayBack, LeavesWayBack, PassedOn, PassesAs, PassesUnknown, ReadsUpTo, ReceivedAs, TakenOff, TellsFault, turns_left};
 ghost use Rattle.wl_relay.specs.Log.{GrowsLog, IsDone, known};
 
 use crate::notes::{
@@ -41,28 +41,34 @@ fn hand_on(
     from: &mut Link,
     to: &mut Link,
 ) -> Result<Passed, OutOfMemory>
+    requires is_open { IsOpen to.old }
     ensures kept { OnOk result (Kept from.old to.old from.new to.new) }
     ensures handed { IfOk result (λ passed. HandedAs signature.now from.old to.old passed from.new to.new) }
     ensures way_back { OnOk result (LeavesWayBack from.old to.old from.new to.new) }
+    ensures settings { KeepBoth from.old to.old from.new to.new }
 {
     match from.hand_on(signature, to) {
         Ok(()) => Ok(Passed::One),
         Err(HandOnError::MissingData | HandOnError::MissingFD) => Ok(Passed::Nothing),
         Err(HandOnError::Malformed) => Ok(Passed::Fault(Fault::Malformed)),
-        // The links have no limit, so that there is always room.
-        Err(HandOnError::NoRoom | HandOnError::OutOfMemory) => Err(OutOfMemory),
+        Err(HandOnError::OutOfMemory) => Err(OutOfMemory),
+        // The link has no limit.
+        Err(HandOnError::NoRoom) => unreachable!(),
     }
 }
 
 /// Hands on all that was received, whether it can be read or not.
 fn hand_on_rest(from: &mut Link, to: &mut Link) -> Result<(), OutOfMemory>
+    requires is_open { IsOpen to.old }
     ensures kept { OnOk result (Kept from.old to.old from.new to.new) }
     ensures handed { OnOk result (HandsOnAll from.old to.old from.new to.new) }
     ensures way_back { OnOk result (LeavesWayBack from.old to.old from.new to.new) }
+    ensures settings { KeepBoth from.old to.old from.new to.new }
 {
     match from.hand_on_rest(to) {
         Ok(()) => Ok(()),
-        Err(_) => Err(OutOfMemory),
+        Err(HandOnError::OutOfMemory) => Err(OutOfMemory),
+        Err(_) => unreachable!(),
     }
 }
 
@@ -75,9 +81,11 @@ fn pass_unknown(
     from: &mut Link,
     to: &mut Link,
 ) -> Result<Passed, OutOfMemory>
+    requires is_open { IsOpen to.old }
     ensures kept { OnOk result (KeptUnlessChanged notes.old.has_changed from.old to.old notes.new.has_changed from.new to.new) }
     ensures told { IfOk result (λ passed. PassesUnknown side sender opcode (known notes.old) from.old to.old passed (known notes.new) from.new to.new) }
     ensures way_back { OnOk result (LeavesWayBack from.old to.old from.new to.new) }
+    ensures settings { KeepBoth from.old to.old from.new to.new }
 {
     if notes.mode == Mode::HandOn {
         return Ok(Passed::Fault(Fault::Malformed));
@@ -100,6 +108,7 @@ fn take_first(
     ensures taken { OnOk result (TakenOff signature.now from.old from.new) }
     ensures read { OnOk result (ReadsMessage from.old.incoming.bytes signature.now from.old.incoming.tokens (content message.new)) }
     ensures capacity { INLINE_ARGS ≤ message.new.args.capacity }
+    ensures settings { KeepsSettings from.old from.new }
 {
     let Ok(()) = from.read_with_signature(signature, message) else {
         return Err(OutOfMemory);
@@ -115,10 +124,12 @@ fn lower_first(
     from: &mut Link,
     to: &mut Link,
 ) -> Result<(), OutOfMemory>
-    requires { INLINE_ARGS ≤ message.old.args.capacity }
+    requires is_open { IsOpen to.old }
+    requires place { INLINE_ARGS ≤ message.old.args.capacity }
     ensures passed { OnOk result (PassedOn signature.now (Edit.Lower version) from.old to.old Passed.One from.new to.new) }
     ensures way_back { OnOk result (LeavesWayBack from.old to.old from.new to.new) }
     ensures capacity { INLINE_ARGS ≤ message.new.args.capacity }
+    ensures settings { KeepBoth from.old to.old from.new to.new }
 {
     take_first(signature, message, from)?;
     let _old = message.args.pop();
@@ -137,11 +148,13 @@ fn pass_on(
     from: &mut Link,
     to: &mut Link,
 ) -> Result<Passed, OutOfMemory>
-    requires { INLINE_ARGS ≤ message.old.args.capacity }
+    requires is_open { IsOpen to.old }
+    requires place { INLINE_ARGS ≤ message.old.args.capacity }
     ensures kept { OnOk result (is_change edit ≡ false → Kept from.old to.old from.new to.new) }
     ensures passed { IfOk result (λ passed. PassedOn signature.now edit from.old to.old passed from.new to.new) }
     ensures way_back { OnOk result (LeavesWayBack from.old to.old from.new to.new) }
     ensures capacity { INLINE_ARGS ≤ message.new.args.capacity }
+    ensures settings { KeepBoth from.old to.old from.new to.new }
 {
     match edit {
         Edit::Nothing => return hand_on(signature, from, to),
@@ -159,9 +172,11 @@ fn pass_one(
     from: &mut Link,
     to: &mut Link,
 ) -> Result<Passed, OutOfMemory>
+    requires is_open { IsOpen to.old }
     ensures kept { OnOk result (KeptUnlessChanged notes.old.has_changed from.old to.old notes.new.has_changed from.new to.new) }
     ensures reads { IfOk result (λ passed. PassesAs table.now side (known notes.old) from.old to.old passed (known notes.new) from.new to.new) }
     ensures way_back { OnOk result (LeavesWayBack from.old to.old from.new to.new) }
+    ensures settings { KeepBoth from.old to.old from.new to.new }
 {
     let Some((sender, opcode)) = from.next_header() else {
         return Ok(Passed::Nothing);
@@ -200,9 +215,11 @@ fn pass(
     from: &mut Link,
     to: &mut Link,
 ) -> Result<Option<Fault>, OutOfMemory>
+    requires is_open { IsOpen to.old }
     ensures kept { OnOk result (KeptUnlessChanged notes.old.has_changed from.old to.old notes.new.has_changed from.new to.new) }
     ensures reads { IfOk result (λ fault. ReadsUpTo table.now side (known notes.old) from.old to.old fault (known notes.new) from.new to.new) }
     ensures way_back { OnOk result (LeavesWayBack from.old to.old from.new to.new) }
+    ensures settings { KeepBoth from.old to.old from.new to.new }
 {
     loop {
         match pass_one(table, notes, side, from, to)? {
@@ -221,10 +238,12 @@ fn give_up(
     from: &mut Link,
     to: &mut Link,
 ) -> Result<(), OutOfMemory>
+    requires is_open { IsOpen to.old }
     ensures kept { OnOk result (KeptUnlessChanged notes.old.has_changed from.old to.old notes.new.has_changed from.new to.new) }
     ensures told { OnOk result (TellsFault side fault (known notes.old) (known notes.new)) }
     ensures handed { OnOk result (HandsOnAll from.old to.old from.new to.new) }
     ensures way_back { OnOk result (LeavesWayBack from.old to.old from.new to.new) }
+    ensures settings { KeepBoth from.old to.old from.new to.new }
 {
     if follows(notes, side) {
         log_fault(notes, side, fault)?;
@@ -240,11 +259,13 @@ fn follow(
     from: &mut Link,
     to: &mut Link,
 ) -> Result<(), OutOfMemory>
+    requires is_open { IsOpen to.old }
     ensures kept { OnOk result (KeptUnlessChanged notes.old.has_changed from.old to.old notes.new.has_changed from.new to.new) }
     ensures logged { OnOk result (GrowsLog table.now side (known notes.old) (still_to_read from.old) from.old.transport.arrived (still_to_send to.old)
         (known notes.new) (still_to_read from.new) from.new.transport.arrived (still_to_send to.new)) }
     ensures done { OnOk result (IsDone table.now side (known notes.new) from.new.incoming) }
     ensures way_back { OnOk result (LeavesWayBack from.old to.old from.new to.new) }
+    ensures settings { KeepBoth from.old to.old from.new to.new }
 {
     if !follows(notes, side) {
         return hand_on_rest(from, to);
@@ -275,6 +296,7 @@ fn fill(from: &mut Link, to: &Link) -> Result<Received, OutOfMemory>
     ensures same { still_to_read from.new ≡ still_to_read from.old }
     ensures to_send { still_to_send from.new ≡ still_to_send from.old }
     ensures received { IfOk result (λ received. ReceivedAs from.old received from.new) }
+    ensures settings { KeepsSettings from.old from.new }
 {
     if from.transport().bytes_left() == 0 {
         return Ok(Received::All);
@@ -295,6 +317,7 @@ fn receive_once(
     from: &mut Link,
     to: &mut Link,
 ) -> Result<bool, OutOfMemory>
+    requires is_open { IsOpen to.old }
     requires done { IsDone table.now side (known notes.old) from.old.incoming }
     ensures kept { OnOk result (KeptUnlessChanged notes.old.has_changed from.old to.old notes.new.has_changed from.new to.new) }
     ensures logged { OnOk result (GrowsLog table.now side (known notes.old) (still_to_read from.old) from.old.transport.arrived (still_to_send to.old)
@@ -303,6 +326,7 @@ fn receive_once(
     ensures fewer { result ≡ Ok true → turns_left side (known notes.new) from.new < turns_left side (known notes.old) from.old }
     ensures all { result ≡ Ok false → from.new.transport.arrived.bytes ≡ [] }
     ensures way_back { OnOk result (KeepsWayBack from.old to.old from.new to.new) }
+    ensures settings { KeepBoth from.old to.old from.new to.new }
 {
     match fill(from, to)? {
         Received::All => return Ok(false),
@@ -320,12 +344,14 @@ pub fn receive(
     from: &mut Link,
     to: &mut Link,
 ) -> Result<(), OutOfMemory>
+    requires is_open { IsOpen to.old }
     ensures kept { OnOk result (KeptUnlessChanged notes.old.has_changed from.old to.old notes.new.has_changed from.new to.new) }
     ensures logged { OnOk result (GrowsLog table.now side (known notes.old) (still_to_read from.old) from.old.transport.arrived (still_to_send to.old)
         (known notes.new) (still_to_read from.new) from.new.transport.arrived (still_to_send to.new)) }
     ensures done { OnOk result (IsDone table.now side (known notes.new) from.new.incoming) }
     ensures all { OnOk result (from.new.transport.arrived.bytes ≡ []) }
     ensures way_back { OnOk result (KeepsWayBack from.old to.old from.new to.new) }
+    ensures settings { KeepBoth from.old to.old from.new to.new }
 {
     // The other side may have made or ended objects since, so what waits is looked at again.
     follow(table, notes, side, from, to)?;

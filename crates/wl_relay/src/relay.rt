@@ -4,13 +4,15 @@ ghost use Rattle.std.specs.Prelude.{◌≡◌, ◌≢◌, ◌↔◌, ◌+◌, �
 ghost use Rattle.std.specs.String.{string_bytes};
 ghost use Rattle.wl_link.specs.Exchange.{nothing};
 ghost use Rattle.wl_link.specs.MailboxLink.{still_to_send};
-ghost use Rattle.wl_relay.specs.Flow.{Arrives, Begins, GivesOut, KeepsOtherWay, Logged, LogsRead, PutsIn, ReadsAll, TakesLog, TakesOut, not_received, to_send};
+ghost use Rattle.wl_relay.specs.Flow.{AreOpen, Arrives, Begins, GivesOut, IsOpen, KeepsAll, KeepsOtherWay, KeepsReady, Logged, LogsRead, PutsIn, ReadsAll, TakesLog, TakesOut, not_received, one_send, settings, to_send};
+ghost use Rattle.wl_relay.specs.Inside.Passing.{KeepsSettings};
 ghost use Rattle.wl_relay.specs.declared.relay.ArriveError.TheVariants.{TooManyTokens};
 
 use crate::follow::{Link, receive};
 use crate::notes::Notes;
 use crate::side::{Mode, Side};
 use std::alloc::Global;
+use std::fmt;
 use std::marker::Model;
 use thiserror::Error;
 use wl_link::{BufferedSocket, Mailbox, MailboxError};
@@ -33,6 +35,8 @@ pub enum ArriveError {
 /// ([`next_send`](Relay::next_send)). As long as the relay has dropped and lowered no announcement, what goes to each side is what
 /// came from the other: the same bytes and tokens in the same order, however they are cut.
 ///
+/// What is to be sent has no limit but memory, so take it out after each call.
+///
 /// Each message that it hands on, drops or lowers has a line in its log, in the order in which the messages came
 /// ([`take_log`](Relay::take_log)).
 #[derive(Drop)]
@@ -46,7 +50,7 @@ pub struct Relay {
 impl Model for Relay {
     ghost use Rattle.std.specs.Coded.{codes};
     ghost use Rattle.wl_link.specs.ObjectMap.{store_code};
-    ghost use Rattle.wl_relay.specs.Flow.{RelayState};
+    ghost use Rattle.wl_relay.specs.Flow.{IsOpen, RelayState};
     ghost use Rattle.wl_relay.specs.Log.{known};
 
     ghost Value = { RelayState };
@@ -54,12 +58,21 @@ impl Model for Relay {
     ghost coded = { Prim.hlevel (codes, store_code) };
 
     ghost view = { λ r. record { client = r.client; server = r.server; table = r.table; known = known r.notes } };
+
+    ghost invariant = { λ r. IsOpen r.client × IsOpen r.server };
+}
+
+impl fmt::Debug for Relay {
+    fn fmt<W: fmt::Write>(&self, f: &mut fmt::Formatter<W>) -> fmt::Result {
+        f.write_str("Relay { .. }")
+    }
 }
 
 /// What came arrives in the mailbox of the link.
 fn put_in(link: &mut Link, bytes: &[u8], tokens: &[Token]) -> Result<(), ArriveError>
     ensures put { OnOk result (PutsIn link.old (record { bytes = bytes.now; tokens = tokens.now }) link.new) }
     ensures refused { OnErr result (link.new ≡ link.old) }
+    ensures settings { KeepsSettings link.old link.new }
     ensures too_many { (result ≡ Err TooManyTokens) ↔ (28 < length link.old.transport.arrived.tokens + length tokens.now) }
 {
     match link.transport_mut().arrive(bytes, tokens) {
@@ -75,6 +88,10 @@ fn take_out(alloc: Global, link: &mut Link) -> Result<(Vec<u8>, Vec<Token>), Out
     ensures given { IfOk result (λ out. GivesOut link.old (record { bytes = out.0.items; tokens = out.1.items }) link.new) }
     ensures some { IfOk result (λ out. out.0.items ≢ []) }
     ensures few { IfOk result (λ out. length out.1.items ≤ 28) }
+    ensures all { IfOk result (λ out. record { bytes = out.0.items; tokens = out.1.items } ≡ link.old.transport.waiting) }
+    ensures none_ready { OnOk result (link.new.transport.waiting ≡ nothing) }
+    ensures unchanged { OnErr result (link.new ≡ link.old) }
+    ensures settings { settings link.new ≡ settings link.old }
 {
     let bytes = Vec::from_slice(alloc, link.transport().bytes())?;
     let tokens = Vec::from_slice(alloc, link.transport().tokens())?;
@@ -84,29 +101,37 @@ fn take_out(alloc: Global, link: &mut Link) -> Result<(Vec<u8>, Vec<Token>), Out
 
 /// Sends into the mailbox what waits on the link, and takes it out; `None` if nothing waits.
 fn send(alloc: Global, link: &mut Link) -> Result<Option<(Vec<u8>, Vec<Token>)>, OutOfMemory>
-    ensures given { IfOk result (λ out. MatchOption out (GivesOut link.old nothing link.new)
+    requires is_open { IsOpen link.old }
+    ensures given { IfOk result (λ out. MatchOption out (link.new ≡ link.old)
         (λ x. GivesOut link.old (record { bytes = x.0.items; tokens = x.1.items }) link.new)) }
     ensures none { IfOk result (λ out. MatchOption out ((still_to_send link.old).bytes ≡ []) (λ x. x.0.items ≢ [])) }
     ensures few { IfOk result (λ out. MatchOption out (Unit {0}) (λ x. length x.1.items ≤ 28)) }
+    ensures whole { link.old.transport.waiting ≡ nothing → IfOk result (λ out. MatchOption out (Unit {0})
+        (λ x. record { bytes = x.0.items; tokens = x.1.items } ≡ one_send (still_to_send link.old))) }
+    ensures none_ready { IfOk result (λ out. MatchOption out (Unit {0}) (λ x. link.new.transport.waiting ≡ nothing)) }
+    ensures kept { OnErr result (GivesOut link.old nothing link.new) }
+    ensures memory { OnErr result ((still_to_send link.old).bytes ≢ []) }
+    ensures settings { settings link.new ≡ settings link.old }
 {
     let flushed = link.flush();
+    if flushed == Err(IoFault::OutOfMemory) {
+        return Err(OutOfMemory);
+    }
     if link.transport().bytes().is_empty() {
-        // A mailbox in which nothing waits takes what a send offers, if there is memory.
+        // A mailbox in which nothing waits takes what a send offers.
         return match flushed {
             Ok(()) => Ok(None),
             Err(_) => Err(OutOfMemory),
         };
     }
-    match flushed {
-        Ok(()) | Err(IoFault::WouldBlock) => Ok(Some(take_out(alloc, link)?)),
-        Err(_) => Err(OutOfMemory),
-    }
+    Ok(Some(take_out(alloc, link)?))
 }
 
 impl Relay {
     /// A relay of a session that begins, with this table of interfaces. Nothing is on its way yet, and the log is empty.
     pub fn new(alloc: Global, table: Protocol, mode: Mode) -> Result<Self, OutOfMemory>
         ensures begins { IfOk result (λ relay. Begins relay) }
+        ensures is_open { IfOk result (λ relay. AreOpen relay) }
         ensures made { IfOk result (λ relay. (relay.table ≡ table) × (relay.known.mode ≡ mode)) }
     {
         let notes = Notes::new(alloc, mode)?;
@@ -133,6 +158,8 @@ impl Relay {
         ensures logged { OnOk result (Logged side (record { bytes = bytes.now; tokens = tokens.now }) self.old self.new) }
         ensures read { OnOk result (ReadsAll side self.new) }
         ensures other_way { OnOk result (KeepsOtherWay side self.old self.new) }
+        ensures is_open { AreOpen self.new }
+        ensures ready { KeepsReady self.old self.new }
         ensures too_many { (result ≡ Err TooManyTokens) ↔ (28 < length (not_received side self.old).tokens + length tokens.now) }
         ensures refused { result ≡ Err TooManyTokens → self.new ≡ self.old }
     {
@@ -152,6 +179,8 @@ impl Relay {
         ensures logged { OnOk result (LogsRead side self.old self.new) }
         ensures read { OnOk result (ReadsAll side self.new) }
         ensures other_way { OnOk result (KeepsOtherWay side self.old self.new) }
+        ensures is_open { AreOpen self.new }
+        ensures ready { KeepsReady self.old self.new }
     {
         match side {
             Side::Client => {
@@ -176,15 +205,21 @@ impl Relay {
     }
 
     /// Takes out the next that is to be sent to a side: bytes, of which there are some, and the tokens that go with the first of
-    /// them, at most 28. It is `None` if no bytes are to be sent, and only then.
+    /// them. If at most 28 tokens are to be sent, that is all bytes and all tokens; if more, it is one byte with the first 28. It
+    /// is `None` if no bytes are to be sent, and only then; tokens wait for the next byte.
+    ///
+    /// `OutOfMemory` comes only if bytes are to be sent, and loses nothing: what was made ready goes first in the next call, and may
+    /// be less than that.
     pub fn next_send(
         &mut self,
         alloc: Global,
         side: Side,
     ) -> Result<Option<(Vec<u8>, Vec<Token>)>, OutOfMemory>
-        ensures taken { IfOk result (λ out. MatchOption out (TakesOut side nothing self.old self.new)
+        ensures taken { IfOk result (λ out. MatchOption out (((to_send side self.old).bytes ≡ []) × (self.new ≡ self.old))
             (λ x. TakesOut side (record { bytes = x.0.items; tokens = x.1.items }) self.old self.new)) }
-        ensures none { IfOk result (λ out. MatchOption out ((to_send side self.old).bytes ≡ []) (λ x. x.0.items ≢ [])) }
+        ensures kept { OnErr result (KeepsAll self.old self.new) }
+        ensures memory { OnErr result ((to_send side self.old).bytes ≢ []) }
+        ensures is_open { AreOpen self.new }
     {
         match side {
             Side::Client => send(alloc, &mut self.client),

@@ -12,6 +12,7 @@ use Rattle.wl_link.specs.Mailbox.{MailboxState}
 use Rattle.wl_link.specs.MailboxLink.{still_to_read, still_to_send}
 use Rattle.wl_link.specs.Store.{Store}
 use Rattle.wl_relay.specs.Announcements.{going_on}
+use Rattle.wl_relay.specs.Flow.{settings}
 use Rattle.wl_relay.specs.Log.{AwaitsMore, Known, LacksPart, Passage, Passes, Stops, all_sent, any_change, follows, lines_of, stopped, unknown_line}
 use Rattle.wl_relay.specs.Objects.{NotesObjects}
 use Rattle.wl_relay.specs.declared.follow.Passed.{Passed}
@@ -40,6 +41,13 @@ KeepsWayBack from to from' to' = (still_to_send from' ≡ still_to_send from) ×
 abbrev pub LeavesWayBack : LinkState MailboxState → LinkState MailboxState → LinkState MailboxState → LinkState MailboxState → Type 0
 LeavesWayBack from to from' to' =
     (from'.transport ≡ from.transport) × (from'.outgoing ≡ from.outgoing) × (still_to_read to' ≡ still_to_read to)
+
+-- nothing holds the link back that did not before, and nothing is sent into its mailbox
+abbrev pub KeepsSettings : LinkState MailboxState → LinkState MailboxState → Type 0
+KeepsSettings l l' = (settings l' ≡ settings l) × (l'.transport.waiting ≡ l.transport.waiting)
+
+abbrev pub KeepBoth : LinkState MailboxState → LinkState MailboxState → LinkState MailboxState → LinkState MailboxState → Type 0
+KeepBoth from to from' to' = KeepsSettings from from' × KeepsSettings to to'
 
 -- the first message left the link, which had it whole, with its tokens
 abbrev pub TakenOff : List ArgumentType → LinkState MailboxState → LinkState MailboxState → Type 0

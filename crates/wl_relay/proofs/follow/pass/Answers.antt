@@ -6,6 +6,7 @@ use Rattle.wl_relay.specs.Log.{known}
 use Rattle.wl_relay.specs.declared.follow.Passed.{Passed}
 use Rattle.wl_relay.specs.declared.follow.Passed.TheVariants as passed
 use Rattle.wl_relay.proofs.Lines.{reads_after, reads_nothing, then_awaits, then_stops}
+use Rattle.wl_relay.proofs.Settings.{keep_after}
 use Rattle.wl_relay.proofs.follow.pass.Goals as goal
 
 pub loop-fault-init : goal.loop-fault-init
@@ -13,6 +14,7 @@ loop-fault-init c = record {
   kept = search rules;
   reads = reads_nothing c.args.table.now c.args.side (known c.args.notes.now) (still_to_read c.args.from.now) (still_to_send c.args.to.now);
   way_back = (refl, refl, refl);
+  settings = ((refl, refl), (refl, refl));
 }
 
 pub loop-fault-preserved : goal.loop-fault-preserved
@@ -27,6 +29,8 @@ loop-fault-preserved c =
           (still_to_read c.args.from.now) (still_to_read c.loop-fault.from) (still_to_read c.pass_one.new.from)
           (still_to_send c.args.to.now) (still_to_send c.loop-fault.to) (still_to_send c.pass_one.new.to) c.loop-fault.invariant.reads read.0;
       way_back = (back.0 ∙ before.0, back.1 ∙ before.1, back.2 ∙ before.2);
+      settings = keep_after c.args.from.now c.loop-fault.from c.pass_one.new.from c.args.to.now c.loop-fault.to c.pass_one.new.to
+          c.loop-fault.invariant.settings c.pass_one.ensures.settings;
     }
 
 pub returns-in-Nothing-clause-reads : goal.returns-in-Nothing-clause-reads

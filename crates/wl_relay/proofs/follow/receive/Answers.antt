@@ -3,6 +3,7 @@ use Rattle.std.proofs.Common.{rules, ◌∙◌}
 use Rattle.wl_link.specs.MailboxLink.{still_to_read, still_to_send}
 use Rattle.wl_relay.specs.Log.{known}
 use Rattle.wl_relay.proofs.Lines.{grows_after}
+use Rattle.wl_relay.proofs.Settings.{keep_after}
 use Rattle.wl_relay.proofs.follow.receive.Goals as goal
 
 pub loop-preserved : goal.loop-preserved
@@ -17,6 +18,8 @@ loop-preserved c =
           c.loop.invariant.logged c.in_ok-receive_once.ensures.logged;
       done = c.in_ok-receive_once.ensures.done;
       way_back = (back.0 ∙ before.0, back.1 ∙ before.1);
+      settings = keep_after c.args.from.now c.loop.from c.receive_once.new.from c.args.to.now c.loop.to c.receive_once.new.to
+          c.loop.invariant.settings c.receive_once.ensures.settings;
     }
 
 pub returns-clause-logged : goal.returns-clause-logged

@@ -2,7 +2,7 @@
 -- and of what was received nothing more can be done.
 use Rattle.wl_link.specs.MailboxLink.{still_to_read, still_to_send}
 use Rattle.wl_relay.specs.Flow.{KeptUnlessChanged}
-use Rattle.wl_relay.specs.Inside.Passing.{KeepsWayBack, turns_left}
+use Rattle.wl_relay.specs.Inside.Passing.{KeepBoth, KeepsWayBack, turns_left}
 use Rattle.wl_relay.specs.Log.{GrowsLog, IsDone, known}
 use Rattle.wl_relay.proofs.follow.receive.Given as goal
 
@@ -13,6 +13,7 @@ invariant-loop l = record {
       (known l.notes) (still_to_read l.from) l.from.transport.arrived (still_to_send l.to);
   done : IsDone l.table l.side (known l.notes) l.from.incoming;
   way_back : KeepsWayBack l.fn.from l.fn.to l.from l.to;
+  settings : KeepBoth l.fn.from l.fn.to l.from l.to;
 }
 
 abbrev pub decreases-loop : goal.decreases-loop
