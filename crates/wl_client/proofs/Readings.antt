@@ -68,6 +68,10 @@ and_false : (b : Bool) → b && false ≡ false
 and_false true = refl
 and_false false = refl
 
+none_of : {A : Type 0} (o : Option A) → is_some o ≡ false → o ≡ None
+none_of None h = refl
+none_of (Some x) h = absurd (true≢false h)
+
 or_false : (b : Bool) → b ≡ b || false
 or_false true = refl
 or_false false = refl
@@ -287,7 +291,11 @@ module _ {T U : Type 0} where
         (λ _. (answer ≡ Err no_event.Failed) × (refused ≡ false) × (after ≡ before))) (sym (none_of before.error live))
         (subst (λ (o : Option OpenEvent). MatchOption o (ReadsTo sends receives before answer refused after)
         (λ _. (answer ≡ Err no_event.EventOpen) × (refused ≡ false) × (after ≡ before))) (sym (none_of before.open_event closed)) reads)
-      where
-        none_of : {A : Type 0} (o : Option A) → is_some o ≡ false → o ≡ None
-        none_of None h = refl
-        none_of (Some x) h = absurd (true≢false h)
+
+    -- an event that waits is the next one
+    pub waits_next : (before after : SessionState T U) (e : Message IdParts Token) → is_some before.error ≡ false → is_some before.open_event ≡ false
+        → HandlesMessage before (GaveEvent e) after → NextEvent sends receives before (Ok (session_content e)) false after
+    waits_next before after e live closed h =
+        next_reads before after (Ok (session_content e)) false live closed
+        (some_ends before before after 0 (Ok e) (omega (arith)) (starts before)
+        (event_ends before before after e (none_of before.error live, none_of before.open_event closed) (λ left rest end r. r) h))

@@ -2,4 +2,5 @@
 pub mod Sending
 pub mod Conversion
 pub mod ReadingLoop
+pub mod InPlace
 pub mod Performing

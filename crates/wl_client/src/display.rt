@@ -12,7 +12,7 @@ use wl_wire::{Argument, CString, Message, Token};
 const ERROR: u16 = 0;
 
 /// The opcode of `wl_display.delete_id`.
-const DELETE_ID: u16 = 1;
+pub const DELETE_ID: u16 = 1;
 
 /// What an event of the display says.
 #[derive(Clone, Copy)]

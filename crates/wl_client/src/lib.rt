@@ -15,7 +15,7 @@
 //! |---|---|---|
 //! | `connect`, `take_notes`, the limit, `transport_mut`, .. | `backend`: read it first | `Session`, `Lending` |
 //! | `send_request`, `send_request_lent`, `flush` | `request`, `send_request`, `flush` | `Requests`, `Steps`, `Finish` |
-//! | `next_event`, `next_event_into` | `next_event`, `message`, `event`, `arguments`, `display` | `Reading`, `Handling`, `Events`, `Cutting` |
+//! | `next_event`, `next_event_into` | `next_event`, `message`, `in_place`, `event`, `arguments`, `display` | `Reading`, `Handling`, `Events`, `Cutting` |
 //! | `finish_event`, `open_event` | `finish_event` | `Finish`, `Steps`, `Cutting` |
 //! | `info`, `get_data`, `set_data`, `destroy_object` | `objects` | `Objects` |
 //! | `replay` | `step`, `replay` | `Steps`, `Handed`, `Named`, `Noted`, `Replies`, `Stretches` |
@@ -36,6 +36,7 @@ mod error;
 mod event;
 mod finish_event;
 mod flush;
+mod in_place;
 pub mod laws;
 mod message;
 mod next_event;

@@ -26,6 +26,7 @@ use crate::backend::{Backend, DISPLAY};
 use crate::display::{DisplayMessage, delete_id, display_event};
 use crate::error::{EventError, WaylandError};
 use crate::event::{OpenEvent, handle_event};
+use crate::in_place::InPlace;
 use crate::object_id::ObjectId;
 use crate::objects::Kept;
 use crate::protocol_error::{EventFault, fault_text, told_error};
@@ -61,7 +62,7 @@ pub enum MessageEnd {
 
 /// The description of the event with that opcode, of the object with that number. `None` if there is no such object or
 /// event.
-fn event_desc<'p, U: Drop>(
+pub fn event_desc<'p, U: Drop>(
     protocol: &'p Protocol,
     objects: &ObjectMap<Kept<U>>,
     sender: u32,
@@ -265,9 +266,13 @@ impl<T: Transport + Drop, U: Drop> Backend<T, U> {
         ensures handles { HandlesMessage self.old.session (message_result result event.new) self.new.session }
         ensures inline { INLINE_ARGS ≤ event.new.args.capacity }
     {
-        match self.socket.next_header() {
-            Some(header) => self.handle_at(header, event),
-            None => self.not_taken(MessageParseError::MissingData),
+        let Some(header) = self.socket.next_header() else {
+            return self.not_taken(MessageParseError::MissingData);
+        };
+        match self.handle_in_place(header, event) {
+            InPlace::Event => MessageEnd::Event,
+            InPlace::Deleted => MessageEnd::Continues,
+            InPlace::Not => self.handle_at(header, event),
         }
     }
 

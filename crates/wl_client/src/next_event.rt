@@ -1,11 +1,12 @@
 //! A *reading*: handles messages, and receives more if none is complete.
 
-ghost use Rattle.std.specs.Prelude.{◌≡◌, ◌≤◌, Ok, OnErr, option_map};
+ghost use Rattle.std.specs.Prelude.{◌≡◌, ◌≤◌, Ok, MatchBool, OnErr, option_map};
 ghost use Rattle.std.specs.Result.{result_and};
 ghost use Rattle.wl_client.specs.Accounts.{Calls};
 ghost use Rattle.wl_client.specs.Cutting.{CutsReading};
 ghost use Rattle.wl_client.specs.Plain.{ReadsEvent};
 ghost use Rattle.wl_client.specs.Reading.{EndsWithRoom, NextEvent, ReadsTo, event_content};
+ghost use Rattle.wl_client.specs.Requests.{session_content};
 ghost use Rattle.wl_client.specs.Inside.ReadingLoop.{Live, ReceivedTo, Waited, event_answer, event_refused, with_event};
 ghost use Rattle.wl_client.specs.Steps.{CallOf};
 ghost use Rattle.wl_client.specs.declared.step.Reply.TheVariants as reply;
@@ -98,12 +99,23 @@ impl<T: Transport + Drop, U: Drop> Backend<T, U> {
         ensures cutting { CutsReading T.sends T.receives self.old.session (event_content result) self.new.refused self.new.session }
         ensures room { EndsWithRoom self.old.session self.new.session }
     {
-        self.read_next()
+        let mut event = Message {
+            sender_id: ObjectId::null(),
+            opcode: 0,
+            args: SmallVec::new(*self.notes.allocator()),
+        };
+        match self.read_next(&mut event) {
+            Ok(()) => Ok(event),
+            Err(error) => Err(error),
+        }
     }
 
-    /// Reads the next event, unless the session has an error or an event is open.
-    fn read_next(&mut self) -> Result<Message<ObjectId, Token>, EventError>
-        ensures { NextEvent T.sends T.receives self.old.session (event_content result) self.new.refused self.new.session }
+    /// Reads the next event into `event`, unless the session has an error or an event is open. After an error the content of
+    /// `event` has no meaning.
+    #[inline(always)]
+    fn read_next(&mut self, event: &mut Message<ObjectId, Token>) -> Result<(), EventError>
+        requires { INLINE_ARGS ≤ event.old.args.capacity }
+        ensures { NextEvent T.sends T.receives self.old.session (event_content (result_and result (Ok event.new))) self.new.refused self.new.session }
     {
         self.refused = false;
         if self.error.is_some() {
@@ -112,20 +124,13 @@ impl<T: Transport + Drop, U: Drop> Backend<T, U> {
         if self.open_event.is_some() {
             return Err(EventError::EventOpen);
         }
-        let mut event = Message {
-            sender_id: ObjectId::null(),
-            opcode: 0,
-            args: SmallVec::new(*self.notes.allocator()),
-        };
-        match self.read_event(&mut event) {
+        match self.read_event(event) {
             Ok(()) => {
                 // The contract of `read_event` does not say what this field becomes.
                 self.refused = false;
-                Ok(event)
+                Ok(())
             }
             Err(end) => {
-                // There is no event. The arguments that were already put there are dropped.
-                drop(event);
                 self.refused = end.refused;
                 Err(end.error)
             }
@@ -145,13 +150,52 @@ impl<T: Transport + Drop, U: Drop> Backend<T, U> {
         ensures room { EndsWithRoom self.old.session self.new.session }
         ensures kept { OnErr result (event.new ≡ event.old) }
     {
-        match self.next_event() {
-            Ok(next) => {
+        self.read_next_into(event)
+    }
+
+    /// Reads the next event and puts it into `event`, unless the session has an error or an event is open.
+    fn read_next_into(&mut self, event: &mut Message<ObjectId, Token>) -> Result<(), EventError>
+        ensures next { NextEvent T.sends T.receives self.old.session (event_content (result_and result (Ok event.new))) self.new.refused self.new.session }
+        ensures kept { OnErr result (event.new ≡ event.old) }
+    {
+        // It is at least `INLINE_ARGS`, as that of each such list.
+        let _capacity = event.args.capacity();
+        if self.read_number(event) {
+            return Ok(());
+        }
+        let mut next = Message {
+            sender_id: ObjectId::null(),
+            opcode: 0,
+            args: SmallVec::new(*self.notes.allocator()),
+        };
+        match self.read_next(&mut next) {
+            Ok(()) => {
                 *event = next;
                 Ok(())
             }
             Err(error) => Err(error),
         }
+    }
+
+    /// Reads the next event into `event`, if it waits and its only argument is a number. If not, or if the session has an error
+    /// or an event is open, nothing is changed.
+    fn read_number(&mut self, event: &mut Message<ObjectId, Token>) -> bool
+        requires { INLINE_ARGS ≤ event.old.args.capacity }
+        ensures { MatchBool result
+            (NextEvent T.sends T.receives self.old.session (Ok (session_content event.new)) self.new.refused self.new.session)
+            ((self.new ≡ self.old) × (event.new ≡ event.old)) }
+    {
+        if self.error.is_some() || self.open_event.is_some() {
+            return false;
+        }
+        let Some(header) = self.socket.next_header() else {
+            return false;
+        };
+        if !self.take_number(header, event) {
+            return false;
+        }
+        self.refused = false;
+        true
     }
 
     /// Handles messages and receives, until there is an event or no receive is left. If there is an event, it is in `event`

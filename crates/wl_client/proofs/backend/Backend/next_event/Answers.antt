@@ -1,18 +1,30 @@
-use Rattle.std.proofs.Common.{refl}
+use Rattle.std.proofs.Common.{Ok, Err, refl}
 use Rattle.wl_client.proofs.OverRuns.AccountLaws.{calls}
 use Rattle.wl_client.proofs.OverRuns.ReadingLaws.{next_event_cuts}
 use Rattle.wl_client.proofs.OverRuns.RoomLaws.{next_event_room}
 use Rattle.wl_client.proofs.Plain.Reading.{reads_event}
 use Rattle.wl_client.proofs.backend.Backend.next_event.Goals as goal
 
-pub returns-clause-call : goal.returns-clause-call
-returns-clause-call g c = calls g.T.Transport.sends g.T.Transport.receives _ _ _ _ (c.read_next.result, refl, c.read_next.ensures)
+pub returns-in-Ok-clause-call : goal.returns-in-Ok-clause-call
+returns-in-Ok-clause-call g c = calls g.T.Transport.sends g.T.Transport.receives _ _ _ _ (Ok c.read_next.new.event, refl, c.in-Ok.ensures)
 
-pub returns-clause-cutting : goal.returns-clause-cutting
-returns-clause-cutting g c = next_event_cuts g.T.Transport.sends g.T.Transport.receives _ _ _ _ c.read_next.ensures
+pub returns-in-Ok-clause-plain : goal.returns-in-Ok-clause-plain
+returns-in-Ok-clause-plain g c = reads_event g.T.Transport.sends g.T.Transport.receives _ _ _ _ c.in-Ok.ensures
 
-pub returns-clause-room : goal.returns-clause-room
-returns-clause-room g c = next_event_room g.T.Transport.sends g.T.Transport.receives _ _ _ _ c.read_next.ensures
+pub returns-in-Ok-clause-cutting : goal.returns-in-Ok-clause-cutting
+returns-in-Ok-clause-cutting g c = next_event_cuts g.T.Transport.sends g.T.Transport.receives _ _ _ _ c.in-Ok.ensures
 
-pub returns-clause-plain : goal.returns-clause-plain
-returns-clause-plain g c = reads_event g.T.Transport.sends g.T.Transport.receives _ _ _ _ c.read_next.ensures
+pub returns-in-Ok-clause-room : goal.returns-in-Ok-clause-room
+returns-in-Ok-clause-room g c = next_event_room g.T.Transport.sends g.T.Transport.receives _ _ _ _ c.in-Ok.ensures
+
+pub returns-in-Err-clause-call : goal.returns-in-Err-clause-call
+returns-in-Err-clause-call g c = calls g.T.Transport.sends g.T.Transport.receives _ _ _ _ (Err c.in-Err.error, refl, c.in-Err.ensures)
+
+pub returns-in-Err-clause-plain : goal.returns-in-Err-clause-plain
+returns-in-Err-clause-plain g c = reads_event g.T.Transport.sends g.T.Transport.receives _ _ _ _ c.in-Err.ensures
+
+pub returns-in-Err-clause-cutting : goal.returns-in-Err-clause-cutting
+returns-in-Err-clause-cutting g c = next_event_cuts g.T.Transport.sends g.T.Transport.receives _ _ _ _ c.in-Err.ensures
+
+pub returns-in-Err-clause-room : goal.returns-in-Err-clause-room
+returns-in-Err-clause-room g c = next_event_room g.T.Transport.sends g.T.Transport.receives _ _ _ _ c.in-Err.ensures

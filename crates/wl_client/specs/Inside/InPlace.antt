@@ -1,0 +1,64 @@
+-- Messages of one word that are handled in place.
+use Rattle.std.specs.Prelude.{◌≡◌, ℕ, List, [], ◌∷◌, false, Option, None, Some}
+use Rattle.std.specs.Int.{w32, cast_signed}
+use Rattle.wl_wire.specs.declared.argument.Argument.{Argument}
+use Rattle.wl_wire.specs.declared.argument.Argument.TheVariants as arg
+use Rattle.wl_wire.specs.declared.argument.ArgumentType.{ArgumentType}
+use Rattle.wl_wire.specs.declared.argument.ArgumentType.TheVariants as kind
+use Rattle.wl_wire.specs.declared.argument.Token.{Token}
+use Rattle.wl_wire.specs.declared.message.Message.{Message}
+use Rattle.wl_wire.specs.Parse.{IsWhole, length_of, opcode_of, payload_of, sender_of}
+use Rattle.wl_wire.specs.Reading.{IsWord}
+use Rattle.wl_wire.specs.Table.{InterfaceRow, MessageRow}
+use Rattle.wl_link.specs.declared.object.Object.{Object}
+use Rattle.wl_link.specs.Link.{LinkState}
+use Rattle.wl_link.specs.Store.{Store, held}
+use Rattle.wl_client.specs.declared.in_place.InPlace.{InPlace}
+use Rattle.wl_client.specs.declared.in_place.InPlace.TheVariants as place
+use Rattle.wl_client.specs.declared.in_place.NumberEvent.{NumberEvent}
+use Rattle.wl_client.specs.declared.objects.Kept.{Kept}
+use Rattle.wl_client.specs.ObjectId.{IdParts}
+use Rattle.wl_client.specs.Handling.{row_in, signature_in}
+use Rattle.wl_client.specs.Session.{SessionState, id_at}
+use Rattle.wl_client.specs.Inside.ReadingLoop.{GaveEvent, HandlesMessage, WentOn}
+
+-- the argument of this type that a word is, if that is a number
+abbrev pub number_argument : ArgumentType → ℕ → Option (Argument IdParts Token)
+number_argument kind.Int n = Some (arg.Int (cast_signed w32 n))
+number_argument kind.Uint n = Some (arg.Uint n)
+number_argument kind.Fixed n = Some (arg.Fixed (cast_signed w32 n))
+number_argument _ n = None
+
+module _ {T U : Type 0} where
+  -- The message at the front says that the server gives up this number: its sender has an event 1 of one word, it is there
+  -- whole, and it has one word after its header.
+  pub record DeleteWaits (table : List InterfaceRow) (store : Store (Kept U)) (link : LinkState T) (n : ℕ) : Type 0 where
+    pub opcode : opcode_of link.incoming.bytes ≡ 1
+    pub signature : signature_in table store (sender_of link.incoming.bytes) (opcode_of link.incoming.bytes) ≡ Some (kind.Uint ∷ [])
+    pub whole : IsWhole link.incoming.bytes
+    pub twelve : length_of link.incoming.bytes ≡ 12
+    pub word : IsWord n (payload_of link.incoming.bytes)
+
+  -- The message at the front is this event, whose only argument is a number: its sender is an object that the client has not
+  -- destroyed, it is there whole, and it has one word after its header.
+  pub record NumberWaits (table : List InterfaceRow) (store : Store (Kept U)) (link : LinkState T) (e : NumberEvent) : Type 0 where
+    pub receiver : Object (Kept U)
+    pub holds : held store (sender_of link.incoming.bytes) ≡ Some receiver
+    pub live : receiver.value.client_destroyed ≡ false
+    pub row : MessageRow
+    pub has : row_in table (Some receiver) (opcode_of link.incoming.bytes) ≡ Some row
+    pub type : ArgumentType
+    pub signature : row.signature ≡ type ∷ []
+    pub number : ℕ
+    pub argument : number_argument type number ≡ Some e.arg
+    pub whole : IsWhole link.incoming.bytes
+    pub twelve : length_of link.incoming.bytes ≡ 12
+    pub word : IsWord number (payload_of link.incoming.bytes)
+    pub sender : e.sender ≡ id_at (sender_of link.incoming.bytes) receiver
+    pub ends : e.is_destructor ≡ row.is_destructor
+
+  -- the message at the front was handled in place, or nothing is changed
+  abbrev pub HandledInPlace : SessionState T U → InPlace → Message IdParts Token → SessionState T U → Type 0
+  HandledInPlace before place.Event event after = HandlesMessage before (GaveEvent event) after
+  HandledInPlace before place.Deleted event after = HandlesMessage before WentOn after
+  HandledInPlace before place.Not event after = after ≡ before
