@@ -15,6 +15,7 @@ use crate::latest::Latest;
 use crate::stop::Stop;
 use crate::table::{bench_table, interface_named};
 use std::alloc::{AllocError, Global};
+use std::fmt;
 use std::marker::Model;
 use wl_link::Memory;
 use wl_server::{Action, Backend, ClientId, DisconnectReason, GlobalId, Reply, ShownToAll, Step};
@@ -26,7 +27,7 @@ pub type Server = Backend<Memory, u64, ShownToAll, ()>;
 pub type Made = Step<Memory, u64, ShownToAll, ()>;
 
 /// What is kept of an action that was handed out and not finished yet.
-#[derive(Clone, Copy)]
+#[derive(Clone, Copy, Debug)]
 pub enum Open {
     /// A request.
     Request {
@@ -38,7 +39,7 @@ pub enum Open {
 }
 
 /// The client that was inserted last at a slot.
-#[derive(Clone, Copy)]
+#[derive(Clone, Copy, Debug)]
 pub struct Seat {
     /// The client.
     pub client: ClientId,
@@ -53,6 +54,12 @@ pub struct Bench {
     server: Server,
     clients: Latest<Seat>,
     globals: Latest<GlobalId>,
+}
+
+impl fmt::Debug for Bench {
+    fn fmt<W: fmt::Write>(&self, f: &mut fmt::Formatter<W>) -> fmt::Result {
+        f.write_str("Bench { .. }")
+    }
 }
 
 impl Model for Bench {

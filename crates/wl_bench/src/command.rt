@@ -13,7 +13,7 @@ use std::alloc::{AllocError, Global};
 use wl_wire::{IoFault, Token};
 
 /// What a line asks for.
-#[derive(Drop)]
+#[derive(Debug, Drop)]
 pub enum Command {
     /// `client`: inserts a client over a new script.
     Insert,
@@ -36,7 +36,7 @@ pub enum Command {
 }
 
 /// What a line asks for, about one client.
-#[derive(Drop)]
+#[derive(Debug, Drop)]
 pub enum ClientCommand {
     /// `in <slot> <hex> <tokens>`: these bytes and tokens arrive from it.
     Arrive(Vec<u8>, Vec<Token>),

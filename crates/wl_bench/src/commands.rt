@@ -16,7 +16,7 @@ use std::alloc::{AllocError, Global};
 use std::io::{BufRead, Write};
 
 /// What is written of each command.
-#[derive(Clone, Copy)]
+#[derive(Clone, Copy, Debug)]
 pub enum Form {
     /// The lines that it prints.
     Answers,

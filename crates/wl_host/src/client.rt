@@ -36,6 +36,7 @@ use crate::status::Status;
 use smallvec::SmallVec;
 use std::alloc::Global;
 use std::collections::VecDeque;
+use std::fmt;
 use std::marker::Model;
 use wl_client::{Backend, ObjectId};
 use wl_link::Mailbox;
@@ -67,6 +68,12 @@ pub struct Client {
     request: Message<ObjectId, Token>,
     /// The objects that ended and were not handed out yet, the oldest first. The core itself keeps no note between two calls.
     notes: VecDeque<DestroyedObject>,
+}
+
+impl fmt::Debug for Client {
+    fn fmt<W: fmt::Write>(&self, f: &mut fmt::Formatter<W>) -> fmt::Result {
+        f.write_str("Client { .. }")
+    }
 }
 
 impl Model for Client {

@@ -60,7 +60,7 @@ pub struct ArgumentRow {
 }
 
 /// The rows of some interfaces, and the text that has their names.
-#[derive(Clone, Copy, Drop)]
+#[derive(Clone, Copy, Debug, Drop)]
 pub struct Rows<'a> {
     /// The names, in UTF-8.
     pub text: &'a [u8],

@@ -43,13 +43,14 @@ use crate::status::Status;
 use smallvec::SmallVec;
 use std::alloc::Global;
 use std::collections::{BTreeSet, VecDeque};
+use std::fmt;
 use std::marker::Model;
 use wl_link::Mailbox;
 use wl_server::{Action, Backend, ClientId, GlobalHandler, GlobalId, Note, ObjectId};
 use wl_wire::{Message, Protocol, Token};
 
 /// The program's data of a client, and which globals it may see.
-#[derive(Drop)]
+#[derive(Debug, Drop)]
 pub struct HostClient {
     /// The data.
     pub user_data: u64,
@@ -60,7 +61,7 @@ pub struct HostClient {
 }
 
 /// The program's data of a global, and which clients may see it.
-#[derive(Drop)]
+#[derive(Debug, Drop)]
 pub struct HostGlobal {
     /// The data.
     pub user_data: u64,
@@ -110,6 +111,12 @@ pub struct Server {
     pub(crate) may_clean_up: bool,
     /// Whether a call since the last look for notes may have made one.
     pub(crate) may_have_notes: bool,
+}
+
+impl fmt::Debug for Server {
+    fn fmt<W: fmt::Write>(&self, f: &mut fmt::Formatter<W>) -> fmt::Result {
+        f.write_str("Server { .. }")
+    }
 }
 
 impl Model for Server {
