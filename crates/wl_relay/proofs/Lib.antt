@@ -1,4 +1,5 @@
 pub mod Flows
 pub mod Lines
 pub mod OneSend
+pub mod Runs
 pub mod Settings

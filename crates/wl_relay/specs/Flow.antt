@@ -143,12 +143,13 @@ pub record TakesOut (side : Side) (out : Queue) (before after : RelayState) : Ty
   pub flow : joined out (flow_from (other_side side) after) ≡ flow_from (other_side side) before
   pub other_flow : flow_from side after ≡ flow_from side before
 
--- nothing was taken out, and nothing is lost
-abbrev pub KeepsAll : RelayState → RelayState → Type 0
-KeepsAll before after =
+-- nothing was taken out for the side, and nothing is lost
+abbrev pub KeepsAll : Side → RelayState → RelayState → Type 0
+KeepsAll side before after =
     (to_send Client after ≡ to_send Client before) × (to_send Server after ≡ to_send Server before)
     × (to_read Client after ≡ to_read Client before) × (to_read Server after ≡ to_read Server before)
     × (after.known ≡ before.known) × (after.table ≡ before.table)
+    × (made_ready (other_side side) after ≡ made_ready (other_side side) before)
 
 -- the log has grown by the lines of what was read of what came from that side, and what goes on is to be sent to the other
 abbrev pub LogsRead : Side → RelayState → RelayState → Type 0

@@ -3,4 +3,5 @@ pub mod Announcements
 pub mod Objects
 pub mod Log
 pub mod Flow
+pub mod Runs
 pub mod Inside

@@ -1,12 +1,12 @@
 -- Which objects the relay knows after a message.
-use Rattle.std.specs.Prelude.{◌≡◌, ℕ, ◌<◌, ◌⊎◌, Bool, true, false, ◌&&◌, ◌==◌, List, [], ◌∷◌, length, Option, None, Some, MatchBool, MatchOption}
+use Rattle.std.specs.Prelude.{◌≡◌, ℕ, ◌<◌, ◌⊎◌, Bool, true, false, ◌&&◌, ◌==◌, nat_le, nat_lt, if◌then◌else◌, List, [], ◌∷◌, length, Option, None, Some, MatchBool, MatchOption}
 use Rattle.wl_wire.specs.declared.argument.Argument.TheVariants as arg
 use Rattle.wl_wire.specs.declared.interface.InterfaceId.{InterfaceId}
 use Rattle.wl_wire.specs.Argument.{WireArgument}
 use Rattle.wl_wire.specs.Message.{WireMessage}
 use Rattle.wl_wire.specs.Table.{InterfaceRow, MessageRow, anonymous_id, name_of}
 use Rattle.wl_link.specs.declared.object.Object.{Object}
-use Rattle.wl_link.specs.Store.{Store, empty_store, is_free, removed, stored}
+use Rattle.wl_link.specs.Store.{Store, client_range, empty_store, is_free, removed, server_range, stored}
 use Rattle.wl_relay.specs.Announcements.{LacksName}
 use Rattle.wl_relay.specs.declared.side.Fault.{Fault}
 use Rattle.wl_relay.specs.declared.side.Fault.TheVariants as fault
@@ -22,13 +22,31 @@ object_of interface version = record { interface = interface; version = version;
 abbrev pub first_objects : Store (Unit {0})
 first_objects = stored empty_store 1 (object_of (record { 0 = 1 }) 1)
 
--- An object takes this number, in place of one that has it. It is a fault if the number leaves one out, or is 0.
-abbrev pub Puts : Store (Unit {0}) → ℕ → InterfaceId → ℕ → Option Fault → Store (Unit {0}) → Type 0
-Puts objects number interface version None objects' =
-    (is_free (removed objects number) number ≡ true) × (objects' ≡ stored (removed objects number) number (object_of interface version))
-Puts objects number interface version (Some fault.NewId) objects' =
-    (is_free (removed objects number) number ≡ false) × (objects' ≡ removed objects number)
-Puts objects number interface version (Some _) objects' = ⊥
+-- ---- a new number
+
+-- the number is one of those that the side gives out, or 0
+abbrev pub is_own : Side → ℕ → Bool
+is_own Client number = nat_lt number client_range.end
+is_own Server number = nat_le server_range.first number
+
+-- The server gives out its numbers again without a word, so a new object takes the place of one that has its number. A number of the
+-- client first has to be deleted.
+abbrev pub vacated : Side → Store (Unit {0}) → ℕ → Store (Unit {0})
+vacated Client objects number = objects
+vacated Server objects number = removed objects number
+
+-- The number is given to an object of this interface. It is a fault if it is 0, or leaves one out, or if an object has it.
+abbrev pub Gives : Store (Unit {0}) → ℕ → InterfaceId → ℕ → Option Fault → Store (Unit {0}) → Type 0
+Gives objects number interface version None objects' =
+    (is_free objects number ≡ true) × (objects' ≡ stored objects number (object_of interface version))
+Gives objects number interface version (Some fault.NewId) objects' = (is_free objects number ≡ false) × (objects' ≡ objects)
+Gives objects number interface version (Some _) objects' = ⊥
+
+-- A side makes an object of this number. It is a fault, too, if the number is one of the other side.
+abbrev pub Puts : Side → Store (Unit {0}) → ℕ → InterfaceId → ℕ → Option Fault → Store (Unit {0}) → Type 0
+Puts side objects number interface version f objects' =
+    MatchBool (is_own side number) (Gives (vacated side objects number) number interface version f objects')
+    ((f ≡ Some fault.NewId) × (objects' ≡ objects))
 
 -- ---- a bind
 
@@ -49,7 +67,7 @@ IsBound table mode name (Some interface) =
 IsBound table mode name None = LacksName table name × (mode ≡ HandOn)
 
 abbrev pub PutsBound : Store (Unit {0}) → ℕ → Option InterfaceId → ℕ → Option Fault → Store (Unit {0}) → Type 0
-PutsBound objects number (Some interface) version f objects' = Puts objects number interface version f objects'
+PutsBound objects number (Some interface) version f objects' = Puts Client objects number interface version f objects'
 PutsBound objects number None version f objects' = (f ≡ Some fault.UnknownInterface) × (objects' ≡ objects)
 
 abbrev pub NotesBind : List InterfaceRow → Mode → Store (Unit {0}) → List WireArgument → Option Fault → Store (Unit {0}) → Type 0
@@ -64,9 +82,9 @@ abbrev pub is_deletion : Side → InterfaceId → ℕ → Bool
 is_deletion Client interface opcode = false
 is_deletion Server interface opcode = interface.0 == 1 && opcode == 1
 
--- the number that it tells is no object's any more
+-- the number that it tells is no object's any more, unless it is the display's, which stays
 abbrev pub without_deleted : Store (Unit {0}) → List WireArgument → Store (Unit {0})
-without_deleted objects (arg.Uint number ∷ []) = removed objects number
+without_deleted objects (arg.Uint number ∷ []) = if number == 1 then objects else removed objects number
 without_deleted objects _ = objects
 
 -- the first new number among the arguments
@@ -76,9 +94,9 @@ new_number (arg.NewId number ∷ args) = Some number
 new_number (_ ∷ args) = new_number args
 
 -- a message makes an object of the interface that its row names, of the version of its sender
-abbrev pub NotesChild : Store (Unit {0}) → InterfaceId → ℕ → List WireArgument → Option Fault → Store (Unit {0}) → Type 0
-NotesChild objects child version args f objects' =
-    MatchOption (new_number args) ((f ≡ None) × (objects' ≡ objects)) (λ number. Puts objects number child version f objects')
+abbrev pub NotesChild : Side → Store (Unit {0}) → InterfaceId → ℕ → List WireArgument → Option Fault → Store (Unit {0}) → Type 0
+NotesChild side objects child version args f objects' =
+    MatchOption (new_number args) ((f ≡ None) × (objects' ≡ objects)) (λ number. Puts side objects number child version f objects')
 
 -- ---- a message
 
@@ -90,4 +108,4 @@ NotesObjects table mode side object row m objects f objects' =
     MatchBool (is_bind side object.interface) (NotesBind table mode objects m.args f objects')
     (MatchBool (is_deletion side object.interface m.opcode) ((f ≡ None) × (objects' ≡ without_deleted objects m.args))
     (MatchOption row.child_interface ((f ≡ None) × (objects' ≡ objects))
-    (λ child. NotesChild objects child object.version m.args f objects')))
+    (λ child. NotesChild side objects child object.version m.args f objects')))

@@ -10,11 +10,13 @@
 //! | the objects and the log | `notes` | `Objects`, `Log` |
 //! | what is handed on, dropped or lowered | `notes`, `follow` | `Announcements`, `Log`; `Inside/Passing` |
 //! | the relay | `relay` | `Flow`, `Log` |
+//! | calls one after another | `laws` | `Runs` |
 //! | the lines of the program | `words`, `rows`, `commands`, `stop` | none |
 #![tactic(auto)]
 
 mod commands;
 mod follow;
+pub mod laws;
 mod notes;
 mod relay;
 mod rows;

@@ -5,14 +5,14 @@ ghost use Rattle.std.specs.String.{string_bytes};
 ghost use Rattle.wl_wire.specs.Message.{content};
 ghost use Rattle.wl_wire.specs.Table.{message_row};
 ghost use Rattle.wl_relay.specs.Announcements.{EditsArguments, EditsGlobal, EditsMessage, is_announcement, is_change};
-ghost use Rattle.wl_relay.specs.Objects.{IsBound, NotesBind, NotesChild, NotesObjects, Puts, first_objects, is_bind, is_deletion, new_number, object_of, without_deleted};
+ghost use Rattle.wl_relay.specs.Objects.{Gives, IsBound, NotesBind, NotesChild, NotesObjects, Puts, first_objects, is_bind, is_deletion, is_own, new_number, object_of, vacated, without_deleted};
 ghost use Rattle.wl_relay.specs.Inside.Passing.{NotesUnder};
 ghost use Rattle.wl_relay.specs.Log.{IsKnown, IsUnknown, arrow, edit_text, fault_line, follows, known, message_line, stopped, unknown_line, unknown_text};
 ghost use Rattle.wl_relay.specs.declared.side.Mode.TheVariants.{Log};
 
 use crate::side::{Fault, Mode, Side};
 use std::alloc::{AllocError, Global};
-use wl_link::{InsertError, MessagePlace, Object, ObjectMap};
+use wl_link::{InsertError, MessagePlace, Object, ObjectMap, SERVER_ID_LIMIT};
 use wl_wire::{
     ANONYMOUS_INTERFACE, Argument, InterfaceId, Message, MessageDesc, OutOfMemory, Protocol, Token,
     WL_DISPLAY_INTERFACE, WL_REGISTRY_INTERFACE, push_message,
@@ -138,16 +138,37 @@ pub fn described<'t>(
     })
 }
 
-/// Puts a new object into the map, in place of one that has its number.
-fn put_object(
+/// Whether the number is one of those that the side gives out, or 0.
+fn is_own(side: Side, number: u32) -> bool
+    ensures { result ≡ is_own side number }
+{
+    match side {
+        Side::Client => number < SERVER_ID_LIMIT,
+        Side::Server => number >= SERVER_ID_LIMIT,
+    }
+}
+
+/// Takes the object that has the number of a new one out, if it is the server that makes it.
+fn vacate(objects: &mut ObjectMap<()>, side: Side, number: u32)
+    ensures { objects.new.store ≡ vacated side objects.old.store number }
+{
+    match side {
+        Side::Client => {}
+        Side::Server => {
+            let _old = objects.remove(number);
+        }
+    }
+}
+
+/// Gives the number to a new object.
+fn give(
     objects: &mut ObjectMap<()>,
     number: u32,
     interface: InterfaceId,
     version: u32,
 ) -> Result<Option<Fault>, OutOfMemory>
-    ensures { IfOk result (λ fault. Puts objects.old.store number interface version fault objects.new.store) }
+    ensures { IfOk result (λ fault. Gives objects.old.store number interface version fault objects.new.store) }
 {
-    let _old = objects.remove(number);
     let object = Object {
         interface,
         version,
@@ -158,6 +179,23 @@ fn put_object(
         Err(InsertError::NotFree) => Ok(Some(Fault::NewId)),
         Err(InsertError::OutOfMemory) => Err(OutOfMemory),
     }
+}
+
+/// Puts a new object of this side into the map.
+fn put_object(
+    objects: &mut ObjectMap<()>,
+    side: Side,
+    number: u32,
+    interface: InterfaceId,
+    version: u32,
+) -> Result<Option<Fault>, OutOfMemory>
+    ensures { IfOk result (λ fault. Puts side objects.old.store number interface version fault objects.new.store) }
+{
+    if !is_own(side, number) {
+        return Ok(Some(Fault::NewId));
+    }
+    vacate(objects, side, number);
+    give(objects, number, interface, version)
 }
 
 /// The interface that a bind names. One that the table lacks is anonymous in a log, and a fault else.
@@ -190,17 +228,19 @@ fn note_bind(
         return Ok(Some(Fault::Malformed));
     };
     match bound(table, mode, name.as_bytes()) {
-        Some(interface) => put_object(objects, *number, interface, *version),
+        Some(interface) => put_object(objects, Side::Client, *number, interface, *version),
         None => Ok(Some(Fault::UnknownInterface)),
     }
 }
 
-/// Forgets the object whose number is free again.
+/// Forgets the object whose number is free again. The display's never is.
 fn note_deleted(objects: &mut ObjectMap<()>, args: &[Argument<u32, Token>])
     ensures { objects.new.store ≡ without_deleted objects.old.store args.now }
 {
     if let [Argument::Uint(number)] = args {
-        let _gone = objects.remove(*number);
+        if *number != 1 {
+            let _gone = objects.remove(*number);
+        }
     }
 }
 
@@ -218,17 +258,18 @@ fn new_number(args: &[Argument<u32, Token>]) -> Option<u32>
     None
 }
 
-/// Notes the object of that interface that a message makes.
+/// Notes the object of that interface that a message of this side makes.
 fn note_child(
     objects: &mut ObjectMap<()>,
+    side: Side,
     child: InterfaceId,
     version: u32,
     args: &[Argument<u32, Token>],
 ) -> Result<Option<Fault>, OutOfMemory>
-    ensures { IfOk result (λ fault. NotesChild objects.old.store child version args.now fault objects.new.store) }
+    ensures { IfOk result (λ fault. NotesChild side objects.old.store child version args.now fault objects.new.store) }
 {
     match new_number(args) {
-        Some(number) => put_object(objects, number, child, version),
+        Some(number) => put_object(objects, side, number, child, version),
         None => Ok(None),
     }
 }
@@ -273,7 +314,7 @@ fn note_objects(
         return Ok(None);
     }
     match found.desc.child_interface {
-        Some(child) => note_child(objects, child, found.version, args),
+        Some(child) => note_child(objects, found.side, child, found.version, args),
         None => Ok(None),
     }
 }

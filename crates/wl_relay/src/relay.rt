@@ -217,7 +217,7 @@ impl Relay {
     ) -> Result<Option<(Vec<u8>, Vec<Token>)>, OutOfMemory>
         ensures taken { IfOk result (λ out. MatchOption out (((to_send side self.old).bytes ≡ []) × (self.new ≡ self.old))
             (λ x. TakesOut side (record { bytes = x.0.items; tokens = x.1.items }) self.old self.new)) }
-        ensures kept { OnErr result (KeepsAll self.old self.new) }
+        ensures kept { OnErr result (KeepsAll side self.old self.new) }
         ensures memory { OnErr result ((to_send side self.old).bytes ≢ []) }
         ensures is_open { AreOpen self.new }
     {
