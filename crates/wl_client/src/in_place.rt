@@ -91,6 +91,8 @@ fn waiting_number<T: Drop, U: Drop>(
     requires { IsHeader socket.now header }
     ensures { IfSome result (λ e. NumberWaits protocol.now objects.now.store socket.now e) }
 {
+    // This comes first: most other events have more words, and are left to be read at little cost.
+    let word = socket.next_word()?;
     let (sender, opcode) = header;
     let object = objects.find(sender)?;
     if object.value.client_destroyed {
@@ -98,7 +100,6 @@ fn waiting_number<T: Drop, U: Drop>(
     }
     let desc = event_desc(protocol, objects, sender, opcode)?;
     let kind = only_type(desc.signature.as_slice())?;
-    let word = socket.next_word()?;
     let arg = number_argument(kind, word)?;
     Some(NumberEvent {
         sender: id_at(sender, object),
