@@ -22,7 +22,7 @@ use wl_bench::sync;
 use wl_replay::{Replayed, replay};
 
 /// How the program ended.
-#[derive(Clone, Copy)]
+#[derive(Clone, Copy, Debug)]
 pub struct Ended {
     /// Why it ended before its work was done, if it did.
     pub end: Result<(), Stop>,

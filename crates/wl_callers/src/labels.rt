@@ -8,7 +8,7 @@ use wl_server::{Backend, ClientId, GlobalHandler, GlobalId, Handler, ObjectId};
 use wl_wire::{Argument, INLINE_ARGS, Token};
 
 /// Gives each object that a client makes or binds in a dispatch this label as its data.
-#[derive(Drop)]
+#[derive(Debug, Drop)]
 pub struct Labels {
     /// The label.
     pub label: u32,
