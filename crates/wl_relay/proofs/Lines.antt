@@ -25,7 +25,7 @@ use Rattle.wl_link.proofs.Calls.ReadLaws.{reads_enough}
 use Rattle.wl_relay.specs.Announcements.{EditsMessage, going_on, is_change}
 use Rattle.wl_relay.specs.Flow.{Logged, LogsRead, PutsIn, RelayState, not_received, to_read, to_send}
 use Rattle.wl_relay.specs.Inside.Passing.{HandsOnAll, NotesUnder, PassedOn, PassesAs, PassesUnknown, ReadsOn, ReadsUpTo, Sends, StopsAt, TakenOff, TellsFault}
-use Rattle.wl_relay.specs.Log.{AwaitsMore, Ends, Gains, GrowsLog, IsDone, IsKnown, IsUnknown, Known, LacksPart, ObjectsAfter, Passage, Passes, Stops, Tells, all_sent, any_change, fault_line, follows, lines_of, message_line, other_side, stopped, unknown_line}
+use Rattle.wl_relay.specs.Log.{AwaitsMore, Ends, Gains, GrowsLog, IsDone, IsKnown, IsUnknown, Known, LacksPart, ObjectsAfter, Passage, Passes, Stops, Tells, all_sent, any_change, fault_line, follows, hears, lines_of, message_line, other_side, stopped, unknown_line}
 use Rattle.wl_relay.specs.declared.follow.Passed.{Passed}
 use Rattle.wl_relay.specs.declared.follow.Passed.TheVariants as passed
 use Rattle.wl_relay.specs.declared.notes.Edit.{Edit}
@@ -133,12 +133,16 @@ change_append : (xs ys : List Passage) → any_change (xs ++ ys) ≡ (any_change
 change_append [] ys = refl
 change_append (x ∷ xs) ys = ap (λ (b : Bool). is_change x.edit || b) (change_append xs ys) ∙ sym (or_assoc (is_change x.edit) (any_change xs) (any_change ys))
 
+follows_same : (side : Side) (k k' : Known) → k'.follows_client ≡ k.follows_client → k'.follows_server ≡ k.follows_server → follows side k' ≡ follows side k
+follows_same Client k k' client server = client
+follows_same Server k k' client server = server
+
 module _ (table : List InterfaceRow) (side : Side) where
-  passes_append : (mode : Mode) (xs ys : List Passage) (o o1 o2 : Store (Unit {0})) (q q1 q2 : Queue) → Passes table mode side o q xs o1 q1
-      → Passes table mode side o1 q1 ys o2 q2 → Passes table mode side o q (xs ++ ys) o2 q2
-  passes_append mode [] ys o o1 o2 q q1 q2 none more =
-      subst (λ (x : Queue). Passes table mode side o x ys o2 q2) none.1 (subst (λ (s : Store (Unit {0})). Passes table mode side s q1 ys o2 q2) none.0 more)
-  passes_append mode (x ∷ xs) ys o o1 o2 q q1 q2 some more = (some.0, some.1, some.2, passes_append mode xs ys some.1 o1 o2 some.0 q1 q2 some.3 more)
+  passes_append : (mode : Mode) (heard : Bool) (xs ys : List Passage) (o o1 o2 : Store (Unit {0})) (q q1 q2 : Queue) → Passes table mode side heard o q xs o1 q1
+      → Passes table mode side heard o1 q1 ys o2 q2 → Passes table mode side heard o q (xs ++ ys) o2 q2
+  passes_append mode heard [] ys o o1 o2 q q1 q2 none more =
+      subst (λ (x : Queue). Passes table mode side heard o x ys o2 q2) none.1 (subst (λ (s : Store (Unit {0})). Passes table mode side heard s q1 ys o2 q2) none.0 more)
+  passes_append mode heard (x ∷ xs) ys o o1 o2 q q1 q2 some more = (some.0, some.1, some.2, passes_append mode heard xs ys some.1 o1 o2 some.0 q1 q2 some.3 more)
 
   pub reads_after : (k k1 k2 : Known) (q q1 q2 out out1 out2 : Queue) → ReadsOn table side k q out k1 q1 out1 → ReadsOn table side k1 q1 out1 k2 q2 out2
       → ReadsOn table side k q out k2 q2 out2
@@ -146,8 +150,9 @@ module _ (table : List InterfaceRow) (side : Side) where
     passages = one.passages ++ two.passages;
     log = two.log ∙ ap (λ (ls : List (List ℕ)). ls ++ lines_of two.passages) one.log ∙ append_assoc k.log (lines_of one.passages) (lines_of two.passages)
         ∙ ap (λ (ls : List (List ℕ)). k.log ++ ls) (sym (lines_append one.passages two.passages));
-    passes = passes_append k.mode one.passages two.passages k.objects k1.objects k2.objects q q1 q2 one.passes
-        (subst (λ (m : Mode). Passes table m side k1.objects q1 two.passages k2.objects q2) one.mode two.passes);
+    passes = passes_append k.mode (hears side k) one.passages two.passages k.objects k1.objects k2.objects q q1 q2 one.passes
+        (subst (λ (b : Bool). Passes table k.mode side b k1.objects q1 two.passages k2.objects q2) (follows_same (other_side side) k k1 one.client one.server)
+        (subst (λ (m : Mode). Passes table m side (hears side k1) k1.objects q1 two.passages k2.objects q2) one.mode two.passes));
     out_is = two.out_is ∙ ap (λ (x : Queue). joined x (all_sent two.passages)) one.out_is ∙ joined_assoc out (all_sent one.passages) (all_sent two.passages)
         ∙ ap (λ (x : Queue). joined out x) (sym (sent_append one.passages two.passages));
     changed_is = two.changed_is ∙ ap (λ (b : Bool). b || any_change two.passages) one.changed_is ∙ or_assoc k.has_changed (any_change one.passages) (any_change two.passages)
@@ -172,7 +177,7 @@ module _ (table : List InterfaceRow) (side : Side) where
   }
 
   -- one message
-  one_reads : (k k' : Known) (q q' out out' : Queue) (p : Passage) → Tells table k.mode side k.objects q p k'.objects q'
+  one_reads : (k k' : Known) (q q' out out' : Queue) (p : Passage) → Tells table k.mode side (hears side k) k.objects q p k'.objects q'
       → k' ≡ record k { log = k.log ++ p.line ∷ []; objects = k'.objects; has_changed = k.has_changed || is_change p.edit }
       → out' ≡ joined out p.sent → (k.mode ≡ Log → p.edit ≡ edit.Nothing) → ReadsOn table side k q out k' q' out'
   one_reads k k' q q' out out' p tells is sends no_edit =
@@ -208,7 +213,7 @@ module _ (table : List InterfaceRow) (side : Side) where
           = opcode_is ∙ sym (opcode_front from.incoming.bytes from.transport.arrived.bytes whole.header) in
           let objects : k'.objects ≡ k.objects = ap (λ (x : Known). x.objects) is in
           let p : Passage = record { line = unknown_line side sender opcode; edit = edit.Nothing; sent = first_of [] from.incoming } in
-          let tells : Tells table k.mode side k.objects (still_to_read from) p k'.objects (still_to_read from') = inr (record {
+          let tells : Tells table k.mode side (hears side k) k.objects (still_to_read from) p k'.objects (still_to_read from') = inr (record {
             is_log = is_log;
             whole = whole_front from.incoming.bytes from.transport.arrived.bytes whole;
             is_unknown = unknown_at (sender_of (still_to_read from).bytes) (opcode_of (still_to_read from).bytes) same_sender same_opcode;
@@ -265,7 +270,7 @@ module _ (table : List InterfaceRow) (side : Side) where
         -- a message whose objects cannot be noted
         known_refused : (e : Edit) (f : Fault) (objects' : Store (Unit {0})) → EditsMessage table k.mode side object.interface m e
             → line ≡ message_line table k.objects side object.interface row m e
-            → NotesUnder table k.mode side object row m k.objects e (Some f) objects'
+            → NotesUnder table k.mode side (hears side k) object row m k.objects e (Some f) objects'
             → k' ≡ record k { log = k.log ++ line ∷ []; objects = objects' } → from' ≡ from → to' ≡ to
             → PassesAs table side k from to (passed.Fault f) k' from' to'
         known_refused edit.Nothing f objects' edits text noted is same_from same_to = (
@@ -296,14 +301,14 @@ module _ (table : List InterfaceRow) (side : Side) where
 
         known_reads : (e : Edit) (sent : Queue) → EditsMessage table k.mode side object.interface m e
             → line ≡ message_line table k.objects side object.interface row m e
-            → ObjectsAfter table k.mode side object row m k.objects e k'.objects
+            → ObjectsAfter table k.mode side (hears side k) object row m k.objects e k'.objects
             → k' ≡ record k { log = k.log ++ line ∷ []; objects = k'.objects; has_changed = k.has_changed || is_change e }
             → (k.mode ≡ Log → e ≡ edit.Nothing)
             → TakenOff row.signature from from' → sent ≡ going_on e row.signature (still_to_read from) m → Sends to sent to'
             → PassesAs table side k from to passed.One k' from' to'
         known_reads e sent edits text noted is no_edit taken sent_is sends =
             let p : Passage = record { line = line; edit = e; sent = sent } in
-            let tells : Tells table k.mode side k.objects (still_to_read from) p k'.objects (still_to_read from') = inl (record {
+            let tells : Tells table k.mode side (hears side k) k.objects (still_to_read from) p k'.objects (still_to_read from') = inl (record {
               object = object;
               row = row;
               message = m;
@@ -320,7 +325,7 @@ module _ (table : List InterfaceRow) (side : Side) where
         -- a message that was read, logged, noted and passed on
         known_passes : (e : Edit) (p : Passed) → EditsMessage table k.mode side object.interface m e
             → line ≡ message_line table k.objects side object.interface row m e
-            → NotesUnder table k.mode side object row m k.objects e None k'.objects
+            → NotesUnder table k.mode side (hears side k) object row m k.objects e None k'.objects
             → k' ≡ record k { log = k.log ++ line ∷ []; objects = k'.objects; has_changed = k.has_changed || is_change e }
             → (k.mode ≡ Log → e ≡ edit.Nothing) → PassedOn row.signature e from to p from' to'
             → PassesAs table side k from to p k' from' to'
@@ -380,31 +385,33 @@ module _ (table : List InterfaceRow) (side : Side) where
       unfolding line
       text = ap (λ (s : Side). message_line table k.objects s object.interface row m e) sent
 
-      pub refused_result : (to : LinkState MailboxState) (f : Fault) (noted : Option Fault) (objects' : Store (Unit {0})) → noted ≡ Some f
-          → NotesUnder table k.mode sent_by object row m k.objects e noted objects'
+      pub refused_result : (to : LinkState MailboxState) (f : Fault) (noted : Option Fault) (heard : Bool) (objects' : Store (Unit {0})) → noted ≡ Some f
+          → heard ≡ hears side k0 → NotesUnder table k.mode sent_by heard object row m k.objects e noted objects'
           → k'.log ≡ k.log ++ message_line table k.objects sent_by object.interface row m e ∷ []
           → k' ≡ record k { log = k'.log; objects = objects' }
           → PassesAs table side k0 from to (passed.Fault f) k' from1 to
       unfolding line
-      refused_result to f noted objects' noted_is notes log_is known_is =
+      refused_result to f noted heard objects' noted_is heard_is notes log_is known_is =
           as_known from1 to to (passed.Fault f)
           (known_refused sender opcode k k' from from1 to to sender_is opcode_is object row is_known m reads_row line e f objects' edits_side text
-          (subst (λ (s : Side). NotesUnder table k.mode s object row m k.objects e (Some f) objects') sent
-          (subst (λ (x : Option Fault). NotesUnder table k.mode sent_by object row m k.objects e x objects') noted_is notes))
+          (subst (λ (s : Side). NotesUnder table k.mode s (hears side k) object row m k.objects e (Some f) objects') sent
+          (subst (λ (b : Bool). NotesUnder table k.mode sent_by b object row m k.objects e (Some f) objects') (heard_is ∙ ap (hears side) (sym is))
+          (subst (λ (x : Option Fault). NotesUnder table k.mode sent_by heard object row m k.objects e x objects') noted_is notes)))
           (known_is ∙ ap (λ (ls : List (List ℕ)). record k { log = ls; objects = objects' }) log_is) same refl)
 
-      pub passes_result : (to from' to' : LinkState MailboxState) (p : Passed) (noted : Option Fault) → noted ≡ None
-          → NotesUnder table k.mode sent_by object row m k.objects e noted k'.objects
+      pub passes_result : (to from' to' : LinkState MailboxState) (p : Passed) (noted : Option Fault) (heard : Bool) → noted ≡ None
+          → heard ≡ hears side k0 → NotesUnder table k.mode sent_by heard object row m k.objects e noted k'.objects
           → k'.log ≡ k.log ++ message_line table k.objects sent_by object.interface row m e ∷ []
           → k'.has_changed ≡ (k.has_changed || is_change e)
           → k' ≡ record k { log = k'.log; objects = k'.objects; has_changed = k'.has_changed }
           → (k.mode ≡ Log → e ≡ edit.Nothing) → PassedOn signature e from1 to p from' to' → PassesAs table side k0 from to p k' from' to'
       unfolding line
-      passes_result to from' to' p noted noted_is notes log_is changed_is known_is no_edit passed =
+      passes_result to from' to' p noted heard noted_is heard_is notes log_is changed_is known_is no_edit passed =
           as_known from' to to' p
           (known_passes sender opcode k k' from from' to to' sender_is opcode_is object row is_known m reads_row line e p edits_side text
-          (subst (λ (s : Side). NotesUnder table k.mode s object row m k.objects e None k'.objects) sent
-          (subst (λ (x : Option Fault). NotesUnder table k.mode sent_by object row m k.objects e x k'.objects) noted_is notes))
+          (subst (λ (s : Side). NotesUnder table k.mode s (hears side k) object row m k.objects e None k'.objects) sent
+          (subst (λ (b : Bool). NotesUnder table k.mode sent_by b object row m k.objects e None k'.objects) (heard_is ∙ ap (hears side) (sym is))
+          (subst (λ (x : Option Fault). NotesUnder table k.mode sent_by heard object row m k.objects e x k'.objects) noted_is notes)))
           (known_is ∙ ap (λ (ls : List (List ℕ)). record k { log = ls; objects = k'.objects; has_changed = k'.has_changed }) log_is
           ∙ ap (λ (b : Bool). record k { log = k.log ++ line ∷ []; objects = k'.objects; has_changed = b }) changed_is)
           no_edit
@@ -437,10 +444,10 @@ module _ (table : List InterfaceRow) (side : Side) where
 
   -- ---- what a call adds
 
-  gains_after : (mode : Mode) (f f1 f2 : Bool) (xs ys : List (List ℕ)) (c d : Bool) (s t : Queue) (o o1 o2 : Store (Unit {0})) (q q1 q2 w w1 : Queue)
-      → (w1 ≡ w) ⊎ (w1.tokens ≡ []) → Gains table mode side f o q w xs c s f1 o1 q1 → Gains table mode side f1 o1 q1 w1 ys d t f2 o2 q2
-      → Gains table mode side f o q w (xs ++ ys) (c || d) (joined s t) f2 o2 q2
-  gains_after mode false false f2 xs ys c d s t o o1 o2 q q1 q2 w w1 gone one two = (
+  gains_after : (mode : Mode) (heard f f1 f2 : Bool) (xs ys : List (List ℕ)) (c d : Bool) (s t : Queue) (o o1 o2 : Store (Unit {0})) (q q1 q2 w w1 : Queue)
+      → (w1 ≡ w) ⊎ (w1.tokens ≡ []) → Gains table mode side heard f o q w xs c s f1 o1 q1 → Gains table mode side heard f1 o1 q1 w1 ys d t f2 o2 q2
+      → Gains table mode side heard f o q w (xs ++ ys) (c || d) (joined s t) f2 o2 q2
+  gains_after mode heard false false f2 xs ys c d s t o o1 o2 q q1 q2 w w1 gone one two = (
     record {
       no_lines = ap (λ (ls : List (List ℕ)). ls ++ ys) one.0.no_lines ∙ two.0.no_lines;
       no_change = ap (λ (b : Bool). b || d) one.0.no_change ∙ two.0.no_change;
@@ -449,10 +456,10 @@ module _ (table : List InterfaceRow) (side : Side) where
     two.1,
     two.2 ∙ one.2,
   )
-  gains_after mode false true f2 xs ys c d s t o o1 o2 q q1 q2 w w1 gone one two = let e = one.1 in absurd cc
-  gains_after mode true true true xs ys c d s t o o1 o2 q q1 q2 w w1 gone one two = record {
+  gains_after mode heard false true f2 xs ys c d s t o o1 o2 q q1 q2 w w1 gone one two = let e = one.1 in absurd cc
+  gains_after mode heard true true true xs ys c d s t o o1 o2 q q1 q2 w w1 gone one two = record {
     passages = one.passages ++ two.passages;
-    passes = passes_append mode one.passages two.passages o o1 o2 q q1 q2 one.passes two.passes;
+    passes = passes_append mode heard one.passages two.passages o o1 o2 q q1 q2 one.passes two.passes;
     lines_are = ap (λ (ls : List (List ℕ)). ls ++ ys) one.lines_are ∙ ap (λ (ls : List (List ℕ)). lines_of one.passages ++ ls) two.lines_are
         ∙ sym (lines_append one.passages two.passages);
     changed_is = ap (λ (b : Bool). b || d) one.changed_is ∙ ap (λ (b : Bool). any_change one.passages || b) two.changed_is
@@ -460,7 +467,7 @@ module _ (table : List InterfaceRow) (side : Side) where
     sent_is = ap (λ (x : Queue). joined x t) one.sent_is ∙ ap (λ (x : Queue). joined (all_sent one.passages) x) two.sent_is
         ∙ sym (sent_append one.passages two.passages);
   }
-  gains_after mode true true false xs ys c d s t o o1 o2 q q1 q2 w w1 gone one two =
+  gains_after mode heard true true false xs ys c d s t o o1 o2 q q1 q2 w w1 gone one two =
       let tail : List (List ℕ) = two.last ++ fault_line side two.reason ∷ [] in record {
         passages = one.passages ++ two.passages;
         mid = two.mid;
@@ -469,7 +476,7 @@ module _ (table : List InterfaceRow) (side : Side) where
         reason = two.reason;
         last = two.last;
         handed = two.handed;
-        passes = passes_append mode one.passages two.passages o o1 two.mid q q1 (joined two.received two.behind) one.passes two.passes;
+        passes = passes_append mode heard one.passages two.passages o o1 two.mid q q1 (joined two.received two.behind) one.passes two.passes;
         tokens_first = tokens_stay w w1 two.behind gone two.tokens_first;
         stops = two.stops;
         lines_are = ap (λ (ls : List (List ℕ)). ls ++ ys) one.lines_are ∙ ap (λ (ls : List (List ℕ)). lines_of one.passages ++ ls) two.lines_are
@@ -482,8 +489,8 @@ module _ (table : List InterfaceRow) (side : Side) where
             ∙ ap (λ (x : Queue). joined x two.handed) (sym (sent_append one.passages two.passages));
         as_it_is = two.as_it_is;
       }
-  gains_after mode true false true xs ys c d s t o o1 o2 q q1 q2 w w1 gone one two = let e = two.1 in absurd cc
-  gains_after mode true false false xs ys c d s t o o1 o2 q q1 q2 w w1 gone one two = record {
+  gains_after mode heard true false true xs ys c d s t o o1 o2 q q1 q2 w w1 gone one two = let e = two.1 in absurd cc
+  gains_after mode heard true false false xs ys c d s t o o1 o2 q q1 q2 w w1 gone one two = record {
     passages = one.passages;
     mid = one.mid;
     received = one.received;
@@ -493,7 +500,7 @@ module _ (table : List InterfaceRow) (side : Side) where
     handed = joined one.handed t;
     passes = one.passes;
     tokens_first = one.tokens_first;
-    stops = subst (λ (x : Store (Unit {0})). Stops table mode side one.mid one.received one.reason one.last x) (sym two.2) one.stops;
+    stops = subst (λ (x : Store (Unit {0})). Stops table mode side heard one.mid one.received one.reason one.last x) (sym two.2) one.stops;
     lines_are = ap (λ (ls : List (List ℕ)). xs ++ ls) two.0.no_lines ∙ append-nil xs ∙ one.lines_are;
     changed_is = ap (λ (b : Bool). c || b) two.0.no_change ∙ or_false c ∙ one.changed_is;
     sent_is = ap (λ (x : Queue). joined x t) one.sent_is ∙ joined_assoc (all_sent one.passages) one.handed t;
@@ -509,9 +516,10 @@ module _ (table : List InterfaceRow) (side : Side) where
     log = two.log ∙ ap (λ (ls : List (List ℕ)). ls ++ two.lines) one.log ∙ append_assoc k.log one.lines two.lines;
     out_is = two.out_is ∙ ap (λ (x : Queue). joined x two.sent) one.out_is ∙ joined_assoc out one.sent two.sent;
     changed_is = two.changed_is ∙ ap (λ (b : Bool). b || two.changed) one.changed_is ∙ or_assoc k.has_changed one.changed two.changed;
-    gains = gains_after k.mode (follows side k) (follows side k1) (follows side k2) one.lines two.lines one.changed two.changed one.sent two.sent
+    gains = gains_after k.mode (hears side k) (follows side k) (follows side k1) (follows side k2) one.lines two.lines one.changed two.changed one.sent two.sent
         k.objects k1.objects k2.objects q q1 q2 w w1 one.receives one.gains
-        (subst (λ (m : Mode). Gains table m side (follows side k1) k1.objects q1 w1 two.lines two.changed two.sent (follows side k2) k2.objects q2) one.mode two.gains);
+        (subst (λ (b : Bool). Gains table k.mode side b (follows side k1) k1.objects q1 w1 two.lines two.changed two.sent (follows side k2) k2.objects q2) one.other
+        (subst (λ (m : Mode). Gains table m side (hears side k1) (follows side k1) k1.objects q1 w1 two.lines two.changed two.sent (follows side k2) k2.objects q2) one.mode two.gains));
     receives = tokens_stay w w1 w2 one.receives two.receives;
     mode = two.mode ∙ one.mode;
     unchanged = λ is. two.unchanged (one.mode ∙ is) ∙ one.unchanged is;
@@ -528,17 +536,13 @@ module _ (table : List InterfaceRow) (side : Side) where
     log = sym (append-nil k.log);
     out_is = sends;
     changed_is = sym (or_false k.has_changed);
-    gains = subst (λ (b : Bool). Gains table k.mode side b k.objects q w [] false sent b k.objects q1) (sym unread_is)
+    gains = subst (λ (b : Bool). Gains table k.mode side (hears side k) b k.objects q w [] false sent b k.objects q1) (sym unread_is)
         (record { no_lines = refl; no_change = refl; as_it_is = as_it_is }, refl, refl);
     receives = inl same;
     mode = refl;
     unchanged = λ _. refl;
     other = refl;
   }
-
-follows_same : (side : Side) (k k' : Known) → k'.follows_client ≡ k.follows_client → k'.follows_server ≡ k.follows_server → follows side k' ≡ follows side k
-follows_same Client k k' client server = client
-follows_same Server k k' client server = server
 
 stopped_log : (side : Side) (f : Fault) (k : Known) → (stopped side f k).log ≡ k.log ++ fault_line side f ∷ []
 stopped_log Client f k = refl
@@ -573,10 +577,10 @@ module _ (table : List InterfaceRow) (side : Side) where
         out_is = reads.out_is;
         changed_is = reads.changed_is;
         gains = subst
-            (λ (b : Bool). Gains table k.mode side b k.objects q w (lines_of reads.passages) (any_change reads.passages) (all_sent reads.passages) (follows side k1) k1.objects q1)
+            (λ (b : Bool). Gains table k.mode side (hears side k) b k.objects q w (lines_of reads.passages) (any_change reads.passages) (all_sent reads.passages) (follows side k1) k1.objects q1)
             (sym read)
             (subst
-            (λ (b : Bool). Gains table k.mode side true k.objects q w (lines_of reads.passages) (any_change reads.passages) (all_sent reads.passages) b k1.objects q1)
+            (λ (b : Bool). Gains table k.mode side (hears side k) true k.objects q w (lines_of reads.passages) (any_change reads.passages) (all_sent reads.passages) b k1.objects q1)
             (sym still)
             (record { passages = reads.passages; passes = reads.passes; lines_are = refl; changed_is = refl; sent_is = refl }));
         receives = inl same;
@@ -612,7 +616,7 @@ module _ (table : List InterfaceRow) (side : Side) where
     out_is = grows.out_is;
     changed_is = grows.changed_is;
     gains = subst
-        (λ (q : Queue). Gains table k.mode side (follows side k) k.objects q from.transport.arrived grows.lines grows.changed grows.sent (follows side k2) k2.objects (still_to_read from2))
+        (λ (q : Queue). Gains table k.mode side (hears side k) (follows side k) k.objects q from.transport.arrived grows.lines grows.changed grows.sent (follows side k2) k2.objects (still_to_read from2))
         reads
         (gains_received (follows side k) (follows side k2) grows.gains);
     receives = tokens_stay from.transport.arrived from1.transport.arrived from2.transport.arrived (inr none) grows.receives;
@@ -621,8 +625,8 @@ module _ (table : List InterfaceRow) (side : Side) where
     other = grows.other;
   }
     where
-      gains_received : (f f2 : Bool) → Gains table k.mode side f k.objects (still_to_read from1) from1.transport.arrived grows.lines grows.changed grows.sent f2 k2.objects (still_to_read from2)
-          → Gains table k.mode side f k.objects (still_to_read from1) from.transport.arrived grows.lines grows.changed grows.sent f2 k2.objects (still_to_read from2)
+      gains_received : (f f2 : Bool) → Gains table k.mode side (hears side k) f k.objects (still_to_read from1) from1.transport.arrived grows.lines grows.changed grows.sent f2 k2.objects (still_to_read from2)
+          → Gains table k.mode side (hears side k) f k.objects (still_to_read from1) from.transport.arrived grows.lines grows.changed grows.sent f2 k2.objects (still_to_read from2)
       gains_received false f2 gains = gains
       gains_received true true gains = gains
       gains_received true false gains = record {
@@ -690,7 +694,7 @@ module _ (table : List InterfaceRow) (side : Side) where
     is_unread : follows side k2 ≡ false
     is_unread = ap (follows side) is_stopped ∙ (stopped_rest side f k1).3
 
-    ends : Ends table k.mode side k.objects (still_to_read from) from.transport.arrived (lines_of reads.passages ++ (upto.2.0 ++ fault_line side f ∷ [])) (any_change reads.passages)
+    ends : Ends table k.mode side (hears side k) k.objects (still_to_read from) from.transport.arrived (lines_of reads.passages ++ (upto.2.0 ++ fault_line side f ∷ [])) (any_change reads.passages)
         (joined (all_sent reads.passages) from1.incoming) k2.objects (still_to_read from2)
     ends = record {
       passages = reads.passages;
@@ -702,9 +706,11 @@ module _ (table : List InterfaceRow) (side : Side) where
       handed = from1.incoming;
       passes = reads.passes;
       tokens_first = inl (ap (λ (m : MailboxState). m.arrived) same);
-      stops = subst (λ (m : Mode). Stops table m side at.objects from1.incoming f upto.2.0 k2.objects) reads.mode
-          (subst (λ (o : Store (Unit {0})). Stops table at.mode side at.objects from1.incoming f upto.2.0 o)
-          (sym (ap (λ (x : Known). x.objects) is_stopped ∙ (stopped_rest side f k1).0 ∙ ap (λ (x : Known). x.objects) upto.2.3)) upto.2.2);
+      stops = subst (λ (b : Bool). Stops table k.mode side b at.objects from1.incoming f upto.2.0 k2.objects)
+          (follows_same (other_side side) k at reads.client reads.server)
+          (subst (λ (m : Mode). Stops table m side (hears side at) at.objects from1.incoming f upto.2.0 k2.objects) reads.mode
+          (subst (λ (o : Store (Unit {0})). Stops table at.mode side (hears side at) at.objects from1.incoming f upto.2.0 o)
+          (sym (ap (λ (x : Known). x.objects) is_stopped ∙ (stopped_rest side f k1).0 ∙ ap (λ (x : Known). x.objects) upto.2.3)) upto.2.2));
       lines_are = refl;
       changed_is = refl;
       sent_is = refl;
@@ -728,10 +734,10 @@ module _ (table : List InterfaceRow) (side : Side) where
           out_is = handed.1 ∙ ap (λ (x : Queue). joined x from1.incoming) reads.out_is ∙ joined_assoc (still_to_send to) (all_sent reads.passages) from1.incoming;
           changed_is = same_changed ∙ reads.changed_is;
           gains = subst
-              (λ (b : Bool). Gains table k.mode side b k.objects (still_to_read from) from.transport.arrived lines (any_change reads.passages) sent (follows side k2) k2.objects (still_to_read from2))
+              (λ (b : Bool). Gains table k.mode side (hears side k) b k.objects (still_to_read from) from.transport.arrived lines (any_change reads.passages) sent (follows side k2) k2.objects (still_to_read from2))
               (sym read)
               (subst
-              (λ (b : Bool). Gains table k.mode side true k.objects (still_to_read from) from.transport.arrived lines (any_change reads.passages) sent b k2.objects (still_to_read from2))
+              (λ (b : Bool). Gains table k.mode side (hears side k) true k.objects (still_to_read from) from.transport.arrived lines (any_change reads.passages) sent b k2.objects (still_to_read from2))
               (sym is_unread)
               ends);
           receives = inl (ap (λ (l : LinkState MailboxState). l.transport.arrived) handed.0 ∙ ap (λ (m : MailboxState). m.arrived) same);

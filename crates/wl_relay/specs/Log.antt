@@ -58,6 +58,10 @@ abbrev pub other_side : Side → Side
 other_side Client = Server
 other_side Server = Client
 
+-- what comes from the other side is read
+abbrev pub hears : Side → Known → Bool
+hears side k = follows (other_side side) k
+
 -- ---- lines
 
 -- requests begin with an arrow
@@ -124,13 +128,14 @@ pub record Passage : Type 0 where
   pub edit : Edit
   pub sent : Queue
 
--- the objects after a message; one that is dropped or lowered, an announcement, changes none
-abbrev pub ObjectsAfter : List InterfaceRow → Mode → Side → Object (Unit {0}) → MessageRow → WireMessage → Store (Unit {0}) → Edit → Store (Unit {0}) → Type 0
-ObjectsAfter table mode side object row m objects edit.Nothing objects' = NotesObjects table mode side object row m objects None objects'
-ObjectsAfter table mode side object row m objects _ objects' = objects' ≡ objects
+-- The objects after a message; one that is dropped or lowered, an announcement, changes none. `heard`, here and below: the other side is
+-- read.
+abbrev pub ObjectsAfter : List InterfaceRow → Mode → Side → Bool → Object (Unit {0}) → MessageRow → WireMessage → Store (Unit {0}) → Edit → Store (Unit {0}) → Type 0
+ObjectsAfter table mode side heard object row m objects edit.Nothing objects' = NotesObjects table mode side heard object row m objects None objects'
+ObjectsAfter table mode side heard object row m objects _ objects' = objects' ≡ objects
 
 -- The passage tells of the message at the front, which is known. `objects'` are the objects after it, and `after` is what follows it.
-pub record TellsKnown (table : List InterfaceRow) (mode : Mode) (side : Side) (objects : Store (Unit {0})) (q : Queue) (p : Passage) (objects' : Store (Unit {0}))
+pub record TellsKnown (table : List InterfaceRow) (mode : Mode) (side : Side) (heard : Bool) (objects : Store (Unit {0})) (q : Queue) (p : Passage) (objects' : Store (Unit {0}))
     (after : Queue) : Type 0 where
   pub object : Object (Unit {0})
   pub row : MessageRow
@@ -140,7 +145,7 @@ pub record TellsKnown (table : List InterfaceRow) (mode : Mode) (side : Side) (o
   pub edits : EditsMessage table mode side object.interface message p.edit
   pub text : p.line ≡ message_line table objects side object.interface row message p.edit
   pub sent : p.sent ≡ going_on p.edit row.signature q message
-  pub noted : ObjectsAfter table mode side object row message objects p.edit objects'
+  pub noted : ObjectsAfter table mode side heard object row message objects p.edit objects'
   pub rest : after ≡ after_first row.signature q
 
 -- The passage tells of the message at the front, which is not known. Only a log goes on then.
@@ -155,18 +160,18 @@ pub record TellsUnknown (table : List InterfaceRow) (mode : Mode) (side : Side) 
   pub unnoted : objects' ≡ objects
   pub rest : after ≡ after_first [] q
 
-abbrev pub Tells : List InterfaceRow → Mode → Side → Store (Unit {0}) → Queue → Passage → Store (Unit {0}) → Queue → Type 0
-Tells table mode side objects q p objects' after =
-    TellsKnown table mode side objects q p objects' after ⊎ TellsUnknown table mode side objects q p objects' after
+abbrev pub Tells : List InterfaceRow → Mode → Side → Bool → Store (Unit {0}) → Queue → Passage → Store (Unit {0}) → Queue → Type 0
+Tells table mode side heard objects q p objects' after =
+    TellsKnown table mode side heard objects q p objects' after ⊎ TellsUnknown table mode side objects q p objects' after
 
 -- ---- messages one after another
 
 -- The passages tell of the messages at the front, in their order. `objects'` are the objects after them, and `rest` is what follows.
-abbrev pub Passes : List InterfaceRow → Mode → Side → Store (Unit {0}) → Queue → List Passage → Store (Unit {0}) → Queue → Type 0
-Passes table mode side objects q [] objects' rest = (objects' ≡ objects) × (rest ≡ q)
-Passes table mode side objects q (p ∷ ps) objects' rest =
-    (mid : Queue) × (mid_objects : Store (Unit {0})) × Tells table mode side objects q p mid_objects mid
-    × Passes table mode side mid_objects mid ps objects' rest
+abbrev pub Passes : List InterfaceRow → Mode → Side → Bool → Store (Unit {0}) → Queue → List Passage → Store (Unit {0}) → Queue → Type 0
+Passes table mode side heard objects q [] objects' rest = (objects' ≡ objects) × (rest ≡ q)
+Passes table mode side heard objects q (p ∷ ps) objects' rest =
+    (mid : Queue) × (mid_objects : Store (Unit {0})) × Tells table mode side heard objects q p mid_objects mid
+    × Passes table mode side heard mid_objects mid ps objects' rest
 
 abbrev pub lines_of : List Passage → List (List ℕ)
 lines_of [] = []
@@ -207,7 +212,7 @@ IsMalformed table mode side objects q =
     × RefusesMessage q.bytes row.signature q.tokens errors.Malformed))
 
 -- The message at the front is read, and told by a line; but its objects cannot be noted.
-pub record RefusesObjects (table : List InterfaceRow) (mode : Mode) (side : Side) (objects : Store (Unit {0})) (q : Queue) (f : Fault) (line : List ℕ)
+pub record RefusesObjects (table : List InterfaceRow) (mode : Mode) (side : Side) (heard : Bool) (objects : Store (Unit {0})) (q : Queue) (f : Fault) (line : List ℕ)
     (objects' : Store (Unit {0})) : Type 0 where
   pub object : Object (Unit {0})
   pub row : MessageRow
@@ -216,23 +221,23 @@ pub record RefusesObjects (table : List InterfaceRow) (mode : Mode) (side : Side
   pub reads : ReadsMessage q.bytes row.signature q.tokens message
   pub edits : EditsMessage table mode side object.interface message edit.Nothing
   pub text : line ≡ message_line table objects side object.interface row message edit.Nothing
-  pub noted : NotesObjects table mode side object row message objects (Some f) objects'
+  pub noted : NotesObjects table mode side heard object row message objects (Some f) objects'
 
 -- Why a side is no longer read, of what was received from it; the lines that are added before that one, and the objects after it. A
 -- message has fewer than 65536 bytes: one that awaits more where as many were received is there to its end, and lacks a descriptor.
-abbrev pub Stops : List InterfaceRow → Mode → Side → Store (Unit {0}) → Queue → Fault → List (List ℕ) → Store (Unit {0}) → Type 0
-Stops table mode side objects q f lines objects' =
+abbrev pub Stops : List InterfaceRow → Mode → Side → Bool → Store (Unit {0}) → Queue → Fault → List (List ℕ) → Store (Unit {0}) → Type 0
+Stops table mode side heard objects q f lines objects' =
     (IsMalformed table mode side objects q × (f ≡ fault.Malformed) × (lines ≡ []) × (objects' ≡ objects))
-    ⊎ ((line : List ℕ) × RefusesObjects table mode side objects q f line objects' × (lines ≡ line ∷ []))
+    ⊎ ((line : List ℕ) × RefusesObjects table mode side heard objects q f line objects' × (lines ≡ line ∷ []))
     ⊎ ((65536 ≤ length q.bytes) × AwaitsMore table mode side objects q × (f ≡ fault.MissingDescriptor) × (lines ≡ []) × (objects' ≡ objects))
 
 -- ---- a call
 
 -- Of a side that is read: the messages up to `rest` have their lines, and what goes on in their place is sent.
-pub record Reads (table : List InterfaceRow) (mode : Mode) (side : Side) (objects : Store (Unit {0})) (q : Queue) (lines : List (List ℕ)) (changed : Bool)
+pub record Reads (table : List InterfaceRow) (mode : Mode) (side : Side) (heard : Bool) (objects : Store (Unit {0})) (q : Queue) (lines : List (List ℕ)) (changed : Bool)
     (sent : Queue) (objects' : Store (Unit {0})) (rest : Queue) : Type 0 where
   pub passages : List Passage
-  pub passes : Passes table mode side objects q passages objects' rest
+  pub passes : Passes table mode side heard objects q passages objects' rest
   pub lines_are : lines ≡ lines_of passages
   pub changed_is : changed ≡ any_change passages
   pub sent_is : sent ≡ all_sent passages
@@ -240,7 +245,7 @@ pub record Reads (table : List InterfaceRow) (mode : Mode) (side : Side) (object
 -- Of a side that is read until a fault comes: the messages before it have their lines, then the one whose objects cannot be noted,
 -- if there is one, and a last line tells of the fault. What was received by then is handed on as it is, and what comes behind it too.
 -- Tokens are received with the first byte: those behind what was received are all that were in the mailbox, or none.
-pub record Ends (table : List InterfaceRow) (mode : Mode) (side : Side) (objects : Store (Unit {0})) (q mailbox : Queue) (lines : List (List ℕ)) (changed : Bool)
+pub record Ends (table : List InterfaceRow) (mode : Mode) (side : Side) (heard : Bool) (objects : Store (Unit {0})) (q mailbox : Queue) (lines : List (List ℕ)) (changed : Bool)
     (sent : Queue) (objects' : Store (Unit {0})) (rest : Queue) : Type 0 where
   pub passages : List Passage
   pub mid : Store (Unit {0})
@@ -249,9 +254,9 @@ pub record Ends (table : List InterfaceRow) (mode : Mode) (side : Side) (objects
   pub reason : Fault
   pub last : List (List ℕ)
   pub handed : Queue
-  pub passes : Passes table mode side objects q passages mid (joined received behind)
+  pub passes : Passes table mode side heard objects q passages mid (joined received behind)
   pub tokens_first : (behind ≡ mailbox) ⊎ (behind.tokens ≡ [])
-  pub stops : Stops table mode side mid received reason last objects'
+  pub stops : Stops table mode side heard mid received reason last objects'
   pub lines_are : lines ≡ lines_of passages ++ (last ++ fault_line side reason ∷ [])
   pub changed_is : changed ≡ any_change passages
   pub sent_is : sent ≡ joined (all_sent passages) handed
@@ -265,11 +270,11 @@ pub record PassesBy (q : Queue) (lines : List (List ℕ)) (changed : Bool) (sent
 
 -- What a side's messages do, from this queue of what is to be read, of which this much is in the mailbox, to that one: the lines that
 -- they add, whether one is dropped or lowered, what is sent for them, and the objects after them.
-abbrev pub Gains : List InterfaceRow → Mode → Side → Bool → Store (Unit {0}) → Queue → Queue → List (List ℕ) → Bool → Queue → Bool → Store (Unit {0}) → Queue → Type 0
-Gains table mode side false objects q mailbox lines changed sent followed' objects' q' =
+abbrev pub Gains : List InterfaceRow → Mode → Side → Bool → Bool → Store (Unit {0}) → Queue → Queue → List (List ℕ) → Bool → Queue → Bool → Store (Unit {0}) → Queue → Type 0
+Gains table mode side heard false objects q mailbox lines changed sent followed' objects' q' =
     PassesBy q lines changed sent q' × (followed' ≡ false) × (objects' ≡ objects)
-Gains table mode side true objects q mailbox lines changed sent true objects' q' = Reads table mode side objects q lines changed sent objects' q'
-Gains table mode side true objects q mailbox lines changed sent false objects' q' = Ends table mode side objects q mailbox lines changed sent objects' q'
+Gains table mode side heard true objects q mailbox lines changed sent true objects' q' = Reads table mode side heard objects q lines changed sent objects' q'
+Gains table mode side heard true objects q mailbox lines changed sent false objects' q' = Ends table mode side heard objects q mailbox lines changed sent objects' q'
 
 -- The log has grown by these lines, and by no others; and what is to be sent by what goes on for them. In a log no announcement is
 -- dropped or lowered.
@@ -280,7 +285,7 @@ pub record GrowsLog (table : List InterfaceRow) (side : Side) (before : Known) (
   pub log : after.log ≡ before.log ++ lines
   pub out_is : out' ≡ joined out sent
   pub changed_is : after.has_changed ≡ (before.has_changed || changed)
-  pub gains : Gains table before.mode side (follows side before) before.objects q mailbox lines changed sent (follows side after) after.objects q'
+  pub gains : Gains table before.mode side (hears side before) (follows side before) before.objects q mailbox lines changed sent (follows side after) after.objects q'
   pub receives : (mailbox' ≡ mailbox) ⊎ (mailbox'.tokens ≡ [])
   pub mode : after.mode ≡ before.mode
   pub unchanged : before.mode ≡ Log → after.has_changed ≡ before.has_changed

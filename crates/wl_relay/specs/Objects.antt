@@ -29,11 +29,16 @@ abbrev pub is_own : Side → ℕ → Bool
 is_own Client number = nat_lt number client_range.end
 is_own Server number = nat_le server_range.first number
 
+-- the number is no object's any more, unless it is the display's, which stays
+abbrev pub freed : Store (Unit {0}) → ℕ → Store (Unit {0})
+freed objects number = if number == 1 then objects else removed objects number
+
 -- The server gives out its numbers again without a word, so a new object takes the place of one that has its number. A number of the
--- client first has to be deleted.
-abbrev pub vacated : Side → Store (Unit {0}) → ℕ → Store (Unit {0})
-vacated Client objects number = objects
-vacated Server objects number = removed objects number
+-- client first has to be deleted; but if the other side is not read (`heard` is false), that is not seen, so the new object takes it.
+abbrev pub vacated : Side → Bool → Store (Unit {0}) → ℕ → Store (Unit {0})
+vacated Client true objects number = objects
+vacated Client false objects number = freed objects number
+vacated Server heard objects number = freed objects number
 
 -- The number is given to an object of this interface. It is a fault if it is 0, or leaves one out, or if an object has it.
 abbrev pub Gives : Store (Unit {0}) → ℕ → InterfaceId → ℕ → Option Fault → Store (Unit {0}) → Type 0
@@ -43,9 +48,9 @@ Gives objects number interface version (Some fault.NewId) objects' = (is_free ob
 Gives objects number interface version (Some _) objects' = ⊥
 
 -- A side makes an object of this number. It is a fault, too, if the number is one of the other side.
-abbrev pub Puts : Side → Store (Unit {0}) → ℕ → InterfaceId → ℕ → Option Fault → Store (Unit {0}) → Type 0
-Puts side objects number interface version f objects' =
-    MatchBool (is_own side number) (Gives (vacated side objects number) number interface version f objects')
+abbrev pub Puts : Side → Bool → Store (Unit {0}) → ℕ → InterfaceId → ℕ → Option Fault → Store (Unit {0}) → Type 0
+Puts side heard objects number interface version f objects' =
+    MatchBool (is_own side number) (Gives (vacated side heard objects number) number interface version f objects')
     ((f ≡ Some fault.NewId) × (objects' ≡ objects))
 
 -- ---- a bind
@@ -66,14 +71,14 @@ IsBound table mode name (Some interface) =
     ((interface.0 < length table) × (name_of table interface.0 ≡ name)) ⊎ (LacksName table name × (mode ≡ Log) × (interface ≡ anonymous_id))
 IsBound table mode name None = LacksName table name × (mode ≡ HandOn)
 
-abbrev pub PutsBound : Store (Unit {0}) → ℕ → Option InterfaceId → ℕ → Option Fault → Store (Unit {0}) → Type 0
-PutsBound objects number (Some interface) version f objects' = Puts Client objects number interface version f objects'
-PutsBound objects number None version f objects' = (f ≡ Some fault.UnknownInterface) × (objects' ≡ objects)
+abbrev pub PutsBound : Bool → Store (Unit {0}) → ℕ → Option InterfaceId → ℕ → Option Fault → Store (Unit {0}) → Type 0
+PutsBound heard objects number (Some interface) version f objects' = Puts Client heard objects number interface version f objects'
+PutsBound heard objects number None version f objects' = (f ≡ Some fault.UnknownInterface) × (objects' ≡ objects)
 
-abbrev pub NotesBind : List InterfaceRow → Mode → Store (Unit {0}) → List WireArgument → Option Fault → Store (Unit {0}) → Type 0
-NotesBind table mode objects args f objects' =
+abbrev pub NotesBind : List InterfaceRow → Mode → Bool → Store (Unit {0}) → List WireArgument → Option Fault → Store (Unit {0}) → Type 0
+NotesBind table mode heard objects args f objects' =
     MatchOption (bind_of args) ((f ≡ Some fault.Malformed) × (objects' ≡ objects))
-    (λ b. (interface : Option InterfaceId) × IsBound table mode b.0 interface × PutsBound objects b.1.1 interface b.1.0 f objects')
+    (λ b. (interface : Option InterfaceId) × IsBound table mode b.0 interface × PutsBound heard objects b.1.1 interface b.1.0 f objects')
 
 -- ---- other messages
 
@@ -82,9 +87,9 @@ abbrev pub is_deletion : Side → InterfaceId → ℕ → Bool
 is_deletion Client interface opcode = false
 is_deletion Server interface opcode = interface.0 == 1 && opcode == 1
 
--- the number that it tells is no object's any more, unless it is the display's, which stays
+-- the number that it tells is free again
 abbrev pub without_deleted : Store (Unit {0}) → List WireArgument → Store (Unit {0})
-without_deleted objects (arg.Uint number ∷ []) = if number == 1 then objects else removed objects number
+without_deleted objects (arg.Uint number ∷ []) = freed objects number
 without_deleted objects _ = objects
 
 -- the first new number among the arguments
@@ -94,18 +99,18 @@ new_number (arg.NewId number ∷ args) = Some number
 new_number (_ ∷ args) = new_number args
 
 -- a message makes an object of the interface that its row names, of the version of its sender
-abbrev pub NotesChild : Side → Store (Unit {0}) → InterfaceId → ℕ → List WireArgument → Option Fault → Store (Unit {0}) → Type 0
-NotesChild side objects child version args f objects' =
-    MatchOption (new_number args) ((f ≡ None) × (objects' ≡ objects)) (λ number. Puts side objects number child version f objects')
+abbrev pub NotesChild : Side → Bool → Store (Unit {0}) → InterfaceId → ℕ → List WireArgument → Option Fault → Store (Unit {0}) → Type 0
+NotesChild side heard objects child version args f objects' =
+    MatchOption (new_number args) ((f ≡ None) × (objects' ≡ objects)) (λ number. Puts side heard objects number child version f objects')
 
 -- ---- a message
 
 -- The objects after a message of this object, of this row of the table; or the fault for which they cannot be noted. A destructor
--- changes nothing: the number stays that of its object until it is deleted or used again.
-abbrev pub NotesObjects : List InterfaceRow → Mode → Side → Object (Unit {0}) → MessageRow → WireMessage → Store (Unit {0}) → Option Fault
+-- changes nothing: the number stays that of its object until it is deleted or used again. `heard`: the other side is read.
+abbrev pub NotesObjects : List InterfaceRow → Mode → Side → Bool → Object (Unit {0}) → MessageRow → WireMessage → Store (Unit {0}) → Option Fault
     → Store (Unit {0}) → Type 0
-NotesObjects table mode side object row m objects f objects' =
-    MatchBool (is_bind side object.interface) (NotesBind table mode objects m.args f objects')
+NotesObjects table mode side heard object row m objects f objects' =
+    MatchBool (is_bind side object.interface) (NotesBind table mode heard objects m.args f objects')
     (MatchBool (is_deletion side object.interface m.opcode) ((f ≡ None) × (objects' ≡ without_deleted objects m.args))
     (MatchOption row.child_interface ((f ≡ None) × (objects' ≡ objects))
-    (λ child. NotesChild side objects child object.version m.args f objects')))
+    (λ child. NotesChild side heard objects child object.version m.args f objects')))

@@ -11,7 +11,7 @@ ghost use Rattle.wl_relay.specs.Inside.Passing.{HandedAs, HandsOnAll, KeepBoth, 
 ghost use Rattle.wl_relay.specs.Log.{GrowsLog, IsDone, known};
 
 use crate::notes::{
-    Edit, Notes, described, edit_of, follows, log_fault, log_message, note_unless_edited,
+    Edit, Notes, described, edit_of, follows, hears, log_fault, log_message, note_unless_edited,
     unknown_line,
 };
 use crate::side::{Fault, Mode, Side};
@@ -184,6 +184,7 @@ fn pass_one(
     let Some(found) = described(table, &notes.objects, side, sender, opcode) else {
         return pass_unknown(notes, side, sender, opcode, from, to);
     };
+    let heard = hears(notes, side);
     let signature = found.desc.signature.as_slice();
     let message = &mut notes.place.message;
     match from.peek(signature, message) {
@@ -196,7 +197,8 @@ fn pass_one(
     }
     let edit = edit_of(table, notes.mode, found, message);
     log_message(&mut notes.log, table, &notes.objects, found, message, edit)?;
-    let noted = note_unless_edited(table, notes.mode, &mut notes.objects, found, message, edit)?;
+    let objects = &mut notes.objects;
+    let noted = note_unless_edited(table, notes.mode, heard, objects, found, message, edit)?;
     if let Some(fault) = noted {
         clear_message(message);
         return Ok(Passed::Fault(fault));

@@ -5,9 +5,9 @@ ghost use Rattle.std.specs.String.{string_bytes};
 ghost use Rattle.wl_wire.specs.Message.{content};
 ghost use Rattle.wl_wire.specs.Table.{message_row};
 ghost use Rattle.wl_relay.specs.Announcements.{EditsArguments, EditsGlobal, EditsMessage, is_announcement, is_change};
-ghost use Rattle.wl_relay.specs.Objects.{Gives, IsBound, NotesBind, NotesChild, NotesObjects, Puts, first_objects, is_bind, is_deletion, is_own, new_number, object_of, vacated, without_deleted};
+ghost use Rattle.wl_relay.specs.Objects.{Gives, IsBound, NotesBind, NotesChild, NotesObjects, Puts, first_objects, freed, is_bind, is_deletion, is_own, new_number, object_of, vacated, without_deleted};
 ghost use Rattle.wl_relay.specs.Inside.Passing.{NotesUnder};
-ghost use Rattle.wl_relay.specs.Log.{IsKnown, IsUnknown, arrow, edit_text, fault_line, follows, known, message_line, stopped, unknown_line, unknown_text};
+ghost use Rattle.wl_relay.specs.Log.{IsKnown, IsUnknown, arrow, edit_text, fault_line, follows, hears, known, message_line, stopped, unknown_line, unknown_text};
 ghost use Rattle.wl_relay.specs.declared.side.Mode.TheVariants.{Log};
 
 use crate::side::{Fault, Mode, Side};
@@ -17,6 +17,9 @@ use wl_wire::{
     ANONYMOUS_INTERFACE, Argument, InterfaceId, Message, MessageDesc, OutOfMemory, Protocol, Token,
     WL_DISPLAY_INTERFACE, WL_REGISTRY_INTERFACE, push_message,
 };
+
+/// The number of the display.
+const DISPLAY: u32 = 1;
 
 /// What the relay knows of the session, and what it has to tell.
 #[derive(Drop)]
@@ -88,7 +91,7 @@ impl Notes {
             version: 1,
             value: (),
         };
-        let Ok(()) = objects.insert_at(1, display) else {
+        let Ok(()) = objects.insert_at(DISPLAY, display) else {
             return Err(OutOfMemory);
         };
         Ok(Notes {
@@ -110,6 +113,16 @@ pub fn follows(notes: &Notes, side: Side) -> bool
     match side {
         Side::Client => notes.follows_client,
         Side::Server => notes.follows_server,
+    }
+}
+
+/// Whether what comes from the other side is read.
+pub fn hears(notes: &Notes, side: Side) -> bool
+    ensures { result ≡ hears side (known notes.now) }
+{
+    match side {
+        Side::Client => notes.follows_server,
+        Side::Server => notes.follows_client,
     }
 }
 
@@ -148,15 +161,21 @@ fn is_own(side: Side, number: u32) -> bool
     }
 }
 
-/// Takes the object that has the number of a new one out, if it is the server that makes it.
-fn vacate(objects: &mut ObjectMap<()>, side: Side, number: u32)
-    ensures { objects.new.store ≡ vacated side objects.old.store number }
+/// Takes out the object that has the number. The display stays.
+fn free(objects: &mut ObjectMap<()>, number: u32)
+    ensures { objects.new.store ≡ freed objects.old.store number }
 {
-    match side {
-        Side::Client => {}
-        Side::Server => {
-            let _old = objects.remove(number);
-        }
+    if number != DISPLAY {
+        let _gone = objects.remove(number);
+    }
+}
+
+/// Takes out the object that has the number of a new one, if the server makes that, or is not heard.
+fn vacate(objects: &mut ObjectMap<()>, side: Side, heard: bool, number: u32)
+    ensures { objects.new.store ≡ vacated side heard objects.old.store number }
+{
+    if side == Side::Server || !heard {
+        free(objects, number);
     }
 }
 
@@ -181,20 +200,21 @@ fn give(
     }
 }
 
-/// Puts a new object of this side into the map.
+/// Puts a new object of this side into the map. `heard`, here and below: the other side is read.
 fn put_object(
     objects: &mut ObjectMap<()>,
     side: Side,
+    heard: bool,
     number: u32,
     interface: InterfaceId,
     version: u32,
 ) -> Result<Option<Fault>, OutOfMemory>
-    ensures { IfOk result (λ fault. Puts side objects.old.store number interface version fault objects.new.store) }
+    ensures { IfOk result (λ fault. Puts side heard objects.old.store number interface version fault objects.new.store) }
 {
     if !is_own(side, number) {
         return Ok(Some(Fault::NewId));
     }
-    vacate(objects, side, number);
+    vacate(objects, side, heard, number);
     give(objects, number, interface, version)
 }
 
@@ -213,10 +233,11 @@ fn bound(table: &Protocol, mode: Mode, name: &[u8]) -> Option<InterfaceId>
 fn note_bind(
     table: &Protocol,
     mode: Mode,
+    heard: bool,
     objects: &mut ObjectMap<()>,
     args: &[Argument<u32, Token>],
 ) -> Result<Option<Fault>, OutOfMemory>
-    ensures { IfOk result (λ fault. NotesBind table.now mode objects.old.store args.now fault objects.new.store) }
+    ensures { IfOk result (λ fault. NotesBind table.now mode heard objects.old.store args.now fault objects.new.store) }
 {
     let [
         _,
@@ -228,19 +249,17 @@ fn note_bind(
         return Ok(Some(Fault::Malformed));
     };
     match bound(table, mode, name.as_bytes()) {
-        Some(interface) => put_object(objects, Side::Client, *number, interface, *version),
+        Some(interface) => put_object(objects, Side::Client, heard, *number, interface, *version),
         None => Ok(Some(Fault::UnknownInterface)),
     }
 }
 
-/// Forgets the object whose number is free again. The display's never is.
+/// Forgets the object whose number is free again.
 fn note_deleted(objects: &mut ObjectMap<()>, args: &[Argument<u32, Token>])
     ensures { objects.new.store ≡ without_deleted objects.old.store args.now }
 {
     if let [Argument::Uint(number)] = args {
-        if *number != 1 {
-            let _gone = objects.remove(*number);
-        }
+        free(objects, *number);
     }
 }
 
@@ -262,14 +281,15 @@ fn new_number(args: &[Argument<u32, Token>]) -> Option<u32>
 fn note_child(
     objects: &mut ObjectMap<()>,
     side: Side,
+    heard: bool,
     child: InterfaceId,
     version: u32,
     args: &[Argument<u32, Token>],
 ) -> Result<Option<Fault>, OutOfMemory>
-    ensures { IfOk result (λ fault. NotesChild side objects.old.store child version args.now fault objects.new.store) }
+    ensures { IfOk result (λ fault. NotesChild side heard objects.old.store child version args.now fault objects.new.store) }
 {
     match new_number(args) {
-        Some(number) => put_object(objects, side, number, child, version),
+        Some(number) => put_object(objects, side, heard, number, child, version),
         None => Ok(None),
     }
 }
@@ -298,23 +318,24 @@ fn is_deletion(side: Side, interface: InterfaceId, opcode: u16) -> bool
 fn note_objects(
     table: &Protocol,
     mode: Mode,
+    heard: bool,
     objects: &mut ObjectMap<()>,
     found: Found,
     message: &Message<u32, Token>,
 ) -> Result<Option<Fault>, OutOfMemory>
-    ensures { IfOk result (λ fault. NotesObjects table.now mode found.entry.side (object_of found.entry.interface found.entry.version) (message_row found.entry.desc.now)
+    ensures { IfOk result (λ fault. NotesObjects table.now mode found.entry.side heard (object_of found.entry.interface found.entry.version) (message_row found.entry.desc.now)
         (content message.now) objects.old.store fault objects.new.store) }
 {
     let args = message.args.as_slice();
     if is_bind(found.side, found.interface) {
-        return note_bind(table, mode, objects, args);
+        return note_bind(table, mode, heard, objects, args);
     }
     if is_deletion(found.side, found.interface, message.opcode) {
         note_deleted(objects, args);
         return Ok(None);
     }
     match found.desc.child_interface {
-        Some(child) => note_child(objects, found.side, child, found.version, args),
+        Some(child) => note_child(objects, found.side, heard, child, found.version, args),
         None => Ok(None),
     }
 }
@@ -323,16 +344,17 @@ fn note_objects(
 pub fn note_unless_edited(
     table: &Protocol,
     mode: Mode,
+    heard: bool,
     objects: &mut ObjectMap<()>,
     found: Found,
     message: &Message<u32, Token>,
     edit: Edit,
 ) -> Result<Option<Fault>, OutOfMemory>
-    ensures { IfOk result (λ fault. NotesUnder table.now mode found.entry.side (object_of found.entry.interface found.entry.version) (message_row found.entry.desc.now)
+    ensures { IfOk result (λ fault. NotesUnder table.now mode found.entry.side heard (object_of found.entry.interface found.entry.version) (message_row found.entry.desc.now)
         (content message.now) objects.old.store edit fault objects.new.store) }
 {
     match edit {
-        Edit::Nothing => note_objects(table, mode, objects, found, message),
+        Edit::Nothing => note_objects(table, mode, heard, objects, found, message),
         Edit::Drop | Edit::Lower(_) => Ok(None),
     }
 }

@@ -35,7 +35,7 @@ fn written(alloc: Global, lines: &str) -> Result<String, Fail> {
 
 /// Inputs, and what is written for them. The interfaces of their tables are `seat`, whose device makes offers, which take a
 /// descriptor.
-pub static ROWS: [Row; 29] = [
+pub static ROWS: [Row; 30] = [
     Row {
         name: "messages leave as they came",
         lines: "interface seat 5\nrequest get_device 1 - new:5\ninterface device 3\nrequest destroy 1 destructor\nevent offered 1 - new:6\nevent chosen 1 - object?:6\ninterface offer 3\nrequest take 1 - string fd\nrequest destroy 1 destructor\nevent kind 1 - string\nrelay\nclient 0100000001000c000200000002000000000020000100000005000000736561740000000005000000030000000300000000000c0004000000 -\nserver 0400000000000c00000000ff000000ff000018000b000000746578742f706c61696e00000400000001000c00000000ff -\nclient 000000ff00001b000b000000746578742f706c61696e0000010203 7\n",
@@ -105,6 +105,11 @@ pub static ROWS: [Row; 29] = [
         name: "a number that is not deleted yet",
         lines: "relay\nclient 0100000000000c00020000000100000001000c0002000000 -\nserver 0200000000000c0009000000 -\n",
         written: "log  -> wl_display@1.sync(new id wl_callback@2)\nlog  -> wl_display@1.get_registry(new id wl_registry@2)\nlog [client is no longer read: new-id]\nto server 0100000000000c00020000000100000001000c0002000000 -\nok\nlog wl_callback@2.done(9)\nto client 0200000000000c0009000000 -\nok\n[] 0",
+    },
+    Row {
+        name: "numbers that are used again after a fault of the server, but not that of the display",
+        lines: "relay\nclient 0100000000000c0002000000 -\nserver 0100000007000800 -\nserver 0200000000000c00090000000100000001000c0002000000 -\nclient 0100000000000c0002000000 -\nclient 0100000000000c0001000000 -\n",
+        written: "log  -> wl_display@1.sync(new id wl_callback@2)\nto server 0100000000000c0002000000 -\nok\nlog [server is no longer read: malformed]\nto client 0100000007000800 -\nok\nto client 0200000000000c00090000000100000001000c0002000000 -\nok\nlog  -> wl_display@1.sync(new id wl_callback@2)\nto server 0100000000000c0002000000 -\nok\nlog  -> wl_display@1.sync(new id wl_callback@1)\nlog [client is no longer read: new-id]\nto server 0100000000000c0001000000 -\nok\n[] 0",
     },
     Row {
         name: "a number of the server that the client takes",

@@ -1,5 +1,5 @@
 -- What becomes of the first message of a link, and of what the relay knows, as the functions inside the relay say it.
-use Rattle.std.specs.Prelude.{◌≡◌, ℕ, ◌+◌, ◌<◌, ◌≤◌, ◌⊎◌, ◌||◌, List, [], ◌∷◌, ◌++◌, length, Option, None, Some, if◌then◌else◌}
+use Rattle.std.specs.Prelude.{◌≡◌, ℕ, ◌+◌, ◌<◌, ◌≤◌, ◌⊎◌, ◌||◌, Bool, List, [], ◌∷◌, ◌++◌, length, Option, None, Some, if◌then◌else◌}
 use Rattle.wl_wire.specs.declared.argument.ArgumentType.{ArgumentType}
 use Rattle.wl_wire.specs.Message.{WireMessage}
 use Rattle.wl_wire.specs.Parse.{IsThere, ReadsMessage, length_of}
@@ -13,7 +13,7 @@ use Rattle.wl_link.specs.MailboxLink.{still_to_read, still_to_send}
 use Rattle.wl_link.specs.Store.{Store}
 use Rattle.wl_relay.specs.Announcements.{going_on}
 use Rattle.wl_relay.specs.Flow.{settings}
-use Rattle.wl_relay.specs.Log.{AwaitsMore, Known, LacksPart, Passage, Passes, Stops, all_sent, any_change, follows, lines_of, stopped, unknown_line}
+use Rattle.wl_relay.specs.Log.{AwaitsMore, Known, LacksPart, Passage, Passes, Stops, all_sent, any_change, follows, hears, lines_of, stopped, unknown_line}
 use Rattle.wl_relay.specs.Objects.{NotesObjects}
 use Rattle.wl_relay.specs.declared.follow.Passed.{Passed}
 use Rattle.wl_relay.specs.declared.follow.Passed.TheVariants as passed
@@ -85,9 +85,9 @@ ReceivedAs from received.Full from' =
 -- ---- what the relay knows
 
 -- the objects after a message with which this is done, or the fault for which they cannot be noted
-abbrev pub NotesUnder : List InterfaceRow → Mode → Side → Object (Unit {0}) → MessageRow → WireMessage → Store (Unit {0}) → Edit → Option Fault → Store (Unit {0}) → Type 0
-NotesUnder table mode side object row m objects edit.Nothing f objects' = NotesObjects table mode side object row m objects f objects'
-NotesUnder table mode side object row m objects _ f objects' = (f ≡ None) × (objects' ≡ objects)
+abbrev pub NotesUnder : List InterfaceRow → Mode → Side → Bool → Object (Unit {0}) → MessageRow → WireMessage → Store (Unit {0}) → Edit → Option Fault → Store (Unit {0}) → Type 0
+NotesUnder table mode side heard object row m objects edit.Nothing f objects' = NotesObjects table mode side heard object row m objects f objects'
+NotesUnder table mode side heard object row m objects _ f objects' = (f ≡ None) × (objects' ≡ objects)
 
 -- a message that was not read has a line if it left the link
 abbrev pub PassesUnknown : Side → ℕ → ℕ → Known → LinkState MailboxState → LinkState MailboxState → Passed → Known → LinkState MailboxState → LinkState MailboxState → Type 0
@@ -102,7 +102,7 @@ PassesUnknown side sender opcode k from to (passed.Fault f) k' from' to' =
 pub record ReadsOn (table : List InterfaceRow) (side : Side) (before : Known) (q out : Queue) (after : Known) (rest out' : Queue) : Type 0 where
   pub passages : List Passage
   pub log : after.log ≡ before.log ++ lines_of passages
-  pub passes : Passes table before.mode side before.objects q passages after.objects rest
+  pub passes : Passes table before.mode side (hears side before) before.objects q passages after.objects rest
   pub out_is : out' ≡ joined out (all_sent passages)
   pub changed_is : after.has_changed ≡ (before.has_changed || any_change passages)
   pub mode : after.mode ≡ before.mode
@@ -113,7 +113,7 @@ pub record ReadsOn (table : List InterfaceRow) (side : Side) (before : Known) (q
 -- what is known after a fault, maybe with the line of a message whose objects cannot be noted
 abbrev pub StopsAt : List InterfaceRow → Side → Known → Queue → Fault → Known → Type 0
 StopsAt table side k q f k' =
-    (lines : List (List ℕ)) × (objects' : Store (Unit {0})) × Stops table k.mode side k.objects q f lines objects'
+    (lines : List (List ℕ)) × (objects' : Store (Unit {0})) × Stops table k.mode side (hears side k) k.objects q f lines objects'
     × (k' ≡ record k { log = k.log ++ lines; objects = objects' })
 
 -- The first message was read, and left the link; or nothing is done before more comes; or a fault came.

@@ -33,7 +33,7 @@ returns-in-Some-noted-clause-reads c =
     found.side c.in-Some.sender c.in-Some.opcode c.as_slice-signature.result.now c.args.from.now c.peek.new.self (ap known c.notes.view_is)
     c.in-Some.ensures.1 c.in-Some.ensures.2 c.in-Some-described.ensures.known c.as_slice-signature.ensures.value c.peek.ensures.unchanged
     c.in-Some-described.ensures.side (content c.peek.new.message) c.edit_of-edit.result c.in-Ok.ensures.found c.edit_of-edit.ensures.edits
-    c.args.to.now c.in-Some-noted.fault c.in_ok-noted.noted c.note_unless_edited.new.objects.store c.in-Some-noted.is c.in_ok-noted.ensures
+    c.args.to.now c.in-Some-noted.fault c.in_ok-noted.noted c.hears-heard.result c.note_unless_edited.new.objects.store c.in-Some-noted.is c.hears-heard.ensures c.in_ok-noted.ensures
     c.in_ok-log_message.ensures refl
 
 pub returns-clause-reads : goal.returns-clause-reads
@@ -43,5 +43,5 @@ returns-clause-reads c =
     found.side c.in-Some.sender c.in-Some.opcode c.as_slice-signature.result.now c.args.from.now c.peek.new.self (ap known c.notes.view_is)
     c.in-Some.ensures.1 c.in-Some.ensures.2 c.in-Some-described.ensures.known c.as_slice-signature.ensures.value c.peek.ensures.unchanged
     c.in-Some-described.ensures.side (content c.peek.new.message) c.edit_of-edit.result c.in-Ok.ensures.found c.edit_of-edit.ensures.edits
-    c.args.to.now c.pass_on.new.from c.pass_on.new.to c.in_ok-passed.passed c.in_ok-noted.noted c.in_default-noted.is c.in_ok-noted.ensures
+    c.args.to.now c.pass_on.new.from c.pass_on.new.to c.in_ok-passed.passed c.in_ok-noted.noted c.hears-heard.result c.in_default-noted.is c.hears-heard.ensures c.in_ok-noted.ensures
     c.in_ok-log_message.ensures c.or_changed-notes-inside.ensures refl c.edit_of-edit.ensures.in_a_log c.in_ok-passed.ensures.passed
