@@ -24,7 +24,7 @@ first_objects = stored empty_store 1 (object_of (record { 0 = 1 }) 1)
 
 -- ---- a new number
 
--- the number is one of those that the side gives out, or 0
+-- the number is one of those that the side gives out; 0, which is nobody's, counts as the client's
 abbrev pub is_own : Side → ℕ → Bool
 is_own Client number = nat_lt number client_range.end
 is_own Server number = nat_le server_range.first number

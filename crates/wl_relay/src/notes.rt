@@ -151,7 +151,7 @@ pub fn described<'t>(
     })
 }
 
-/// Whether the number is one of those that the side gives out, or 0.
+/// Whether the number is one of those that the side gives out. 0, which is nobody's, counts as the client's.
 fn is_own(side: Side, number: u32) -> bool
     ensures { result ≡ is_own side number }
 {
