@@ -126,8 +126,8 @@ abbrev pub KeepsOtherWay : Side → RelayState → RelayState → Type 0
 KeepsOtherWay side before after =
     (to_send side after ≡ to_send side before) × (to_read (other_side side) after ≡ to_read (other_side side) before)
 
--- This was taken out for the side, with at most 28 tokens. It was the first that was to be sent to it: what was made ready, or, if
--- nothing was, all that one send takes. Nothing else is changed.
+-- This was taken out for the side, with at most 28 tokens. It was the first that was to be sent to it: what was made ready first; if
+-- nothing was, exactly what one send takes. Nothing else is changed.
 pub record TakesOut (side : Side) (out : Queue) (before after : RelayState) : Type 0 where
   pub first : joined out (to_send side after) ≡ to_send side before
   pub few : length out.tokens ≤ 28
