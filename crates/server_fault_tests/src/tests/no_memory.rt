@@ -104,7 +104,7 @@ fn is_looked_up(server: &Server) -> bool {
     let mut count = 0u32;
     server.with_all_clients(|_| count = count.wrapping_add(1));
     server.visit_clients(&mut |_| count = count.wrapping_add(1));
-    let has_clients = count == 4 && server.all_clients().count() == 2;
+    let has_clients = count == 4;
     has_clients
         && server.next_client_id().is_some()
         && server.get_client_data(&FIRST.id()).is_ok()
@@ -118,12 +118,10 @@ fn are_objects_looked_up(server: &Server) -> bool {
     let mut count = 0u32;
     let answer = server.with_all_objects_for(&FIRST.id(), |_| count = count.wrapping_add(1));
     let visited = server.visit_objects(&FIRST.id(), &mut |_| count = count.wrapping_add(1));
-    let walked = server.all_objects_for(&FIRST.id()).map(|walk| walk.count());
     // The display, the registry, what is bound, and what was made.
     answer.is_ok()
         && visited.is_ok()
         && count == 8
-        && walked == Ok(4)
         && server.object_info(&MADE.id()).is_ok()
         && server.get_client(&MADE.id()).is_ok()
         && server.get_object_data(&MADE.id()).is_ok()
