@@ -6,7 +6,6 @@ mod errors;
 mod log_text;
 mod longest;
 mod looked_up;
-mod numbered;
 mod refused;
 mod strings;
 mod tables;

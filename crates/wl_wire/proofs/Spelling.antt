@@ -1,6 +1,5 @@
 -- What is written is read back, and so alone.
 pub mod CursorLaws
 pub mod RoundTrip
-pub mod MapIdsLaws
 pub mod MatchingLaws
 pub mod FrontLaws

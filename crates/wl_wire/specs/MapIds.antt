@@ -1,5 +1,5 @@
--- Replacing the ids of a message.
-use Rattle.std.specs.Prelude.{◌≡◌, ℕ, List, [], ◌∷◌, map}
+-- Replacing the ids of a message by their numbers.
+use Rattle.std.specs.Prelude.{ℕ, map}
 use Rattle.wl_wire.specs.declared.argument.Argument.{Argument}
 use Rattle.wl_wire.specs.declared.argument.Argument.TheVariants as arg
 use Rattle.wl_wire.specs.declared.argument.Token.{Token}
@@ -21,27 +21,3 @@ with_ids object_id new_id (arg.Fd t) = arg.Fd t
 abbrev pub numbered : {Id : Type 0} → (Id → ℕ) → (Id → ℕ) → Message Id Token → WireMessage
 numbered object_id new_id m =
     record { sender = object_id m.sender_id; opcode = m.opcode; args = map (with_ids object_id new_id) m.args.items }
-
--- the closure answers as the function does, in each state of the closure
-abbrev pub AnswersAs : {Id New F : Type 0} → (F → Id → New → F → Type 0) → (Id → New) → Type 0
-AnswersAs {Id = Id} {New = New} {F = F} step answer = (f f' : F) (a : Id) (b : New) → step f a b f' → b ≡ answer a
-
-module _ {Id New Fd F G : Type 0} (object_step : F → Id → New → F → Type 0) (new_step : G → Id → New → G → Type 0) where
-  -- The id of an object is replaced by what a call of the first closure gave for it, that of a new object by what a call
-  -- of the second gave; all else stays. The calls took the closures from f to f' and from g to g'.
-  abbrev pub MapsId : F → G → Argument Id Fd → Argument New Fd → F → G → Type 0
-  MapsId f g (arg.Object a) (arg.Object b) f' g' = object_step f a b f' × (g' ≡ g)
-  MapsId f g (arg.NewId a) (arg.NewId b) f' g' = new_step g a b g' × (f' ≡ f)
-  MapsId f g (arg.Int x) (arg.Int y) f' g' = (y ≡ x) × (f' ≡ f) × (g' ≡ g)
-  MapsId f g (arg.Uint x) (arg.Uint y) f' g' = (y ≡ x) × (f' ≡ f) × (g' ≡ g)
-  MapsId f g (arg.Fixed x) (arg.Fixed y) f' g' = (y ≡ x) × (f' ≡ f) × (g' ≡ g)
-  MapsId f g (arg.Str x) (arg.Str y) f' g' = (y ≡ x) × (f' ≡ f) × (g' ≡ g)
-  MapsId f g (arg.Array x) (arg.Array y) f' g' = (y ≡ x) × (f' ≡ f) × (g' ≡ g)
-  MapsId f g (arg.Fd x) (arg.Fd y) f' g' = (y ≡ x) × (f' ≡ f) × (g' ≡ g)
-  MapsId f g _ _ f' g' = ⊥
-
-  -- each argument, from left to right
-  abbrev pub MapsIds : F → G → List (Argument Id Fd) → List (Argument New Fd) → F → G → Type 0
-  MapsIds f g [] [] f' g' = (f' ≡ f) × (g' ≡ g)
-  MapsIds f g (a ∷ args) (b ∷ new) f' g' = (h : F) × (k : G) × MapsId f g a b h k × MapsIds h k args new f' g'
-  MapsIds f g _ _ f' g' = ⊥

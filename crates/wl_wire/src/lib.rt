@@ -11,7 +11,7 @@
 //! | `write_to_buffers`, `write_numbered`, `write_once`, `message_size`, `numbered_size` | `write` | `Message`, `MapIds` |
 //! | `parse_message`, `parse_into`, `peek_into`, `message_header`, `message_is_there`, `fd_places` | `parse` | `Parse`, `Reading`, `Argument` |
 //! | `Protocol`, `check_for_signature`, `same_interface` | `protocol`, `table_check` | `Table`, `Argument`, `MessageRows` |
-//! | `Message::map_ids`, `Message::map_fd` | `map_ids`, `message` | `MapIds`, `MapFd` |
+//! | `Message::map_fd` | `message` | `MapFd` |
 //! | `push_message`, `push_argument`, `KnownObjects` | `log_text` | `LogText` |
 //! | `WEnum`, `WaylandEnum` | `enums` | `Enum` |
 //!
@@ -33,7 +33,6 @@ mod error;
 mod interface;
 pub mod laws;
 mod log_text;
-mod map_ids;
 mod message;
 mod numbering;
 mod parse;
