@@ -9,7 +9,7 @@ use Rattle.std.specs.Int.{bit_at, trailing_zeros, w64}
 use Rattle.std.proofs.Math.Seq.{take-append_seam}
 use Rattle.std.proofs.Math.Nat.{pow-succ'}
 use Rattle.wl_link.specs.Inside.PlaceList.{place, IsFirstFree, free_flag, ShowsFree, WordsReadIn}
-use Rattle.wl_link.specs.Inside.FreeTree.{word, is_set, as_bit, flags_above, IsLevel, IsTree, changed, IsLeast, FindsLeast, lowest_bit, with_first, height, reads_of, IsHeight, words_of, is_ready, has_capacity, is_one_word, ClearsBelow, TakesLeast, ChangesFlag}
+use Rattle.wl_link.specs.Inside.FreeTree.{word, is_set, as_bit, flags_above, IsLevel, IsTree, changed, IsLeast, FindsLeast, lowest_bit, with_first, height, reads_of, IsHeight, words_of, is_ready, has_capacity, is_one_word, ClearsBelow, TakesLeast, ChangesFlag, HasFlag, IsWholeTree, IsLeastOf}
 
 -- ---- bits and flags
 
@@ -360,6 +360,142 @@ pub reads_none : (flag : ℕ → Bool) (count before after : ℕ) (words : List 
 reads_none flag count before after words up more (c, over) e =
     let some = some_height up _ _ (within_above (length words) 0 more (omega arith)) over in
     e ∙ ap (λ (b : Bool). before + cond b 0 1) (ne_eqb (height up) 0 (λ z. omega arith) ∙ sym (ne_eqb (height (words ∷ up)) 0 (λ z. omega (arith, height_of words up (omega arith)))))
+
+-- ---- two levels, of which the upper is one word
+
+-- the levels over them have no words
+pub closed : (words tops : List ℕ) (up : List (List ℕ)) (flag : ℕ → Bool) (count : ℕ) → length tops ≡ 1
+    → IsTree flag count (words ∷ tops ∷ up) → IsTree flag count (words ∷ tops ∷ [])
+closed words tops up flag count one (level, (above, over)) = (level, (above, above_one (length tops) (omega arith)))
+
+reopened : (words tops words' tops' : List ℕ) (up : List (List ℕ)) (flag flag' : ℕ → Bool) (count : ℕ) → length tops ≡ 1 → length tops' ≡ 1
+    → IsTree flag count (words ∷ tops ∷ up) → IsTree flag' count (words' ∷ tops' ∷ []) → IsTree flag' count (words' ∷ tops' ∷ up)
+reopened words tops words' tops' up flag flag' count one one' (level, (above, over)) (level', (above', over')) = (
+  level',
+  (
+    above',
+    subst (λ (n : ℕ). IsTree (λ w. is_set (word tops' w)) n up) (sym over')
+        (no_flags up _ _ (subst (λ (n : ℕ). IsTree (λ w. is_set (word tops w)) n up) (above_one (length tops) (omega arith)) over)),
+  ),
+)
+
+pub more_of_two : (words tops : List ℕ) (up : List (List ℕ)) (flag : ℕ → Bool) (count : ℕ) → length tops ≡ 1
+    → IsTree flag count (words ∷ tops ∷ up) → 1 < length words
+more_of_two words tops up flag count one (level, (above, over)) =
+    let len = above.len in
+    elim (cases_lt 1 (length words)) [
+      | inl more ↦ more
+      | inr few ↦ let none = above_one (length words) few in absurd (omega arith)
+    ]
+
+least_above : (flag : ℕ → Bool) (count : ℕ) (words tops : List ℕ) (found : Option ℕ) → length tops ≡ 1 → found ≡ lowest_bit 0 (word tops 0)
+    → IsTree flag count (words ∷ tops ∷ []) → FindsLeast (λ w. is_set (word words w)) (flags_above (length words)) found
+least_above flag count words tops found one e (level, (above, over)) =
+    subst (FindsLeast (λ w. is_set (word words w)) (flags_above (length words))) (sym e) (least_top _ (flags_above (length words)) tops above one)
+
+pub none_of_two : (flag : ℕ → Bool) (count : ℕ) (words tops : List ℕ) → length tops ≡ 1 → None ≡ lowest_bit 0 (word tops 0)
+    → IsTree flag count (words ∷ tops ∷ []) → FindsLeast flag count None
+none_of_two flag count words tops one e tree =
+    let more = more_of_two words tops [] flag count one tree in
+    let none = least_above flag count words tops None one e tree in
+    none_in flag count words tree.0 (λ w l. is_zero (word words w) (none w (within_above (length words) w more l)))
+
+pub some_of_two : (flag : ℕ → Bool) (count : ℕ) (words tops : List ℕ) (at : ℕ) → length tops ≡ 1 → Some at ≡ lowest_bit 0 (word tops 0)
+    → IsTree flag count (words ∷ tops ∷ []) → FindsLeast flag count (lowest_bit at (word words at))
+some_of_two flag count words tops at one e tree = least_under flag count words at tree.0 (least_above flag count words tops (Some at) one e tree)
+
+-- where the upper word has a bit, the word that it tells of is one
+pub row_of_two : (flag : ℕ → Bool) (count : ℕ) (words tops : List ℕ) (at : ℕ) → length tops ≡ 1 → Some at ≡ lowest_bit 0 (word tops 0)
+    → IsTree flag count (words ∷ tops ∷ []) → at < length words
+row_of_two flag count words tops at one e tree = let least = least_above flag count words tops (Some at) one e tree in within_words words at least.here
+
+two_high : (words tops : List ℕ) (up : List (List ℕ)) (flag : ℕ → Bool) (count : ℕ) → length tops ≡ 1 → IsTree flag count (words ∷ tops ∷ up)
+    → height (words ∷ tops ∷ up) ≡ 2
+two_high words tops up flag count one tree =
+    let more = more_of_two words tops up flag count one tree in
+    let none = no_height up _ (subst (λ (n : ℕ). IsTree (λ w. is_set (word tops w)) n up) (above_one (length tops) (omega arith)) tree.1.1) in
+    omega (arith, height_of words (tops ∷ up) (omega arith), height_of tops up (omega arith))
+
+same_reads : (found : Option ℕ) (levels others : List (List ℕ)) → height levels ≡ height others → reads_of found levels ≡ reads_of found others
+same_reads (Some n) levels others e = e
+same_reads None levels others e = ap (λ (h : ℕ). cond (eqb h 0) 0 1) e
+
+pub reads_two_none : (flag : ℕ → Bool) (count before after : ℕ) (words tops : List ℕ) → length tops ≡ 1 → IsTree flag count (words ∷ tops ∷ [])
+    → after ≡ before + 1 → after ≡ before + reads_of None (words ∷ tops ∷ [])
+reads_two_none flag count before after words tops one tree e =
+    let high = two_high words tops [] flag count one tree in
+    e ∙ ap (λ (b : Bool). before + cond b 0 1) (sym (ne_eqb (height (words ∷ tops ∷ [])) 0 (λ z. omega arith)))
+
+pub reads_two_some : (flag : ℕ → Bool) (count before after : ℕ) (words tops : List ℕ) (at : ℕ) (found : Option ℕ) → length tops ≡ 1
+    → Some at ≡ lowest_bit 0 (word tops 0) → found ≡ lowest_bit at (word words at) → IsTree flag count (words ∷ tops ∷ [])
+    → after ≡ before + 2 → after ≡ before + reads_of found (words ∷ tops ∷ [])
+reads_two_some flag count before after words tops at found one e f tree g =
+    let high = two_high words tops [] flag count one tree in
+    let least = least_above flag count words tops (Some at) one e tree in
+    let some : found ≡ Some (64 * at + trailing_zeros w64 (word words at)) =
+    f ∙ ap (λ (b : Bool). cond b None (Some (64 * at + trailing_zeros w64 (word words at)))) (ne_eqb (word words at) 0 (λ z. omega (arith, not_zero _ least.here))) in
+    g ∙ ap (λ (k : ℕ). before + k) (sym high) ∙ ap (λ o. before + reads_of o (words ∷ tops ∷ [])) (sym some)
+
+pub reads_of_two : (flag : ℕ → Bool) (count before after : ℕ) (words tops : List ℕ) (up : List (List ℕ)) (found : Option ℕ) → length tops ≡ 1
+    → IsTree flag count (words ∷ tops ∷ up) → after ≡ before + reads_of found (words ∷ tops ∷ []) → after ≡ before + reads_of found (words ∷ tops ∷ up)
+reads_of_two flag count before after words tops up found one tree e =
+    e ∙ ap (λ (k : ℕ). before + k) (same_reads found (words ∷ tops ∷ []) (words ∷ tops ∷ up)
+    (two_high words tops [] flag count one (closed words tops up flag count one tree) ∙ sym (two_high words tops up flag count one tree)))
+
+pub few_of_two : (flag : ℕ → Bool) (count before : ℕ) (words tops : List ℕ) (up : List (List ℕ)) → length tops ≡ 1
+    → IsTree flag count (words ∷ tops ∷ up) → before + height (words ∷ tops ∷ up) < 4294967296 → before + 2 < 4294967296
+few_of_two flag count before words tops up one tree l = let high = two_high words tops up flag count one tree in omega arith
+
+pub marked_two : (flag : ℕ → Bool) (count : ℕ) (words tops : List ℕ) (at before new top new_top : ℕ) (on : Bool) → at < count → length tops ≡ 1
+    → new < 2 ^ 64 → before ≡ get_or words (at / 64) before → bit_at new (at % 64) ≡ as_bit on
+    → ((i : ℕ) → i < 64 → i ≢ at % 64 → bit_at new i ≡ bit_at before i)
+    → new_top < 2 ^ 64 → top ≡ get_or tops 0 top → bit_at new_top (at / 64) ≡ as_bit (is_set new)
+    → ((i : ℕ) → i < 64 → i ≢ at / 64 → bit_at new_top i ≡ bit_at top i)
+    → IsTree flag count (words ∷ tops ∷ []) → IsTree (changed flag at on) count (set words (at / 64) new ∷ set tops 0 new_top ∷ [])
+marked_two flag count words tops at before new top new_top on inside one small was here others small' was' here' others' (level, (above, over)) =
+    let len = level.len in
+    let high = above.len in
+    let more = more_of_two words tops [] flag count one (level, (above, over)) in
+    let row : at / 64 < length words = omega arith in
+    let wide = above_more (length words) more in
+    let first : 0 ≡ at / 64 / 64 = omega arith in
+    let rest : at / 64 ≡ at / 64 % 64 = omega arith in (
+      marked flag count words at before new on inside small was here others level,
+      mark_over words (set tops 0 new_top ∷ []) (at / 64) new row more (
+        subst (λ (k : ℕ). IsLevel (changed (λ w. is_set (word words w)) (at / 64) (is_set new)) (flags_above (length words)) (set tops k new_top)) (sym first)
+            (marked (λ w. is_set (word words w)) (flags_above (length words)) tops (at / 64) top new_top (is_set new) (within_above (length words) (at / 64) more row) small'
+            (was' ∙ ap (λ (k : ℕ). get_or tops k top) first) (ap (bit_at new_top) (sym rest) ∙ here') (λ i l n. others' i l (λ e. n (e ∙ rest))) above),
+        mark_top tops [] 0 new_top (omega arith) over,
+      ),
+    )
+
+pub row_within : (flag : ℕ → Bool) (count : ℕ) (words tops : List ℕ) (at : ℕ) → length tops ≡ 1 → at < count
+    → IsTree flag count (words ∷ tops ∷ []) → (at / 64 < length words) × (at / 64 < 64)
+row_within flag count words tops at one inside tree =
+    let len = tree.0.len in
+    let high = tree.1.0.len in
+    let more = more_of_two words tops [] flag count one tree in
+    let wide = above_more (length words) more in
+    (omega arith, omega arith)
+
+pub has_least : (levels : List (List ℕ)) (at : ℕ) → IsWholeTree levels → IsLeastOf levels (Some at) → HasFlag at levels
+has_least levels at (flag, count, small, past, tree) least = (flag, count, within, tree)
+  where
+    within : at < count
+    within =
+        elim (cases_lt at count) [
+          | inl l ↦ l
+          | inr g ↦ let found = least flag count tree in absurd (true≢false (sym found.here ∙ past at g))
+        ]
+
+pub takes_two : (end : ℕ) (words tops words' tops' : List ℕ) (up : List (List ℕ)) (answer : Option ℕ) → length tops ≡ 1 → length tops' ≡ 1
+    → TakesLeast end (words ∷ tops ∷ []) answer (words' ∷ tops' ∷ []) → TakesLeast end (words ∷ tops ∷ up) answer (words' ∷ tops' ∷ up)
+takes_two end words tops words' tops' up None one one' e = ap (λ ls. ls ++ up) e
+takes_two end words tops words' tops' up (Some at) one one' (less, more) = (
+  λ l. λ flag count inside tree.
+      reopened words tops words' tops' up flag _ count one one' tree (less l flag count inside (closed words tops up flag count one tree)),
+  λ l. ap (λ ls. ls ++ up) (more l),
+)
 
 -- ---- lists of vectors
 

@@ -263,6 +263,10 @@ grown_capacity l = if nat_le l.incoming_capacity (length l.incoming.bytes) && na
 abbrev pub free_room : {T : Type 0} → LinkState T → ℕ
 free_room l = grown_capacity l - length l.incoming.bytes
 
+-- the buffer has no byte free, and grows no more
+abbrev pub IsFull : {T : Type 0} → LinkState T → Type 0
+IsFull l = (length l.incoming.bytes ≡ l.incoming_capacity) × (incoming_limit l.limit ≤ l.incoming_capacity)
+
 -- One receive is offered the free part of the buffer, which may have been doubled first, and gives this.
 abbrev pub FilledBy : {T : Type 0} → (T → ℕ → Result Queue IoFault → T → Type 0)
     → LinkState T → Result Queue IoFault → Result (Unit {0}) IoFault → LinkState T → Type 0

@@ -1,6 +1,6 @@
 //! The link: a transport with buffers.
 
-ghost use Rattle.std.specs.Prelude.{◌≡◌, ◌≢◌, ◌+◌, ◌*◌, ◌^◌, ◌<◌, ◌≤◌, ◌∷◌, List, [], length, map, take, ◌↔◌, nat_le, if◌then◌else◌, IsTrue, Some, Ok, Err, IfOk, IfErr, OnOk, OnErr, MatchOption, MatchResult};
+ghost use Rattle.std.specs.Prelude.{◌≡◌, ◌≢◌, ◌+◌, ◌-◌, ◌*◌, ◌^◌, ◌<◌, ◌≤◌, ◌∷◌, List, [], length, map, take, ◌↔◌, nat_le, if◌then◌else◌, IsTrue, Some, Ok, Err, IfOk, IfErr, OnOk, OnErr, MatchOption, MatchResult};
 ghost use Rattle.std.specs.Borrow.{sem};
 ghost use Rattle.std.specs.VecDeque.{deque_capacity, deque_len};
 ghost use Rattle.wl_wire.specs.Argument.{Matches};
@@ -10,10 +10,10 @@ ghost use Rattle.wl_wire.specs.declared.error.MessageParseError.TheVariants as p
 ghost use Rattle.wl_wire.specs.Parse.{IsInline, IsThere, IsWhole, ReadsMessage, RefusesMessage, length_of, opcode_of, payload_of, sender_of};
 ghost use Rattle.wl_wire.specs.Reading.{IsWord};
 ghost use Rattle.wl_link.specs.Puts.{PutsOut, Said, messages_of};
-ghost use Rattle.wl_link.specs.Link.{number_message, IsFresh, LimitSet, Flushed, Filled, Grown, Wants, Put, Placed, Wrote, ReadOne, looked_up, read_content, read_into, needed, has_room, ignoring, counted_answer, grown_capacity, with_incoming, after_first, FindsRoom, LacksBytes};
+ghost use Rattle.wl_link.specs.Link.{number_message, IsFresh, LimitSet, Flushed, Filled, Grown, Wants, Put, Placed, Wrote, ReadOne, looked_up, read_content, read_into, needed, has_room, ignoring, counted_answer, grown_capacity, free_room, with_incoming, after_first, FindsRoom, IsFull, LacksBytes};
 ghost use Rattle.wl_link.specs.NothingLost.{FlushKeeps, FlushDrains, WriteKeeps};
 ghost use Rattle.wl_link.specs.Sides.{ReadTakes};
-ghost use Rattle.wl_link.specs.Inside.WaitingBytes.{FitsUnder, grown_to, write_answer_of};
+ghost use Rattle.wl_link.specs.Inside.WaitingBytes.{FitsUnder, IsFullUnder, grown_to, write_answer_of};
 
 mod hand_on;
 
@@ -525,6 +525,9 @@ impl<T: Transport> BufferedSocket<T> {
         ensures filled { Filled T.receives self.old result self.new }
         ensures room { result ≢ Err IoFault.OutOfMemory → FindsRoom self.old self.new.incoming_capacity }
         ensures doubled { FindsRoom self.old (grown_capacity self.old) }
+
+        // A receive is offered no byte only if the buffer is full, and as large as it may become.
+        ensures full { (free_room self.old ≡ 0) ↔ IsFull self.old }
     {
         let size = size_with_room(&self.incoming, self.limit);
         let Ok(()) = reserve_tokens(&mut self.fds_in) else {
@@ -555,6 +558,7 @@ fn size_with_room(incoming: &Buffer, limit: Option<usize>) -> usize
     ensures is { result ≡ grown_to limit incoming.now }
     ensures room { LacksBytes incoming.now.bytes → FitsUnder limit incoming.now.bytes → length incoming.now.bytes < result }
     ensures no_less { incoming.now.size ≤ result }
+    ensures full { (grown_to limit incoming.now - length incoming.now.bytes ≡ 0) ↔ IsFullUnder limit incoming.now }
 {
     let size = incoming.size();
     if incoming.len() < size || size >= incoming_limit(limit) {

@@ -5,7 +5,7 @@
 
 ghost use Rattle.std.specs.Prelude.{◌≡◌, ◌≢◌, ◌+◌, ◌%◌, ◌<◌, ◌≤◌, ℕ, Bool, true, false, [], ◌∷◌, ◌++◌, length, Vec, vec_len, OnErr, OnOk, IfOk};
 ghost use Rattle.std.specs.Int.{bit_at};
-ghost use Rattle.wl_link.specs.Inside.FreeTree.{word, as_bit, has_capacity, is_ready, lowest_bit, with_first, words_of, height, reads_of, IsTree, IsSomeTree, IsWholeTree, ClearsBelow, TakesLeast, HasFlag, HasHeight, IsLeastOf, is_one_word, KeepsFlags, ChangesFlag, AddsFlag, RoomMade};
+ghost use Rattle.wl_link.specs.Inside.FreeTree.{word, as_bit, has_capacity, is_ready, lowest_bit, with_first, words_of, height, reads_of, IsTree, IsSomeTree, IsWholeTree, ClearsBelow, TakesLeast, HasFlag, HasHeight, IsLeastOf, is_one_word, is_one_word_above, KeepsFlags, ChangesFlag, AddsFlag, RoomMade};
 
 use std::alloc::{AllocError, Global};
 
@@ -219,6 +219,16 @@ fn has_one_word(levels: &[Vec<u64>]) -> bool
     }
 }
 
+/// Whether the level above the lowest is one word, which is then the highest level.
+fn has_one_word_above(levels: &[Vec<u64>]) -> bool
+    ensures { result ≡ is_one_word_above (words_of levels.now) }
+{
+    match levels.split_first() {
+        Some((_words, above)) => has_one_word(above),
+        None => false,
+    }
+}
+
 /// The number of the lowest bit that is set on the lowest level; `None` if none is set. If it is below `end`, it is cleared.
 fn take_least(levels: &mut [Vec<u64>], end: usize, reads: &mut u32) -> Option<usize>
     requires few { reads.old + height (words_of levels.old) < 4294967296 }
@@ -229,9 +239,11 @@ fn take_least(levels: &mut [Vec<u64>], end: usize, reads: &mut u32) -> Option<us
     ensures ready { is_ready levels.new ≡ is_ready levels.old }
     ensures len { length levels.new ≡ length levels.old }
 {
-    // Up to 64 places have one word: the search reads it once, and clears the bit in it.
+    // Up to 64 places have one word: the search reads it once, and clears the bit in it. Up to 4096 have one word above.
     if has_one_word(levels) {
         take_from_one(levels, end, reads)
+    } else if has_one_word_above(levels) {
+        take_from_two(levels, end, reads)
     } else {
         take_least_of_many(levels, end, reads)
     }
@@ -252,6 +264,78 @@ fn take_from_one(levels: &mut [Vec<u64>], end: usize, reads: &mut u32) -> Option
         take_lowest(words, end, reads)
     } else {
         None
+    }
+}
+
+/// The same of a tree of two levels.
+fn take_from_two(levels: &mut [Vec<u64>], end: usize, reads: &mut u32) -> Option<usize>
+    requires two { is_one_word_above (words_of levels.old) ≡ true }
+    requires few { reads.old + height (words_of levels.old) < 4294967296 }
+    requires tree { IsWholeTree (words_of levels.old) }
+    ensures least { IsLeastOf (words_of levels.old) result }
+    ensures reads { reads.new ≡ reads.old + reads_of result (words_of levels.old) }
+    ensures taken { TakesLeast end (words_of levels.old) result (words_of levels.new) }
+    ensures ready { is_ready levels.new ≡ is_ready levels.old }
+    ensures len { length levels.new ≡ length levels.old }
+{
+    if let Some((words, above)) = levels.split_first_mut() {
+        if let Some((tops, _up)) = above.split_first_mut() {
+            return take_least_of_two(words, tops, end, reads);
+        }
+    }
+    None
+}
+
+/// The same of the words of the lowest level and the only word above them.
+fn take_least_of_two(
+    words: &mut Vec<u64>,
+    tops: &mut Vec<u64>,
+    end: usize,
+    reads: &mut u32,
+) -> Option<usize>
+    requires top { length tops.old.items ≡ 1 }
+    requires few { reads.old + 2 < 4294967296 }
+    requires tree { IsWholeTree (words.old.items ∷ tops.old.items ∷ []) }
+    ensures least { IsLeastOf (words.old.items ∷ tops.old.items ∷ []) result }
+    ensures reads { reads.new ≡ reads.old + reads_of result (words.old.items ∷ tops.old.items ∷ []) }
+    ensures taken { TakesLeast end (words.old.items ∷ tops.old.items ∷ []) result (words.new.items ∷ tops.new.items ∷ []) }
+    ensures lens { (vec_len words.new ≡ vec_len words.old) × (vec_len tops.new ≡ vec_len tops.old) }
+    ensures room { (has_capacity words.new ≡ has_capacity words.old) × (has_capacity tops.new ≡ has_capacity tops.old) }
+{
+    let at = least_of_two(words.as_slice(), tops.as_slice(), reads)?;
+    if at < end {
+        mark_in_two(words, tops, at, false);
+    }
+    Some(at)
+}
+
+/// The number of the lowest bit that is set on the lowest of two levels; `None` if none is set.
+fn least_of_two(words: &[u64], tops: &[u64], reads: &mut u32) -> Option<usize>
+    requires top { length tops.now ≡ 1 }
+    requires few { reads.old + 2 < 4294967296 }
+    requires tree { IsSomeTree (words.now ∷ tops.now ∷ []) }
+    ensures least { IsLeastOf (words.now ∷ tops.now ∷ []) result }
+    ensures reads { reads.new ≡ reads.old + reads_of result (words.now ∷ tops.now ∷ []) }
+{
+    match lowest(tops, 0, reads) {
+        Some(at) => lowest(words, at, reads),
+        None => None,
+    }
+}
+
+/// Sets or clears a bit of the lowest of two levels, and then the bit of its word above, as `mark` does.
+fn mark_in_two(words: &mut Vec<u64>, tops: &mut Vec<u64>, at: usize, is_set: bool)
+    requires top { length tops.old.items ≡ 1 }
+    requires tree { HasFlag at (words.old.items ∷ tops.old.items ∷ []) }
+    ensures tree { ChangesFlag at is_set (words.old.items ∷ tops.old.items ∷ []) (words.new.items ∷ tops.new.items ∷ []) }
+    ensures lens { (vec_len words.new ≡ vec_len words.old) × (vec_len tops.new ≡ vec_len tops.old) }
+    ensures room { (has_capacity words.new ≡ has_capacity words.old) × (has_capacity tops.new ≡ has_capacity tops.old) }
+{
+    let before = words[at / 64];
+    let word = with_bit(before, at % 64, is_set);
+    words[at / 64] = word;
+    if (before == 0) != (word == 0) {
+        tops[0] = with_bit(tops[0], at / 64, word != 0);
     }
 }
 

@@ -51,6 +51,11 @@ abbrev pub is_one_word : List (List ℕ) → Bool
 is_one_word [] = false
 is_one_word (words ∷ up) = length words == 1
 
+-- the level above the lowest is one word
+abbrev pub is_one_word_above : List (List ℕ) → Bool
+is_one_word_above [] = false
+is_one_word_above (words ∷ up) = is_one_word up
+
 -- ---- a search
 
 -- the least number whose flag is set

@@ -39,6 +39,10 @@ Received receives before waiting size answer after waiting' =
 abbrev pub grown_to : Option ℕ → Waiting → ℕ
 grown_to limit w = if nat_le w.size (length w.bytes) && nat_lt w.size (incoming_limit limit) then w.size * 2 else w.size
 
+-- no byte is free, and the buffer grows no more under the limit
+abbrev pub IsFullUnder : Option ℕ → Waiting → Type 0
+IsFullUnder limit w = (length w.bytes ≡ w.size) × (incoming_limit limit ≤ w.size)
+
 -- the message at the front is no longer than the incoming buffer may become, under a limit
 abbrev pub FitsUnder : Option ℕ → List ℕ → Type 0
 FitsUnder limit bytes = 8 ≤ length bytes → length_of bytes ≤ incoming_limit limit
