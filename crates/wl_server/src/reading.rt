@@ -17,6 +17,7 @@ pub mod respond;
 pub mod response;
 pub mod sync;
 pub mod texts;
+pub mod words;
 
 use crate::globals::KeptGlobal;
 use crate::ids::client_id::ClientId;

@@ -210,6 +210,11 @@ impl<T: Transport + Drop, U: Drop, C: Drop> Client<T, U, C> {
         if self.answer_sync(around, reading, header) {
             return MessageEnd::Continues;
         }
+        // Most requests have few arguments, all of them words.
+        if let Some(request) = self.take_words(around, reading, header, args) {
+            *found = Found::Request(request.0, header.1, request.1, None);
+            return MessageEnd::Acts;
+        }
         let end = self.handle_at(numbers, around, reading, header, message, found, args);
         clear_message(message);
         end
