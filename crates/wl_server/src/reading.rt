@@ -7,6 +7,7 @@ pub mod action;
 pub mod arguments;
 pub mod display;
 pub mod finish;
+pub mod lent;
 pub mod message;
 pub mod next_action;
 pub mod open_place;
