@@ -1,5 +1,5 @@
 -- A request of words that is handed out where it stands is handled as any other.
-use Rattle.std.proofs.Common.{◌≡◌, ◌∙◌, ℕ, ◌+◌, ◌*◌, ◌<◌, ◌≤◌, Bool, true, false, ◌==◌, nat_le, nat_lt, if◌then◌else◌, List, [], ◌∷◌, ◌++◌, append-nil, append_assoc, drop, length, take, Option, None, Some, option_map, Result, Ok, Err, refl, sym, ap, ap₂, subst, arith, true≢false}
+use Rattle.std.proofs.Common.{◌≡◌, ◌∙◌, ℕ, ◌*◌, ◌<◌, ◌≤◌, Bool, true, false, ◌==◌, nat_le, nat_lt, if◌then◌else◌, List, [], ◌∷◌, ◌++◌, append-nil, append_assoc, drop, length, take, Option, None, Some, option_map, Result, Ok, Err, refl, sym, ap, ap₂, subst, arith, true≢false}
 use Rattle.std.proofs.lemmas.List.{length-drop, length-take-le, take-append-drop}
 use Rattle.std.proofs.lemmas.Bool.{and_parts, le-leb, le-ltb, leb-true, lt-leb}
 use Rattle.std.specs.Int.{w32, cast_signed}
@@ -15,14 +15,14 @@ use Rattle.wl_wire.specs.declared.interface.InterfaceId.{InterfaceId}
 use Rattle.wl_wire.specs.Argument.{WireArgument}
 use Rattle.wl_wire.specs.Message.{WireMessage, token}
 use Rattle.wl_wire.specs.MessageRows.{next_interface}
-use Rattle.wl_wire.specs.Parse.{IsWhole, fd_count, length_of, opcode_of, payload_of, sender_of}
+use Rattle.wl_wire.specs.Parse.{IsWhole, fd_count, length_of, opcode_of, sender_of}
 use Rattle.wl_wire.specs.Reading.{IsPiece, IsWord, Reads as ReadsArgs}
 use Rattle.wl_wire.specs.Table.{InterfaceRow, MessageRow, display_id, registry_id}
 use Rattle.wl_link.specs.declared.object.Object.{Object}
 use Rattle.wl_link.specs.Exchange.{Queue}
 use Rattle.wl_link.specs.Identity.{Objects}
-use Rattle.wl_link.specs.Link.{LinkState, after_first, with_incoming}
-use Rattle.wl_link.specs.Reader.{ReadsAs, Takes, Verdict}
+use Rattle.wl_link.specs.Link.{LinkState, with_incoming}
+use Rattle.wl_link.specs.Reader.{ReadsAs, Takes}
 use Rattle.wl_link.specs.Store.{Store, held}
 use Rattle.wl_server.specs.declared.objects.Kept.{Kept}
 use Rattle.wl_server.specs.declared.reading.action.OpenAction.{OpenAction}
@@ -34,12 +34,12 @@ use Rattle.wl_server.specs.declared.reading.response.RequestFault.TheVariants as
 use Rattle.wl_server.specs.Deeds.{Handed, Request}
 use Rattle.wl_server.specs.Ids.{ClientParts, IdParts}
 use Rattle.wl_server.specs.Inside.ReadingLoop.{Acts, HandlesMessage, IsHandled, IsSenderOf, Live, counted, linked}
-use Rattle.wl_server.specs.Inside.Words.{WordsWait, asked_after, first_word, handed_object, handed_word, handed_words, held_fits, held_id, object_fits, word_fits, words_fit}
+use Rattle.wl_server.specs.Inside.Words.{MayStand, WordsWait, asked_after, first_word, handed_object, handed_word, handed_words, held_fits, held_id, object_fits, word_fits, words_fit}
 use Rattle.wl_server.specs.Part.{id_at, null_id}
 use Rattle.wl_server.specs.Reading.{Around, hands_out, request, row_in, server}
-use Rattle.wl_server.specs.Requests.{Converting, Whole, allows_null, convert, convert_one, going_on, object_argument, object_found, start, with_object_argument}
+use Rattle.wl_server.specs.Requests.{Converting, Whole, allows_null, convert, convert_one, going_on, object_argument, object_found, with_object_argument}
 use Rattle.wl_server.specs.Server.{Stored}
-use Rattle.wl_server.specs.Telling.{Core, Told, core_of, objects_in, reader_part}
+use Rattle.wl_server.specs.Telling.{Core, core_of, objects_in, reader_part}
 use Rattle.wl_server.proofs.Readings.Handling.{handed_out}
 use Rattle.wl_server.proofs.Readings.OneMessage.{message_handled}
 use Rattle.wl_server.proofs.Readings.Syncing.{taken}
@@ -164,24 +164,19 @@ module _ {T U : Type 0} (table : List InterfaceRow) (store : Store (Kept U)) (li
 
   pub words_wait : IsWhole raw → front ≡ take (length_of raw) raw → payload ≡ drop 8 front
       → Some row ≡ row_in table (held store (sender_of raw)) (opcode_of raw) → ((x : Object (Kept U)) → held store (sender_of raw) ≡ Some x → IsSenderOf sender x)
-      → (sender.interface.0 == display_id.0) ≡ false → (sender.interface.0 == registry_id.0) ≡ false → row.since ≤ sender.version
-      → length row.signature ≤ 4 → words_fit store row.signature row.arg_interfaces payload ≡ true → WordsWait table store link row sender payload
-  words_wait whole front_is payload_is asked is_sender no_display no_registry since few fit =
+      → MayStand row sender → words_fit store row.signature row.arg_interfaces payload ≡ true → WordsWait table store link row sender payload
+  words_wait whole front_is payload_is asked is_sender stands fit =
       let x = receiver_of table (held store (sender_of raw)) (opcode_of raw) row asked in
       record {
         receiver = x.0;
         holds = x.1;
         is_sender = is_sender x.0 x.1;
         has = ap (λ o. row_in table o (opcode_of raw)) (sym x.1) ∙ sym asked;
-        no_display = no_display;
-        no_registry = no_registry;
-        since = since;
-        few = few;
+        stands = stands;
         whole = whole;
         payload = payload_is ∙ ap (drop 8) front_is;
         fit = fit;
       }
-
 
 module _ {T U G C : Type 0} (sends : T → Queue → Result ℕ IoFault → T → Type 0) (receives : T → ℕ → Result Queue IoFault → T → Type 0) (a : Around G C)
     (s : Stored T U C) (row : MessageRow) (sender : Sender) (payload : List ℕ) (live : Live s.part)
@@ -233,13 +228,13 @@ module _ {T U G C : Type 0} (sends : T → Queue → Result ℕ IoFault → T �
       )
 
   no_display : (waits.receiver.interface.0 == display_id.0) ≡ false
-  no_display = ap (λ (i : InterfaceId). i.0 == display_id.0) waits.is_sender.1 ∙ waits.no_display
+  no_display = ap (λ (i : InterfaceId). i.0 == display_id.0) waits.is_sender.1 ∙ waits.stands.no_display
 
   no_registry : (waits.receiver.interface.0 == registry_id.0) ≡ false
-  no_registry = ap (λ (i : InterfaceId). i.0 == registry_id.0) waits.is_sender.1 ∙ waits.no_registry
+  no_registry = ap (λ (i : InterfaceId). i.0 == registry_id.0) waits.is_sender.1 ∙ waits.stands.no_registry
 
   has_request : nat_lt waits.receiver.version row.since ≡ false
-  has_request = ap (λ (n : ℕ). nat_lt n row.since) waits.is_sender.2 ∙ le-ltb sender.version row.since waits.since
+  has_request = ap (λ (n : ℕ). nat_lt n row.since) waits.is_sender.2 ∙ le-ltb sender.version row.since waits.stands.since
 
   to_receiver : request a core message (Some waits.receiver) (Some row) ≡ hands_out core action handed
   to_receiver = rw (no_display, no_registry, has_request, words.3.1) refl

@@ -1,7 +1,6 @@
 -- Requests whose arguments are words: they are handed out where they stand.
 use Rattle.std.specs.Prelude.{◌≡◌, ◌≤◌, ℕ, List, [], ◌∷◌, Bool, true, false, ◌&&◌, ◌==◌, nat_le, if◌then◌else◌, Option, None, Some, length, take, drop}
 use Rattle.std.specs.Int.{w32, cast_signed, from_le_bytes}
-use Rattle.wl_wire.specs.declared.argument.AllowNull.{AllowNull}
 use Rattle.wl_wire.specs.declared.argument.Argument.{Argument}
 use Rattle.wl_wire.specs.declared.argument.Argument.TheVariants as arg
 use Rattle.wl_wire.specs.declared.argument.ArgumentType.{ArgumentType}
@@ -30,6 +29,14 @@ first_word bytes = from_le_bytes w32 (take 4 bytes)
 abbrev pub asked_after : ArgumentType → List InterfaceId → List InterfaceId
 asked_after (kind.Object _) asked = rest_of asked
 asked_after _ asked = asked
+
+-- A request of this row to an object of this kind may be handed out where it stands, if its arguments are words: the object is
+-- neither a display nor a registry, it is of a version that has the request, and there are at most four arguments.
+pub record MayStand (row : MessageRow) (sender : Sender) : Type 0 where
+  pub no_display : (sender.interface.0 == display_id.0) ≡ false
+  pub no_registry : (sender.interface.0 == registry_id.0) ≡ false
+  pub since : row.since ≤ sender.version
+  pub few : length row.signature ≤ 4
 
 module _ {U : Type 0} where
   -- ---- whether words may be handed out
@@ -79,18 +86,15 @@ module _ {U : Type 0} where
 
   -- ---- the request at the front
 
-  -- The message at the front is a request of this row to an object of this kind, which is neither a display nor a registry and
-  -- is of a version that has the request. It is there whole, and has at most four arguments, which are these words.
+  -- The message at the front is a request of this row, to an object of this kind, that is handed out where it stands. It is there
+  -- whole, and these bytes are its arguments.
   pub record WordsWait {T : Type 0} (table : List InterfaceRow) (store : Store (Kept U)) (link : LinkState T) (row : MessageRow) (sender : Sender)
       (bytes : List ℕ) : Type 0 where
     pub receiver : Object (Kept U)
     pub holds : held store (sender_of link.incoming.bytes) ≡ Some receiver
     pub is_sender : IsSenderOf sender receiver
     pub has : row_in table (Some receiver) (opcode_of link.incoming.bytes) ≡ Some row
-    pub no_display : (sender.interface.0 == display_id.0) ≡ false
-    pub no_registry : (sender.interface.0 == registry_id.0) ≡ false
-    pub since : row.since ≤ sender.version
-    pub few : length row.signature ≤ 4
+    pub stands : MayStand row sender
     pub whole : IsWhole link.incoming.bytes
     pub payload : bytes ≡ payload_of link.incoming.bytes
     pub fit : words_fit store row.signature row.arg_interfaces bytes ≡ true

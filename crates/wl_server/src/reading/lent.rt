@@ -93,8 +93,9 @@ impl<T: Transport + Drop, U: Drop, C: Drop> Client<T, U, C> {
         }
         let mut found = Found::none();
         let mut args = SmallVec::new(self.alloc());
-        let (answer, refused) =
-            self.find_action(numbers, around, reading, place, &mut found, &mut args);
+        let (answer, refused) = self.find_action(
+            numbers, around, reading, place, &mut found, &mut args,
+        );
         match answer {
             Ok(()) => {
                 *action = found.with_args(args);

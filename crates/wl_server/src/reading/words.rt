@@ -1,6 +1,6 @@
 //! Requests whose arguments are words: they are handed out where they stand, without being read into a message.
 
-ghost use Rattle.std.specs.Prelude.{◌≡◌, ◌≤◌, ◌*◌, ◌++◌, ◌∷◌, [], true, None, IfSome, MatchOption, Some, length};
+ghost use Rattle.std.specs.Prelude.{◌≡◌, ◌≤◌, ◌*◌, ◌++◌, ◌∷◌, [], true, None, IfSome, IsTrue, MatchOption, Some, length};
 ghost use Rattle.smallvec.specs.SmallVec.{HasRoomFor};
 ghost use Rattle.wl_wire.specs.MessageRows.{next_interface};
 ghost use Rattle.wl_wire.specs.Table.{message_row};
@@ -8,7 +8,7 @@ ghost use Rattle.wl_server.specs.Requests.{allows_null};
 ghost use Rattle.wl_server.specs.NoteOrder.{IsNumbered};
 ghost use Rattle.wl_server.specs.Deeds.{Request};
 ghost use Rattle.wl_server.specs.Inside.ReadingLoop.{Acts, HandlesMessage, IsHeader, Live, around_of};
-ghost use Rattle.wl_server.specs.Inside.Words.{WordsWait, asked_after, first_word, handed_object, handed_word, handed_words, object_fits, word_fits, words_fit};
+ghost use Rattle.wl_server.specs.Inside.Words.{MayStand, WordsWait, asked_after, first_word, handed_object, handed_word, handed_words, object_fits, word_fits, words_fit};
 
 use crate::client::Client;
 use crate::globals::handler::GlobalHandler;
@@ -147,6 +147,16 @@ fn put_word<U: Drop>(
     }
 }
 
+/// Empties the arguments. Most often there are none.
+fn empty(args: &mut SmallVec<Argument<ObjectId, Token>, INLINE_ARGS>)
+    ensures items { args.new.items ≡ [] }
+    ensures capacity { args.new.capacity ≡ args.old.capacity }
+{
+    if !args.is_empty() {
+        args.clear();
+    }
+}
+
 /// Puts the arguments of the request, which are words, into `args`, which is emptied first. It has room for them.
 fn put_words<U: Drop>(
     client: ClientId,
@@ -160,7 +170,7 @@ fn put_words<U: Drop>(
     ensures put { args.new.items ≡ handed_words client objects.now.store desc.now.signature.items payload.now }
     ensures capacity { args.new.capacity ≡ args.old.capacity }
 {
-    args.clear();
+    empty(args);
     let mut kinds = desc.signature.as_slice();
     let mut bytes = payload;
     while let Some((kind, others)) = kinds.split_first() {
@@ -168,6 +178,16 @@ fn put_words<U: Drop>(
         kinds = others;
         bytes = bytes.split_at(4).1;
     }
+}
+
+/// Whether a request to this object may be handed out where it stands, if its arguments are words: those to displays and
+/// registries are answered, and those that the object's version does not have are refused.
+fn may_stand(desc: &MessageDesc, sender: Sender) -> bool
+    ensures { IsTrue result → MayStand (message_row desc.now) sender }
+{
+    let is_answered = sender.interface == WL_DISPLAY_INTERFACE
+        || sender.interface == WL_REGISTRY_INTERFACE;
+    !is_answered && sender.version >= desc.since && desc.signature.len() <= INLINE_ARGS
 }
 
 /// The request at the front, which has this header, if it can be handed out where it stands: its description in the table,
@@ -185,10 +205,7 @@ fn waiting_words<'a, T: Drop, U: Drop>(
     let asked = request_desc(protocol, objects, header.0, header.1)?;
     let desc = asked.0;
     let sender = asked.1;
-    if sender.interface == WL_DISPLAY_INTERFACE || sender.interface == WL_REGISTRY_INTERFACE {
-        return None;
-    }
-    if sender.version < desc.since || desc.signature.len() > INLINE_ARGS {
+    if !may_stand(desc, sender) {
         return None;
     }
     let payload = front.split_at(8).1;

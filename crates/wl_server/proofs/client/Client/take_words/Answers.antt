@@ -5,7 +5,7 @@ use Rattle.wl_server.proofs.Readings.Words.{long_enough, words_handed}
 use Rattle.wl_server.proofs.client.Client.take_words.Goals as goal
 
 pub put_words-requires-clause-room : goal.put_words-requires-clause-room
-put_words-requires-clause-room g c = omega (arith, c.in-Some.ensures.few, c.requires.inline)
+put_words-requires-clause-room g c = omega (arith, c.in-Some.ensures.stands.few, c.requires.inline)
 
 pub put_words-requires-clause-words : goal.put_words-requires-clause-words
 put_words-requires-clause-words g c =
