@@ -221,7 +221,8 @@ impl<T: Transport + Drop, U: Drop, C: Drop> Client<T, U, C> {
     }
 
     /// Does the same as `handle_message` for a message with this header, but does not clear `message`: what is left of the
-    /// request is still in it, or the answer to a sync.
+    /// request is still in it, or the answer to a sync. It is not inlined, so that it costs nothing for a request of words.
+    #[inline(never)]
     fn handle_at<G: GlobalHandler<C> + Drop>(
         &mut self,
         numbers: &mut NoteNumbers,

@@ -219,6 +219,7 @@ impl<T: Transport + Drop, U: Drop, C: Drop> Client<T, U, C> {
     /// Hands out the request at the front, which has this header, if its arguments are at most four words and make no object.
     /// Returns the object that it was sent to and whether it is a destructor. Its arguments are in `args` then. If it is no
     /// such request, or is not complete, nothing is changed.
+    #[inline(always)]
     pub fn take_words<G: GlobalHandler<C> + Drop>(
         &mut self,
         around: &Surroundings<'_, G>,
