@@ -10,3 +10,4 @@ pub mod Handling
 pub mod Requesting
 pub mod OneMessage
 pub mod Syncing
+pub mod Words

@@ -3,6 +3,7 @@ pub mod Conversion
 pub mod ReadingLoop
 pub mod Responses
 pub mod Syncing
+pub mod Words
 pub mod Client
 pub mod Lookup
 pub mod Puts

@@ -7,6 +7,7 @@ pub mod action;
 pub mod arguments;
 pub mod display;
 pub mod finish;
+pub mod lent;
 pub mod message;
 pub mod next_action;
 pub mod open_place;
@@ -17,6 +18,7 @@ pub mod respond;
 pub mod response;
 pub mod sync;
 pub mod texts;
+pub mod words;
 
 use crate::globals::KeptGlobal;
 use crate::ids::client_id::ClientId;

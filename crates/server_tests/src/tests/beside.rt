@@ -15,6 +15,9 @@ const MADE: Thing = Thing(FIRST, 0xFF00_0000, 1, QUAD);
 /// The object that `quad.make` makes after the bind.
 const NEW: Thing = Thing(FIRST, 4, 3, QUAD);
 
+/// `quad.link`, by object 3, of object 4 and of itself.
+const LINK_OF_BOTH: [u8; 16] = [3, 0, 0, 0, 3, 0, 16, 0, 4, 0, 0, 0, 3, 0, 0, 0];
+
 /// What both runs of events tell.
 const EVENTS: &str =
     "client 0, 1\ncreated 4278190080, 1, 4 of 0\ndone\nthe interface has no event of that opcode\ndone\nInvalid Id\nInvalid Id\ndone\n00 00 00 ff 00 00 0c 00 07 00 00 00 00 00 00 ff 02 00 08 00\nout:\ninitialized 0, 1\ndestroyed 4278190080, 1, 4 of 0 with 9\n";
@@ -32,7 +35,7 @@ const ENDS: &str =
     "client 0, 1\nno action is open\nno action is open, 4 is back\nglobal 1, 1\nglobal 1, 1 bound as 3, 2, 4 of 0\nthe open action is of the other kind\nfinished\nrequest 1 to 3, 2, 4 of 0: new 4, 3, 4 of 0, which makes 4, 3, 4 of 0\nthe open action is of the other kind, 4 is back\nthe new object gets no user data\nfinished\ndata 9\ndata 5\nrequest 2 to 3, 2, 4 of 0, which ends it\nthere is no new object for the user data, 1 is back\nfinished\nInvalid Id\n";
 
 /// The runs, and what they tell.
-static ROWS: [Row; 15] = [
+static ROWS: [Row; 16] = [
     Row {
         name: "events are given",
         acts: &[
@@ -104,6 +107,23 @@ static ROWS: [Row; 15] = [
             Act::Beside(Beside::NextInto(SECOND)),
         ],
         told: READINGS,
+    },
+    // The second action has neither the new object nor the argument of the first.
+    Row {
+        name: "two actions are put at the same place",
+        acts: &[
+            Act::Do(Call::Insert(true)),
+            Act::Do(Call::Global(QUAD, 3)),
+            Act::Do(Call::Arrive(FIRST, &GET_REGISTRY)),
+            Act::Do(Call::Arrive(FIRST, &BIND)),
+            Act::Do(Call::Next(FIRST)),
+            Act::Do(Call::FinishBind(FIRST, 9)),
+            Act::Do(Call::Arrive(FIRST, &MAKE)),
+            Act::Do(Call::Arrive(FIRST, &LINK_OF_BOTH)),
+            Act::Beside(Beside::NextTwoInto(FIRST, 8)),
+            Act::Do(Call::Finish(FIRST, None)),
+        ],
+        told: "client 0, 1\nglobal 1, 1\nglobal 1, 1 bound as 3, 2, 4 of 0\nfinished\nrequest 3 to 3, 2, 4 of 0: object 4, 3, 4 of 0: object 3, 2, 4 of 0\nfinished\n",
     },
     Row {
         name: "actions of bounded readings are answered",

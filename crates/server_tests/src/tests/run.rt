@@ -58,6 +58,8 @@ pub enum Beside {
     NextInto(Who),
     /// `next_action_within_into`, with so many receives left.
     NextWithinInto(Who, u32),
+    /// `next_action_into` for a request that makes an object, whose data these are, and again into the same action.
+    NextTwoInto(Who, u32),
     /// `finish_request_returning`.
     FinishReturning(Who, Option<u32>),
     /// `finish_bind_returning`.
@@ -578,6 +580,21 @@ fn next_within_into(
     )
 }
 
+/// Reads a request into an action, finishes it with these data, reads the next one into the same action, and tells that one as
+/// a reading does.
+fn next_two_into(
+    server: &mut Server,
+    log: &mut String,
+    who: Who,
+    user_data: u32,
+) -> Result<(), Fail> {
+    let mut given = unread();
+    let _ = server.next_action_into(&who.id(), &mut given);
+    drop(server.finish_request(&who.id(), Some(user_data)));
+    let answer = server.next_action_into(&who.id(), &mut given);
+    reply(log, &Reply::NextAction(answer_with(answer, given)?))
+}
+
 /// Sends an event that is lent, and tells it as one that is given.
 fn send_lent(
     alloc: Global,
@@ -642,6 +659,7 @@ fn make_beside(
     match call {
         Beside::SendLent(event) => send_lent(alloc, server, log, event)?,
         Beside::NextInto(who) => next_into(server, log, who)?,
+        Beside::NextTwoInto(who, user_data) => next_two_into(server, log, who, user_data)?,
         Beside::NextWithinInto(who, turns_left) => {
             next_within_into(server, log, who, turns_left)?
         }

@@ -210,13 +210,19 @@ impl<T: Transport + Drop, U: Drop, C: Drop> Client<T, U, C> {
         if self.answer_sync(around, reading, header) {
             return MessageEnd::Continues;
         }
+        // Most requests have few arguments, all of them words.
+        if let Some(request) = self.take_words(around, reading, header, args) {
+            *found = Found::Request(request.0, header.1, request.1, None);
+            return MessageEnd::Acts;
+        }
         let end = self.handle_at(numbers, around, reading, header, message, found, args);
         clear_message(message);
         end
     }
 
     /// Does the same as `handle_message` for a message with this header, but does not clear `message`: what is left of the
-    /// request is still in it, or the answer to a sync.
+    /// request is still in it, or the answer to a sync. It is not inlined, so that it costs nothing for a request of words.
+    #[inline(never)]
     fn handle_at<G: GlobalHandler<C> + Drop>(
         &mut self,
         numbers: &mut NoteNumbers,

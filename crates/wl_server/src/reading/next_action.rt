@@ -260,13 +260,8 @@ impl<T: Transport + Drop, U: Drop, G: GlobalHandler<C> + Drop, C: Drop> Backend<
         ensures plain { ReadsClient self.old id.now (result_and result (Ok action.new)) self.new }
         ensures kept { OnErr result (action.new ≡ action.old) }
     {
-        match self.next_action(id) {
-            Ok(next) => {
-                *action = next;
-                Ok(())
-            }
-            Err(error) => Err(error),
-        }
+        let mut reading = Reading::new();
+        self.read_client_into(id, &mut reading, action)
     }
 
     /// Reads the next action of the client into `action`, as `next_action_within` answers it. What was there is dropped.
@@ -284,13 +279,7 @@ impl<T: Transport + Drop, U: Drop, G: GlobalHandler<C> + Drop, C: Drop> Backend<
         ensures plain { ReadsClient self.old id.now (result_and result (Ok action.new)) self.new }
         ensures kept { OnErr result (action.new ≡ action.old) }
     {
-        match self.next_action_within(id, reading) {
-            Ok(next) => {
-                *action = next;
-                Ok(())
-            }
-            Err(error) => Err(error),
-        }
+        self.read_client_into(id, reading, action)
     }
 
     /// Reads the client. An action that is handed out is in `found` then, and its arguments are in `args`.

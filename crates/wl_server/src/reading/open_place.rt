@@ -1,6 +1,7 @@
 //! The place of the open action of a client.
 
 ghost use Rattle.std.specs.Prelude.{◌≡◌, None, Some, is_some};
+ghost use Rattle.wl_server.specs.declared.reading.action.OpenAction.TheVariants as opened;
 ghost use Rattle.wl_server.specs.Inside.Responses.{opened_of};
 
 use crate::ids::object_id::ObjectId;
@@ -84,6 +85,16 @@ impl OpenPlace {
                 self.kind = OpenKind::Bind;
             }
         }
+    }
+
+    /// Opens a request that made no object.
+    pub fn open_request(&mut self, sender: ObjectId, is_destructor: bool)
+        ensures { self.new ≡ Some (opened.Request sender is_destructor None) }
+    {
+        self.object = sender;
+        self.is_destructor = is_destructor;
+        self.has_created = false;
+        self.kind = OpenKind::Request;
     }
 
     /// Ends the action that is open.

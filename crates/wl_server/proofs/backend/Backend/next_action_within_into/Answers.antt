@@ -1,0 +1,16 @@
+use Rattle.wl_server.proofs.OverRuns.Cut.CuttingLaws.{histories_cut}
+use Rattle.wl_server.proofs.OverRuns.Cut.RoomLaws.{within_has_room}
+use Rattle.wl_server.proofs.Plain.Reading.{next_action_within_reads}
+use Rattle.wl_server.proofs.backend.Backend.next_action_within_into.Goals as goal
+
+pub returns-clause-call : goal.returns-clause-call
+returns-clause-call g c = c.read_client_into.ensures.within
+
+pub returns-clause-room : goal.returns-clause-room
+returns-clause-room g c = within_has_room _ _ _ _ _ _
+
+pub returns-clause-cutting : goal.returns-clause-cutting
+returns-clause-cutting g c = ((returns-clause-call g c).step, histories_cut _ _ _ _)
+
+pub returns-clause-plain : goal.returns-clause-plain
+returns-clause-plain g c = next_action_within_reads _ _ _ _ _ _ _ (returns-clause-call g c)
