@@ -107,7 +107,7 @@ with_none one = (one, tt)
 -- ---- a step
 
 -- two outcomes of a step are the same to a client
-record SameStepOutcome {T U C : Type 0} (id : ClientParts) (is_own : Bool) (answer answer' : Reply T U) (did did' : List (Deed U))
+pub record SameStepOutcome {T U C : Type 0} (id : ClientParts) (is_own : Bool) (answer answer' : Reply T U) (did did' : List (Deed U))
     (after after' : Seen T U C) : Type 0 where
   pub reply : is_own ≡ true → SameReply id answer answer'
   pub deeds : did ≡ did'
