@@ -3,7 +3,6 @@
 use crate::values::{Object, Request, message};
 use std::alloc::Global;
 use std::test::Fail;
-use test_kit::quad::{destructor, push_interface};
 use wl_client::Step;
 use wl_wire::IoFault;
 
@@ -26,8 +25,6 @@ pub enum Call {
     Dispatch,
     /// `Step::SetMaxBufferSize`.
     Limit(Option<usize>),
-    /// `Step::AddInterfaces`, of one interface of this name and of version 1, whose only event, `gone`, ends its object.
-    Add(&'static str),
     /// `Step::TakeNotes`.
     Notes,
     /// `Step::Arrive`, of no descriptors.
@@ -55,13 +52,6 @@ fn arrive(alloc: Global, bytes: &[u8]) -> Result<Step<u32>, Fail> {
     Ok(Step::Arrive(bytes, Vec::new(alloc)))
 }
 
-/// The step by which the table takes an interface of that name.
-fn add(alloc: Global, name: &str) -> Result<Step<u32>, Fail> {
-    let mut interfaces = Vec::new(alloc);
-    push_interface(alloc, &mut interfaces, name, 1, &[], &[destructor("gone")])?;
-    Ok(Step::AddInterfaces(interfaces))
-}
-
 /// The step.
 fn step(alloc: Global, call: Call) -> Result<Step<u32>, Fail> {
     match call {
@@ -73,7 +63,6 @@ fn step(alloc: Global, call: Call) -> Result<Step<u32>, Fail> {
         Call::Finish(data) => Ok(Step::FinishEvent(data)),
         Call::Dispatch => Ok(Step::DispatchInnerQueue),
         Call::Limit(limit) => Ok(Step::SetMaxBufferSize(limit)),
-        Call::Add(name) => add(alloc, name),
         Call::Notes => Ok(Step::TakeNotes),
         Call::Arrive(bytes) => arrive(alloc, bytes),
         Call::ArriveFault(fault) => Ok(Step::ArriveFault(fault)),

@@ -223,7 +223,6 @@ pub fn write_reply(log: &mut String, reply: &Reply<u32>) -> Result<(), AllocErro
         Reply::FinishEvent(answer) => write_finished(log, answer),
         Reply::DispatchInnerQueue(answer) => write_dispatched(log, answer),
         Reply::SetMaxBufferSize => writeln!(log, "limit set"),
-        Reply::AddInterfaces(answer) => write_done(log, answer),
         Reply::TakeNotes(notes) => write_notes(log, notes.as_slice()),
         Reply::Arrive(answer) => write_done(log, answer),
         Reply::ArriveFault(answer) | Reply::Accept(answer) | Reply::AcceptFault(answer) => {

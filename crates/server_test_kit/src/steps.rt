@@ -3,7 +3,6 @@
 use crate::values::{Event, Named, Shown, Thing, Who, message};
 use std::alloc::Global;
 use std::test::Fail;
-use test_kit::quad::push_interface;
 use wl_link::Memory;
 use wl_server::{DisconnectReason, Reading, Step};
 use wl_wire::{CString, InterfaceId, IoFault, Token};
@@ -37,8 +36,6 @@ pub enum Call {
     FlushAll,
     /// `Step::SetDefaultMaxBufferSize`.
     DefaultLimit(usize),
-    /// `Step::AddInterfaces`, of one interface of this name and of version 1, which has no messages.
-    Add(&'static str),
     /// `Step::SetClientMaxBufferSize`.
     Limit(Who, usize),
     /// `Step::NextAction`.
@@ -78,13 +75,6 @@ fn insert(alloc: Global, sees: bool) -> Made {
 /// The step that sends the event.
 fn send(alloc: Global, event: Event) -> Result<Made, Fail> {
     Ok(Step::SendEvent(message(alloc, event)?))
-}
-
-/// The step by which the table takes an interface of that name.
-fn add(alloc: Global, name: &str) -> Result<Made, Fail> {
-    let mut interfaces = Vec::new(alloc);
-    push_interface(alloc, &mut interfaces, name, 1, &[], &[])?;
-    Ok(Step::AddInterfaces(interfaces))
 }
 
 /// The step that posts the error.
@@ -161,7 +151,6 @@ fn of_server(alloc: Global, call: Call) -> Result<Made, Fail> {
         Call::Flush(who) => Ok(Step::Flush(Some(who.id()))),
         Call::FlushAll => Ok(Step::Flush(None)),
         Call::DefaultLimit(bytes) => Ok(Step::SetDefaultMaxBufferSize(bytes)),
-        Call::Add(name) => add(alloc, name),
         Call::Limit(who, bytes) => Ok(Step::SetClientMaxBufferSize(who.id(), bytes)),
         Call::Cleanup => Ok(Step::Cleanup),
         Call::Notes => Ok(Step::TakeNotes),

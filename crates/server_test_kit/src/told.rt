@@ -11,7 +11,7 @@ use wl_server::{
 use wl_wire::{Argument, OutOfMemory, Token};
 
 /// Tells whether something was done, or why not.
-fn done<E: Display>(log: &mut String, answer: &Result<(), E>) -> Result<(), Fail> {
+pub fn done<E: Display>(log: &mut String, answer: &Result<(), E>) -> Result<(), Fail> {
     match answer {
         Ok(()) => writeln!(log, "done")?,
         Err(error) => writeln!(log, "{error}")?,
@@ -335,7 +335,6 @@ pub fn reply(log: &mut String, reply: &Reply<Memory, u32>) -> Result<(), Fail> {
         Reply::InsertClient(answer) => inserted(log, answer),
         Reply::CreateGlobal(answer) => global(log, answer),
         Reply::Flush(answer) => done(log, answer),
-        Reply::AddInterfaces(answer) => done(log, answer),
         Reply::Cleanup(answer) => cleaned(log, answer),
         Reply::TakeNotes(answer) => notes(log, answer),
         Reply::Arrive(_)

@@ -69,16 +69,18 @@ record IsPlain (s : BenchServer) : Type 0 where
   table : s.offer.table ≡ bench_rows
   named : (id : ClientParts) (e : ProtocolError) → TellsError (seen id s) e → Unfed e.object_interface
 
--- a step that posts no error, kills for none, and adds no interface
+-- a step that posts no error and kills for none
 abbrev IsHarmless : BenchStep → Type 0
 IsHarmless (step.PostError o code text) = ⊥
 IsHarmless (step.KillClient target (ended.ProtocolError e)) = ⊥
-IsHarmless (step.AddInterfaces interfaces) = ⊥
 IsHarmless s = ⊤
 
-table_stays : (offer : Offer ShownToAll) (s : BenchStep) (answer : BenchReply) → IsHarmless s → (offer_after offer (Asked s answer)).table ≡ offer.table
-table_stays offer (step.AddInterfaces interfaces) answer safe = absurd safe
-table_stays offer s answer safe = refl
+table_stays : (offer : Offer ShownToAll) (s : BenchStep) (answer : BenchReply) → (offer_after offer (Asked s answer)).table ≡ offer.table
+table_stays offer (step.CreateGlobal i version handler) answer = refl
+table_stays offer (step.DisableGlobal g) answer = refl
+table_stays offer (step.RemoveGlobal g) answer = refl
+table_stays offer (step.SetDefaultMaxBufferSize limit) answer = refl
+table_stays offer s answer = refl
 
 of_display : (table : List InterfaceRow) (e : ProtocolError) → table ≡ bench_rows → e.object_interface ≡ name_of table 1 → Unfed e.object_interface
 of_display table e is names = subst Unfed (sym (names ∙ ap (λ (t : List InterfaceRow). name_of t 1) is)) refl
@@ -97,7 +99,7 @@ module _ (w : World Script ShownToAll (Unit {0})) (law : EachCallCausesItsErrors
   one_plain : (before after : BenchServer) (entry : BenchEntry) (s : BenchStep) (answer : BenchReply) → entry.call ≡ Asked s answer → IsHarmless s → OneStep w before entry after
       → IsPlain before → IsPlain after
   one_plain before after entry s answer call safe one plain = record {
-    table = ap (λ (o : Offer ShownToAll). o.table) one.offer ∙ ap (λ (c : BenchCall). (offer_after before.offer c).table) call ∙ table_stays before.offer s answer safe ∙ plain.table;
+    table = ap (λ (o : Offer ShownToAll). o.table) one.offer ∙ ap (λ (c : BenchCall). (offer_after before.offer c).table) call ∙ table_stays before.offer s answer ∙ plain.table;
     named = λ id e tell.
         elim (law before after entry one id e tell) [
           | inl was ↦ plain.named id e was

@@ -6,7 +6,6 @@ use Rattle.wl_wire.specs.declared.argument.Token.{Token}
 use Rattle.wl_link.specs.Script.{Script}
 use Rattle.wl_server.specs.declared.error.GlobalError.TheVariants as global
 use Rattle.wl_server.specs.declared.error.InsertClientError.TheVariants as insert
-use Rattle.wl_wire.specs.declared.protocol.TableError.TheVariants as table
 use Rattle.wl_server.specs.declared.globals.handler.ShownToAll.{ShownToAll}
 use Rattle.wl_server.specs.declared.runs.step.Reply.TheVariants as reply
 use Rattle.wl_server.specs.declared.runs.step.Step.TheVariants as step
@@ -43,7 +42,6 @@ BenchEntry = Entry Script ℕ ShownToAll (Unit {0})
 growth_same : (s s' : BenchStep) (q : BenchReply) → lacks_growth {T = Script} {U = ℕ} {G = ShownToAll} {C = Unit {0}} (Asked s q) ≡ lacks_growth {T = Script} {U = ℕ} {G = ShownToAll} {C = Unit {0}} (Asked s' q)
 growth_same s s' (reply.InsertClient (Err insert.OutOfMemory)) = refl
 growth_same s s' (reply.CreateGlobal (Err global.OutOfMemory)) = refl
-growth_same s s' (reply.AddInterfaces (Err table.OutOfMemory)) = refl
 growth_same s s' (reply.Cleanup (Err e)) = refl
 growth_same s s' (reply.TakeNotes (Err e)) = refl
 growth_same s s' q = refl

@@ -1,6 +1,7 @@
 -- What holds of a client over its history: ids, names, notes and errors, of one and the same list of changes.
 use Rattle.std.specs.Prelude.{◌≡◌, false, List, [], ◌∷◌, ◌++◌, IsSome, Result, Ok, Err, MatchOption, length}
-use Rattle.wl_wire.specs.Table.{InterfaceRow}
+use Rattle.wl_wire.specs.declared.protocol.TableError.{TableError}
+use Rattle.wl_wire.specs.Table.{InterfaceRow, refused_growth}
 use Rattle.wl_link.specs.Identity.{Change}
 use Rattle.wl_link.specs.Named.{StaysNamed}
 use Rattle.wl_link.specs.Runs.{IsWhereItStops}
@@ -13,7 +14,7 @@ use Rattle.wl_client.specs.declared.step.Step.{Step}
 use Rattle.wl_client.specs.declared.step.Step.TheVariants as step
 use Rattle.wl_client.specs.Failed.{StaysFailed}
 use Rattle.wl_client.specs.Handed.{Follows}
-use Rattle.wl_client.specs.Histories.{Called, Changed, Deed, Does, History, called}
+use Rattle.wl_client.specs.Histories.{Called, Changed, Deed, Does, Grown, History, called}
 use Rattle.wl_client.specs.Noted.{NotesWhatEnded}
 use Rattle.wl_client.specs.ObjectId.{IdParts}
 use Rattle.wl_client.specs.Objects.{user_data_of}
@@ -58,6 +59,12 @@ module _ {T U : Type 0} (makes : Making T U) where
   pub record IsChange (before : SessionState T U) (t : T) (after : SessionState T U) : Type 0 where
     pub change : Does makes before (Changed t) after
     pub accounted : StaysAccountedFor before (Changed t) after
+
+  -- And for interfaces that were to be added to the table. The answer tells whether memory was refused.
+  pub record IsGrowth (before : ClientState T U) (rows : List InterfaceRow) (answer : Result (Unit {0}) TableError) (after : ClientState T U) : Type 0 where
+    pub growth : Does makes before.session (Grown rows answer) after.session
+    pub refused : after.refused ≡ refused_growth answer
+    pub accounted : StaysAccountedFor before.session (Grown rows answer) after.session
 
 module _ {T U R : Type 0} (makes : Making T U) (lend : U → R → U → Type 0) where
   -- The closure is called once with the user data of the object that the id names. What it leaves is set as if `set_data` had

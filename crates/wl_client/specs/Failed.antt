@@ -6,7 +6,7 @@ use Rattle.wl_client.specs.declared.step.Reply.{Reply}
 use Rattle.wl_client.specs.declared.step.Reply.TheVariants as reply
 use Rattle.wl_client.specs.declared.step.Step.{Step}
 use Rattle.wl_client.specs.declared.step.Step.TheVariants as step
-use Rattle.wl_client.specs.Histories.{Deed, Called, Changed}
+use Rattle.wl_client.specs.Histories.{Deed, Called, Changed, Grown}
 use Rattle.wl_client.specs.Session.{SessionState}
 
 module _ {U : Type 0} where
@@ -22,6 +22,7 @@ module _ {T U : Type 0} where
   AllFail [] = Unit {0}
   AllFail (Called e ∷ deeds) = AnswersFailed e.step e.answer × AllFail deeds
   AllFail (Changed t ∷ deeds) = AllFail deeds
+  AllFail (Grown rows answer ∷ deeds) = AllFail deeds
 
   -- the history hands out no event and flushes nothing, and the session has an error after it
   abbrev pub StaysFailed : List (Deed T U) → SessionState T U → Type 0

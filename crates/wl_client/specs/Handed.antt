@@ -12,7 +12,7 @@ use Rattle.wl_client.specs.declared.objects.Note.{Note}
 use Rattle.wl_client.specs.declared.objects.Note.TheVariants.{Destroyed}
 use Rattle.wl_client.specs.declared.step.Reply.{Reply}
 use Rattle.wl_client.specs.declared.step.Reply.TheVariants as reply
-use Rattle.wl_client.specs.Histories.{Deed, Does, Called, Changed}
+use Rattle.wl_client.specs.Histories.{Deed, Does, Called, Changed, Grown}
 use Rattle.wl_client.specs.ObjectId.{IdParts}
 use Rattle.wl_client.specs.Objects.{info_of}
 use Rattle.wl_client.specs.Reading.{event_content}
@@ -67,14 +67,16 @@ module _ {U : Type 0} where
   IsHandedIn changes (New id) = id.number ≢ 0 → IsMadeInStep changes (id_of id) × IsBornInStep serial_of changes (id_of id)
 
 module _ {T U : Type 0} where
-  -- the ids and the notes that a deed hands out; a change of the transport hands out none
+  -- the ids and the notes that a deed hands out; only a call hands out any
   abbrev pub ids_by : Deed T U → List (HandedId IdParts)
   ids_by (Called e) = ids_in e.answer
   ids_by (Changed t) = []
+  ids_by (Grown rows answer) = []
 
   abbrev pub notes_by : Deed T U → List Note
   notes_by (Called e) = notes_in e.answer
   notes_by (Changed t) = []
+  notes_by (Grown rows answer) = []
 
 module _ {T U : Type 0} (makes : Making T U) where
   -- The deeds of a history lead from `s` to `after`. For each deed there is a list of changes, which lead the objects

@@ -5,7 +5,7 @@ use Rattle.wl_link.specs.Exchange.{Queue}
 use Rattle.wl_link.specs.Reader.{Given, Gives, Reads, Turn}
 use Rattle.wl_client.specs.declared.step.Step.{Step}
 use Rattle.wl_client.specs.declared.step.Step.TheVariants as step
-use Rattle.wl_client.specs.Histories.{Called, Changed, Deed, Does}
+use Rattle.wl_client.specs.Histories.{Called, Changed, Deed, Does, Grown}
 use Rattle.wl_client.specs.Reading.{client, reader_state_of, receives_allowed}
 use Rattle.wl_client.specs.Requests.{SessionMessage}
 use Rattle.wl_client.specs.Session.{SessionState}
@@ -23,6 +23,7 @@ module _ {T U : Type 0} where
   abbrev pub IsHeard : Deed T U → Type 0
   IsHeard (Called e) = (e.refused ≡ false) × IsOfEvents e.step
   IsHeard (Changed t) = Unit {0}
+  IsHeard (Grown rows answer) = ⊥
 
   -- each of the deeds is one of these
   abbrev pub AllHeard : List (Deed T U) → Type 0
@@ -32,6 +33,7 @@ module _ {T U : Type 0} where
   abbrev pub finished_in_deed : Deed T U → List (Option U)
   finished_in_deed (Called e) = finished_by e.step e.answer
   finished_in_deed (Changed t) = []
+  finished_in_deed (Grown rows answer) = []
 
   -- the data of the finishes that were accepted
   abbrev pub finished_in : List (Deed T U) → List (Option U)
@@ -41,6 +43,7 @@ module _ {T U : Type 0} where
   abbrev pub events_in_deed : Deed T U → List (Given SessionMessage)
   events_in_deed (Called e) = events_by e.answer
   events_in_deed (Changed t) = []
+  events_in_deed (Grown rows answer) = []
 
   -- the events that were handed out
   abbrev pub events_in : List (Deed T U) → List (Given SessionMessage)
@@ -67,6 +70,7 @@ module _ {T U : Type 0} (sends : T → Queue → Result ℕ IoFault → T → Ty
   abbrev pub TurnsOf : SessionState T U → Deed T U → List Turn → SessionState T U → Type 0
   TurnsOf before (Called e) turns after = TurnsOfStep before e.step (events_by e.answer) turns after
   TurnsOf before (Changed t) turns after = turns ≡ []
+  TurnsOf before (Grown rows answer) turns after = turns ≡ []
 
   -- the deeds lead from one value of the session to another, and these are the turns of their readings, one after another
   abbrev pub Hears : SessionState T U → List (Deed T U) → List Turn → SessionState T U → Type 0

@@ -7,7 +7,7 @@ use Rattle.std.specs.Prelude.{◌≡◌, ℕ, ◌<◌, List, [], ◌∷◌, ◌+
 use Rattle.wl_wire.specs.declared.error.IoFault.{IoFault}
 use Rattle.wl_wire.specs.declared.error.OutOfMemory.{OutOfMemory}
 use Rattle.wl_wire.specs.declared.protocol.TableError.{TableError}
-use Rattle.wl_wire.specs.Table.{AnswersGrowth, InterfaceRow, grown, interface_rows, refused_growth}
+use Rattle.wl_wire.specs.Table.{AnswersGrowth, InterfaceRow, grown}
 use Rattle.wl_link.specs.declared.memory.ArriveError.{ArriveError}
 use Rattle.wl_link.specs.declared.memory.ArriveError.TheVariants as arrive
 use Rattle.wl_link.specs.Exchange.{Queue}
@@ -108,8 +108,6 @@ module _ {T U : Type 0} (sends : T → Queue → Result ℕ IoFault → T → Ty
   CallOf before (step.SetMaxBufferSize limit) answer refused after =
       (answer ≡ reply.SetMaxBufferSize) × (refused ≡ false)
       × ((link : LinkState T) × LimitSet before.link limit link × (after ≡ record before { link = link }))
-  CallOf before (step.AddInterfaces more) answer refused after =
-      (r : _) × (answer ≡ reply.AddInterfaces r) × (refused ≡ refused_growth r) × InterfacesAdded before (interface_rows more.items) r after
   CallOf before step.TakeNotes answer refused after =
       (notes : _) × (answer ≡ reply.TakeNotes notes) × (refused ≡ false) × (notes.items ≡ before.notes) × (after ≡ record before { notes = [] })
   CallOf before _ answer refused after = ⊥

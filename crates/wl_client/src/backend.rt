@@ -6,7 +6,7 @@ ghost use Rattle.std.specs.Borrow.{sem};
 ghost use Rattle.wl_wire.specs.Table.{AnswersGrowth, IsAcceptedTable, display_id, grown, interface_rows, refused_growth};
 ghost use Rattle.wl_link.specs.Link.{LinkState, LimitSet};
 ghost use Rattle.wl_link.specs.Store.{empty_store, stored};
-ghost use Rattle.wl_client.specs.Accounts.{Calls, IsChange};
+ghost use Rattle.wl_client.specs.Accounts.{Calls, IsChange, IsGrowth};
 ghost use Rattle.wl_client.specs.Session.{IsConnected, display_object, over_transport};
 ghost use Rattle.wl_client.specs.Steps.{CallOf};
 ghost use Rattle.wl_client.specs.declared.step.Reply.TheVariants as reply;
@@ -194,7 +194,7 @@ impl<T: Transport + Drop, U: Drop> Backend<T, U> {
     /// Appends more interfaces to the session's table, all of them or none, as `Protocol::extend` does. The interfaces that
     /// are there keep their ids, and nothing else of the session changes. After an error the table is as it was.
     pub fn add_interfaces(&mut self, interfaces: Vec<Interface>) -> Result<(), TableError>
-        ensures call { Calls (CallOf T.sends T.receives) self.old (step.AddInterfaces interfaces) (reply.AddInterfaces result) self.new }
+        ensures call { IsGrowth (CallOf T.sends T.receives) self.old (interface_rows interfaces.items) result self.new }
         ensures answer { AnswersGrowth self.old.session.table (interface_rows interfaces.items) result }
         ensures session { self.new.session
             ≡ record self.old.session { table = grown self.old.session.table (interface_rows interfaces.items) result } }

@@ -1,10 +1,10 @@
 //! Laws that follow from the definitions of a session alone. Each function does nothing; its contract states a law.
 //!
 //! A *run* is a list of calls over the transport by script, each with its reply. A *history* is a list of calls over any
-//! transport, each with its reply, and of changes that the program makes to the transport between them. A history *from
-//! `connect` on* begins with a session as `connect` returns it (`IsConnected`); any other may begin with any session. A law
-//! that is about every transport has a clause for the transport by script, whose own calls may be among the steps. An id
-//! *names* an object if its number has that object and its serial is that object's.
+//! transport, each with its reply, of changes that the program makes to the transport between them, and of interfaces that it
+//! adds. A history *from `connect` on* begins with a session as `connect` returns it (`IsConnected`); any other may begin
+//! with any session. A law that is about every transport has a clause for the transport by script, whose own calls may be
+//! among the steps. An id *names* an object if its number has that object and its serial is that object's.
 
 ghost use Rattle.std.specs.Prelude.{◌≡◌, ◌∷◌, ◌++◌, ◌↔◌, [], Bool, List, Option, None, Result, Ok, Err, IsSome, Vec, false, length, map, ℕ};
 ghost use Rattle.std.specs.Global.{Global};
@@ -155,8 +155,9 @@ pub fn calls_of_a_script_are_steps<U>()
 /// If memory is not refused, each step over the transport by script has one outcome (`step`), and so has each run (`run`).
 ///
 /// The session before a step, and the step, determine the reply and the session after it. This leaves open only the
-/// addresses of a reply's lists in memory. Over another transport the same holds of a call (`call`) and of a history
-/// (`history`), if each send and each receive of the transport has one outcome.
+/// addresses of a reply's lists in memory. A history over the transport by script has one outcome, too (`script_history`).
+/// Over another transport the same holds of a call (`call`) and of a history (`history`), if each send and each receive of
+/// the transport has one outcome.
 pub fn each_run_has_one_outcome<T: Transport, U>()
     ensures call { IsFunction T.sends → IsReceiveFunction T.receives →
         (before after after' : SessionState T U) (step : Step U) (answer answer' : Reply U) →
@@ -166,6 +167,8 @@ pub fn each_run_has_one_outcome<T: Transport, U>()
         (before after after' : SessionState T U) (deeds others : List (Deed T U)) → SameDeeds deeds others →
         History (CallOf T.sends T.receives) before deeds after → History (CallOf T.sends T.receives) before others after' →
         SameAnswers deeds others × (after ≡ after') }
+    ensures script_history { (before after after' : SessionState Script U) (deeds others : List (Deed Script U)) → SameDeeds deeds others →
+        History StepOf before deeds after → History StepOf before others after' → SameAnswers deeds others × (after ≡ after') }
     ensures step { (before after after' : SessionState Script U) (step : Step U) (answer answer' : Reply U) →
         StepOf before step answer false after → StepOf before step answer' false after' →
         SameReply answer answer' × (after ≡ after') }

@@ -100,9 +100,6 @@ impl<U: Drop> Backend<Memory, U> {
                 self.set_max_buffer_size(max_buffer_size);
                 Reply::SetMaxBufferSize
             }
-            Step::AddInterfaces(interfaces) => {
-                Reply::AddInterfaces(self.add_interfaces(interfaces))
-            }
             Step::TakeNotes => Reply::TakeNotes(self.take_notes()),
             Step::Arrive(..)
             | Step::ArriveFault(_)

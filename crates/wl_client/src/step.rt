@@ -7,9 +7,11 @@ use crate::object_id::ObjectId;
 use crate::objects::Note;
 use std::fmt;
 use wl_link::ArriveError;
-use wl_wire::{Interface, InterfaceId, IoFault, Message, OutOfMemory, TableError, Token};
+use wl_wire::{InterfaceId, IoFault, Message, OutOfMemory, Token};
 
 /// A call that changes a session over the transport by script: a call of the session, or one of its transport, `Memory`.
+///
+/// `Backend::transport_mut` and `Backend::add_interfaces` are no steps, but a history has entries for them.
 #[derive(Drop)]
 pub enum Step<U> {
     /// `Backend::set_data`, with the object and its user data.
@@ -28,8 +30,6 @@ pub enum Step<U> {
     DispatchInnerQueue,
     /// `Backend::set_max_buffer_size`, with the limit in bytes.
     SetMaxBufferSize(Option<usize>),
-    /// `Backend::add_interfaces`, with the new interfaces.
-    AddInterfaces(Vec<Interface>),
     /// `Backend::take_notes`.
     TakeNotes,
     /// `Memory::arrive`, with the bytes and tokens that a receive will give.
@@ -69,8 +69,6 @@ pub enum Reply<U> {
     DispatchInnerQueue(Result<usize, WaylandError>),
     /// The answer to `Step::SetMaxBufferSize`, which returns nothing.
     SetMaxBufferSize,
-    /// The answer to `Step::AddInterfaces`.
-    AddInterfaces(Result<(), TableError>),
     /// The answer to `Step::TakeNotes`.
     TakeNotes(Vec<Note>),
     /// The answer to `Step::Arrive`.

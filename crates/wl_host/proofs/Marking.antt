@@ -1,5 +1,5 @@
 -- Each call after which a cleanup would not look for killed clients kills nobody.
-use Rattle.std.proofs.Common.{◌≡◌, ◌≢◌, ℕ, zero, suc, Bool, true, false, ◌==◌, inl, inr, List, [], ◌∷◌, ◌++◌, map, Option, None, Some, Result, Ok, Err, is_some, refl, ap, sym, ◌∙◌, true≢false}
+use Rattle.std.proofs.Common.{◌≡◌, ◌≢◌, ℕ, zero, suc, Bool, true, false, ◌==◌, inl, inr, List, [], ◌∷◌, ◌++◌, map, Option, None, Some, Result, Ok, Err, is_some, refl, ap, subst, sym, ◌∙◌, true≢false}
 use Rattle.std.proofs.lemmas.Bool.{false≢true}
 use Rattle.std.specs.FinMap as finmap
 use Rattle.std.specs.Global.{Global}
@@ -24,7 +24,7 @@ use Rattle.wl_server.specs.declared.runs.step.Reply.TheVariants as reply
 use Rattle.wl_server.specs.declared.runs.step.Step.{Step}
 use Rattle.wl_server.specs.declared.runs.step.Step.TheVariants as step
 use Rattle.wl_server.proofs.Plain.Base.{of_each, when_false, when_true}
-use Rattle.wl_server.specs.Backend.{Calls}
+use Rattle.wl_server.specs.Backend.{Calls, IsGrowth}
 use Rattle.wl_server.specs.Deeds.{Deed, Handed, Noted}
 use Rattle.wl_server.specs.Felt.{Cleaned, FlushedTo, objects_leave}
 use Rattle.wl_server.specs.Finish.{FinishesBind, FinishesOpen, FinishesOpenBind, FinishesRequest, ends_request, finish_verdict, refusal}
@@ -34,14 +34,13 @@ use Rattle.wl_server.specs.Lending.{over_transport, state_over}
 use Rattle.wl_server.specs.Lookups.{and_then}
 use Rattle.wl_server.specs.Objects.{Creates, DataSet}
 use Rattle.wl_server.specs.Part.{Part, last_possible_serial, named}
-use Rattle.wl_server.specs.PartStep.{CleanedAs, FeelsGlobal, InsertedAs, NotesTaken, OfClient, PartStep, ReadsFor, Unfelt, around, share_of}
+use Rattle.wl_server.specs.PartStep.{Call, CleanedAs, FeelsGlobal, InsertedAs, NotesTaken, OfClient, PartCall, PartStep, ReadsFor, Unfelt, around, share_of}
 use Rattle.wl_server.specs.Plain.{action_in, killed_in}
 use Rattle.wl_server.specs.Reading.{Around, NextAction, action_content, new_reading}
 use Rattle.wl_server.specs.Server.{Seen, Stored, if_serial, seen, stored_at}
 use Rattle.wl_server.specs.Telling.{Core, Tells, core_of, speaker}
 use Rattle.wl_wire.specs.declared.error.IoFault.{IoFault}
 use Rattle.wl_wire.specs.declared.error.OutOfMemory.{OutOfMemory}
-use Rattle.wl_wire.specs.declared.interface.Interface.{Interface}
 use Rattle.wl_wire.specs.declared.interface.InterfaceId.{InterfaceId}
 use Rattle.wl_wire.specs.declared.protocol.TableError.{TableError}
 use Rattle.wl_wire.specs.Table.{InterfaceRow}
@@ -263,9 +262,12 @@ module _ (b a : CoreState) where
   pub default_kills : (limit : ℕ) → Calls world b (step.SetDefaultMaxBufferSize limit) reply.SetDefaultMaxBufferSize a → KillsNobody b a
   default_kills limit call = by_each _ _ call (λ id lacked did h k. unfelt (seen id b.server) (seen id a.server) lacked did h.1 k)
 
-  pub interfaces_kill : (interfaces : Vec Interface Global) (answer : Result (Unit {0}) TableError) → Calls world b (step.AddInterfaces interfaces) (reply.AddInterfaces answer) a
-      → KillsNobody b a
-  interfaces_kill interfaces answer call = by_each _ _ call (λ id lacked did h k. unfelt (seen id b.server) (seen id a.server) lacked did h.2 k)
+  pub interfaces_kill : (interfaces : List InterfaceRow) (answer : Result (Unit {0}) TableError) → IsGrowth world b interfaces answer a → KillsNobody b a
+  interfaces_kill interfaces answer growth id k =
+      let (e, is, refused, one) = growth.step in
+      let none = subst (λ (c : Call MailboxState ℕ HostGlobal HostClient).
+      PartCall world id b.server.offer c (seen id b.server) (e.lacks id) (e.did id) (seen id a.server)) is (one.each id) in
+      unfelt (seen id b.server) (seen id a.server) (e.lacks id) (e.did id) none k
 
   pub insert_kills : (m : MailboxState) (client : HostClient) (answer : Result ClientParts InsertClientError)
       → Calls world b (step.InsertClient m client) (reply.InsertClient answer) a → KillsNobody b a

@@ -1,13 +1,9 @@
 -- Which table a session has: when it is made for rows, and when the interfaces of more rows are added.
-use Rattle.std.specs.Prelude.{◌≡◌, ◌⊎◌, [], ◌++◌, List, false, None, Result, Ok, Err, Vec}
-use Rattle.std.specs.Global.{Global}
-use Rattle.wl_wire.specs.declared.interface.Interface.{Interface}
+use Rattle.std.specs.Prelude.{◌≡◌, ◌⊎◌, [], ◌++◌, List, false, None, Result, Ok, Err}
 use Rattle.wl_wire.specs.declared.protocol.TableError.{TableError}
-use Rattle.wl_wire.specs.Table.{AnswersGrowth, InterfaceRow, IsAcceptedTable, IsFirstFault, fixed_rows, grown, interface_rows, refused_growth}
-use Rattle.wl_server.specs.declared.runs.step.Reply.TheVariants as reply
-use Rattle.wl_server.specs.declared.runs.step.Step.TheVariants as step
+use Rattle.wl_wire.specs.Table.{AnswersGrowth, InterfaceRow, IsAcceptedTable, IsFirstFault, fixed_rows, grown, refused_growth}
 use Rattle.wl_client.specs.Session.{IsConnected}
-use Rattle.wl_server.specs.Backend.{Calls}
+use Rattle.wl_server.specs.Backend.{IsGrowth}
 use Rattle.wl_server.specs.Server.{new_server}
 use Rattle.wl_host.specs.declared.rows.Rows.{Rows}
 use Rattle.wl_host.specs.declared.rows.TableFault.{TableFault}
@@ -65,8 +61,8 @@ IsNewClient rows s = (table : List InterfaceRow) × IsTableOf rows table × IsCo
 -- the interfaces of the rows are added; or the rows are not read, and the core is not called
 abbrev pub AddsInterfaces : Rows → CoreState → Result (Unit {0}) TableFault → CoreState → Type 0
 AddsInterfaces rows before result after =
-    ((interfaces : Vec Interface Global) × (answer : Result (Unit {0}) TableError) × (said_by rows ≡ Ok (interface_rows interfaces.items))
-    × Calls world before (step.AddInterfaces interfaces) (reply.AddInterfaces answer) after × (result ≡ table_answer answer))
+    ((interfaces : List InterfaceRow) × (answer : Result (Unit {0}) TableError) × (said_by rows ≡ Ok interfaces)
+    × IsGrowth world before interfaces answer after × (result ≡ table_answer answer))
     ⊎ ((fault : TableFault) × RefusesRows rows fault × (result ≡ Err fault) × (after ≡ before))
 
 -- and so of a client's session

@@ -1,11 +1,13 @@
 -- What contracts see of a backend: the server, and whether memory was refused in its last call.
-use Rattle.std.specs.Prelude.{Bool, false}
+use Rattle.std.specs.Prelude.{Bool, false, List, Result}
+use Rattle.wl_wire.specs.declared.protocol.TableError.{TableError}
+use Rattle.wl_wire.specs.Table.{InterfaceRow}
 use Rattle.wl_link.specs.Exchange.{IsWithinOffer}
 use Rattle.wl_server.specs.declared.runs.step.Reply.{Reply}
 use Rattle.wl_server.specs.declared.runs.step.Step.{Step}
 use Rattle.wl_server.specs.Accounts.{StaysAccountedFor}
 use Rattle.wl_server.specs.Ids.{ClientParts}
-use Rattle.wl_server.specs.PartStep.{Changed, World}
+use Rattle.wl_server.specs.PartStep.{Changed, Grown, World}
 use Rattle.wl_server.specs.Server.{ServerState}
 use Rattle.wl_server.specs.Steps.{Makes, StepOf}
 
@@ -24,3 +26,9 @@ pub record Calls {T U G C : Type 0} (w : World T G C) (before : BackendState T U
 pub record IsChange {T U G C : Type 0} (w : World T G C) (before : ServerState T U G C) (id : ClientParts) (t : T) (after : ServerState T U G C) : Type 0 where
   pub step : Makes w before (Changed id t) false after
   pub accounted : IsWithinOffer w.sends → StaysAccountedFor w before step.0 after
+
+-- And for interfaces that were to be added to the table.
+pub record IsGrowth {T U G C : Type 0} (w : World T G C) (before : BackendState T U G C) (rows : List InterfaceRow) (answer : Result (Unit {0}) TableError)
+    (after : BackendState T U G C) : Type 0 where
+  pub step : Makes w before.server (Grown rows answer) after.refused after.server
+  pub accounted : IsWithinOffer w.sends → StaysAccountedFor w before.server step.0 after.server

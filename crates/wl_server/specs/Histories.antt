@@ -1,4 +1,5 @@
--- Runs over the transport by script, whose entries are steps with their replies and changes of a client's transport.
+-- Runs over the transport by script, whose entries are steps with their replies, changes of a client's transport, and interfaces
+-- that were to be added.
 use Rattle.std.specs.Prelude.{Bool, List, ◌++◌, length}
 use Rattle.wl_wire.specs.Table.{InterfaceRow}
 use Rattle.wl_link.specs.Runs.{RunEntry, IsWhereItStops, entries}
@@ -15,8 +16,9 @@ use Rattle.wl_server.specs.Stretches.{EachPartIsCut}
 
 module _ {U G C : Type 0} (views : G → ClientParts → C → GlobalParts → Bool) where
   -- The steps with these replies are the calls of entries that lead from one value of a server to another. They extend each
-  -- history of a new server that led to the first, even if transports were changed in it: `IsAccountedFor` holds of the
-  -- history with these entries after it. Cutting does not matter to any part of it, whatever the deeds of the steps are.
+  -- history of a new server that led to the first, even if transports were changed or interfaces added in it: `IsAccountedFor`
+  -- holds of the history with these entries after it. Cutting does not matter to any part of it, whatever the deeds of the
+  -- steps are.
   pub record Extends (before : ServerState Script U G C) (steps : List (RunEntry (Step Script U G C) (Reply Script U))) (after : ServerState Script U G C) : Type 0 where
     pub run : List (Entry Script U G C)
     pub are : AreOf steps run

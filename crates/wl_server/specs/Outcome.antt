@@ -6,7 +6,7 @@
 pub mod Whole
 pub mod Dispatches
 use Rattle.std.specs.Prelude.{◌≡◌, Bool, true, false, List, [], ◌∷◌, ◌++◌, Ok}
-use Rattle.wl_wire.specs.Table.{InterfaceRow, interface_rows}
+use Rattle.wl_wire.specs.Table.{InterfaceRow}
 use Rattle.wl_link.specs.Exchange.{Queue}
 use Rattle.wl_server.specs.declared.runs.step.Reply.{Reply}
 use Rattle.wl_server.specs.declared.runs.step.Reply.TheVariants as reply
@@ -17,9 +17,9 @@ use Rattle.wl_server.specs.Events.{SessionMessage, session_content}
 use Rattle.wl_server.specs.Globals.{Offer, new_offer}
 use Rattle.wl_server.specs.Ids.{ClientParts}
 use Rattle.wl_server.specs.Moves.{taken}
-use Rattle.wl_server.specs.PartStep.{Asked, Call, Changed, PartStep, World, share_of}
+use Rattle.wl_server.specs.PartStep.{Asked, Call, Changed, Grown, PartCall, World, share_of}
 use Rattle.wl_server.specs.Reading.{action_content}
-use Rattle.wl_server.specs.Runs.{Alone, Leads, Own, concerns, is_about, mine, offer_over}
+use Rattle.wl_server.specs.Runs.{Alone, Leads, Own, concerns, mine, offer_over}
 use Rattle.wl_server.specs.Server.{Seen, ServerState, new_server, notes_of, seen}
 use Rattle.wl_server.specs.Steps.{Entry, AnswersShared, lacks_growth, offer_after}
 
@@ -36,21 +36,12 @@ module _ {T U : Type 0} (id : ClientParts) where
   SameReply (reply.TakeSent r) (reply.TakeSent r') = taken r ≡ taken r'
   SameReply r r' = r ≡ r'
 
--- Two outcomes of a step are the same to a client: the deeds with it are the same, and what is then held of it; and, if
--- the step is the client's own or about all clients, the replies.
-pub record SameOutcome {T U C : Type 0} (id : ClientParts) (is_own : Bool) (answer answer' : Reply T U) (did did' : List (Deed U))
-    (after after' : Seen T U C) : Type 0 where
-  pub reply : is_own ≡ true → SameReply id answer answer'
-  pub deeds : did ≡ did'
-  pub held : after ≡ after'
-
 module _ {T U G C : Type 0} where
-  -- The answers are the same if they tell what all clients share: the id of a new client or of a new global, or what became of
-  -- interfaces that were to be added. What is shared before the call determines them.
+  -- The answers are the same if they tell what all clients share: the id of a new client or of a new global. What is shared
+  -- before the step determines them.
   abbrev pub SharedSame : Step T U G C → Reply T U → Reply T U → Type 0
   SharedSame (step.InsertClient _ _) answer answer' = answer ≡ answer'
   SharedSame (step.CreateGlobal _ _ _) answer answer' = answer ≡ answer'
-  SharedSame (step.AddInterfaces _) answer answer' = answer ≡ answer'
   SharedSame _ answer answer' = Unit {0}
 
   -- ---- calls
@@ -63,33 +54,37 @@ module _ {T U G C : Type 0} where
   ArrivesSame target chunk (step.Arrive target' bytes tokens) = (target ≡ target') × (chunk ≡ record { bytes = bytes.items; tokens = tokens.items })
   ArrivesSame target chunk _ = ⊥
 
-  -- the step adds interfaces with these rows
-  abbrev pub AddsSame : List InterfaceRow → Step T U G C → Type 0
-  AddsSame rows (step.AddInterfaces interfaces) = rows ≡ interface_rows interfaces.items
-  AddsSame rows _ = ⊥
-
   -- two steps are the same: their lists have the same items
   abbrev pub SameStep : Step T U G C → Step T U G C → Type 0
   SameStep (step.SendEvent m) s' = SendsSame (session_content m) s'
   SameStep (step.Arrive target bytes tokens) s' = ArrivesSame target (record { bytes = bytes.items; tokens = tokens.items }) s'
-  SameStep (step.AddInterfaces interfaces) s' = AddsSame (interface_rows interfaces.items) s'
   SameStep s s' = s ≡ s'
 
-  -- the same step, or the same change of a transport
+  -- the same step, the same change of a transport, or the same interfaces to be added
   abbrev pub SameCall : Call T U G C → Call T U G C → Type 0
   SameCall (Asked s _) (Asked s' _) = SameStep s s'
   SameCall (Changed id t) (Changed id' t') = (id ≡ id') × (t ≡ t')
+  SameCall (Grown rows _) (Grown rows' _) = rows ≡ rows'
   SameCall _ _ = ⊥
 
   -- the replies are the same to the client
   abbrev pub SameAnswer : ClientParts → Call T U G C → Call T U G C → Type 0
   SameAnswer id (Asked _ answer) (Asked _ answer') = SameReply id answer answer'
+  SameAnswer id (Grown _ answer) (Grown _ answer') = answer ≡ answer'
   SameAnswer id _ _ = Unit {0}
 
-  -- the answers are the same if they tell what all clients share
+  -- the answers are the same if they tell what all clients share, and so if they tell what became of interfaces
   abbrev pub SharedAnswer : Call T U G C → Call T U G C → Type 0
   SharedAnswer (Asked s answer) (Asked _ answer') = SharedSame s answer answer'
+  SharedAnswer (Grown _ answer) (Grown _ answer') = answer ≡ answer'
   SharedAnswer _ _ = Unit {0}
+
+  -- Two outcomes of a call are the same to a client: the deeds with it are the same, and what is then held of it; and, if
+  -- the call is the client's own or about all clients, the replies.
+  pub record SameOutcome (id : ClientParts) (call call' : Call T U G C) (did did' : List (Deed U)) (after after' : Seen T U C) : Type 0 where
+    pub reply : concerns id call ≡ true → SameAnswer id call call'
+    pub deeds : did ≡ did'
+    pub held : after ≡ after'
 
   -- ---- runs of one client
 
@@ -128,14 +123,14 @@ module _ {T U G C : Type 0} where
 -- ---- one outcome
 
 module _ {T G C : Type 0} where
-  -- A step that is made twice from the same value has one outcome, if memory is not refused (neither to the client, nor to a
+  -- A call that is made twice from the same value has one outcome, if memory is not refused (neither to the client, nor to a
   -- shared call for what belongs to no client), and the answers that tell what all clients share are the same.
-  abbrev pub StepsHaveOneOutcome : Type 0 → World T G C → Type 0
-  StepsHaveOneOutcome U w =
-      (id : ClientParts) (offer : Offer G) (before after after' : Seen T U C) (s s' : Step T U G C) (answer answer' : Reply T U) (did did' : List (Deed U)) →
-      SameStep s s' → lacks_growth (Asked s answer) ≡ false → lacks_growth (Asked s' answer') ≡ false → SharedSame s answer answer' →
-      PartStep w id offer s answer before false did after → PartStep w id offer s' answer' before false did' after' →
-      SameOutcome id (is_about id s) answer answer' did did' after after'
+  abbrev pub CallsHaveOneOutcome : Type 0 → World T G C → Type 0
+  CallsHaveOneOutcome U w =
+      (id : ClientParts) (offer : Offer G) (before after after' : Seen T U C) (call call' : Call T U G C) (did did' : List (Deed U)) →
+      SameCall call call' → lacks_growth call ≡ false → lacks_growth call' ≡ false → SharedAnswer call call' →
+      PartCall w id offer call before false did after → PartCall w id offer call' before false did' after' →
+      SameOutcome id call call' did did' after after'
 
   -- So have a client's own calls and the shared ones, one after another. The ids of new globals follow from the offer, so it
   -- need not be said that the answers to `create_global` are the same.

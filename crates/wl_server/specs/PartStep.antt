@@ -10,6 +10,8 @@ use Rattle.wl_wire.specs.declared.error.IoFault.{IoFault}
 use Rattle.wl_wire.specs.declared.error.IoFault.TheVariants as fault
 use Rattle.wl_wire.specs.declared.error.OutOfMemory.{OutOfMemory}
 use Rattle.wl_wire.specs.declared.interface.InterfaceId.{InterfaceId}
+use Rattle.wl_wire.specs.declared.protocol.TableError.{TableError}
+use Rattle.wl_wire.specs.Table.{InterfaceRow}
 use Rattle.wl_link.specs.Exchange.{Queue}
 use Rattle.wl_link.specs.Link.{LinkState, IsFresh, LimitSet, with_transport}
 use Rattle.wl_link.specs.Script.{Script, ScriptReceives, ScriptSends}
@@ -61,10 +63,12 @@ over sends receives views = record { sends = sends; receives = receives; moves =
 abbrev pub over_scripts : {G C : Type 0} → (G → ClientParts → C → GlobalParts → Bool) → World Script G C
 over_scripts views = record { sends = ScriptSends; receives = ScriptReceives; moves = ScriptMoves; views = views }
 
--- A call of a server: a step with its reply; or a change of a client's transport to this value, by the program.
+-- A call of a server: a step with its reply; a change of a client's transport to this value, by the program; or interfaces
+-- that were to be added to the table, with the answer.
 pub data Call (T U G C : Type 0) : Type 0 where
   Asked : Step T U G C → Reply T U → Call T U G C
   Changed : ClientParts → T → Call T U G C
+  Grown : List InterfaceRow → Result (Unit {0}) TableError → Call T U G C
 
 -- ---- whether memory was refused, by the answer
 
@@ -220,8 +224,6 @@ module _ {T U G C : Type 0} (w : World T G C) (id : ClientParts) (offer : Offer 
       (r : _) × (answer ≡ reply.Flush r) × FlushedFor target r before lacked did after
   PartStep (step.SetDefaultMaxBufferSize limit) answer before lacked did after =
       (answer ≡ reply.SetDefaultMaxBufferSize) × Unfelt before lacked did after
-  PartStep (step.AddInterfaces interfaces) answer before lacked did after =
-      (r : _) × (answer ≡ reply.AddInterfaces r) × Unfelt before lacked did after
   PartStep (step.SetClientMaxBufferSize target limit) answer before lacked did after =
       (answer ≡ reply.SetClientMaxBufferSize)
       × OfClient (same_client target id) before
@@ -261,3 +263,4 @@ module _ {T U G C : Type 0} (w : World T G C) (id : ClientParts) (offer : Offer 
   PartCall (Asked s answer) before lacked did after = PartStep s answer before lacked did after
   PartCall (Changed target t) before lacked did after =
       OfClient (same_client target id) before (λ p q. Quietly lacked did (WithTransport (λ _ t'. t' ≡ t) p q)) (Unit {0}) lacked did after
+  PartCall (Grown rows answer) before lacked did after = Unfelt before lacked did after

@@ -3,7 +3,7 @@ use Rattle.std.specs.Prelude.{◌≡◌, List, [], ◌∷◌, Bool, true, false,
 use Rattle.wl_server.specs.declared.runs.step.Step.{Step}
 use Rattle.wl_server.specs.declared.runs.step.Step.TheVariants as step
 use Rattle.wl_server.specs.Ids.{ClientParts, same_client}
-use Rattle.wl_server.specs.PartStep.{Asked, Call, Changed, World}
+use Rattle.wl_server.specs.PartStep.{Asked, Call, Changed, Grown, World}
 use Rattle.wl_server.specs.Runs.{Leads}
 use Rattle.wl_server.specs.Server.{ServerState}
 use Rattle.wl_server.specs.Steps.{Entry}
@@ -21,6 +21,7 @@ module _ {T U G C : Type 0} where
   abbrev pub spares : ClientParts → Call T U G C → Bool
   spares id (Asked s answer) = not (reads_or_finishes id s)
   spares id (Changed target t) = true
+  spares id (Grown rows answer) = true
 
   abbrev pub AllSpare : ClientParts → List (Entry T U G C) → Type 0
   AllSpare id [] = Unit {0}

@@ -12,7 +12,7 @@ use Rattle.wl_server.specs.Deeds.{Deed}
 use Rattle.wl_server.specs.Globals.{Offer, new_offer}
 use Rattle.wl_server.specs.Ids.{ClientParts, same_client}
 use Rattle.wl_server.specs.Part.{fresh_part, last_possible_serial}
-use Rattle.wl_server.specs.PartStep.{Asked, Call, Changed, PartCall, World}
+use Rattle.wl_server.specs.PartStep.{Asked, Call, Changed, Grown, PartCall, World}
 use Rattle.wl_server.specs.Server.{Seen, ServerState, nothing_seen, seen}
 use Rattle.wl_server.specs.Steps.{Entry, AnswersShared, OneStep, StepOf, inserted_by, offer_after}
 
@@ -58,7 +58,6 @@ is_about id (step.RemoveGlobal _) = true
 is_about id (step.Flush None) = true
 is_about id (step.Flush (Some target)) = same_client target id
 is_about id (step.SetDefaultMaxBufferSize _) = true
-is_about id (step.AddInterfaces _) = true
 is_about id (step.SetClientMaxBufferSize target _) = same_client target id
 is_about id (step.NextAction target) = same_client target id
 is_about id (step.NextActionWithin target _) = same_client target id
@@ -75,6 +74,7 @@ is_about id (step.TakeSent target) = same_client target id
 abbrev pub concerns : {T U G C : Type 0} → ClientParts → Call T U G C → Bool
 concerns id (Asked s answer) = is_about id s
 concerns id (Changed target t) = same_client target id
+concerns id (Grown rows answer) = true
 
 -- an entry of one client's own run: the call, whether memory was refused to this client, and the deeds with it
 pub record Own (T U G C : Type 0) : Type 0 where

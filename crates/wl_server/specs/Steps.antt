@@ -3,7 +3,7 @@ use Rattle.std.specs.Prelude.{◌≡◌, ◌≢◌, ℕ, ◌+◌, ◌<◌, ◌�
 use Rattle.std.specs.Option.{option_map_or}
 use Rattle.wl_wire.specs.declared.interface.InterfaceId.{InterfaceId}
 use Rattle.wl_wire.specs.declared.protocol.TableError.TheVariants as table
-use Rattle.wl_wire.specs.Table.{AnswersGrowth, InterfaceRow, grown, interface_rows}
+use Rattle.wl_wire.specs.Table.{AnswersGrowth, grown}
 use Rattle.wl_server.specs.declared.error.GlobalError.TheVariants as global
 use Rattle.wl_server.specs.declared.error.InsertClientError.{InsertClientError}
 use Rattle.wl_server.specs.declared.error.InsertClientError.TheVariants as insert
@@ -17,7 +17,7 @@ use Rattle.wl_server.specs.declared.notes.Note.{Note}
 use Rattle.wl_server.specs.Ids.{ClientParts}
 use Rattle.wl_server.specs.NoteOrder.{AllInTime, AllNumbered, AllTakeFirst, IsInOrder, NoneWaits, RiseFromSlot, times_of}
 use Rattle.wl_server.specs.Part.{last_possible_serial}
-use Rattle.wl_server.specs.PartStep.{Asked, Call, PartCall, World}
+use Rattle.wl_server.specs.PartStep.{Asked, Call, Grown, PartCall, World}
 use Rattle.wl_server.specs.Server.{ServerState, Stored, client_at, seen, stored_at}
 
 -- A call of a run, and whether memory was refused in it; and for each client id whether memory was refused to that client,
@@ -76,11 +76,6 @@ abbrev pub created_by : {T U G : Type 0} → Globals G → InterfaceId → ℕ �
 created_by globals i version handler (reply.CreateGlobal r) = with_created globals i version handler r
 created_by globals i version handler _ = globals
 
--- the table, after a call to add these rows was answered so
-abbrev pub table_by : {T U : Type 0} → List InterfaceRow → List InterfaceRow → Reply T U → List InterfaceRow
-table_by table rows (reply.AddInterfaces r) = grown table rows r
-table_by table rows _ = table
-
 module _ {T U G C : Type 0} where
   -- the offer after a call, by its reply
   abbrev pub offer_after : Offer G → Call T U G C → Offer G
@@ -89,14 +84,14 @@ module _ {T U G C : Type 0} where
   offer_after offer (Asked (step.DisableGlobal g) answer) = with_globals offer (disabled offer.globals g)
   offer_after offer (Asked (step.RemoveGlobal g) answer) = with_globals offer (freed offer.globals g)
   offer_after offer (Asked (step.SetDefaultMaxBufferSize limit) answer) = record offer { default_limit = limit }
-  offer_after offer (Asked (step.AddInterfaces interfaces) answer) = with_table offer (table_by offer.table (interface_rows interfaces.items) answer)
+  offer_after offer (Grown rows answer) = with_table offer (grown offer.table rows answer)
   offer_after offer _ = offer
 
   -- A new global has the least free name and the next serial, and each error has its reason. Interfaces that are added are
   -- refused for their first fault, and for want of memory if they have none.
   abbrev pub AnswersShared : Offer G → Call T U G C → Type 0
   AnswersShared offer (Asked (step.CreateGlobal i version handler) (reply.CreateGlobal r)) = CreatesGlobal offer.table offer.globals i version r
-  AnswersShared offer (Asked (step.AddInterfaces interfaces) (reply.AddInterfaces r)) = AnswersGrowth offer.table (interface_rows interfaces.items) r
+  AnswersShared offer (Grown rows answer) = AnswersGrowth offer.table rows answer
   AnswersShared offer _ = Unit {0}
 
   -- the clients that a cleanup takes out are in the order of their slots
@@ -118,9 +113,9 @@ module _ {T U G C : Type 0} where
   abbrev pub lacks_growth : Call T U G C → Bool
   lacks_growth (Asked _ (reply.InsertClient (Err insert.OutOfMemory))) = true
   lacks_growth (Asked _ (reply.CreateGlobal (Err global.OutOfMemory))) = true
-  lacks_growth (Asked _ (reply.AddInterfaces (Err table.OutOfMemory))) = true
   lacks_growth (Asked _ (reply.Cleanup (Err _))) = true
   lacks_growth (Asked _ (reply.TakeNotes (Err _))) = true
+  lacks_growth (Grown _ (Err table.OutOfMemory)) = true
   lacks_growth _ = false
 
   -- memory was refused in the call exactly if it was refused for that, or to some client

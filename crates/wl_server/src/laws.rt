@@ -2,8 +2,8 @@
 //!
 //! These words are used in this file:
 //!
-//! - A *run* is a list of calls, one after another. Changes of a transport through `transport_mut` may be among them.
-//!   Most laws are about each run of a new server (`Backend::new`).
+//! - A *run* is a list of calls, one after another. Changes of a transport through `transport_mut`, and `add_interfaces`, may be
+//!   among them. Most laws are about each run of a new server (`Backend::new`).
 //! - A client is *stored* from its insertion until `Backend::cleanup` takes it out. It is *live* as long as it is stored
 //!   and not killed.
 //! - A *shared* call is about no single client: for instance `create_global` or `cleanup`.
@@ -44,7 +44,7 @@ ghost use Rattle.wl_server.specs.Outcome.Dispatches.{DispatchesHaveOneOutcome, I
 ghost use Rattle.wl_server.specs.GivenOnce.{GivesOnce};
 ghost use Rattle.wl_server.specs.Globals.{CreatesGlobal, Globals, Offer};
 ghost use Rattle.wl_server.specs.Ids.{ClientParts, GlobalParts};
-ghost use Rattle.wl_server.specs.Outcome.{ClientsHaveOneOutcome, OffersHaveOneOutcome, OwnRunsHaveOneOutcome, StepsHaveOneOutcome};
+ghost use Rattle.wl_server.specs.Outcome.{CallsHaveOneOutcome, ClientsHaveOneOutcome, OffersHaveOneOutcome, OwnRunsHaveOneOutcome};
 ghost use Rattle.wl_server.specs.Identified.{EachHasOwnIds};
 ghost use Rattle.wl_server.specs.Killed.{EachStaysKilled};
 ghost use Rattle.wl_server.specs.Named.{EachKeepsNaming, EachNamesNoneAgain};
@@ -82,18 +82,18 @@ pub fn each_client_is_alone<T: Transport, U, G: GlobalHandler<C>, C>()
 
 /// What a server does with a client has one outcome, over every transport whose answers follow from its value.
 ///
-/// If memory is not refused, a step determines its deeds with each client, and what is held of the client afterwards. (For
-/// `insert_client` and `create_global` that is said of the same new id; each run has one outcome of that, too.) If the step
+/// If memory is not refused, a call determines its deeds with each client, and what is held of the client afterwards. (For
+/// `insert_client` and `create_global` that is said of the same new id; each run has one outcome of that, too.) If the call
 /// is the client's own or a shared one, it also determines the reply to this client, up to where lists lie in memory. The
 /// same holds of a list of a client's own calls and the shared ones, and of two runs of a server, whatever other clients do
 /// in them. So the definitions of the calls leave no choice except whether memory is refused. The globals and limits that a
 /// client finds at its insertion are determined by the shared calls before it.
 pub fn each_client_has_one_outcome<T: Transport, U, G: GlobalHandler<C>, C>()
-    ensures step { IsFunction T.sends → IsReceiveFunction T.receives → StepsHaveOneOutcome U (over T.sends T.receives G.views) }
+    ensures call { IsFunction T.sends → IsReceiveFunction T.receives → CallsHaveOneOutcome U (over T.sends T.receives G.views) }
     ensures alone { IsFunction T.sends → IsReceiveFunction T.receives → OwnRunsHaveOneOutcome U (over T.sends T.receives G.views) }
     ensures client { IsFunction T.sends → IsReceiveFunction T.receives → ClientsHaveOneOutcome U (over T.sends T.receives G.views) }
     ensures offer { OffersHaveOneOutcome U (over T.sends T.receives G.views) }
-    ensures script_step { StepsHaveOneOutcome U (over_scripts G.views) }
+    ensures script_call { CallsHaveOneOutcome U (over_scripts G.views) }
     ensures script_alone { OwnRunsHaveOneOutcome U (over_scripts G.views) }
     ensures script_client { ClientsHaveOneOutcome U (over_scripts G.views) }
     ensures script_offer { OffersHaveOneOutcome U (over_scripts G.views) }

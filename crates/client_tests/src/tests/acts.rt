@@ -13,7 +13,7 @@ use std::test::Fail;
 use test_kit::cuts::{Cut, Stream};
 use test_kit::log::row_tells;
 use test_kit::message::padded;
-use test_kit::quad::quad_table;
+use test_kit::quad::{destructor, push_interface, quad_table};
 use wl_client::{Backend, EventError};
 use wl_link::Memory;
 use wl_wire::{IoFault, Token};
@@ -50,6 +50,8 @@ pub enum Act {
     Destroy(Object),
     /// Takes the notes.
     Notes,
+    /// Adds an interface of this name and of version 1, whose only event, `gone`, ends its object.
+    Add(&'static str),
     /// Runs the steps.
     Replay(&'static [Call]),
     /// Looks at something.
@@ -406,6 +408,15 @@ fn take_sent(client: &mut Client) -> Result<(), Fail> {
     Ok(())
 }
 
+/// Adds the interface of that name to the table.
+fn add(alloc: Global, client: &mut Client, log: &mut String, name: &str) -> Result<(), Fail> {
+    let mut interfaces = Vec::new(alloc);
+    push_interface(alloc, &mut interfaces, name, 1, &[], &[destructor("gone")])?;
+    let answer = client.add_interfaces(interfaces);
+    let written = write_done(log, &answer);
+    told(client, written)
+}
+
 /// Tells how many arrivals the script has left.
 fn arrivals(client: &Client, log: &mut String) -> Result<(), Fail> {
     let left = client.transport().arrivals_left();
@@ -475,6 +486,7 @@ fn perform(
         Act::AddToData(object, more) => add_to_data(client, log, object, more),
         Act::Destroy(object) => destroy(client, log, object),
         Act::Notes => notes(client, log),
+        Act::Add(name) => add(alloc, client, log, name),
         Act::Replay(calls) => replay(alloc, client, log, calls),
         Act::Look(look) => look_at(alloc, client, log, look),
         Act::Script(cue) => play(alloc, client, cue),

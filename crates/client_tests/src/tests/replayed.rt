@@ -70,12 +70,14 @@ const LIFE: [Call; 19] = [
     Call::Send(Request::Sync),
 ];
 
-/// A session whose table takes an interface, of which it then has an object. `gone` ends that.
-const GROWTH: [Call; 11] = [
+/// A session that binds to an interface which its table does not have.
+const NOT_ADDED: [Call; 2] = [
     Call::Send(Request::GetRegistry),
     Call::Send(Request::BindAdded),
-    Call::Add("solo"),
-    Call::Add("solo"),
+];
+
+/// The same session with the interface in its table: it has an object of it. `gone` ends that.
+const ADDED: [Call; 7] = [
     Call::Send(Request::BindAdded),
     Call::Flush,
     Call::TakeSent,
@@ -94,8 +96,13 @@ static ROWS: [Row; 3] = [
     },
     Row {
         name: "interfaces are added",
-        acts: &[Act::Replay(&GROWTH)],
-        told: "sent: 2, 1\nthe new object's interface is not in the table\ndone\ninterface 0: the name is taken\nsent: 3, 2\nflushed\n0100000001000c000200000002000000000020000200000005000000736f6c6f000000000100000003000000\ndone\nevent 0 of 3:\nfinished\nnotes: 3, 2\nrefused: false\n",
+        acts: &[
+            Act::Replay(&NOT_ADDED),
+            Act::Add("solo"),
+            Act::Add("solo"),
+            Act::Replay(&ADDED),
+        ],
+        told: "sent: 2, 1\nthe new object's interface is not in the table\nrefused: false\ndone\ninterface 0: the name is taken\nsent: 3, 2\nflushed\n0100000001000c000200000002000000000020000200000005000000736f6c6f000000000100000003000000\ndone\nevent 0 of 3:\nfinished\nnotes: 3, 2\nrefused: false\n",
     },
     // Wants of memory of the transport, a run of no steps after the first, and the next reading after the second.
     Row {

@@ -1,7 +1,7 @@
 //! The one owner of a server: it makes the calls of a run and looks at what they left.
 
 use server_test_kit::steps::{Call, Made, arrive, arrive_with, step};
-use server_test_kit::told::{action, object, reply};
+use server_test_kit::told::{action, done, object, reply};
 use server_test_kit::values::{Event, FIRST, Named, Shown, Thing, Who, message};
 use std::alloc::Global;
 use std::fmt::Write;
@@ -9,7 +9,7 @@ use std::test::Fail;
 use test_kit::cuts::{Cut, Stream};
 use test_kit::log::row_tells;
 use test_kit::message::padded;
-use test_kit::quad::{QUAD, quad_table};
+use test_kit::quad::{QUAD, push_interface, quad_table};
 use wl_link::Memory;
 use wl_server::{Action, ActionError, Backend, ClientId, ObjectId, Reading, Reply};
 use wl_wire::{InterfaceId, IoFault};
@@ -43,6 +43,8 @@ pub enum Act {
     Globals(u32),
     /// Makes the calls, and tells nothing of them.
     Quietly(&'static [Call]),
+    /// Adds an interface of this name and of version 1, which has no messages, and tells the answer.
+    Add(&'static str),
     /// Makes a call beside one of those of `Do`.
     Beside(Beside),
     /// Looks at something.
@@ -675,6 +677,17 @@ fn make_beside(
     Ok(())
 }
 
+/// Adds the interface of that name, for which there is to be memory, and tells the answer.
+fn add(alloc: Global, server: &mut Server, log: &mut String, name: &str) -> Result<(), Fail> {
+    let mut interfaces = Vec::new(alloc);
+    push_interface(alloc, &mut interfaces, name, 1, &[], &[])?;
+    let answer = server.add_interfaces(interfaces);
+    if server.memory_refused() {
+        return Err(Fail::new("memory was refused"));
+    }
+    done(log, &answer)
+}
+
 /// Looks at it.
 fn look_at(alloc: Global, server: &Server, log: &mut String, at_what: Look) -> Result<(), Fail> {
     match at_what {
@@ -724,6 +737,7 @@ pub fn perform_all(
             Act::Serve(who) => serve(server, log, who)?,
             Act::GlobalInWant => global_in_want(server, log)?,
             Act::TakeOut => take_out(server, log)?,
+            Act::Add(name) => add(alloc, server, log, name)?,
             Act::Beside(call) => make_beside(alloc, server, log, call)?,
             Act::Look(what) => look_at(alloc, server, log, what)?,
             _ => prepare(alloc, server, *act)?,

@@ -1,7 +1,8 @@
 -- That a public call keeps a history accounted for, and that a run over the transport by script is a part of one.
-use Rattle.std.proofs.Common.{ℕ, Bool, List, [], ◌∷◌, ◌++◌, Result, refl, subst}
+use Rattle.std.proofs.Common.{◌≡◌, ℕ, Bool, List, [], ◌∷◌, ◌++◌, Result, refl, subst}
 use Rattle.wl_wire.specs.declared.error.IoFault.{IoFault}
-use Rattle.wl_wire.specs.Table.{InterfaceRow}
+use Rattle.wl_wire.specs.declared.protocol.TableError.{TableError}
+use Rattle.wl_wire.specs.Table.{InterfaceRow, refused_growth}
 use Rattle.wl_link.proofs.OverRuns.RunLaws.{stopped_leads}
 use Rattle.wl_link.specs.Exchange.{Queue}
 use Rattle.wl_link.specs.Script.{Script, ScriptSends, ScriptReceives}
@@ -11,10 +12,10 @@ use Rattle.wl_client.specs.declared.step.Step.TheVariants as step
 use Rattle.wl_client.proofs.OverRuns.FailedLaws.{IsKept, calls_kept, steps_kept}
 use Rattle.wl_client.proofs.OverRuns.IdentityLaws.{accounted}
 use Rattle.wl_client.proofs.OverRuns.StretchLaws.{parts_cut}
-use Rattle.wl_client.specs.Accounts.{AccountsForStopped, Calls, IsChange, StaysAccountedFor}
-use Rattle.wl_client.specs.Histories.{Called, Changed, Deed, Does, History, called}
+use Rattle.wl_client.specs.Accounts.{AccountsForStopped, Calls, IsChange, IsGrowth, StaysAccountedFor}
+use Rattle.wl_client.specs.Histories.{Called, Changed, Deed, Does, Grown, History, called}
 use Rattle.wl_client.specs.Session.{ClientState, IsConnected, SessionState, over_transport}
-use Rattle.wl_client.specs.Steps.{CallOf, Entry, Leads, Making, StepOf, StopsAt, entries}
+use Rattle.wl_client.specs.Steps.{CallOf, Entry, InterfacesAdded, Leads, Making, StepOf, StopsAt, entries}
 
 module _ {T U : Type 0} (makes : Making T U) where
   -- ---- histories behind one another
@@ -40,6 +41,14 @@ module _ {T U : Type 0} (makes : Making T U) where
     change_by : (before : SessionState T U) (t : T) → IsChange makes before t (over_transport before t)
     change_by before t = record { change = refl; accounted = stays_accounted_for before (Changed t) (over_transport before t) refl }
 
+    growth_by : (before : ClientState T U) (rows : List InterfaceRow) (answer : Result (Unit {0}) TableError) (after : ClientState T U)
+        → InterfacesAdded before.session rows answer after.session → after.refused ≡ refused_growth answer → IsGrowth makes before rows answer after
+    growth_by before rows answer after added refused = record {
+      growth = added;
+      refused = refused;
+      accounted = stays_accounted_for before.session (Grown rows answer) after.session added;
+    }
+
 -- ---- a public call
 
 module _ {T U : Type 0} (sends : T → Queue → Result ℕ IoFault → T → Type 0) (receives : T → ℕ → Result Queue IoFault → T → Type 0) where
@@ -49,6 +58,10 @@ module _ {T U : Type 0} (sends : T → Queue → Result ℕ IoFault → T → Ty
 
   pub is_change : (before : SessionState T U) (t : T) → IsChange (CallOf sends receives) before t (over_transport before t)
   is_change = change_by (CallOf sends receives) (calls_kept sends receives)
+
+  pub is_growth : (before : ClientState T U) (rows : List InterfaceRow) (answer : Result (Unit {0}) TableError) (after : ClientState T U)
+      → InterfacesAdded before.session rows answer after.session → after.refused ≡ refused_growth answer → IsGrowth (CallOf sends receives) before rows answer after
+  is_growth = growth_by (CallOf sends receives) (calls_kept sends receives)
 
 -- ---- the transport by script
 
@@ -79,7 +92,6 @@ module _ {U : Type 0} where
   call_step before (step.FinishEvent u) answer refused after h = h
   call_step before step.DispatchInnerQueue answer refused after h = h
   call_step before (step.SetMaxBufferSize limit) answer refused after h = h
-  call_step before (step.AddInterfaces more) answer refused after h = h
   call_step before step.TakeNotes answer refused after h = h
   call_step before _ answer refused after h = absurd h
 
@@ -89,6 +101,7 @@ module _ {U : Type 0} where
   call_history before after (Called e ∷ deeds) (mid, by, leads) =
       (mid, call_step before e.step e.answer e.refused mid by, call_history mid after deeds leads)
   call_history before after (Changed t ∷ deeds) (mid, same, leads) = (mid, same, call_history mid after deeds leads)
+  call_history before after (Grown rows answer ∷ deeds) (mid, added, leads) = (mid, added, call_history mid after deeds leads)
 
   -- a run that stopped is accounted for, with the step that met a want of memory
   pub stopped_accounts : (s after : SessionState Script U) (steps : List (Step U)) (n : ℕ) (replies : List (Reply U)) → StopsAt s steps n replies after

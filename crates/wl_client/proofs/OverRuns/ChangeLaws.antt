@@ -46,7 +46,7 @@ use Rattle.wl_client.specs.ObjectId.{IdParts}
 use Rattle.wl_client.specs.Events.{Converting, Converted, Outcome, Whole, Wrong, object_argument_of, is_destroyed, vacated, is_valid_new, made_object, with_object_argument, with_new_at, with_new_argument, convert_one, going_on, convert, start, DisplayEvent, Fails, Deletes, Unreadable, display_event, after_delete}
 use Rattle.wl_client.specs.Finish.{FinishesEvent, Finishes, FlushEnds, SessionFlushed, after_destructor, data_given, refusal, with_data_for, with_dead}
 use Rattle.wl_client.specs.Handed.{IsHandedIn, ended_notes, event_ids, ids_by, ids_in, is_over, note_ids, notes_by, notes_in, request_ids}
-use Rattle.wl_client.specs.Histories.{Called, Changed, Deed, Does}
+use Rattle.wl_client.specs.Histories.{Called, Changed, Deed, Does, Grown}
 use Rattle.wl_client.specs.Objects.{DataSet, DestroyedBy, destroyable}
 use Rattle.wl_client.specs.Handling.{Handling, Swallows, HandsOut, event_of, handed, handling, of_converted, of_display, of_event, opened_of, row_in}
 use Rattle.wl_client.specs.Reading.{NextEvent, event_content, handed_by, objects_in as cored}
@@ -736,8 +736,6 @@ module _ {T U : Type 0} where
     call_moves sends receives step.DispatchInnerQueue reply refused after (is, no_memory, same) = by_quiet reply _ after (ap ids_in is) (ap notes_in is) same (idle s)
     call_moves sends receives (step.SetMaxBufferSize limit) reply refused after (is, no_memory, (link, set, same)) =
         by_quiet reply _ after (ap ids_in is) (ap notes_in is) same (idle s)
-    call_moves sends receives (step.AddInterfaces more) reply refused after (r, is, no_memory, (answers, same)) =
-        by_quiet reply _ after (ap ids_in is) (ap notes_in is) same (idle s)
     call_moves sends receives step.TakeNotes reply refused after (notes, is, no_memory, taken, same) = record {
       changes = [];
       owns = ap objects_of same;
@@ -769,17 +767,24 @@ module _ {U : Type 0} (s : SessionState Script U) where
   step_moves (step.FinishEvent u) reply refused after h = call_moves s ScriptSends ScriptReceives (step.FinishEvent u) reply refused after h
   step_moves step.DispatchInnerQueue reply refused after h = call_moves s ScriptSends ScriptReceives step.DispatchInnerQueue reply refused after h
   step_moves (step.SetMaxBufferSize limit) reply refused after h = call_moves s ScriptSends ScriptReceives (step.SetMaxBufferSize limit) reply refused after h
-  step_moves (step.AddInterfaces more) reply refused after h = call_moves s ScriptSends ScriptReceives (step.AddInterfaces more) reply refused after h
   step_moves step.TakeNotes reply refused after h = call_moves s ScriptSends ScriptReceives step.TakeNotes reply refused after h
 
 -- ---- a deed
 
 module _ {T U : Type 0} (makes : Making T U)
     (moves : (s : SessionState T U) (call : Step U) (reply : Reply U) (refused : Bool) (after : SessionState T U) → makes s call reply refused after → StepMoves s (ids_in reply) (notes_in reply) after) where
-  -- so a deed moves them; a change of the transport moves nothing
+  -- so a deed moves them; a change of the transport moves nothing, nor do interfaces
   pub deed_moves : (s : SessionState T U) (d : Deed T U) (after : SessionState T U) → Does makes s d after → StepMoves s (ids_by d) (notes_by d) after
   deed_moves s (Called e) after by = moves s e.step e.answer e.refused after by
   deed_moves s (Changed t) after same = record {
+    changes = [];
+    owns = ap objects_of same;
+    handed = tt;
+    notes = append-nil s.notes ∙ ap (λ (a : SessionState T U). a.notes) (sym same);
+    noted = tt;
+    stays = λ failed. subst (λ (a : SessionState T U). IsSome a.error) (sym same) failed;
+  }
+  deed_moves s (Grown rows answer) after (answers, same) = record {
     changes = [];
     owns = ap objects_of same;
     handed = tt;

@@ -21,7 +21,7 @@ use Rattle.wl_client.proofs.OverRuns.ChangeLaws.{StepMoves, call_moves, step_mov
 use Rattle.wl_client.specs.Failed.{AnswersFailed, StaysFailed}
 use Rattle.wl_client.specs.Finish.{SessionFlushed}
 use Rattle.wl_client.specs.Handed.{ids_in, notes_in}
-use Rattle.wl_client.specs.Histories.{Called, Changed, Deed, History}
+use Rattle.wl_client.specs.Histories.{Called, Changed, Deed, Grown, History}
 use Rattle.wl_client.specs.Reading.{event_content}
 use Rattle.wl_client.proofs.OverRuns.ReadingLaws.{has_none, read_fails}
 use Rattle.wl_client.specs.Session.{SessionState}
@@ -92,4 +92,6 @@ module _ {T U : Type 0} (makes : Making T U) (kept : IsKept makes) where
       let rest = stays_failed mid after deeds ((kept.moves before e.step e.answer e.refused mid by).stays failed) leads in
       ((first, rest.0), rest.1)
   stays_failed before after (Changed t ∷ deeds) failed (mid, same, leads) =
+      stays_failed mid after deeds (subst (λ (s : SessionState T U). IsSome s.error) (sym same) failed) leads
+  stays_failed before after (Grown rows answer ∷ deeds) failed (mid, (answers, same), leads) =
       stays_failed mid after deeds (subst (λ (s : SessionState T U). IsSome s.error) (sym same) failed) leads

@@ -19,7 +19,7 @@ use Rattle.wl_client.specs.declared.step.Step.TheVariants as step
 use Rattle.wl_client.specs.Cutting.{GoesOn, no_sends}
 use Rattle.wl_client.specs.Finish.{Finishes}
 use Rattle.wl_client.specs.Heard.{AllHeard, Hears, IsHeard, IsOfEvents, ReadTurns, TurnsOf, TurnsOfStep, events_in, events_in_deed, finished_in, finished_in_deed}
-use Rattle.wl_client.specs.Histories.{Called, Changed, Deed, Does, History}
+use Rattle.wl_client.specs.Histories.{Called, Changed, Deed, Does, Grown, History}
 use Rattle.wl_client.specs.Plain.{ReadsEvent}
 use Rattle.wl_client.specs.Reading.{NextEvent, ReadsTo, client, event_content, handed_by, reader_state_of, receives_allowed}
 use Rattle.wl_client.specs.Requests.{SessionMessage}
@@ -149,6 +149,7 @@ module _ {T U : Type 0} (sends : T → Queue → Result ℕ IoFault → T → Ty
       subst (λ (ts : List Turn). GoesOnBy before ts [] [] after) (sym none)
       (subst (λ (s : SessionState T U). GoesOnBy before [] [] [] s) (sym same)
       (record { goes = λ finishes. goes_nowhere (reader_state_of before) finishes; calm = calm }))
+  deed_goes before after (Grown rows answer) turns calm is does none fed = absurd is
   deed_goes before after (Called e) turns calm (ample, is) does of_one fed = by_step e.step is does of_one
     where
       by_step : (s : Step U) → IsOfEvents s → CallOf sends receives before s e.answer e.refused after
@@ -218,6 +219,7 @@ module _ {T U : Type 0} (sends : T → Queue → Result ℕ IoFault → T → Ty
   deed_turns : (before after : SessionState T U) (d : Deed T U) → IsHeard d → Does (CallOf sends receives) before d after
       → (turns : List Turn) × TurnsOf sends receives before d turns after
   deed_turns before after (Changed t) is does = ([], refl)
+  deed_turns before after (Grown rows answer) is does = absurd is
   deed_turns before after (Called e) (ample, is) does = by_step e.step is does
     where
       by_step : (s : Step U) → IsOfEvents s → CallOf sends receives before s e.answer e.refused after

@@ -6,7 +6,7 @@ use Rattle.wl_wire.specs.declared.error.IoFault.TheVariants as fault
 use Rattle.wl_wire.specs.declared.error.OutOfMemory.{OutOfMemory}
 use Rattle.wl_wire.specs.declared.protocol.TableError.{TableError}
 use Rattle.wl_wire.specs.Message.{WireMessage}
-use Rattle.wl_wire.specs.Table.{InterfaceRow, grown, interface_rows, refused_growth}
+use Rattle.wl_wire.specs.Table.{InterfaceRow, grown, refused_growth}
 use Rattle.wl_wire.proofs.Growth.{AnswersGrowth-unique}
 use Rattle.wl_link.specs.declared.memory.ArriveError.{ArriveError}
 use Rattle.wl_link.specs.declared.memory.ArriveError.TheVariants as arrive
@@ -29,7 +29,7 @@ use Rattle.wl_client.specs.declared.step.Reply.{Reply}
 use Rattle.wl_client.specs.declared.step.Reply.TheVariants as reply
 use Rattle.wl_client.specs.declared.step.Step.{Step}
 use Rattle.wl_client.specs.declared.step.Step.TheVariants as step
-use Rattle.wl_client.specs.Histories.{Called, Changed, Deed, History}
+use Rattle.wl_client.specs.Histories.{Called, Changed, Deed, Grown, History}
 use Rattle.wl_client.specs.ObjectId.{IdParts}
 use Rattle.wl_client.specs.Finish.{FinishesEvent, Finishes, FlushEnds, refusal, SessionFlushed}
 use Rattle.wl_client.specs.Objects.{DataSet, DestroyedBy, destroyable}
@@ -39,7 +39,7 @@ use Rattle.wl_client.specs.OneOutcome.{SameAnswers, SameDeeds}
 use Rattle.wl_client.specs.Replies.{SameReply, SameReplies}
 use Rattle.wl_client.specs.Requests.{Numbered, Requested, Sent, SentAs, SentWithChild, SessionMessage, Spec, Written, ended_by, error_after, id_of_new, new_child, number_of_new, request_check, session_content, wire_message, with_born, with_ended}
 use Rattle.wl_client.specs.Session.{SessionState, last_possible_serial, named, over_transport}
-use Rattle.wl_client.specs.Steps.{ArrivesWith, CallOf, Scripts, InterfacesAdded, StepOf, Leads, entries, refused_arrive, refused_destroy, refused_finish, refused_flush, refused_request, refused_script}
+use Rattle.wl_client.specs.Steps.{ArrivesWith, CallOf, Making, Scripts, InterfacesAdded, StepOf, Leads, entries, refused_arrive, refused_destroy, refused_finish, refused_flush, refused_request, refused_script}
 
 -- an answer by which memory was not refused is not one by which it was
 not_refused : (b : Bool) → false ≡ b → b ≡ true → ⊥
@@ -238,9 +238,6 @@ module _ {T U : Type 0} (sends : T → Queue → Result ℕ IoFault → T → Ty
     same_reply p q reply.SetMaxBufferSize reply.SetMaxBufferSize is is' refl,
     same ∙ ap (λ (l : LinkState T). record s { link = l }) (limit_set_one s.link limit link link' set set') ∙ sym same',
   )
-  call_one s x y (step.AddInterfaces more) p q (a, is, unasked, h) (b, is', unasked', g) =
-      let one = growth_one s (interface_rows more.items) a b x y unasked unasked' h g in
-      (same_reply p q _ _ is is' (ap reply.AddInterfaces one.0), one.1)
   call_one s x y step.TakeNotes p q (notes, is, unasked, items, same) (notes', is', unasked', items', same') =
       (same_reply p q (reply.TakeNotes notes) (reply.TakeNotes notes') is is' (items ∙ sym items'), same ∙ sym same')
   call_one s x y _ p q h g = absurd h
@@ -270,7 +267,6 @@ module _ {U : Type 0} where
   step_one s x y (step.FinishEvent u) p q h g = call_one ScriptSends ScriptReceives script_sends_function script_receives_function s x y (step.FinishEvent u) p q h g
   step_one s x y step.DispatchInnerQueue p q h g = call_one ScriptSends ScriptReceives script_sends_function script_receives_function s x y step.DispatchInnerQueue p q h g
   step_one s x y (step.SetMaxBufferSize limit) p q h g = call_one ScriptSends ScriptReceives script_sends_function script_receives_function s x y (step.SetMaxBufferSize limit) p q h g
-  step_one s x y (step.AddInterfaces more) p q h g = call_one ScriptSends ScriptReceives script_sends_function script_receives_function s x y (step.AddInterfaces more) p q h g
   step_one s x y step.TakeNotes p q h g = call_one ScriptSends ScriptReceives script_sends_function script_receives_function s x y step.TakeNotes p q h g
 
   -- ---- a run
@@ -282,20 +278,35 @@ module _ {U : Type 0} where
 
 -- ---- a history
 
-module _ {T U : Type 0} (sends : T → Queue → Result ℕ IoFault → T → Type 0) (receives : T → ℕ → Result Queue IoFault → T → Type 0)
-    (function : IsFunction sends) (receiving : IsReceiveFunction receives) where
-  -- so has each history over any such transport
-  pub history_one : (s x y : SessionState T U) (deeds others : List (Deed T U)) → SameDeeds deeds others → History (CallOf sends receives) s deeds x
-      → History (CallOf sends receives) s others y → SameAnswers deeds others × (x ≡ y)
+module _ {T U : Type 0} (makes : Making T U)
+    (one_outcome : (s x y : SessionState T U) (call : Step U) (p q : Reply U) → makes s call p false x → makes s call q false y → SameReply p q × (x ≡ y)) where
+  -- so has each history
+  history_one : (s x y : SessionState T U) (deeds others : List (Deed T U)) → SameDeeds deeds others → History makes s deeds x → History makes s others y
+      → SameAnswers deeds others × (x ≡ y)
   history_one s x y [] [] same h g = (tt, h ∙ sym g)
   history_one s x y (Called e ∷ deeds) (Called f ∷ others) (is, fine, fine', same) (m, by, h) (n, by', g) =
-      let there : CallOf sends receives s e.step f.answer f.refused n = subst (λ (c : Step U). CallOf sends receives s c f.answer f.refused n) (sym is) by' in
-      let one = call_one sends receives function receiving s m n e.step e.answer f.answer
-      (subst (λ (b : Bool). CallOf sends receives s e.step e.answer b m) fine by)
-      (subst (λ (b : Bool). CallOf sends receives s e.step f.answer b n) fine' there) in
-      let rest = history_one m x y deeds others same h (subst (λ (k : SessionState T U). History (CallOf sends receives) k others y) (sym one.1) g) in
+      let there : makes s e.step f.answer f.refused n = subst (λ (c : Step U). makes s c f.answer f.refused n) (sym is) by' in
+      let one = one_outcome s m n e.step e.answer f.answer
+      (subst (λ (b : Bool). makes s e.step e.answer b m) fine by)
+      (subst (λ (b : Bool). makes s e.step f.answer b n) fine' there) in
+      let rest = history_one m x y deeds others same h (subst (λ (k : SessionState T U). History makes k others y) (sym one.1) g) in
       ((one.0, rest.0), rest.1)
   history_one s x y (Changed t ∷ deeds) (Changed t' ∷ others) (is, same) (m, by, h) (n, by', g) =
       let at : n ≡ m = by' ∙ ap (over_transport s) (sym is) ∙ sym by in
-      history_one m x y deeds others same h (subst (λ (k : SessionState T U). History (CallOf sends receives) k others y) at g)
+      history_one m x y deeds others same h (subst (λ (k : SessionState T U). History makes k others y) at g)
+  history_one s x y (Grown rows p ∷ deeds) (Grown rows' q ∷ others) (is, fine, fine', same) (m, by, h) (n, by', g) =
+      let there : InterfacesAdded s rows q n = subst (λ (these : List InterfaceRow). InterfacesAdded s these q n) (sym is) by' in
+      let one = growth_one s rows p q m n (sym fine) (sym fine') by there in
+      let rest = history_one m x y deeds others same h (subst (λ (k : SessionState T U). History makes k others y) (sym one.1) g) in
+      ((one.0, rest.0), rest.1)
   history_one s x y _ _ same h g = absurd same
+
+-- over any such transport, and over that by script
+pub call_history_one : {T U : Type 0} (sends : T → Queue → Result ℕ IoFault → T → Type 0) (receives : T → ℕ → Result Queue IoFault → T → Type 0)
+    → IsFunction sends → IsReceiveFunction receives → (s x y : SessionState T U) (deeds others : List (Deed T U)) → SameDeeds deeds others
+    → History (CallOf sends receives) s deeds x → History (CallOf sends receives) s others y → SameAnswers deeds others × (x ≡ y)
+call_history_one sends receives function receiving = history_one (CallOf sends receives) (call_one sends receives function receiving)
+
+pub step_history_one : {U : Type 0} (s x y : SessionState Script U) (deeds others : List (Deed Script U)) → SameDeeds deeds others
+    → History StepOf s deeds x → History StepOf s others y → SameAnswers deeds others × (x ≡ y)
+step_history_one = history_one StepOf step_one

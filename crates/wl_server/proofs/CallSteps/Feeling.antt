@@ -16,11 +16,11 @@ use Rattle.wl_server.specs.Inside.Client.{Does}
 use Rattle.wl_server.specs.Deeds.{Deed}
 use Rattle.wl_server.specs.Globals.{Offer}
 use Rattle.wl_server.specs.Ids.{ClientParts}
-use Rattle.wl_server.specs.PartStep.{Asked, Call, Feels, PartStep, World}
+use Rattle.wl_server.specs.PartStep.{Asked, Call, Feels, PartCall, PartStep, World}
 use Rattle.wl_server.specs.NoteOrder.{AllInTime, AllNumbered, times_of}
 use Rattle.wl_server.specs.Inside.Places.{AllFeel, FeltAt, PlaceFeels}
 use Rattle.wl_server.specs.Server.{Seen, ServerState, Stored, client_at, if_serial, seen_as, notes_of}
-use Rattle.wl_server.specs.Steps.{AsksForRoom, MakesNotes, NotesGoOn, NumbersClient, AnswersShared, RisesBySlot, inserted_by, lacks_growth, offer_after}
+use Rattle.wl_server.specs.Steps.{AsksForRoom, Makes, MakesNotes, NotesGoOn, NumbersClient, AnswersShared, RisesBySlot, inserted_by, lacks_growth, offer_after}
 use Rattle.wl_server.proofs.CallSteps.Numbering.{all_none}
 use Rattle.wl_server.proofs.CallSteps.Slots.{Kind, client_present, get_set_other, get_set_same, on_part, other_of, same_parts, slot_within}
 
@@ -189,10 +189,36 @@ pub record IsFelt {T U G C : Type 0} (call : Call T U G C) : Type 0 where
   pub room : (before : ServerState T U G C) → AsksForRoom before call
   pub notes : (before after : ServerState T U G C) → MakesNotes before after → NotesGoOn before call after
 
-module _ {T U G C : Type 0} (w : World T G C) (before : ServerState T U G C) (s : Step T U G C) (answer : Reply T U) (felt : IsFelt (Asked s answer)) where
+module _ {T U G C : Type 0} (w : World T G C) (before : ServerState T U G C) (call : Call T U G C) (felt : IsFelt call) where
   last : (n : ℕ) → n ≡ 0 → before.last_client ≡ before.last_client + n
   last n zero = omega (arith, zero)
 
+  -- no client made anything of it
+  pub makes_unfelt : (refused : Bool) (offer : Offer G) → offer ≡ offer_after before.offer call → AnswersShared before.offer call → lacks_growth call ≡ refused
+      → ((id : ClientParts) (b : Seen T U C) → PartCall w id before.offer call b false [] b) → AllNumbered before.clients
+      → Makes w before call refused (record before { offer = offer })
+  makes_unfelt refused offer becomes numbers growth to all = (
+    record { call = call; refused = refused; lacks = λ id. false; did = λ id. [] },
+    refl,
+    refl,
+    record {
+      offer = becomes;
+      last = last _ felt.last;
+      client = felt.client before;
+      global = numbers;
+      order = felt.order;
+      room = felt.room before;
+      refused = (λ is. inl (growth ∙ is), λ h. was_refused h);
+      notes = felt.notes before _ (record { gathered = refl; times = all_none _ _; numbered = all });
+      each = λ id. to id _;
+    },
+  )
+    where
+      was_refused : (lacks_growth call ≡ true) ⊎ ((id : ClientParts) × (false ≡ true)) → refused ≡ true
+      was_refused (inl grown) = sym growth ∙ grown
+      was_refused (inr (id, lacks)) = absurd (false≢true lacks)
+
+module _ {T U G C : Type 0} (w : World T G C) (before : ServerState T U G C) (s : Step T U G C) (answer : Reply T U) (felt : IsFelt (Asked s answer)) where
   -- all clients felt it
   pub felt_call : {was : Bool} (R : Kind T U C) (refused : Bool) (offer : Offer G) (clients : List (Option (Stored T U C))) (numbers' : NoteNumbers)
       → offer ≡ offer_after before.offer (Asked s answer) → AnswersShared before.offer (Asked s answer) → lacks_growth (Asked s answer) ≡ false
@@ -206,7 +232,7 @@ module _ {T U G C : Type 0} (w : World T G C) (before : ServerState T U G C) (s 
     refl,
     record {
       offer = becomes;
-      last = last _ felt.last;
+      last = last w before (Asked s answer) felt _ felt.last;
       client = felt.client before;
       global = numbers;
       order = felt.order;
@@ -228,23 +254,5 @@ module _ {T U G C : Type 0} (w : World T G C) (before : ServerState T U G C) (s 
   pub unfelt_call : {was : Bool} (refused : Bool) (offer : Offer G) → offer ≡ offer_after before.offer (Asked s answer) → AnswersShared before.offer (Asked s answer)
       → lacks_growth (Asked s answer) ≡ refused → ((id : ClientParts) (b : Seen T U C) → PartStep w id before.offer s answer b false [] b) → AllNumbered before.clients
       → Calls w (record { server = before; refused = was }) s answer (record { server = record before { offer = offer }; refused = refused })
-  unfelt_call refused offer becomes numbers growth to all = calls _ _ _ _ _ (
-    record { call = Asked s answer; refused = refused; lacks = λ id. false; did = λ id. [] },
-    refl,
-    refl,
-    record {
-      offer = becomes;
-      last = last _ felt.last;
-      client = felt.client before;
-      global = numbers;
-      order = felt.order;
-      room = felt.room before;
-      refused = (λ is. inl (growth ∙ is), λ h. was_refused h);
-      notes = felt.notes before _ (record { gathered = refl; times = all_none _ _; numbered = all });
-      each = λ id. to id _;
-    },
-  )
-    where
-      was_refused : (lacks_growth (Asked s answer) ≡ true) ⊎ ((id : ClientParts) × (false ≡ true)) → refused ≡ true
-      was_refused (inl grown) = sym growth ∙ grown
-      was_refused (inr (id, lacks)) = absurd (false≢true lacks)
+  unfelt_call refused offer becomes numbers growth to all =
+      calls _ _ _ _ _ (makes_unfelt w before (Asked s answer) felt refused offer becomes numbers growth to all)

@@ -13,7 +13,7 @@ use Rattle.wl_server.specs.Globals.{Offer}
 use Rattle.wl_server.specs.Ids.{ClientParts, GlobalParts, same_client}
 use Rattle.wl_server.specs.Moves.{Accept, AcceptFault, Arrive, ArriveFault, Move, Moved, TakeSent}
 use Rattle.wl_server.specs.Part.{Part}
-use Rattle.wl_server.specs.PartStep.{Asked, Call, Changed, MovedFor, OfClient, PartCall, PartStep, Unfelt, WithTransport, World, lacks_move, over, over_scripts}
+use Rattle.wl_server.specs.PartStep.{Asked, Call, Changed, Grown, MovedFor, OfClient, PartCall, PartStep, Unfelt, WithTransport, World, lacks_move, over, over_scripts}
 use Rattle.wl_server.specs.Runs.{Leads}
 use Rattle.wl_server.specs.Server.{Seen, ServerState}
 use Rattle.wl_server.specs.Steps.{Entry, OneStep, StepOf}
@@ -62,6 +62,7 @@ module _ {U G C : Type 0} (views : G → ClientParts → C → GlobalParts → B
         → PartCall (by_script views) id offer call before lacked did after → PartCall (over_scripts views) id offer call before lacked did after
     part_call (Asked s answer) before lacked did after h = part_step s answer before lacked did after h
     part_call (Changed target t) before lacked did after h = h
+    part_call (Grown rows answer) before lacked did after h = h
 
   pub one_over_script : (before : ServerState Script U G C) (e : Entry Script U G C) (after : ServerState Script U G C)
       → OneStep (by_script views) before e after → OneStep (over_scripts views) before e after

@@ -57,7 +57,7 @@ use Rattle.wl_server.specs.Inside.Dispatching.{Fewer, waiting_of, waits}
 use Rattle.wl_server.specs.Moves.{Move, Moved}
 use Rattle.wl_server.specs.Objects.{Creates, CreatesAt, DataSet, Destroys, destroyable, destroys}
 use Rattle.wl_server.specs.Part.{Part, last_possible_serial, named}
-use Rattle.wl_server.specs.PartStep.{Asked, Call, Changed, CleanedAs, FeelsGlobal, FeelsLoss, FlushedFor, InsertedAs, MovedFor, NotesTaken, OfClient, OnPart, PartCall, ReadsFor, Unfelt, World, around}
+use Rattle.wl_server.specs.PartStep.{Asked, Call, Changed, CleanedAs, FeelsGlobal, FeelsLoss, FlushedFor, Grown, InsertedAs, MovedFor, NotesTaken, OfClient, OnPart, PartCall, ReadsFor, Unfelt, World, around}
 use Rattle.wl_server.specs.Reached.{AllSpare, spares}
 use Rattle.wl_server.specs.Reading.{Around, NextAction, action_content, action_in, answered, garbled, server}
 use Rattle.wl_server.specs.Runs.{Leads}
@@ -339,7 +339,6 @@ module _ {T U G C : Type 0} (w : World T G C) (id : ClientParts) (offer : Offer 
   adds_nothing (Asked (step.RemoveGlobal g) answer) other (is, h) = feels_loss g h
   adds_nothing (Asked (step.Flush target) answer) other (r, is, h) = flushed target r h
   adds_nothing (Asked (step.SetDefaultMaxBufferSize limit) answer) other (is, h) = unfelt_no_more before after lacked did h
-  adds_nothing (Asked (step.AddInterfaces interfaces) answer) other (r, is, h) = unfelt_no_more before after lacked did h
   adds_nothing (Asked (step.SetClientMaxBufferSize target limit) answer) other (is, h) =
       of_client before after lacked did _ _ _
       (λ p q (unlacked, none, (link, (most, limits, set), same)). ap (λ (x : Part T U C). x.link.incoming) same ∙ ap (λ (l : LinkState T). l.incoming) set) h
@@ -353,6 +352,7 @@ module _ {T U G C : Type 0} (w : World T G C) (id : ClientParts) (offer : Offer 
   adds_nothing (Asked step.TakeNotes answer) other (r, is, h) = notes_taken r h
   adds_nothing (Changed target t) other h =
       of_client before after lacked did _ _ _ (λ p q (unlacked, none, (t', becomes, same)). ap (λ (x : Part T U C). x.link.incoming) same) h
+  adds_nothing (Grown rows answer) other h = unfelt_no_more before after lacked did h
   adds_nothing (Asked _ answer) other h = moved _ _ _ h.2
 
 module _ {T U G C : Type 0} (w : World T G C) (id : ClientParts) where

@@ -1,10 +1,9 @@
 -- Worked steps of a server, computed from the definitions: they say what was meant.
-use Rattle.std.proofs.Common.{◌≡◌, ℕ, Bool, List, [], ◌∷◌, ◌++◌, Option, Some, None, Ok, Err, true, false, refl, arith}
+use Rattle.std.proofs.Common.{◌≡◌, ℕ, Bool, List, [], ◌∷◌, ◌++◌, Option, Some, None, Result, Ok, Err, true, false, refl, arith}
 use Rattle.std.specs.Prelude.{ℕ, Vec}
-use Rattle.std.specs.Global.{Global}
-use Rattle.wl_wire.specs.declared.interface.Interface.{Interface}
+use Rattle.wl_wire.specs.declared.protocol.TableError.{TableError}
 use Rattle.wl_wire.specs.declared.protocol.TableError.TheVariants as table_error
-use Rattle.wl_wire.specs.Table.{interface_rows}
+use Rattle.wl_wire.specs.Table.{InterfaceRow}
 use Rattle.wl_wire.specs.declared.error.IoFault.TheVariants as fault
 use Rattle.wl_wire.specs.declared.argument.Token.{Token}
 use Rattle.wl_wire.specs.declared.message.Message.{Message}
@@ -30,7 +29,7 @@ use Rattle.wl_server.specs.Ids.{ClientParts, IdParts, same_client}
 use Rattle.wl_server.specs.Lookups.{live_from}
 use Rattle.wl_server.specs.Moves.{ArriveFault, ScriptMoves, TakeSent}
 use Rattle.wl_server.specs.Part.{Part}
-use Rattle.wl_server.specs.PartStep.{Asked, Call, PartStep, World}
+use Rattle.wl_server.specs.PartStep.{Asked, Call, Grown, PartStep, World}
 use Rattle.wl_server.specs.Reading.{new_reading}
 use Rattle.wl_server.specs.Runs.{Own, mine}
 use Rattle.wl_server.specs.Server.{Seen, Stored, no_times, notes_of}
@@ -126,15 +125,17 @@ a_new_limit : offer_after offer (asked (step.SetDefaultMaxBufferSize 8192) reply
 a_new_limit = refl
 
 -- more interfaces follow those of the table; if they are refused, the offer stays
-module _ (interfaces : Vec Interface Global) where
-  more_interfaces : offer_after offer (asked (step.AddInterfaces interfaces) (reply.AddInterfaces (Ok tt))) ≡ record offer { table = table ++ interface_rows interfaces.items }
+module _ (rows : List InterfaceRow) where
+  abbrev added : Result (Unit {0}) TableError → Call ℕ ℕ ℕ Bool
+  added answer = Grown rows answer
+
+  more_interfaces : offer_after offer (added (Ok tt)) ≡ record offer { table = table ++ rows }
   more_interfaces = refl
 
-  no_more_interfaces : offer_after offer (asked (step.AddInterfaces interfaces) (reply.AddInterfaces (Err (table_error.UnknownInterface 0)))) ≡ offer
+  no_more_interfaces : offer_after offer (added (Err (table_error.UnknownInterface 0))) ≡ offer
   no_more_interfaces = refl
 
-  refused_interfaces : (lacks_growth (asked (step.AddInterfaces interfaces) (reply.AddInterfaces (Err table_error.OutOfMemory))) ≡ true)
-      × (lacks_growth (asked (step.AddInterfaces interfaces) (reply.AddInterfaces (Err (table_error.UnknownInterface 0)))) ≡ false)
+  refused_interfaces : (lacks_growth (added (Err table_error.OutOfMemory)) ≡ true) × (lacks_growth (added (Err (table_error.UnknownInterface 0))) ≡ false)
   refused_interfaces = (refl, refl)
 
 -- ---- memory

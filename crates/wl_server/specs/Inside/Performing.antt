@@ -34,7 +34,6 @@ module _ {T U G C : Type 0} where
   IsOfAll (step.InsertClient transport client_data) = Unit {0}
   IsOfAll (step.Flush target) = Unit {0}
   IsOfAll (step.SetDefaultMaxBufferSize limit) = Unit {0}
-  IsOfAll (step.AddInterfaces interfaces) = Unit {0}
   IsOfAll step.Cleanup = Unit {0}
   IsOfAll step.TakeNotes = Unit {0}
   IsOfAll _ = ⊥

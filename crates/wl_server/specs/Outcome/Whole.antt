@@ -12,7 +12,7 @@ use Rattle.wl_server.specs.Ids.{ClientParts, GlobalParts, IdParts}
 use Rattle.wl_server.specs.Lookups.{client_by, client_data_of, global_info_by, handler_of, live_clients, name_for, object_data_of, object_for_number, object_info_of, objects_of_client, transport_of}
 use Rattle.wl_server.specs.NoteOrder.{times_at, times_of}
 use Rattle.wl_server.specs.Outcome.{SameCall, SameReply}
-use Rattle.wl_server.specs.PartStep.{Asked, Call, World}
+use Rattle.wl_server.specs.PartStep.{Asked, Call, Grown, World}
 use Rattle.wl_server.specs.Runs.{Leads, Performs}
 use Rattle.wl_server.specs.Server.{ServerState, notes_of, seen}
 use Rattle.wl_server.specs.Steps.{Entry}
@@ -60,6 +60,7 @@ module _ {T U : Type 0} (ordered : Bool) where
 module _ {T U G C : Type 0} where
   abbrev pub WholeAnswer : Bool → Call T U G C → Call T U G C → Type 0
   WholeAnswer ordered (Asked _ answer) (Asked _ answer') = WholeReply ordered answer answer'
+  WholeAnswer ordered (Grown _ answer) (Grown _ answer') = answer ≡ answer'
   WholeAnswer ordered _ _ = Unit {0}
 
   -- the calls are the same, and memory is not refused

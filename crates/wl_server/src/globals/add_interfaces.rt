@@ -2,11 +2,9 @@
 
 ghost use Rattle.std.specs.Prelude.{◌≡◌};
 ghost use Rattle.wl_wire.specs.Table.{AnswersGrowth, IsAcceptedTable, grown, interface_rows, refused_growth};
-ghost use Rattle.wl_server.specs.Backend.{Calls};
+ghost use Rattle.wl_server.specs.Backend.{IsGrowth};
 ghost use Rattle.wl_server.specs.Globals.{with_table};
 ghost use Rattle.wl_server.specs.PartStep.{over};
-ghost use Rattle.wl_server.specs.declared.runs.step.Reply.TheVariants as reply;
-ghost use Rattle.wl_server.specs.declared.runs.step.Step.TheVariants as step;
 
 use crate::backend::Backend;
 use crate::globals::handler::GlobalHandler;
@@ -25,7 +23,7 @@ impl<T: Transport + Drop, U: Drop, G: GlobalHandler<C> + Drop, C: Drop> Backend<
     /// are there keep their ids, no client is told anything, and nothing else of the server changes. After an error the table
     /// is as it was.
     pub fn add_interfaces(&mut self, interfaces: Vec<Interface>) -> Result<(), TableError>
-        ensures call { Calls (over T.sends T.receives G.views) self.old (step.AddInterfaces interfaces) (reply.AddInterfaces result) self.new }
+        ensures call { IsGrowth (over T.sends T.receives G.views) self.old (interface_rows interfaces.items) result self.new }
         ensures answer { AnswersGrowth self.old.server.offer.table (interface_rows interfaces.items) result }
         ensures server { self.new.server ≡ record self.old.server {
           offer = with_table self.old.server.offer (grown self.old.server.offer.table (interface_rows interfaces.items) result);

@@ -109,9 +109,6 @@ impl<U: Drop, G: GlobalHandler<C> + Drop, C: Drop> Backend<Memory, U, G, C> {
                 self.set_default_max_buffer_size(max_buffer_size);
                 Reply::SetDefaultMaxBufferSize
             }
-            Step::AddInterfaces(interfaces) => {
-                Reply::AddInterfaces(self.add_interfaces(interfaces))
-            }
             Step::Cleanup => Reply::Cleanup(self.cleanup()),
             Step::TakeNotes => Reply::TakeNotes(self.take_notes()),
             _ => unreachable!(),
@@ -209,8 +206,8 @@ impl<U: Drop, G: GlobalHandler<C> + Drop, C: Drop> Backend<Memory, U, G, C> {
     /// # What is promised
     ///
     /// The steps are a run of calls like any other. So they may follow any history of the server: calls, changes of a
-    /// client's transport by `transport_mut`, and other lists of steps. These laws of runs (`laws`) hold of the whole
-    /// (clauses `history` and `stopped_history`):
+    /// client's transport by `transport_mut`, interfaces that were added, and other lists of steps. These laws of runs
+    /// (`laws`) hold of the whole (clauses `history` and `stopped_history`):
     ///
     /// - Each client that was inserted since the server was made depends only on its own steps and on the shared ones.
     ///   Steps about other clients do not matter to it.

@@ -10,12 +10,13 @@ use crate::ids::object_id::ObjectId;
 use crate::notes::{DisconnectReason, Note};
 use crate::reading::action::{Action, Reading};
 use std::fmt;
-use wl_wire::{CString, Interface, InterfaceId, IoFault, Message, OutOfMemory, TableError, Token};
+use wl_wire::{CString, InterfaceId, IoFault, Message, OutOfMemory, Token};
 
 /// A call that changes a server, as a value: a call of the server, or one of a client's transport by script.
 ///
 /// The values of a variant are the arguments of the call, in order. The calls of `wl_link::Memory` have the client first
-/// whose transport it is.
+/// whose transport it is. `Backend::transport_mut` and `Backend::add_interfaces` are no steps, but a history has entries for
+/// them.
 #[derive(Drop)]
 pub enum Step<T, U, G, C> {
     /// `Backend::insert_client`.
@@ -42,8 +43,6 @@ pub enum Step<T, U, G, C> {
     Flush(Option<ClientId>),
     /// `Backend::set_default_max_buffer_size`.
     SetDefaultMaxBufferSize(usize),
-    /// `Backend::add_interfaces`.
-    AddInterfaces(Vec<Interface>),
     /// `Backend::set_client_max_buffer_size`.
     SetClientMaxBufferSize(ClientId, usize),
     /// `Backend::next_action`.
@@ -103,8 +102,6 @@ pub enum Reply<T, U> {
     Flush(Result<(), IoFault>),
     /// The reply to `Step::SetDefaultMaxBufferSize`.
     SetDefaultMaxBufferSize,
-    /// The reply to `Step::AddInterfaces`.
-    AddInterfaces(Result<(), TableError>),
     /// The reply to `Step::SetClientMaxBufferSize`.
     SetClientMaxBufferSize,
     /// The reply to `Step::NextAction`.

@@ -1,5 +1,6 @@
 -- That steps with their replies have one history, of which all the laws hold, and that each public call keeps it so.
-use Rattle.std.proofs.Common.{false, List, [], ◌∷◌, ◌++◌, refl}
+use Rattle.std.proofs.Common.{false, Result, List, [], ◌∷◌, ◌++◌, refl}
+use Rattle.wl_wire.specs.declared.protocol.TableError.{TableError}
 use Rattle.wl_wire.specs.Table.{InterfaceRow}
 use Rattle.wl_link.specs.Exchange.{IsWithinOffer}
 use Rattle.wl_link.specs.Runs.{RunEntry}
@@ -7,7 +8,7 @@ use Rattle.wl_server.specs.declared.runs.step.Reply.{Reply}
 use Rattle.wl_server.specs.declared.runs.step.Step.{Step}
 use Rattle.wl_server.specs.Accounts.{AreAccountedFor, IsAccountedFor, StaysAccountedFor}
 use Rattle.wl_server.proofs.OverRuns.Announced.AnnouncedLaw.{each_announces}
-use Rattle.wl_server.specs.Backend.{BackendState, Calls, IsChange}
+use Rattle.wl_server.specs.Backend.{BackendState, Calls, IsChange, IsGrowth}
 use Rattle.wl_server.proofs.OverRuns.Ids.GivenLaws.{gives_once}
 use Rattle.wl_server.proofs.OverRuns.Ids.IdentityLaws.{each_has_own_ids}
 use Rattle.wl_server.proofs.OverRuns.Alone.IsolationLaw.{is_isolated, join_runs, performed}
@@ -15,7 +16,7 @@ use Rattle.wl_server.proofs.OverRuns.Killed.KilledLaws.{each_stays_killed}
 use Rattle.wl_server.proofs.OverRuns.Log.LogLaws.{each_log}
 use Rattle.wl_server.proofs.OverRuns.Noted.NotedLaws.{each_is_noted}
 use Rattle.wl_server.specs.Ids.{ClientParts}
-use Rattle.wl_server.specs.PartStep.{Changed, World}
+use Rattle.wl_server.specs.PartStep.{Changed, Grown, World}
 use Rattle.wl_server.specs.Runs.{Leads, Performs}
 use Rattle.wl_server.specs.Server.{ServerState, new_server}
 use Rattle.wl_server.specs.Steps.{Entry, Makes, OneStep, StepOf}
@@ -57,4 +58,11 @@ pub is_change : {T U G C : Type 0} (w : World T G C) (before : ServerState T U G
 is_change w before id t after (e, is, refused, one) = record {
   step = (e, is, refused, one);
   accounted = λ within. stays_accounted_for w within before e after one;
+}
+
+pub is_growth : {T U G C : Type 0} (w : World T G C) (before : BackendState T U G C) (rows : List InterfaceRow) (answer : Result (Unit {0}) TableError)
+    (after : BackendState T U G C) → Makes w before.server (Grown rows answer) after.refused after.server → IsGrowth w before rows answer after
+is_growth w before rows answer after (e, is, refused, one) = record {
+  step = (e, is, refused, one);
+  accounted = λ within. stays_accounted_for w within before.server e after.server one;
 }

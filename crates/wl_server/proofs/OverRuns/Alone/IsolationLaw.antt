@@ -17,7 +17,7 @@ use Rattle.wl_server.specs.Deeds.{Deed}
 use Rattle.wl_server.specs.Globals.{Offer}
 use Rattle.wl_server.specs.Ids.{ClientParts, same_client}
 use Rattle.wl_server.specs.Part.{Part, fresh_part}
-use Rattle.wl_server.specs.PartStep.{Asked, Call, Changed, Inserted, InsertedAs, OfClient, PartCall, PartStep, Unfelt, World}
+use Rattle.wl_server.specs.PartStep.{Asked, Call, Changed, Grown, Inserted, InsertedAs, OfClient, PartCall, PartStep, Unfelt, World}
 use Rattle.wl_server.specs.Runs.{Alone, AreOf, EachAlone, Inserts, IsIsolated, IsNeverInserted, IsNotInserted, Leads, Performs, SharedAlone, just_inserted, concerns, is_about, mine, offer_over, own_of}
 use Rattle.wl_server.specs.Server.{Seen, ServerState, new_server, nothing_seen, seen}
 use Rattle.wl_server.specs.Steps.{Entry, InsertsNext, NumbersClient, OneStep, inserted_by, offer_after}
@@ -87,7 +87,6 @@ module _ {T U G C : Type 0} (w : World T G C) (id : ClientParts) (offer : Offer 
   nothing_step (step.CreateGlobal i version handler) answer lacked did after other (Ok g, is, h) = h.1
   nothing_step (step.CreateGlobal i version handler) answer lacked did after other (Err e, is, h) = h
   nothing_step (step.Flush None) answer lacked did after other (r, is, h) = h.1.1
-  nothing_step (step.AddInterfaces interfaces) answer lacked did after other (r, is, h) = h
   nothing_step step.Cleanup answer lacked did after other (Ok out, is, h) = h.1
   nothing_step step.Cleanup answer lacked did after other (Err e, is, h) = h
   nothing_step step.TakeNotes answer lacked did after other (Ok out, is, h) = (h.1, h.2, h.3)
@@ -106,6 +105,7 @@ module _ {T U G C : Type 0} (w : World T G C) (id : ClientParts) (offer : Offer 
       → IsNotInserted id call → PartCall w id offer call nothing_seen lacked did after → Unfelt nothing_seen lacked did after
   nothing_call (Asked s answer) lacked did after other h = nothing_step s answer lacked did after other h
   nothing_call (Changed target t) lacked did after other h = own_nothing _ _ lacked did after h
+  nothing_call (Grown rows answer) lacked did after other h = h
 
   -- a client feels nothing of a step that names another
   other_step : (s : Step T U G C) (answer : Reply T U) (before : Seen T U C) (lacked : Bool) (did : List (Deed U)) (after : Seen T U C)
@@ -117,7 +117,6 @@ module _ {T U G C : Type 0} (w : World T G C) (id : ClientParts) (offer : Offer 
   other_step (step.RemoveGlobal g) answer before lacked did after other far h = absurd (true≢false far)
   other_step (step.Flush None) answer before lacked did after other far h = absurd (true≢false far)
   other_step (step.SetDefaultMaxBufferSize limit) answer before lacked did after other far h = absurd (true≢false far)
-  other_step (step.AddInterfaces interfaces) answer before lacked did after other far h = absurd (true≢false far)
   other_step step.Cleanup answer before lacked did after other far h = absurd (true≢false far)
   other_step step.TakeNotes answer before lacked did after other far h = absurd (true≢false far)
   other_step (step.PostError o code text) answer before lacked did after other far h = own_other _ before _ _ lacked did after far h.1
@@ -131,6 +130,7 @@ module _ {T U G C : Type 0} (w : World T G C) (id : ClientParts) (offer : Offer 
       → IsNotInserted id call → concerns id call ≡ false → PartCall w id offer call before lacked did after → Unfelt before lacked did after
   other_call (Asked s answer) before lacked did after other far h = other_step s answer before lacked did after other far h
   other_call (Changed target t) before lacked did after other far h = own_other _ before _ _ lacked did after far h
+  other_call (Grown rows answer) before lacked did after other far h = h
 
 module _ {T U : Type 0} where
   -- what an insertion answers
@@ -145,12 +145,12 @@ module _ {T U G C : Type 0} where
   other_offer id offer (step.DisableGlobal g) answer far = absurd (true≢false far)
   other_offer id offer (step.RemoveGlobal g) answer far = absurd (true≢false far)
   other_offer id offer (step.SetDefaultMaxBufferSize limit) answer far = absurd (true≢false far)
-  other_offer id offer (step.AddInterfaces interfaces) answer far = absurd (true≢false far)
   other_offer id offer s answer far = refl
 
   pub offer_of_other : (id : ClientParts) (offer : Offer G) (call : Call T U G C) → concerns id call ≡ false → offer_after offer call ≡ offer
   offer_of_other id offer (Asked s answer) far = other_offer id offer s answer far
   offer_of_other id offer (Changed target t) far = refl
+  offer_of_other id offer (Grown rows answer) far = absurd (true≢false far)
 
   -- ---- clients that were not inserted yet
 

@@ -35,7 +35,7 @@ use Rattle.wl_server.proofs.OverRuns.Alone.IsolationLaw.{is_isolated, offer_of_o
 use Rattle.wl_server.specs.Moves.{Move, Moved}
 use Rattle.wl_server.proofs.OverRuns.Alone.OwnRuns.{AreMine, are_mine}
 use Rattle.wl_server.specs.Part.{Part, display_object, id_of}
-use Rattle.wl_server.specs.PartStep.{Asked, Call, Changed, CleanedAs, FeelsGlobal, FeelsLoss, FlushedFor, MovedFor, NotesTaken, OfClient, OnPart, PartCall, PartStep, ReadsFor, Unfelt, World}
+use Rattle.wl_server.specs.PartStep.{Asked, Call, Changed, CleanedAs, FeelsGlobal, FeelsLoss, FlushedFor, Grown, MovedFor, NotesTaken, OfClient, OnPart, PartCall, PartStep, ReadsFor, Unfelt, World}
 use Rattle.wl_server.specs.Runs.{Alone, Leads, Own, SharedAlone, just_inserted, concerns, history, is_about, mine, offer_over, own_of}
 use Rattle.wl_server.specs.Server.{Seen, ServerState, new_server, seen}
 use Rattle.wl_server.proofs.OverRuns.Announced.InterfaceLaws.{HasInterfaces, after_call, after_run, at_first}
@@ -320,22 +320,6 @@ module _ {T U G C : Type 0} (w : World T G C) (id : ClientParts) (r : Id) where
               → MatchOption o (Unit {0}) (λ p. p.is_killed ≡ false → Watched (record offer { default_limit = limit }) p log made)
           go log made None is = tt
           go log made (Some p) is = λ on. limit_watch w.views id r offer limit (part_scene p) log made (is on)
-  step_follows offer known (step.AddInterfaces interfaces) answer s lacked did t about numbered alone (a, is, h) =
-      subst (λ (x : Reply T U). Follows offer (offer_after {T = T} {U = U} {C = C} offer (Asked (step.AddInterfaces interfaces) x)) s did t) (sym is)
-      (longer a (unfelt_follows offer s lacked did t h))
-    where
-      new : List InterfaceRow
-      new = interface_rows interfaces.items
-
-      -- more interfaces are nothing to what is shown
-      longer : (a : Result (Unit {0}) TableError) → Follows offer offer s did t → Follows offer (with_table offer (grown offer.table new a)) s did t
-      longer (Err e) f = record { watch = f.watch }
-      longer (Ok u) f = record { watch = λ log made is. go (log ++ log_of did) (made ++ registries_in did) t.part (f.watch log made is) }
-        where
-          go : (log : List Said) (made : List Id) (o : Option (Part T U C)) → MatchOption o (Unit {0}) (λ p. p.is_killed ≡ false → Watched offer p log made)
-              → MatchOption o (Unit {0}) (λ p. p.is_killed ≡ false → Watched (with_table offer (offer.table ++ new)) p log made)
-          go log made None is = tt
-          go log made (Some p) is = λ on. growth_watch w.views id r offer known new (part_scene p) log made (is on)
   step_follows offer known (step.SetClientMaxBufferSize target limit) answer s lacked did t about numbered alone (is, h) =
       of_client offer (same_client target id) s _ _ lacked did t
       (λ p q (no_memory, none, (link, set, same)). relinked_lives w.views id r offer p link did q none same) h
@@ -355,6 +339,17 @@ module _ {T U G C : Type 0} (w : World T G C) (id : ClientParts) (r : Id) where
   call_follows offer known (Changed target x) s lacked did t about numbered alone h =
       of_client offer (same_client target id) s _ _ lacked did t
       (λ p q (no_memory, none, (y, becomes, same)). relinked_lives w.views id r offer p (with_transport p.link y) did q none same) h
+  call_follows offer known (Grown rows answer) s lacked did t about numbered alone h = longer answer (unfelt_follows offer s lacked did t h)
+    where
+      -- more interfaces are nothing to what is shown
+      longer : (a : Result (Unit {0}) TableError) → Follows offer offer s did t → Follows offer (with_table offer (grown offer.table rows a)) s did t
+      longer (Err e) f = record { watch = f.watch }
+      longer (Ok u) f = record { watch = λ log made is. go (log ++ log_of did) (made ++ registries_in did) t.part (f.watch log made is) }
+        where
+          go : (log : List Said) (made : List Id) (o : Option (Part T U C)) → MatchOption o (Unit {0}) (λ p. p.is_killed ≡ false → Watched offer p log made)
+              → MatchOption o (Unit {0}) (λ p. p.is_killed ≡ false → Watched (with_table offer (offer.table ++ rows)) p log made)
+          go log made None is = tt
+          go log made (Some p) is = λ on. growth_watch w.views id r offer known rows (part_scene p) log made (is on)
 
   -- ---- a run
 

@@ -21,7 +21,7 @@ use Rattle.wl_server.specs.declared.runs.step.Step.{Step}
 use Rattle.wl_server.specs.declared.runs.step.Step.TheVariants as step
 use Rattle.wl_server.specs.Globals.{CreatesGlobal, CreatesNext, Globals, Offer, as_disabled, disabled, disabled_at, freed, freed_at, global_of, new_global, new_offer, with_created, with_globals, with_table}
 use Rattle.wl_server.specs.Ids.{GlobalParts}
-use Rattle.wl_server.specs.PartStep.{Asked, Call, Changed}
+use Rattle.wl_server.specs.PartStep.{Asked, Call, Changed, Grown}
 use Rattle.wl_server.specs.Runs.{SharedAlone}
 use Rattle.wl_server.specs.Steps.{Entry, AnswersShared, inserted_by, offer_after}
 use Rattle.wl_server.proofs.OverRuns.Announced.ShownLaws.{global_held, none_some}
@@ -112,13 +112,12 @@ module _ {T U G C : Type 0} where
   after_step offer (step.DisableGlobal g) answer known n = after_disabled offer known g
   after_step offer (step.RemoveGlobal g) answer known n = after_freed offer known g
   after_step offer (step.SetDefaultMaxBufferSize limit) answer known n = record { row = known.row }
-  after_step offer (step.AddInterfaces interfaces) (reply.AddInterfaces r) known n = after_growth offer known (interface_rows interfaces.items) r
-  after_step offer (step.AddInterfaces interfaces) answer known n = record { row = known.row }
   after_step offer s answer known n = known
 
   pub after_call : (offer : Offer G) (call : Call T U G C) → HasInterfaces offer → AnswersShared offer call → HasInterfaces (offer_after offer call)
   after_call offer (Asked s answer) known n = after_step offer s answer known n
   after_call offer (Changed target t) known n = known
+  after_call offer (Grown rows answer) known n = after_growth offer known rows answer
 
   pub after_run : (offer : Offer G) (last : ℕ) (run : List (Entry T U G C)) (offer' : Offer G) (last' : ℕ) → HasInterfaces offer
       → SharedAlone offer last run offer' last' → HasInterfaces offer'

@@ -17,7 +17,7 @@ use Rattle.wl_server.specs.declared.runs.step.Step.TheVariants as step
 use Rattle.wl_server.specs.GivenOnce.{ClientsRise, EachNamesItsGlobal, GivesOnce, GlobalsRise, Offers, SomeCall, global_by, global_over, same_global}
 use Rattle.wl_server.specs.Globals.{CreatesGlobal, Globals, IsNextGlobal, Offer, as_disabled, disabled, disabled_at, freed, freed_at, global_of, global_serial, new_global, new_offer}
 use Rattle.wl_server.specs.Ids.{ClientParts, GlobalParts, same_client}
-use Rattle.wl_server.specs.PartStep.{Asked, Call, Changed, World}
+use Rattle.wl_server.specs.PartStep.{Asked, Call, Changed, Grown, World}
 use Rattle.wl_server.specs.Runs.{Inserts, IsNotInserted, Leads, SharedAlone}
 use Rattle.wl_server.specs.Server.{ServerState, new_server, seen}
 use Rattle.wl_server.specs.Steps.{AnswersShared, Entry, inserted_by, offer_after}
@@ -239,6 +239,7 @@ module _ {T U G C : Type 0} where
   last_grows offer (Asked (step.RemoveGlobal g) answer) by = (let same = freed_last offer.globals g.name (global_of offer.globals g) in omega (arith, same))
   last_grows offer (Asked call answer) by = omega arith
   last_grows offer (Changed target t) by = omega arith
+  last_grows offer (Grown rows answer) by = omega arith
 
   -- what the id of a global that was given before names after a call
   named_by : (offer : Offer G) (call : Call T U G C) (g : GlobalParts) → AnswersShared offer call → g.serial ≤ offer.globals.last_serial
@@ -251,6 +252,7 @@ module _ {T U G C : Type 0} where
   named_by offer (Asked (step.RemoveGlobal target) answer) g by given = freed_changes offer.globals target g
   named_by offer (Asked call answer) g by given = refl
   named_by offer (Changed target t) g by given = refl
+  named_by offer (Grown rows answer) g by given = refl
 
   -- an id names after a call what it named before, or the global that the call creates
   named_before : (offer : Offer G) (call : Call T U G C) (g : GlobalParts) → AnswersShared offer call → IsSome (global_of (offer_after offer call).globals g)
@@ -272,6 +274,7 @@ module _ {T U G C : Type 0} where
       inl (some_left (λ o. None) refl (same_global target g) (global_of offer.globals g) (subst IsSome (freed_changes offer.globals target g) some))
   named_before offer (Asked call answer) g by some = inl some
   named_before offer (Changed target t) g by some = inl some
+  named_before offer (Grown rows answer) g by some = inl some
 
   -- ---- a run of the shared calls
 
@@ -379,6 +382,7 @@ module _ {T U G C : Type 0} where
       go false = refl
   none_by g (Asked call answer) = refl
   none_by g (Changed target t) = refl
+  none_by g (Grown rows answer) = refl
 
   none_over : (g : GlobalParts) (run : List (Entry T U G C)) → global_over g run None ≡ None
   none_over g [] = refl
@@ -396,6 +400,7 @@ module _ {T U G C : Type 0} where
       (transport, client_data, ap (λ (x : ClientParts). Asked (step.InsertClient transport client_data) (reply.InsertClient (Ok x))) (same_Some new id is))
   inserts_in (Asked call answer) id is = absurd (none_some is)
   inserts_in (Changed target t) id is = absurd (none_some is)
+  inserts_in (Grown rows answer) id is = absurd (none_some is)
 
   either_inserts : (id : ClientParts) (call : Call T U G C) → Inserts id call ⊎ IsNotInserted id call
   either_inserts id call = go (inserted_in call) refl

@@ -21,7 +21,7 @@ use Rattle.wl_server.specs.Identified.{answer_ids, ids_in}
 use Rattle.wl_server.specs.Ids.{ClientParts, same_client, IdParts}
 use Rattle.wl_server.proofs.OverRuns.Ids.AmongLaws.{among_first, among_later}
 use Rattle.wl_server.specs.Part.{Part}
-use Rattle.wl_server.specs.PartStep.{Asked, Call, Changed, OfClient, OnPart, PartCall, PartStep, ReadsFor, World, around}
+use Rattle.wl_server.specs.PartStep.{Asked, Call, Changed, Grown, OfClient, OnPart, PartCall, PartStep, ReadsFor, World, around}
 use Rattle.wl_server.specs.Reading.{NextAction, action_content, action_in, answered, exchanges_in, new_reading}
 use Rattle.wl_server.specs.Telling.{Core, Did, Stops, Told, deeds_in, deeds_of}
 use Rattle.wl_server.specs.Runs.{concerns, is_about}
@@ -120,3 +120,4 @@ module _ {T U G C : Type 0} (w : World T G C) (id : ClientParts) (offer : Offer 
       → PartCall w id offer call s lacked did t → Covers call did
   covers (Asked call answer) s lacked did t about h = covers_step call answer s lacked did t about h
   covers (Changed target t') s lacked did t about h = λ i among. absurd among
+  covers (Grown rows answer) s lacked did t about h = λ i among. absurd among

@@ -28,7 +28,7 @@ use Rattle.wl_server.specs.Ids.{ClientParts, GlobalParts, same_client}
 use Rattle.wl_server.specs.Killed.{ReadingAnswers, TakesOut}
 use Rattle.wl_server.specs.Moves.{Move, Moved}
 use Rattle.wl_server.specs.Part.{Part}
-use Rattle.wl_server.specs.PartStep.{Asked, Call, Changed, CleanedAs, FeelsGlobal, FeelsLoss, FlushedFor, MovedFor, NotesTaken, OfClient, OnPart, PartCall, PartStep, ReadsFor, Unfelt, World, around, share_of}
+use Rattle.wl_server.specs.PartStep.{Asked, Call, Changed, CleanedAs, FeelsGlobal, FeelsLoss, FlushedFor, Grown, MovedFor, NotesTaken, OfClient, OnPart, PartCall, PartStep, ReadsFor, Unfelt, World, around, share_of}
 use Rattle.wl_server.specs.Reading.{NextAction, action_content, new_reading}
 use Rattle.wl_server.specs.Runs.{IsNotInserted, concerns}
 use Rattle.wl_server.specs.Server.{Seen}
@@ -115,6 +115,7 @@ module _ {T U G C : Type 0} (w : World T G C) (id : ClientParts) (offer : Offer 
       says_within id target (refusal_with p.action) r answer reading left is (dead_reads target reading left (action_content r) h).1
   dead_says (Asked call answer) h = tt
   dead_says (Changed target t) h = tt
+  dead_says (Grown rows answer) h = tt
 
   -- nothing is received from it
   pub dead_silent : (call : Call T U G C) → PartCall w id offer call before lacked did after → came_in did ≡ []
@@ -122,6 +123,7 @@ module _ {T U G C : Type 0} (w : World T G C) (id : ClientParts) (offer : Offer 
   dead_silent (Asked (step.NextActionWithin target reading) answer) (r, left, is, h) = ap came_in (dead_reads target reading left (action_content r) h).0
   dead_silent (Asked call answer) h = call_quiet w id offer before after lacked did (Asked call answer) refl h
   dead_silent (Changed target t) h = call_quiet w id offer before after lacked did (Changed target t) refl h
+  dead_silent (Grown rows answer) h = call_quiet w id offer before after lacked did (Grown rows answer) refl h
 
   -- ---- what becomes of it
 
@@ -216,7 +218,6 @@ module _ {T U G C : Type 0} (w : World T G C) (id : ClientParts) (offer : Offer 
   step_dead (step.RemoveGlobal g) answer other (is, h) = inl (loss_dead g h)
   step_dead (step.Flush target) answer other (r, is, h) = inl (flushed_dead target r h)
   step_dead (step.SetDefaultMaxBufferSize limit) answer other (is, h) = inl (unfelt_dead h)
-  step_dead (step.AddInterfaces interfaces) answer other (r, is, h) = inl (unfelt_dead h)
   step_dead (step.SetClientMaxBufferSize target limit) answer other (is, h) =
       inl (of_dead (same_client target id) _ _ h (λ q (calm, none, (link, set, same)). remains_as p killed q _ same refl refl))
   step_dead (step.NextAction target) answer other (r, left, is, h) = inl (reads_dead target new_reading left (action_content r) h)
@@ -234,6 +235,7 @@ module _ {T U G C : Type 0} (w : World T G C) (id : ClientParts) (offer : Offer 
   dead_or_out (Asked call answer) other h = step_dead call answer other h
   dead_or_out (Changed target t) other h =
       inl (of_dead (same_client target id) _ _ h (λ q (calm, none, becomes). transport_remains p killed (λ _ t'. t' ≡ t) q becomes))
+  dead_or_out (Grown rows answer) other h = inl (unfelt_dead h)
 
 -- ---- a client that is not stored
 
@@ -261,6 +263,7 @@ module _ {T U G C : Type 0} (w : World T G C) (id : ClientParts) (offer : Offer 
       says_within id target (Io fault.InvalidInput) r answer reading left is (out_reads target reading left (action_content r) h).1
   out_says (Asked call answer) h = tt
   out_says (Changed target t) h = tt
+  out_says (Grown rows answer) h = tt
 
   -- nothing is received from it
   pub out_silent : (call : Call T U G C) → PartCall w id offer call before lacked did after → came_in did ≡ []
@@ -268,6 +271,7 @@ module _ {T U G C : Type 0} (w : World T G C) (id : ClientParts) (offer : Offer 
   out_silent (Asked (step.NextActionWithin target reading) answer) (r, left, is, h) = ap came_in (out_reads target reading left (action_content r) h).0
   out_silent (Asked call answer) h = call_quiet w id offer before after lacked did (Asked call answer) refl h
   out_silent (Changed target t) h = call_quiet w id offer before after lacked did (Changed target t) refl h
+  out_silent (Grown rows answer) h = call_quiet w id offer before after lacked did (Grown rows answer) refl h
 
   goes_out : (d : _) → Goes true w.sends w.receives id before d after → after.part ≡ None
   goes_out d (unfelt is same) = ap (λ (s : Seen T U C). s.part) same ∙ gone

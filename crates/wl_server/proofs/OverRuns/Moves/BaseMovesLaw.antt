@@ -37,7 +37,7 @@ use Rattle.wl_server.proofs.OverRuns.Moves.MovesOfReadings.{next_action_moves}
 use Rattle.wl_server.proofs.OverRuns.Moves.MovesOfVerdicts.{Go, same_doings, tells_moves}
 use Rattle.wl_server.specs.Part.{Part, end_note, id_at, id_of, note_of_end, with_link}
 use Rattle.wl_server.specs.Objects.{Creates}
-use Rattle.wl_server.specs.PartStep.{Asked, Call, Changed, CleanedAs, FeelsGlobal, FeelsLoss, FlushedFor, MovedFor, NotesTaken, OfClient, OnPart, PartCall, PartStep, ReadsFor, Unfelt, WithTransport, World, around}
+use Rattle.wl_server.specs.PartStep.{Asked, Call, Changed, CleanedAs, FeelsGlobal, FeelsLoss, FlushedFor, Grown, MovedFor, NotesTaken, OfClient, OnPart, PartCall, PartStep, ReadsFor, Unfelt, WithTransport, World, around}
 use Rattle.wl_server.specs.Runs.{concerns, is_about}
 use Rattle.wl_server.specs.Server.{Seen}
 use Rattle.wl_server.specs.Telling.{core_of, tells}
@@ -319,7 +319,6 @@ module _ {T U G C : Type 0} (gathers : Bool) (w : World T G C) (id : ClientParts
   step_goes (step.RemoveGlobal g) answer s lacked did t about (is, h) on = loss_goes g s lacked did t h
   step_goes (step.Flush target) answer s lacked did t about (r, is, h) on = flushed_goes target r s lacked did t h
   step_goes (step.SetDefaultMaxBufferSize limit) answer s lacked did t about (is, h) on = unfelt_goes gathers w.sends w.receives id s lacked did t h
-  step_goes (step.AddInterfaces interfaces) answer s lacked did t about (r, is, h) on = unfelt_goes gathers w.sends w.receives id s lacked did t h
   step_goes (step.SetClientMaxBufferSize target limit) answer s lacked did t about (is, h) on =
       of_client gathers w.sends w.receives id (same_client target id) s _ _ lacked did t
       (λ p q (no_memory, none, (link, (l, limits, set), same)). relinked link (ap (λ (k : LinkState T). k.outgoing) set) (ap (λ (k : LinkState T). k.outgoing_capacity) set) (ap doings_in none) same) h
@@ -342,3 +341,4 @@ module _ {T U G C : Type 0} (gathers : Bool) (w : World T G C) (id : ClientParts
   call_goes (Changed target t') s lacked did t about h on =
       of_client gathers w.sends w.receives id (same_client target id) s _ _ lacked did t
       (λ p q (no_memory, none, with'). transport_moves gathers w.sends w.receives id (λ x y. y ≡ t') p did q none with') h
+  call_goes (Grown rows answer) s lacked did t about h on = unfelt_goes gathers w.sends w.receives id s lacked did t h

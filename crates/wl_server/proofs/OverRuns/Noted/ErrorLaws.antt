@@ -46,7 +46,7 @@ use Rattle.wl_server.specs.Moves.{Move, Moved}
 use Rattle.wl_server.specs.NotedEnds.Errors.{EachErrorIsCaused, IsOfDisplay, MayHaveKilledFor, MayKillFor, TellsError}
 use Rattle.wl_server.specs.Objects.{Creates, DataSet, Destroys, destroyable, destroys, without_noted}
 use Rattle.wl_server.specs.Part.{Part, display_of, end_note, id_at, id_of, named, note_of_end, last_possible_serial}
-use Rattle.wl_server.specs.PartStep.{Asked, Call, Changed, CleanedAs, FeelsGlobal, FeelsLoss, FlushedFor, InsertedAs, MovedFor, NotesTaken, OfClient, OnPart, PartCall, PartStep, ReadsFor, Unfelt, World, around, WithTransport}
+use Rattle.wl_server.specs.PartStep.{Asked, Call, Changed, CleanedAs, FeelsGlobal, FeelsLoss, FlushedFor, Grown, InsertedAs, MovedFor, NotesTaken, OfClient, OnPart, PartCall, PartStep, ReadsFor, Unfelt, World, around, WithTransport}
 use Rattle.wl_server.specs.Reading.{Around, NextAction, breaks, converted, exchanges_in, faulted, other_request, server, garbled, hands_out, registers, synced, syncs, with_registry}
 use Rattle.wl_server.specs.Requests.{Outcome, Whole, Wrong, convert, start, with_made}
 use Rattle.wl_server.specs.Runs.{Leads}
@@ -651,7 +651,6 @@ module _ {T U G C : Type 0} (w : World T G C) (id : ClientParts) (offer : Offer 
     step_held (step.RemoveGlobal g) answer may (is, h) = loss_held g h
     step_held (step.Flush target) answer may (r, is, h) = flushed_held target r h
     step_held (step.SetDefaultMaxBufferSize limit) answer may (is, h) = unfelt_held h
-    step_held (step.AddInterfaces interfaces) answer may (r, is, h) = unfelt_held h
     step_held (step.SetClientMaxBufferSize target limit) answer may (is, h) =
         of_client (same_client target id) _ _ (λ mine p q (calm, none, (link, set, same)). quiet P w.sends w.receives p q _ did none same refl) h
     step_held (step.NextAction target) answer may (r, left, is, h) = reads_held target _ left _ (λ mine e display. may e (mine, display)) h
@@ -672,6 +671,7 @@ module _ {T U G C : Type 0} (w : World T G C) (id : ClientParts) (offer : Offer 
     call_held (Asked call answer) may h = step_held call answer may h
     call_held (Changed target t') may h =
         of_client (same_client target id) _ _ (λ mine p q (calm, none, by). transport_keep P w.sends w.receives (λ x y. y ≡ t') p did q none by) h
+    call_held (Grown rows answer) may h = unfelt_held h
 
 -- ---- calls and runs
 

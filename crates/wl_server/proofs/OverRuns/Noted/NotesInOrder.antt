@@ -27,7 +27,7 @@ use Rattle.wl_server.specs.Ids.{ClientParts, GlobalParts, same_client}
 use Rattle.wl_server.specs.NoteOrder.{AreInTime, HasNumbers, Rise, all_places, last_number, slot_of, times_at, times_of}
 use Rattle.wl_server.specs.NoteOrder.Ordered.{HandsOutNone, NoneHandedOut}
 use Rattle.wl_server.specs.Part.{Part}
-use Rattle.wl_server.specs.PartStep.{Asked, Call, Changed, CleanedAs, FeelsGlobal, FeelsLoss, FlushedFor, InsertedAs, NotesTaken, OfClient, OnPart, PartCall, PartStep, Unfelt, World}
+use Rattle.wl_server.specs.PartStep.{Asked, Call, Changed, CleanedAs, FeelsGlobal, FeelsLoss, FlushedFor, Grown, InsertedAs, NotesTaken, OfClient, OnPart, PartCall, PartStep, Unfelt, World}
 use Rattle.wl_server.specs.Runs.{Leads}
 use Rattle.wl_server.specs.Server.{Seen, ServerState, Stored, client_at, if_serial, new_server, note_of, notes_of, seen, stored_at, told_of}
 use Rattle.wl_server.specs.Steps.{Entry, GathersNotes, HandsOutNotes, MakesNotes, NotesGoOn, OneStep, StepOf}
@@ -208,7 +208,6 @@ module _ {T U G C : Type 0} (w : World T G C) (id : ClientParts) (offer : Offer 
   step_grows (step.RemoveGlobal g) answer s lacked did t none (is, h) = loss_grows g s lacked did t h
   step_grows (step.Flush target) answer s lacked did t none (r, is, h) = flushed_grows target r s lacked did t h
   step_grows (step.SetDefaultMaxBufferSize limit) answer s lacked did t none (is, h) = unfelt_grows s lacked did t h
-  step_grows (step.AddInterfaces interfaces) answer s lacked did t none (r, is, h) = unfelt_grows s lacked did t h
   step_grows step.Cleanup answer s lacked did t none (r, is, h) = cleaned_grows r s lacked did t h
   step_grows step.TakeNotes answer s lacked did t none (r, is, h) = at r is h
     where
@@ -226,6 +225,7 @@ module _ {T U G C : Type 0} (w : World T G C) (id : ClientParts) (offer : Offer 
       → HandsOutNone call → PartCall w id offer call before lacked did after → Grows before after
   call_grows (Asked s answer) before lacked did after none h = step_grows s answer before lacked did after none h
   call_grows (Changed target t) before lacked did after none h = of_client_grows _ before _ _ lacked did after h
+  call_grows (Grown rows answer) before lacked did after none h = unfelt_grows before lacked did after h
 
 -- ---- numbers over a run
 

@@ -3,7 +3,7 @@ use Rattle.std.proofs.Common.{◌≡◌, ◌≢◌, Bool, true, false, List, [],
 use Rattle.std.specs.Prelude.{if◌then◌else◌}
 use Rattle.wl_wire.specs.declared.protocol.TableError.{TableError}
 use Rattle.wl_wire.specs.declared.protocol.TableError.TheVariants as table
-use Rattle.wl_wire.specs.Table.{AnswersGrowth, InterfaceRow, interface_rows}
+use Rattle.wl_wire.specs.Table.{AnswersGrowth, InterfaceRow, grown}
 use Rattle.wl_wire.proofs.Growth.{AnswersGrowth-unique}
 use Rattle.wl_server.specs.declared.error.GlobalError.{GlobalError}
 use Rattle.wl_server.specs.declared.error.GlobalError.TheVariants as global
@@ -17,11 +17,32 @@ use Rattle.wl_server.specs.Globals.{Offer, new_offer, with_table}
 use Rattle.wl_server.specs.Ids.{ClientParts, GlobalParts}
 use Rattle.wl_server.proofs.OverRuns.Alone.IsolationLaw.{offer_of_other, offer_run}
 use Rattle.wl_server.proofs.OverRuns.Outcome.NumberLaws.{creates_global_one}
-use Rattle.wl_server.specs.Outcome.{AddsSame, AreAmple, AreNumbered, AreOwn, ArrivesSame, OffersHaveOneOutcome, SameCall, SameStep, SameSteps, SendsSame, SharedAnswer, SharedSame}
-use Rattle.wl_server.specs.PartStep.{Asked, Call, Changed, PartCall, PartStep, World}
+use Rattle.wl_server.specs.Outcome.{AreAmple, AreNumbered, AreOwn, ArrivesSame, OffersHaveOneOutcome, SameCall, SameStep, SameSteps, SendsSame, SharedAnswer, SharedSame}
+use Rattle.wl_server.specs.PartStep.{Asked, Call, Changed, Grown, PartCall, PartStep, World}
 use Rattle.wl_server.specs.Runs.{Leads, Own, concerns, is_about, mine, offer_over, own_of}
 use Rattle.wl_server.specs.Server.{Seen, ServerState, new_server}
-use Rattle.wl_server.specs.Steps.{Entry, AnswersShared, lacks_growth, offer_after, table_by}
+use Rattle.wl_server.specs.Steps.{Entry, AnswersShared, lacks_growth, offer_after}
+
+-- ---- interfaces that were to be added
+
+-- the offer after them, where the answers are alike
+pub growth_offer : {G : Type 0} (offer : Offer G) (rows rows' : List InterfaceRow) (p q : Result (Unit {0}) TableError) → rows ≡ rows' → p ≡ q
+    → with_table offer (grown offer.table rows p) ≡ with_table offer (grown offer.table rows' q)
+growth_offer offer rows rows' p q same answers =
+    ap (λ these. with_table offer (grown offer.table these p)) same ∙ ap (λ answer. with_table offer (grown offer.table rows' answer)) answers
+
+-- a want of memory for them is told by the answer
+growth_allowed : (T U G C : Type 0) (rows : List InterfaceRow) (p : Result (Unit {0}) TableError) → lacks_growth {T = T} {U = U} {G = G} {C = C} (Grown rows p) ≡ false
+    → p ≢ Err table.OutOfMemory
+growth_allowed T U G C rows p ample lacks = true≢false (subst (λ z. lacks_growth {T = T} {U = U} {G = G} {C = C} (Grown rows z) ≡ false) lacks ample)
+
+-- what is shared determines the answer
+pub growth_same : (T U G C : Type 0) (offer : Offer G) (rows rows' : List InterfaceRow) (p q : Result (Unit {0}) TableError) → rows ≡ rows'
+    → lacks_growth {T = T} {U = U} {G = G} {C = C} (Grown rows p) ≡ false → lacks_growth {T = T} {U = U} {G = G} {C = C} (Grown rows' q) ≡ false
+    → AnswersGrowth offer.table rows p → AnswersGrowth offer.table rows' q → p ≡ q
+growth_same T U G C offer rows rows' p q same ample ample' n n' =
+    AnswersGrowth-unique offer.table rows p q (growth_allowed T U G C rows p ample) (growth_allowed T U G C rows' q ample') n
+    (subst (λ these. AnswersGrowth offer.table these q) (sym same) n')
 
 module _ {T U G C : Type 0} where
   -- ---- a call
@@ -29,7 +50,6 @@ module _ {T U G C : Type 0} where
   -- the offer after two calls of one step, where they are answered alike
   pub offer_one : (offer : Offer G) (s : Step T U G C) (p q : Reply T U) → SharedSame s p q → offer_after offer (Asked s p) ≡ offer_after offer (Asked s q)
   offer_one offer (step.CreateGlobal i version handler) p q shared = ap (λ (z : Reply T U). offer_after {C = C} offer (Asked (step.CreateGlobal i version handler) z)) shared
-  offer_one offer (step.AddInterfaces interfaces) p q shared = ap (λ (z : Reply T U). offer_after {C = C} offer (Asked (step.AddInterfaces interfaces) z)) shared
   offer_one offer s p q shared = refl
 
   -- what a step leaves of the offer, another leaves that is the same
@@ -44,45 +64,29 @@ module _ {T U G C : Type 0} where
       at : (s' : Step T U G C) → ArrivesSame target (record { bytes = bytes.items; tokens = tokens.items }) s' → offer ≡ offer_after offer (Asked s' q)
       at (step.Arrive target' bytes' tokens') same = refl
       at s' same = absurd same
-  offer_as offer (step.AddInterfaces interfaces) s' q same = at s' same
-    where
-      rows : List InterfaceRow
-      rows = interface_rows interfaces.items
-
-      at : (s' : Step T U G C) → AddsSame rows s' → with_table offer (table_by offer.table rows q) ≡ offer_after offer (Asked s' q)
-      at (step.AddInterfaces others) same = ap (λ these. with_table offer (table_by offer.table these q)) same
-      at s' same = absurd same
   offer_as offer s s' q same = ap (λ (z : Step T U G C). offer_after offer (Asked z q)) same
 
-  -- and so it is of the ids of globals and of the answers to interfaces
+  -- and so it is of the ids of globals
   pub numbers_as : (offer : Offer G) (s s' : Step T U G C) (q : Reply T U) → SameStep s s' → AnswersShared offer (Asked s' q) → AnswersShared offer (Asked s q)
   numbers_as offer (step.SendEvent m) s' q same n = tt
   numbers_as offer (step.Arrive target bytes tokens) s' q same n = tt
-  numbers_as offer (step.AddInterfaces interfaces) s' q same n = at s' q same n
-    where
-      at : (s' : Step T U G C) (q : Reply T U) → AddsSame (interface_rows interfaces.items) s' → AnswersShared {T = T} {U = U} {C = C} offer (Asked s' q)
-          → AnswersShared {T = T} {U = U} {C = C} offer (Asked (step.AddInterfaces interfaces) q)
-      at (step.AddInterfaces others) (reply.AddInterfaces r) same n = subst (λ these. AnswersGrowth offer.table these r) (sym same) n
-      at (step.AddInterfaces others) q same n = tt
-      at s' q same n = absurd same
   numbers_as offer s s' q same n = subst (λ (z : Step T U G C). AnswersShared offer (Asked z q)) (sym same) n
 
-  -- the creation of a global is answered as one, and so is the adding of interfaces
+  -- the creation of a global is answered as one
   abbrev pub Answered : Call T U G C → Type 0
   Answered (Asked (step.CreateGlobal _ _ _) answer) = (r : Result GlobalParts GlobalError) × (answer ≡ reply.CreateGlobal r)
-  Answered (Asked (step.AddInterfaces _) answer) = (r : Result (Unit {0}) TableError) × (answer ≡ reply.AddInterfaces r)
   Answered _ = Unit {0}
 
   pub answered_step : (w : World T G C) (id : ClientParts) (offer : Offer G) (s : Step T U G C) (answer : Reply T U) (before : Seen T U C) (lacked : Bool) (did : List (Deed U))
       (after : Seen T U C) → PartStep w id offer s answer before lacked did after → Answered (Asked s answer)
   answered_step w id offer (step.CreateGlobal i version handler) answer before lacked did after (r, is, h) = (r, is)
-  answered_step w id offer (step.AddInterfaces interfaces) answer before lacked did after (r, is, h) = (r, is)
   answered_step w id offer s answer before lacked did after h = tt
 
   pub answered_call : (w : World T G C) (id : ClientParts) (offer : Offer G) (call : Call T U G C) (before : Seen T U C) (lacked : Bool) (did : List (Deed U)) (after : Seen T U C)
       → PartCall w id offer call before lacked did after → Answered call
   answered_call w id offer (Asked s answer) before lacked did after h = answered_step w id offer s answer before lacked did after h
   answered_call w id offer (Changed target t) before lacked did after h = tt
+  answered_call w id offer (Grown rows answer) before lacked did after h = tt
 
   module _ (id : ClientParts) (offer : Offer G) where
     abbrev Ample : Step T U G C → Reply T U → Type 0
@@ -93,11 +97,6 @@ module _ {T U G C : Type 0} where
     created_allowed s r ample is =
         let refused = subst (λ z. Ample s (reply.CreateGlobal z)) is ample in
         true≢false refused
-
-    -- and so is one for interfaces
-    added_allowed : (s : Step T U G C) (answer : Reply T U) (r : Result (Unit {0}) TableError) → answer ≡ reply.AddInterfaces r → Ample s answer → r ≢ Err table.OutOfMemory
-    added_allowed s answer r is ample lacks =
-        true≢false (subst (λ z. Ample s (reply.AddInterfaces z)) lacks (subst (λ z. Ample s z) is ample))
 
     -- a client's own calls and the shared ones are answered alike, where their answers tell what all clients share
     pub shared_same : (s : Step T U G C) (p q : Reply T U) → is_about id s ≡ true → Ample s p → Ample s q → AnswersShared offer (Asked s p) → AnswersShared offer (Asked s q)
@@ -110,22 +109,11 @@ module _ {T U G C : Type 0} where
         let one = creates_global_one offer.globals offer.table i version r r' (created_allowed s r (subst (λ z. Ample s z) is ample)) (created_allowed s r' (subst (λ z. Ample s z) is' ample'))
         numbers numbers' in
         is ∙ ap (λ (z : Result GlobalParts GlobalError). let a : Reply T U = reply.CreateGlobal z in a) one ∙ sym is'
-    shared_same (step.AddInterfaces interfaces) p q own ample ample' n n' (r, is) (r', is') =
-        let s : Step T U G C = step.AddInterfaces interfaces in
-        let answers : Reply T U → Type 0 = λ z. AnswersShared {T = T} {U = U} {C = C} offer (Asked s z) in
-        let one = AnswersGrowth-unique offer.table (interface_rows interfaces.items) r r' (added_allowed s p r is ample) (added_allowed s q r' is' ample')
-        (subst answers is n) (subst answers is' n') in
-        is ∙ ap (λ (z : Result (Unit {0}) TableError). let a : Reply T U = reply.AddInterfaces z in a) one ∙ sym is'
     shared_same s p q own ample ample' n n' h g = tt
 
     answered_as : (s s' : Step T U G C) (q : Reply T U) → SameStep s s' → Answered (Asked s' q) → Answered (Asked s q)
     answered_as (step.SendEvent m) s' q same h = tt
     answered_as (step.Arrive target bytes tokens) s' q same h = tt
-    answered_as (step.AddInterfaces interfaces) s' q same h = at s' same h
-      where
-        at : (s' : Step T U G C) → AddsSame (interface_rows interfaces.items) s' → Answered (Asked s' q) → Answered (Asked (step.AddInterfaces interfaces) q)
-        at (step.AddInterfaces others) same h = h
-        at s' same h = absurd same
     answered_as s s' q same h = subst (λ (z : Step T U G C). Answered (Asked z q)) (sym same) h
 
     -- so it is of calls: they are answered alike, and leave one offer
@@ -135,8 +123,14 @@ module _ {T U G C : Type 0} where
         let shared = shared_same s p q own ample ample' n (numbers_as offer s s' q same n') h (answered_as s s' q same g) in
         (shared, offer_one offer s p q shared ∙ offer_as offer s s' q same)
     shared_call (Changed target t) (Changed target' t') same own ample ample' n n' h g = (tt, refl)
+    shared_call (Grown rows p) (Grown rows' q) same own ample ample' n n' h g =
+        let answers = growth_same T U G C offer rows rows' p q same ample ample' n n' in (answers, growth_offer offer rows rows' p q same answers)
     shared_call (Asked s p) (Changed target t) same own ample ample' n n' h g = absurd same
+    shared_call (Asked s p) (Grown rows q) same own ample ample' n n' h g = absurd same
     shared_call (Changed target t) (Asked s p) same own ample ample' n n' h g = absurd same
+    shared_call (Changed target t) (Grown rows q) same own ample ample' n n' h g = absurd same
+    shared_call (Grown rows p) (Asked s q) same own ample ample' n n' h g = absurd same
+    shared_call (Grown rows p) (Changed target t) same own ample ample' n n' h g = absurd same
 
   -- ---- a run
 

@@ -25,10 +25,10 @@ use Rattle.wl_server.specs.Ids.{ClientParts, GlobalParts, same_client}
 use Rattle.wl_server.specs.Moves.{Accept, AcceptFault, Arrive, ArriveFault, Moved, TakeSent, nothing_taken, taken}
 use Rattle.wl_link.proofs.Calls.NumberLaws.{fresh_one}
 use Rattle.wl_server.proofs.OverRuns.Outcome.Determined.{IsDetermined}
-use Rattle.wl_server.specs.Outcome.{AddsSame, ArrivesSame, SameAnswer, SameCall, SameOutcome, SameReply, SameStep, SendsSame, SharedAnswer, SharedSame}
+use Rattle.wl_server.specs.Outcome.{ArrivesSame, SameAnswer, SameCall, SameOutcome, SameReply, SameStep, SendsSame, SharedAnswer, SharedSame}
 use Rattle.wl_server.specs.Part.{Part, fresh_part}
 use Rattle.wl_server.proofs.OverRuns.Outcome.PartOutcome.{SameEnd, SameFelt, changes_one, cleaned_one, creates_one, destroys_one, finishes_bind_one, finishes_request_one, flushed_one, flushes_live_one, hears_one, kills_one, limits_one, moves_one, next_action_one, posts_error_one, same_felt, sends_event_one, sets_one}
-use Rattle.wl_server.specs.PartStep.{Asked, Call, Changed, CleanedAs, FeelsGlobal, FeelsLoss, FlushedFor, InsertedAs, MovedFor, NotesTaken, OfClient, OnPart, PartCall, PartStep, Unfelt, World, around, share_of}
+use Rattle.wl_server.specs.PartStep.{Asked, Call, Changed, CleanedAs, FeelsGlobal, FeelsLoss, FlushedFor, Grown, InsertedAs, MovedFor, NotesTaken, OfClient, OnPart, PartCall, PartStep, Unfelt, World, around, share_of}
 use Rattle.wl_server.specs.Reading.{action_content, new_reading}
 use Rattle.wl_server.specs.Runs.{concerns, is_about}
 use Rattle.wl_server.specs.Server.{Seen}
@@ -106,9 +106,16 @@ with_none one = (one, tt)
 
 -- ---- a step
 
+-- two outcomes of a step are the same to a client
+pub record SameStepOutcome {T U C : Type 0} (id : ClientParts) (is_own : Bool) (answer answer' : Reply T U) (did did' : List (Deed U))
+    (after after' : Seen T U C) : Type 0 where
+  pub reply : is_own ≡ true → SameReply id answer answer'
+  pub deeds : did ≡ did'
+  pub held : after ≡ after'
+
 module _ {T U G C : Type 0} (w : World T G C) (known : IsDetermined w) (id : ClientParts) (offer : Offer G) (before : Seen T U C) (d e : List (Deed U)) (x y : Seen T U C) where
   abbrev Same : Bool → Reply T U → Reply T U → Type 0
-  Same own p q = SameOutcome id own p q d e x y
+  Same own p q = SameStepOutcome id own p q d e x y
 
   abbrev Ample : Step T U G C → Reply T U → Type 0
   Ample s answer = lacks_growth (Asked s answer) ≡ false
@@ -217,9 +224,6 @@ module _ {T U G C : Type 0} (w : World T G C) (known : IsDetermined w) (id : Cli
       outcome (is_about {T = T} {U = U} {G = G} {C = C} id (step.Flush target)) p q one.0 (λ own. same_reply id p q _ _ is is' (ap reply.Flush (one.1 own)))
   step_one (step.SetDefaultMaxBufferSize limit) p q ample ample' shared (is, h) (is', g) =
       outcome true p q (unfelt_one before d e x y h g) (λ own. same_reply id p q reply.SetDefaultMaxBufferSize reply.SetDefaultMaxBufferSize is is' refl)
-  step_one (step.AddInterfaces interfaces) p q ample ample' shared (r, is, h) (r', is', g) =
-      let same = sym is ∙ shared ∙ is' in
-      outcome true p q (unfelt_one before d e x y h g) (λ own. same_reply id p q (reply.AddInterfaces r) (reply.AddInterfaces r') is is' same)
   step_one (step.SetClientMaxBufferSize target limit) p q ample ample' shared (is, h) (is', g) =
       let one = of_one before d e x y (same_client target id) _ _ _ _ (λ _ _. tt)
       (λ s q q' f f'. with_none (limits_one s limit d e q q' f.1 f'.1 f.2 f'.2)) h g in
@@ -282,19 +286,13 @@ module _ {T U G C : Type 0} (w : World T G C) (known : IsDetermined w) (id : Cli
           subst (λ (t : ClientParts). (r : _) × (q ≡ reply.Arrive r)
           × MovedFor w id offer t (Arrive (record { bytes = bytes.items; tokens = tokens.items })) (nothing_taken r) before false e y) (sym same) chunk
       at s' same h = absurd same
-  part_as (step.AddInterfaces interfaces) s' q same h = at s' same h
-    where
-      at : (s' : Step T U G C) → AddsSame (interface_rows interfaces.items) s' → PartStep w id offer s' q before false e y
-          → PartStep w id offer (step.AddInterfaces interfaces) q before false e y
-      at (step.AddInterfaces others) same h = h
-      at s' same h = absurd same
   part_as s s' q same h = subst (λ (z : Step T U G C). PartStep w id offer z q before false e y) (sym same) h
 
   -- a want of memory for what a call makes of its own is told by its reply
   pub growth_one : (s s' : Step T U G C) (q : Reply T U) → Ample s' q → Ample s q
   growth_one s s' q ample = ample
 
-  pub same_step_one : (s s' : Step T U G C) (p q : Reply T U) → SameStep s s' → Ample s p → Ample s' q → SharedSame s p q
+  same_step_one : (s s' : Step T U G C) (p q : Reply T U) → SameStep s s' → Ample s p → Ample s' q → SharedSame s p q
       → PartStep w id offer s p before false d x → PartStep w id offer s' q before false e y → Same (is_about id s) p q
   same_step_one s s' p q same ample ample' shared h g = step_one s p q ample (growth_one s s' q ample') shared h (part_as s s' q same g)
 
@@ -310,5 +308,15 @@ module _ {T U G C : Type 0} (w : World T G C) (known : IsDetermined w) (id : Cli
       let here = subst (λ z. PartCall w id offer (Changed target z) before false e y) (sym same_value) there in
       let one = of_one before d e x y (same_client target id) _ _ _ _ (λ _ _. tt) (λ s q q' f f'. with_none (changes_one s t d e q q' f.1 f'.1 f.2 f'.2)) h here in
       (λ own. tt, one.0)
+  call_one (Grown rows p) (Grown rows' q) same ample ample' shared h g = (λ own. shared, unfelt_one before d e x y h g)
   call_one (Asked s p) (Changed target t) same ample ample' shared h g = absurd same
+  call_one (Asked s p) (Grown rows q) same ample ample' shared h g = absurd same
   call_one (Changed target t) (Asked s p) same ample ample' shared h g = absurd same
+  call_one (Changed target t) (Grown rows q) same ample ample' shared h g = absurd same
+  call_one (Grown rows p) (Asked s q) same ample ample' shared h g = absurd same
+  call_one (Grown rows p) (Changed target t) same ample ample' shared h g = absurd same
+
+  pub same_call_one : (call call' : Call T U G C) → SameCall call call' → lacks_growth call ≡ false → lacks_growth call' ≡ false → SharedAnswer call call'
+      → PartCall w id offer call before false d x → PartCall w id offer call' before false e y → SameOutcome id call call' d e x y
+  same_call_one call call' same ample ample' shared h g =
+      let one = call_one call call' same ample ample' shared h g in record { reply = one.0; deeds = one.1.did; held = one.1.after }

@@ -23,10 +23,10 @@ use Rattle.wl_server.specs.declared.runs.step.Step.TheVariants as step
 use Rattle.wl_server.specs.Events.{session_content}
 use Rattle.wl_server.specs.Ids.{ClientParts}
 use Rattle.wl_server.specs.NoteOrder.{AllNumbered, AllTakeFirst, GivesNumbers, InTurn, IsInOrder, IsNoLater, IsNumbered, Rise, RiseFromSlot, all_places, number_past, numbers_from, places_of, slot_of, times_at, times_of}
-use Rattle.wl_server.specs.Outcome.{AddsSame, ArrivesSame, SameCall, SameStep, SendsSame}
+use Rattle.wl_server.specs.Outcome.{ArrivesSame, SameCall, SameStep, SendsSame}
 use Rattle.wl_server.specs.Outcome.Whole.{OrdersSame}
 use Rattle.wl_server.specs.Part.{Part}
-use Rattle.wl_server.specs.PartStep.{Asked, Call, Changed, PartCall, World}
+use Rattle.wl_server.specs.PartStep.{Asked, Call, Changed, Grown, PartCall, World}
 use Rattle.wl_server.specs.Server.{NoteTimes, Seen, ServerState, Stored, client_at, if_serial, no_times, note_of, notes_of, seen, stored_at, told_of}
 use Rattle.wl_server.specs.Steps.{Entry, GathersNotes, HandsOutNotes, MakesNotes, NotesGoOn, OneStep, lacks_growth}
 use Rattle.wl_server.proofs.CallSteps.Numbering.{gives_none, time_in, times_in}
@@ -638,6 +638,7 @@ module _ {T U G C : Type 0} where
   abbrev call_kind : Call T U G C → ℕ
   call_kind (Asked s answer) = step_kind s
   call_kind (Changed target t) = 2
+  call_kind (Grown rows answer) = 2
 
   step_kinds : (s s' : Step T U G C) → SameStep s s' → step_kind s ≡ step_kind s'
   step_kinds (step.SendEvent m) s' same = at s' same
@@ -650,18 +651,18 @@ module _ {T U G C : Type 0} where
       at : (s' : Step T U G C) → ArrivesSame target (record { bytes = bytes.items; tokens = tokens.items }) s' → 2 ≡ step_kind s'
       at (step.Arrive target' bytes' tokens') same = refl
       at s' same = absurd same
-  step_kinds (step.AddInterfaces interfaces) s' same = at s' same
-    where
-      at : (s' : Step T U G C) → AddsSame (interface_rows interfaces.items) s' → 2 ≡ step_kind s'
-      at (step.AddInterfaces others) same = refl
-      at s' same = absurd same
   step_kinds s s' same = ap step_kind same
 
   call_kinds : (c c' : Call T U G C) → SameCall c c' → call_kind c ≡ call_kind c'
   call_kinds (Asked s p) (Asked s' q) same = step_kinds s s' same
   call_kinds (Changed target t) (Changed target' t') same = refl
+  call_kinds (Grown rows p) (Grown rows' q) same = refl
   call_kinds (Asked s p) (Changed target t) same = absurd same
+  call_kinds (Asked s p) (Grown rows q) same = absurd same
   call_kinds (Changed target t) (Asked s p) same = absurd same
+  call_kinds (Changed target t) (Grown rows q) same = absurd same
+  call_kinds (Grown rows p) (Asked s q) same = absurd same
+  call_kinds (Grown rows p) (Changed target t) same = absurd same
 
   -- the notes were handed out, or gathered, or none was moved
   abbrev MovesSo : ServerState T U G C → Entry T U G C → ServerState T U G C → Type 0

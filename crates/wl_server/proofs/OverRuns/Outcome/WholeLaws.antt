@@ -156,8 +156,6 @@ module _ {T U G C : Type 0} (ordered : Bool) (w : World T G C) (any : ClientPart
       same_whole ordered p q (reply.Flush r) (reply.Flush r') is is' (let here = same_here target p q _ _ is is' (one target (same_self target)) in λ id. here)
   whole_one (step.SetDefaultMaxBufferSize limit) p q one shared ample ample' rises rises' took (is, h) (is', g) =
       same_whole ordered p q reply.SetDefaultMaxBufferSize reply.SetDefaultMaxBufferSize is is' (λ id. refl)
-  whole_one (step.AddInterfaces interfaces) p q one shared ample ample' rises rises' took (r, is, h) (r', is', g) =
-      let same = sym is ∙ shared ∙ is' in same_whole ordered p q (reply.AddInterfaces r) (reply.AddInterfaces r') is is' (λ id. same)
   whole_one (step.SetClientMaxBufferSize target limit) p q one shared ample ample' rises rises' took (is, h) (is', g) =
       same_whole ordered p q reply.SetClientMaxBufferSize reply.SetClientMaxBufferSize is is' (λ id. refl)
   whole_one (step.NextAction target) p q one shared ample ample' rises rises' took (r, left, is, h) (r', left', is', g) =

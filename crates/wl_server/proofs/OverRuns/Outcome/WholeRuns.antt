@@ -2,7 +2,6 @@
 use Rattle.std.proofs.Common.{◌≡◌, ◌≢◌, ℕ, ◌+◌, Bool, false, List, [], ◌∷◌, Result, Ok, Err, Vec, refl, sym, ap, subst, ◌∙◌, true≢false, arith}
 use Rattle.std.specs.Global.{Global}
 use Rattle.std.specs.Prelude.{IsTrue}
-use Rattle.wl_wire.specs.Table.{interface_rows}
 use Rattle.wl_server.specs.declared.error.InsertClientError.{InsertClientError}
 use Rattle.wl_server.specs.declared.error.InsertClientError.TheVariants as insert
 use Rattle.wl_server.specs.declared.notes.Note.{Note}
@@ -16,11 +15,11 @@ use Rattle.wl_server.specs.Globals.{Offer}
 use Rattle.wl_server.specs.Ids.{ClientParts}
 use Rattle.wl_server.proofs.OverRuns.Outcome.NumberLaws.{inserts_next_one}
 use Rattle.wl_server.proofs.OverRuns.Outcome.Determined.{IsDetermined}
-use Rattle.wl_server.specs.Outcome.{AddsSame, ArrivesSame, SameCall, SameStep, SendsSame, SharedAnswer, SharedSame}
+use Rattle.wl_server.specs.Outcome.{ArrivesSame, SameCall, SameStep, SendsSame, SharedAnswer, SharedSame}
 use Rattle.wl_server.proofs.OverRuns.Outcome.OutcomeLaws.{call_one, part_as}
 use Rattle.wl_server.proofs.OverRuns.Outcome.PartOutcome.{SameFelt}
-use Rattle.wl_server.specs.PartStep.{Asked, Call, Changed, PartCall, PartStep, World}
-use Rattle.wl_server.proofs.OverRuns.Outcome.OfferLaws.{answered_step, numbers_as, offer_as, offer_one, shared_same}
+use Rattle.wl_server.specs.PartStep.{Asked, Call, Changed, Grown, PartCall, PartStep, World}
+use Rattle.wl_server.proofs.OverRuns.Outcome.OfferLaws.{answered_step, growth_offer, growth_same, numbers_as, offer_as, offer_one, shared_same}
 use Rattle.wl_server.specs.Server.{Seen, ServerState, seen}
 use Rattle.wl_server.specs.Steps.{Entry, InsertsNext, NumbersClient, AnswersShared, OneStep, RisesBySlot, inserted_by, lacks_growth, offer_after}
 use Rattle.wl_server.proofs.OverRuns.Outcome.SameNotes.{notes_one, took_one}
@@ -46,36 +45,39 @@ module _ {T U G C : Type 0} where
       at : (s' : Step T U G C) → ArrivesSame target (record { bytes = bytes.items; tokens = tokens.items }) s' → 0 ≡ inserted_by (Asked s' q)
       at (step.Arrive target' bytes' tokens') same = refl
       at s' same = absurd same
-  inserted_as (step.AddInterfaces interfaces) s' q same = at s' same
-    where
-      at : (s' : Step T U G C) → AddsSame (interface_rows interfaces.items) s' → 0 ≡ inserted_by (Asked s' q)
-      at (step.AddInterfaces others) same = refl
-      at s' same = absurd same
   inserted_as s s' q same = ap (λ (z : Step T U G C). inserted_by (Asked z q)) same
 
   clients_as : (before : ServerState T U G C) (s s' : Step T U G C) (q : Reply T U) → SameStep s s' → NumbersClient before (Asked s' q) → NumbersClient before (Asked s q)
   clients_as before (step.SendEvent m) s' q same n = tt
   clients_as before (step.Arrive target bytes tokens) s' q same n = tt
-  clients_as before (step.AddInterfaces interfaces) s' q same n = tt
   clients_as before s s' q same n = subst (λ (z : Step T U G C). NumbersClient before (Asked z q)) (sym same) n
 
   rises_as : (s s' : Step T U G C) (q : Reply T U) → SameStep s s' → RisesBySlot (Asked s' q) → RisesBySlot (Asked s q)
   rises_as (step.SendEvent m) s' q same n = tt
   rises_as (step.Arrive target bytes tokens) s' q same n = tt
-  rises_as (step.AddInterfaces interfaces) s' q same n = tt
   rises_as s s' q same n = subst (λ (z : Step T U G C). RisesBySlot (Asked z q)) (sym same) n
 
   call_offer : (offer : Offer G) (call call' : Call T U G C) → SameCall call call' → SharedAnswer call call' → offer_after offer call ≡ offer_after offer call'
   call_offer offer (Asked s p) (Asked s' q) same shared = offer_one offer s p q shared ∙ offer_as offer s s' q same
   call_offer offer (Changed target t) (Changed target' t') same shared = refl
+  call_offer offer (Grown rows p) (Grown rows' q) same shared = growth_offer offer rows rows' p q same shared
   call_offer offer (Asked s p) (Changed target t) same shared = absurd same
+  call_offer offer (Asked s p) (Grown rows q) same shared = absurd same
   call_offer offer (Changed target t) (Asked s p) same shared = absurd same
+  call_offer offer (Changed target t) (Grown rows q) same shared = absurd same
+  call_offer offer (Grown rows p) (Asked s q) same shared = absurd same
+  call_offer offer (Grown rows p) (Changed target t) same shared = absurd same
 
   call_inserted : (call call' : Call T U G C) → SameCall call call' → SharedAnswer call call' → inserted_by call ≡ inserted_by call'
   call_inserted (Asked s p) (Asked s' q) same shared = inserted_one s p q shared ∙ inserted_as s s' q same
   call_inserted (Changed target t) (Changed target' t') same shared = refl
+  call_inserted (Grown rows p) (Grown rows' q) same shared = refl
   call_inserted (Asked s p) (Changed target t) same shared = absurd same
+  call_inserted (Asked s p) (Grown rows q) same shared = absurd same
   call_inserted (Changed target t) (Asked s p) same shared = absurd same
+  call_inserted (Changed target t) (Grown rows q) same shared = absurd same
+  call_inserted (Grown rows p) (Asked s q) same shared = absurd same
+  call_inserted (Grown rows p) (Changed target t) same shared = absurd same
 
   -- ---- a call
 
@@ -102,9 +104,6 @@ module _ {T U G C : Type 0} where
         is ∙ ap (λ (z : Result ClientParts InsertClientError). let a : Reply T U = reply.InsertClient z in a) one ∙ sym is'
     whole_shared any (step.CreateGlobal i version handler) p q ample ample' c c' n n' h g =
         let k : Step T U G C = step.CreateGlobal i version handler in
-        shared_same any s.offer k p q refl ample ample' n n' (answered_step w any s.offer k p _ _ _ _ h) (answered_step w any s.offer k q _ _ _ _ g)
-    whole_shared any (step.AddInterfaces interfaces) p q ample ample' c c' n n' h g =
-        let k : Step T U G C = step.AddInterfaces interfaces in
         shared_same any s.offer k p q refl ample ample' n n' (answered_step w any s.offer k p _ _ _ _ h) (answered_step w any s.offer k q _ _ _ _ g)
     whole_shared any k p q ample ample' c c' n n' h g = tt
 
@@ -133,8 +132,15 @@ module _ {T U G C : Type 0} where
         )
     call_whole (Changed target v) (Changed target' v') same ample ample' c c' n n' rises rises' took h g =
         (tt, tt, λ id. (call_one w known id s.offer (seen id s) (d id) (e id) (x id) (y id) (Changed target v) (Changed target' v') same ample ample' tt (h id) (g id)).1)
+    call_whole (Grown rows p) (Grown rows' q) same ample ample' c c' n n' rises rises' took h g =
+        let answers = growth_same T U G C s.offer rows rows' p q same ample ample' n n' in
+        (answers, answers, λ id. (call_one w known id s.offer (seen id s) (d id) (e id) (x id) (y id) (Grown rows p) (Grown rows' q) same ample ample' answers (h id) (g id)).1)
     call_whole (Asked k p) (Changed target v) same ample ample' c c' n n' rises rises' took h g = absurd same
+    call_whole (Asked k p) (Grown rows q) same ample ample' c c' n n' rises rises' took h g = absurd same
     call_whole (Changed target v) (Asked k p) same ample ample' c c' n n' rises rises' took h g = absurd same
+    call_whole (Changed target v) (Grown rows q) same ample ample' c c' n n' rises rises' took h g = absurd same
+    call_whole (Grown rows p) (Asked k q) same ample ample' c c' n n' rises rises' took h g = absurd same
+    call_whole (Grown rows p) (Changed target v) same ample ample' c c' n n' rises rises' took h g = absurd same
 
   -- each call has one outcome
   pub entry_one : (w : World T G C) → IsDetermined w → (s t x y : ServerState T U G C) (e f : Entry T U G C) (ordered : Bool) → SameServer ordered s t → SameCall e.call f.call

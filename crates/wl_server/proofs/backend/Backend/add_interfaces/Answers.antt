@@ -1,38 +1,35 @@
 use Rattle.std.proofs.Common.{◌≡◌, Bool, List, Result, Err, ap, refl, sym}
-use Rattle.std.specs.Prelude.{Vec}
-use Rattle.std.specs.Global.{Global}
-use Rattle.wl_wire.specs.declared.interface.Interface.{Interface}
 use Rattle.wl_wire.specs.declared.protocol.TableError.{TableError}
 use Rattle.wl_wire.specs.declared.protocol.TableError.TheVariants as table_error
-use Rattle.wl_wire.specs.Table.{InterfaceRow, refused_growth}
+use Rattle.wl_wire.specs.Table.{InterfaceRow, interface_rows, refused_growth}
 use Rattle.wl_server.specs.Globals.{Offer}
-use Rattle.wl_server.specs.PartStep.{Asked}
+use Rattle.wl_server.specs.PartStep.{Grown}
 use Rattle.wl_server.specs.Steps.{lacks_growth}
-use Rattle.wl_server.specs.declared.runs.step.Reply.TheVariants as reply
-use Rattle.wl_server.specs.declared.runs.step.Step.TheVariants as step
-use Rattle.wl_server.proofs.CallSteps.Feeling.{IsFelt, unfelt_call}
+use Rattle.wl_server.proofs.CallSteps.Feeling.{IsFelt, makes_unfelt}
+use Rattle.wl_server.proofs.OverRuns.Alone.AccountLaws.{is_growth}
 use Rattle.wl_server.proofs.backend.Backend.add_interfaces.Goals as goal
 
-felt : {T U G C : Type 0} (interfaces : Vec Interface Global) (r : Result (Unit {0}) TableError)
-    → IsFelt {T = T} {U = U} {G = G} {C = C} (Asked (step.AddInterfaces interfaces) (reply.AddInterfaces r))
-felt interfaces r = record { last = refl; client = λ b. tt; order = tt; room = λ b. tt; notes = λ b a h. h }
+felt : {T U G C : Type 0} (rows : List InterfaceRow) (r : Result (Unit {0}) TableError) → IsFelt {T = T} {U = U} {G = G} {C = C} (Grown rows r)
+felt rows r = record { last = refl; client = λ b. tt; order = tt; room = λ b. tt; notes = λ b a h. h }
 
-lacked : (T U G C : Type 0) (interfaces : Vec Interface Global) (r : Result (Unit {0}) TableError) (refused : Bool) → refused ≡ refused_growth r
-    → lacks_growth {T = T} {U = U} {G = G} {C = C} (Asked (step.AddInterfaces interfaces) (reply.AddInterfaces r)) ≡ refused
-lacked T U G C interfaces (Err table_error.OutOfMemory) refused is = sym is
-lacked T U G C interfaces r refused is = sym is
+lacked : (T U G C : Type 0) (rows : List InterfaceRow) (r : Result (Unit {0}) TableError) (refused : Bool) → refused ≡ refused_growth r
+    → lacks_growth {T = T} {U = U} {G = G} {C = C} (Grown rows r) ≡ refused
+lacked T U G C rows (Err table_error.OutOfMemory) refused is = sym is
+lacked T U G C rows r refused is = sym is
 
 pub returns-clause-call : goal.returns-clause-call
 returns-clause-call g c =
     let session = c.self.inside in
+    let rows = interface_rows c.args.interfaces.items in
     let offer_of : List InterfaceRow → Offer g.row.G.Denot = λ table. record {
       table = table;
       globals = record { store = session.globals.store; last_serial = session.last_global };
       default_limit = session.default_limit;
     } in
     rw (← c.self.view_is)
-    (unfelt_call _ _ _ _ (felt c.args.interfaces c.extend-answer.result) c.lacks_memory-self-inside.result _ (ap offer_of c.extend-answer.ensures.table)
-    c.extend-answer.ensures.answer (lacked g.row.T.Denot g.row.U.Denot g.row.G.Denot g.row.C.Denot c.args.interfaces c.extend-answer.result _ c.lacks_memory-self-inside.ensures) (λ id b. (_, refl, (refl, refl, refl))) c.self.invariant.2)
+    (is_growth _ _ _ _ _ (makes_unfelt _ _ _ (felt rows c.extend-answer.result) c.lacks_memory-self-inside.result _ (ap offer_of c.extend-answer.ensures.table)
+    c.extend-answer.ensures.answer (lacked g.row.T.Denot g.row.U.Denot g.row.G.Denot g.row.C.Denot rows c.extend-answer.result _ c.lacks_memory-self-inside.ensures)
+    (λ id b. (refl, refl, refl)) c.self.invariant.2))
 
 pub returns-clause-answer : goal.returns-clause-answer
 returns-clause-answer g c = rw (← c.self.view_is) c.extend-answer.ensures.answer

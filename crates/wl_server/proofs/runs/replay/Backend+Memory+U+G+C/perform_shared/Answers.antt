@@ -10,9 +10,6 @@ returns-in-Flush g c = rw c.in-Flush.is (over_script g.G.GlobalHandler.views _ _
 pub returns-in-SetDefaultMaxBufferSize : goal.returns-in-SetDefaultMaxBufferSize
 returns-in-SetDefaultMaxBufferSize g c = rw c.in-SetDefaultMaxBufferSize.is (over_script g.G.GlobalHandler.views _ _ _ _ c.set_default_max_buffer_size.ensures.call)
 
-pub returns-in-AddInterfaces : goal.returns-in-AddInterfaces
-returns-in-AddInterfaces g c = rw c.in-AddInterfaces.is (over_script g.G.GlobalHandler.views _ _ _ _ c.add_interfaces.ensures.call)
-
 pub returns-in-Cleanup : goal.returns-in-Cleanup
 returns-in-Cleanup g c = rw c.in-Cleanup.is (over_script g.G.GlobalHandler.views _ _ _ _ c.cleanup.ensures.call)
 
