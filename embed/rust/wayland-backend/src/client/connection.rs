@@ -91,7 +91,7 @@ impl Connection {
         if session.library.destroy_object(&id.raw()).is_err() {
             return Err(InvalidId);
         }
-        session.take_notes(&mut leftovers);
+        session.take_notes(id, &mut leftovers);
         drop(session);
         leftovers.settle();
         Ok(())

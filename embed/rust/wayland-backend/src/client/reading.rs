@@ -1,6 +1,7 @@
 //! Reading events, by one thread for all that have prepared it.
 
 use std::io;
+use std::mem;
 use std::os::unix::io::OwnedFd;
 use std::sync::{MutexGuard, PoisonError};
 use std::thread::{self, ThreadId};
@@ -24,6 +25,8 @@ pub(super) struct Readers {
     ended: usize,
     /// The thread that reads now.
     current: Option<ThreadId>,
+    /// How many threads wait until a reading has ended.
+    waiting: usize,
 }
 
 impl Connection {
@@ -45,10 +48,14 @@ impl Connection {
     }
 
     /// Waits until a reading has ended, or all that were prepared were given up.
-    fn wait<'a>(&self, readers: MutexGuard<'a, Readers>) -> MutexGuard<'a, Readers> {
-        self.read
+    fn wait<'a>(&self, mut readers: MutexGuard<'a, Readers>) -> MutexGuard<'a, Readers> {
+        readers.waiting += 1;
+        let mut readers = self
+            .read
             .wait(readers)
-            .unwrap_or_else(PoisonError::into_inner)
+            .unwrap_or_else(PoisonError::into_inner);
+        readers.waiting -= 1;
+        readers
     }
 
     /// Gives a prepared reading up. If it was the last one, those that wait for a reader go on.
@@ -63,7 +70,10 @@ impl Connection {
     fn end_reading(&self, readers: &mut Readers) {
         readers.current = None;
         readers.ended = readers.ended.wrapping_add(1);
-        self.read.notify_all();
+        // To wake nobody is a system call, too.
+        if readers.waiting > 0 {
+            self.read.notify_all();
+        }
     }
 
     /// Begins a prepared reading. The answer is whether this thread is the one that reads; otherwise another one has.
@@ -118,16 +128,12 @@ fn dispatch(backend: &Backend) -> Result<usize, WaylandError> {
     let mut dispatched = 0;
     let mut session = connection.lock();
     let mut received = session.receive(connection.socket());
+    let mut message = no_message();
     let result = loop {
-        let mut message = Message {
-            sender_id: ObjectId::null(),
-            opcode: 0,
-            args: Arguments::new(),
-        };
         match session.next_event(&mut message) {
             Ok(event) => {
                 drop(session);
-                session = hand_out(backend, event, message, &mut leftovers, &mut panics);
+                session = hand_out(backend, event, &mut message, &mut leftovers, &mut panics);
                 dispatched += 1;
             }
             // If the socket had no more, it may have by now. Then poll says so.
@@ -148,6 +154,15 @@ fn dispatch(backend: &Backend) -> Result<usize, WaylandError> {
     result.expect("no callback has panicked")
 }
 
+/// A message without arguments, of no object.
+fn no_message() -> Message<ObjectId, OwnedFd> {
+    Message {
+        sender_id: ObjectId::null(),
+        opcode: 0,
+        args: Arguments::new(),
+    }
+}
+
 impl Connection {
     fn print_event(&self, message: &Message<ObjectId, OwnedFd>) {
         let (sender, arguments) = (&message.sender_id, debug::List(&message.args));
@@ -164,11 +179,12 @@ impl Connection {
     }
 }
 
-/// Hands an event to its object's data, and finishes it. The session stays locked for the next event.
+/// Hands an event to its object's data, and finishes it. The message is taken out of its place. The session stays locked
+/// for the next event.
 fn hand_out<'a>(
     backend: &'a Backend,
     event: OpenEvent,
-    message: Message<ObjectId, OwnedFd>,
+    message: &mut Message<ObjectId, OwnedFd>,
     leftovers: &mut Leftovers,
     panics: &mut Panics,
 ) -> MutexGuard<'a, Session> {
@@ -176,9 +192,11 @@ fn hand_out<'a>(
     let OpenEvent {
         data,
         created,
-        ends_sender,
+        ended,
     } = event;
     let answer = panics.catch(|| {
+        // It leaves its place also if the printing panics.
+        let message = mem::replace(message, no_message());
         connection.print_event(&message);
         data.event(backend, message)
     });
@@ -187,7 +205,12 @@ fn hand_out<'a>(
         .as_ref()
         .map_or(created.is_some(), |answer| answer.is_some());
     let mut session = connection.lock();
-    session.finish_event(created.as_ref(), ends_sender, answer.flatten(), leftovers);
+    session.finish_event(
+        created.as_ref(),
+        ended.as_ref(),
+        answer.flatten(),
+        leftovers,
+    );
     if leftovers.is_empty() && created.is_some() == is_answered {
         return session;
     }

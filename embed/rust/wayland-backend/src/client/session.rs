@@ -14,7 +14,7 @@ use crate::library::{
     Client, Event, Outgoing, RawArgument, RawObjectId, Received, Request, SessionError, Status,
 };
 use crate::panics::Panics;
-use crate::protocol::{ArgumentType, Interface, Message, ObjectInfo, ProtocolError};
+use crate::protocol::{ArgumentType, Interface, Message, MessageDesc, ObjectInfo, ProtocolError};
 use crate::table::{BadInterface, Longer, Table};
 
 /// What is kept for an object.
@@ -83,7 +83,8 @@ pub(super) struct OpenEvent {
     pub(super) data: Arc<dyn ObjectData>,
     /// The object that it made.
     pub(super) created: Option<ObjectId>,
-    pub(super) ends_sender: bool,
+    /// Of a destructor: its sender.
+    pub(super) ended: Option<ObjectId>,
 }
 
 /// What a call leaves to be done when the lock is free, since it is the program's code.
@@ -92,7 +93,7 @@ pub(super) struct Leftovers {
     /// The objects that were destroyed, whose data are to be told. There is one, almost always.
     ended: SmallVec<[(Arc<dyn ObjectData>, ObjectId); 1]>,
     /// Data that nobody can ask for any more.
-    unused: Vec<Arc<dyn ObjectData>>,
+    unused: SmallVec<[Arc<dyn ObjectData>; 2]>,
     /// Interfaces that can be used in part, which is to be logged.
     longer: Vec<Longer>,
 }
@@ -273,12 +274,14 @@ impl Session {
             ..Request::default()
         };
         let mut interface = None;
-        if description.is_some_and(|it| it.signature.contains(&ArgumentType::NewId)) {
+        if description.is_some_and(makes_object) {
             interface = description.and_then(|description| description.child_interface);
             if let Some((child, version)) = child_spec {
                 let library = &mut self.library;
                 let row = self.table.row(child, |rows| library.add_interfaces(rows));
-                leftovers.longer.extend(self.table.take_longer());
+                if self.table.has_longer() {
+                    leftovers.longer.extend(self.table.take_longer());
+                }
                 match row {
                     Ok(row) => request.child_interface = row,
                     Err(error) => {
@@ -317,7 +320,7 @@ impl Session {
             }
         };
         if description.is_some_and(|description| description.is_destructor) {
-            self.take_notes(leftovers);
+            self.take_notes(sender, leftovers);
         }
         Ok(created)
     }
@@ -385,15 +388,16 @@ impl Session {
         Ok(OpenEvent {
             data: receiver,
             created,
-            ends_sender: event.is_destructor != 0,
+            ended: (event.is_destructor != 0).then(|| message.sender_id.clone()),
         })
     }
 
-    /// Finishes the open event. An object that it made gets the data that the callback answered.
+    /// Finishes the open event, which made `created` and, as a destructor, ends `ended`. An object that it made gets the data
+    /// that the callback answered.
     pub(super) fn finish_event(
         &mut self,
         created: Option<&ObjectId>,
-        ends_sender: bool,
+        ended: Option<&ObjectId>,
         answer: Option<Arc<dyn ObjectData>>,
         leftovers: &mut Leftovers,
     ) {
@@ -405,8 +409,8 @@ impl Session {
             }
             Some(created) => self.finish_making(created, answer, leftovers),
         }
-        if ends_sender {
-            self.take_notes(leftovers);
+        if let Some(ended) = ended {
+            self.take_notes(ended, leftovers);
         }
     }
 
@@ -434,13 +438,16 @@ impl Session {
         }
     }
 
-    /// Takes the objects with data that were destroyed.
-    pub(super) fn take_notes(&mut self, leftovers: &mut Leftovers) {
+    /// Takes the objects with data that were destroyed, up to this one, which was the last.
+    pub(super) fn take_notes(&mut self, last: &ObjectId, leftovers: &mut Leftovers) {
         while let Some((raw, key)) = self.library.next_note() {
             if let Some(kept) = self.data.get(key) {
                 let id = ObjectId::new(&raw, kept.interface);
                 leftovers.ended.push((kept.data.clone(), id));
                 self.keep_until_free(raw, key);
+            }
+            if raw.serial == last.serial && raw.number == last.number {
+                break;
             }
         }
     }
@@ -469,6 +476,12 @@ impl Session {
             }
         }
     }
+}
+
+/// Whether the request makes an object.
+fn makes_object(request: &MessageDesc) -> bool {
+    let mut types = request.signature.iter();
+    types.any(|argument| matches!(argument, ArgumentType::NewId))
 }
 
 /// The id of an object among an event's arguments.

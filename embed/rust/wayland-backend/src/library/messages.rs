@@ -35,39 +35,41 @@ impl Outgoing {
         id: impl Fn(&Id) -> RawObjectId,
     ) -> Result<(), Errno> {
         self.clear();
+        let Outgoing {
+            arguments: flats,
+            bytes,
+            descriptors,
+        } = self;
         let mut answer = Ok(());
-        for argument in arguments {
-            let flat = match argument {
-                Argument::Int(value) => number(sys::NB_INT, *value),
-                Argument::Uint(value) => number(sys::NB_UINT, *value as i32),
-                Argument::Fixed(value) => number(sys::NB_FIXED, *value),
-                Argument::Str(None) => number(sys::NB_NULL_STRING, 0),
-                Argument::Str(Some(text)) => self.range(sys::NB_STRING, text.as_bytes()),
-                Argument::Array(bytes) => self.range(sys::NB_ARRAY, bytes),
-                Argument::Object(object) => RawArgument {
-                    kind: sys::NB_OBJECT,
-                    object: id(object),
-                    ..Default::default()
-                },
-                Argument::NewId(object) => RawArgument {
-                    kind: sys::NB_NEW_ID,
-                    object: id(object),
-                    ..Default::default()
-                },
-                Argument::Fd(descriptor) => match duplicate(*descriptor) {
-                    Ok(copy) => {
-                        let flat = number(sys::NB_DESCRIPTOR, copy.as_raw_fd());
-                        self.descriptors.push(copy);
-                        flat
-                    }
-                    Err(error) => {
-                        answer = answer.and(Err(error));
-                        number(sys::NB_DESCRIPTOR, NO_DESCRIPTOR)
-                    }
-                },
-            };
-            self.arguments.push(flat);
-        }
+        flats.extend(arguments.iter().map(|argument| match argument {
+            Argument::Int(value) => number(sys::NB_INT, *value),
+            Argument::Uint(value) => number(sys::NB_UINT, *value as i32),
+            Argument::Fixed(value) => number(sys::NB_FIXED, *value),
+            Argument::Str(None) => number(sys::NB_NULL_STRING, 0),
+            Argument::Str(Some(text)) => range(sys::NB_STRING, text.as_bytes(), bytes),
+            Argument::Array(array) => range(sys::NB_ARRAY, array, bytes),
+            Argument::Object(object) => RawArgument {
+                kind: sys::NB_OBJECT,
+                object: id(object),
+                ..Default::default()
+            },
+            Argument::NewId(object) => RawArgument {
+                kind: sys::NB_NEW_ID,
+                object: id(object),
+                ..Default::default()
+            },
+            Argument::Fd(descriptor) => match duplicate(*descriptor) {
+                Ok(copy) => {
+                    let flat = number(sys::NB_DESCRIPTOR, copy.as_raw_fd());
+                    descriptors.push(copy);
+                    flat
+                }
+                Err(error) => {
+                    answer = answer.and(Err(error));
+                    number(sys::NB_DESCRIPTOR, NO_DESCRIPTOR)
+                }
+            },
+        }));
         answer
     }
 
@@ -75,18 +77,6 @@ impl Outgoing {
     pub(crate) fn set_numbers(&mut self, count: usize) {
         self.clear();
         self.arguments.resize(count, number(sys::NB_INT, 0));
-    }
-
-    fn range(&mut self, kind: u32, bytes: &[u8]) -> RawArgument {
-        let bytes = &bytes[..bytes.len().min(TOO_MANY_BYTES)];
-        let at = self.bytes.len() as u32;
-        self.bytes.extend_from_slice(bytes);
-        RawArgument {
-            kind,
-            at,
-            length: bytes.len() as u32,
-            ..Default::default()
-        }
     }
 
     /// How many bytes the message has, at most.
@@ -116,6 +106,19 @@ fn number(kind: u32, value: i32) -> RawArgument {
     RawArgument {
         kind,
         value,
+        ..Default::default()
+    }
+}
+
+/// A string or an array, which is put behind the other bytes.
+fn range(kind: u32, from: &[u8], bytes: &mut Vec<u8>) -> RawArgument {
+    let from = &from[..from.len().min(TOO_MANY_BYTES)];
+    let at = bytes.len() as u32;
+    bytes.extend_from_slice(from);
+    RawArgument {
+        kind,
+        at,
+        length: from.len() as u32,
         ..Default::default()
     }
 }
@@ -190,23 +193,20 @@ impl Lent {
     ) {
         let range = |flat: &RawArgument| &self.bytes[flat.at as usize..][..flat.length as usize];
         let flats = &self.arguments[..count as usize];
-        to.reserve(flats.len());
-        for flat in flats {
-            to.push(match flat.kind {
-                sys::NB_INT => Argument::Int(flat.value),
-                sys::NB_UINT => Argument::Uint(flat.value as u32),
-                sys::NB_FIXED => Argument::Fixed(flat.value),
-                sys::NB_STRING => Argument::Str(Some(Box::new(text(range(flat))))),
-                sys::NB_NULL_STRING => Argument::Str(None),
-                sys::NB_OBJECT => Argument::Object(id(flat)),
-                sys::NB_NEW_ID => Argument::NewId(id(flat)),
-                sys::NB_ARRAY => Argument::Array(Box::new(range(flat).to_vec())),
-                _ => {
-                    // SAFETY: the session has handed this descriptor out with the message, by the caller's promise.
-                    Argument::Fd(unsafe { take_back(flat.value) })
-                }
-            });
-        }
+        to.extend(flats.iter().map(|flat| match flat.kind {
+            sys::NB_INT => Argument::Int(flat.value),
+            sys::NB_UINT => Argument::Uint(flat.value as u32),
+            sys::NB_FIXED => Argument::Fixed(flat.value),
+            sys::NB_STRING => Argument::Str(Some(Box::new(text(range(flat))))),
+            sys::NB_NULL_STRING => Argument::Str(None),
+            sys::NB_OBJECT => Argument::Object(id(flat)),
+            sys::NB_NEW_ID => Argument::NewId(id(flat)),
+            sys::NB_ARRAY => Argument::Array(Box::new(range(flat).to_vec())),
+            _ => {
+                // SAFETY: the session has handed this descriptor out with the message, by the caller's promise.
+                Argument::Fd(unsafe { take_back(flat.value) })
+            }
+        }));
     }
 }
 

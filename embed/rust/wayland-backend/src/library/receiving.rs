@@ -20,7 +20,8 @@ pub(crate) struct Inbox {
     came: usize,
     /// How many bytes have come since that was asked.
     bytes: usize,
-    frames: Frames,
+    /// Counts the messages, if that is asked for.
+    frames: Option<Frames>,
     fault: Option<Errno>,
 }
 
@@ -43,6 +44,14 @@ pub(super) enum Arrival {
 }
 
 impl Inbox {
+    /// An inbox that counts the messages.
+    pub(crate) fn counting() -> Inbox {
+        Inbox {
+            frames: Some(Frames::default()),
+            ..Inbox::default()
+        }
+    }
+
     /// Receives once from the socket, by way of `buffer`. `arrive` hands bytes and descriptors to the session.
     pub(super) fn receive(
         &mut self,
@@ -64,7 +73,9 @@ impl Inbox {
             Err(Errno::AGAIN) => return Arrival::Came(Received::Nothing),
             Err(error) => return self.fail(error),
         };
-        self.frames.push(&buffer[..count]);
+        if let Some(frames) = &mut self.frames {
+            frames.push(&buffer[..count]);
+        }
         self.came += self.descriptors.len();
         self.bytes += count;
         let mut numbers = SmallVec::<[i32; MOST_DESCRIPTORS]>::new();
@@ -119,9 +130,9 @@ impl Inbox {
         Arrival::Failed(error)
     }
 
-    /// How many messages have come as a whole since this was asked before.
+    /// How many messages have come as a whole since this was asked before. None, if they are not counted.
     pub(crate) fn take_count(&mut self) -> usize {
-        self.frames.take_count()
+        self.frames.as_mut().map_or(0, Frames::take_count)
     }
 
     /// How many bytes have come since this was asked before.

@@ -1,7 +1,7 @@
 //! The server itself: it reads, and calls the handlers.
 
 use std::{
-    fmt, io,
+    fmt, io, mem,
     os::fd::{AsFd, BorrowedFd, OwnedFd},
     sync::{Arc, Mutex, MutexGuard},
 };
@@ -34,7 +34,11 @@ const MOST_TURNS: usize = 4;
 /// `D` is what the handlers get besides: the program's state.
 pub struct Backend<D: 'static> {
     state: Arc<Mutex<State<D>>>,
+    /// What the handlers get.
+    handle: Handle,
     poll: Arc<OwnedFd>,
+    /// Where the system tells who has sent something. It is kept for its memory.
+    ready: epoll::EventVec,
 }
 
 impl<D> fmt::Debug for Backend<D> {
@@ -52,9 +56,14 @@ impl<D> Backend<D> {
     pub fn new() -> Result<Self, InitError> {
         let poll = epoll::create(epoll::CreateFlags::CLOEXEC);
         let poll = Arc::new(poll.map_err(|error| InitError::Io(error.into()))?);
+        let state = Arc::new(Mutex::new(State::new(poll.clone())));
         Ok(Backend {
-            state: Arc::new(Mutex::new(State::new(poll.clone()))),
+            handle: Handle {
+                state: state.clone(),
+            },
+            state,
             poll,
+            ready: epoll::EventVec::with_capacity(MOST_READY),
         })
     }
 
@@ -64,14 +73,12 @@ impl<D> Backend<D> {
     ///
     /// Those of [`Handle::flush`].
     pub fn flush(&mut self, client: Option<ClientId>) -> io::Result<()> {
-        self.handle().flush(client)
+        self.handle.flush(client)
     }
 
     /// A handle of the server.
     pub fn handle(&self) -> Handle {
-        Handle {
-            state: self.state.clone(),
-        }
+        self.handle.clone()
     }
 
     /// The descriptor that can be read when there is something to dispatch. Wait for it, and use it for nothing else.
@@ -96,12 +103,11 @@ impl<D> Backend<D> {
         data: &mut D,
         client_id: ClientId,
     ) -> io::Result<usize> {
-        let handle = self.handle();
         let mut panics = Panics::default();
         let state = lock(&self.state);
         let until = Until::Blocked;
-        let answer = self.read(state, &handle, data, &client_id, until, &mut panics);
-        self.clean(&handle, data, &mut panics);
+        let answer = self.read(state, data, &client_id, until, &mut panics);
+        self.clean(data, &mut panics);
         panics.go_on();
         answer
     }
@@ -119,8 +125,10 @@ impl<D> Backend<D> {
     ///
     /// As [`Self::dispatch_single_client`].
     pub fn dispatch_all_clients(&mut self, data: &mut D) -> io::Result<usize> {
-        let handle = self.handle();
-        let mut ready = epoll::EventVec::with_capacity(MOST_READY);
+        let mut ready = mem::replace(&mut self.ready, epoll::EventVec::with_capacity(0));
+        // An error has left it without memory.
+        ready.clear();
+        ready.reserve(MOST_READY);
         let mut dispatched = 0;
         let mut panics = Panics::default();
         // Clients that are ready stand in a queue, so after so many rounds each has had its turns.
@@ -146,11 +154,12 @@ impl<D> Backend<D> {
                 } else {
                     Until::Short
                 };
-                let answer = self.read(state, &handle, data, &client, until, &mut panics);
+                let answer = self.read(state, data, &client, until, &mut panics);
                 dispatched += answer.unwrap_or(0);
             }
-            self.clean(&handle, data, &mut panics);
+            self.clean(data, &mut panics);
         }
+        self.ready = ready;
         panics.go_on();
         Ok(dispatched)
     }
@@ -159,7 +168,6 @@ impl<D> Backend<D> {
     fn read<'a>(
         &'a self,
         mut state: MutexGuard<'a, State<D>>,
-        handle: &Handle,
         data: &mut D,
         client: &ClientId,
         until: Until,
@@ -171,7 +179,7 @@ impl<D> Backend<D> {
             bytes += state.core.take_bytes(client);
             // They are asked for in any case: a client that was killed has none.
             let status;
-            (state, status) = self.call_all(state, handle, data, client, panics);
+            (state, status) = self.call_all(state, data, client, panics);
             let has_more = match received {
                 Received::Nothing => false,
                 Received::All => until == Until::Blocked,
@@ -205,18 +213,13 @@ impl<D> Backend<D> {
     fn call_all<'a>(
         &'a self,
         mut state: MutexGuard<'a, State<D>>,
-        handle: &Handle,
         data: &mut D,
         client: &ClientId,
         panics: &mut Panics,
     ) -> (MutexGuard<'a, State<D>>, Status) {
         let raw = client.raw();
+        let mut message = no_message();
         loop {
-            let mut message = Message {
-                sender_id: ObjectId::null(),
-                opcode: 0,
-                args: SmallVec::new(),
-            };
             let (called, open) = match state.next_call(&raw, &mut message) {
                 Ok(next) => next,
                 Err(status) => return (state, status),
@@ -225,14 +228,18 @@ impl<D> Backend<D> {
             let mut is_told = false;
             let answer = panics.catch(|| match called {
                 Called::Object(object) if open.ends() => {
-                    self.call_last(handle, data, client, object, message, &mut is_told)
+                    let message = mem::replace(&mut message, no_message());
+                    self.call_last(data, client, object, message, &mut is_told)
                 }
-                Called::Object(object) => object.request(handle, data, client.clone(), message),
+                Called::Object(object) => {
+                    let message = mem::replace(&mut message, no_message());
+                    object.request(&self.handle, data, client.clone(), message)
+                }
                 Called::Global {
                     handler,
                     global,
                     object,
-                } => handler.map(|it| it.bind(handle, data, client.clone(), global, object)),
+                } => handler.map(|it| it.bind(&self.handle, data, client.clone(), global, object)),
             });
             let has_answered = answer.is_some();
             let answer = answer.flatten();
@@ -258,7 +265,6 @@ impl<D> Backend<D> {
     /// Calls the handler of a destructor, and tells the program then that the object ends.
     fn call_last(
         &self,
-        handle: &Handle,
         data: &mut D,
         client: &ClientId,
         object: Data<D>,
@@ -266,19 +272,19 @@ impl<D> Backend<D> {
         is_told: &mut bool,
     ) -> Option<Data<D>> {
         let (again, id) = (object.clone(), message.sender_id.clone());
-        let answer = object.request(handle, data, client.clone(), message);
+        let answer = object.request(&self.handle, data, client.clone(), message);
         // If the handler has destroyed the object by itself, the program is told by the next clean-up.
         let info = lock(&self.state).core.server.object_info(&id.raw());
         if info.is_some() {
             *is_told = true;
-            again.destroyed(handle, data, client.clone(), id);
+            again.destroyed(&self.handle, data, client.clone(), id);
         }
         answer
     }
 
     /// Tells the program of objects that are gone, and takes the clients out that were killed. If another thread tells the
     /// program that a client is gone, this waits for it: the objects of the client come after it.
-    fn clean(&self, handle: &Handle, data: &mut D, panics: &mut Panics) {
+    fn clean(&self, data: &mut D, panics: &mut Panics) {
         let mut state = lock(&self.state);
         let killed = state.clean();
         let count = state.gather_ended();
@@ -292,9 +298,18 @@ impl<D> Backend<D> {
                 break;
             };
             let client = id.client();
-            panics.catch(|| object.destroyed(handle, data, client, id));
+            panics.catch(|| object.destroyed(&self.handle, data, client, id));
         }
         panics.catch(|| drop(killed));
+    }
+}
+
+/// A message without arguments, of no object.
+fn no_message() -> Message<ObjectId, OwnedFd> {
+    Message {
+        sender_id: ObjectId::null(),
+        opcode: 0,
+        args: SmallVec::new(),
     }
 }
 

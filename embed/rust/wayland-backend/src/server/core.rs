@@ -171,6 +171,8 @@ pub(super) struct Core {
     pub(super) news: Arc<News>,
     /// How many news have been put so far.
     put: u64,
+    /// So many of them are known to have been told.
+    told: u64,
     pub(super) ended: VecDeque<Ended>,
     outgoing: Outgoing,
     /// What a client has asked last.
@@ -193,6 +195,7 @@ impl Core {
             listed: VecDeque::new(),
             news: Arc::default(),
             put: 0,
+            told: 0,
             ended: VecDeque::new(),
             outgoing: Outgoing::default(),
             action: Action::default(),
@@ -206,9 +209,11 @@ impl Core {
         let Core { server, names, .. } = self;
         let table = &mut names.table;
         let row = table.row(interface, |rows| server.add_interfaces(rows));
-        for longer in table.take_longer() {
-            self.news.put(Told::Longer(longer));
-            self.put += 1;
+        if table.has_longer() {
+            for longer in table.take_longer() {
+                self.news.put(Told::Longer(longer));
+                self.put += 1;
+            }
         }
         row
     }
@@ -236,9 +241,11 @@ impl Core {
     }
 
     /// All that was put and has not been told.
-    pub(super) fn all_due(&self) -> Option<Due> {
-        let is_due = !self.news.are_told(self.put);
-        is_due.then(|| self.due_until(self.put))
+    pub(super) fn all_due(&mut self) -> Option<Due> {
+        if self.told < self.put && self.news.are_told(self.put) {
+            self.told = self.put;
+        }
+        (self.told < self.put).then(|| self.due_until(self.put))
     }
 
     fn due_until(&self, until: u64) -> Due {
@@ -338,7 +345,7 @@ impl Core {
             serial: raw.serial,
             stream,
             data,
-            inbox: Inbox::default(),
+            inbox: Inbox::counting(),
             handed_out: 0,
             is_watched: false,
             is_listed: false,
