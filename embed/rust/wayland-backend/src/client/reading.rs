@@ -1,7 +1,6 @@
 //! Reading events, by one thread for all that have prepared it.
 
 use std::io;
-use std::mem;
 use std::os::unix::io::OwnedFd;
 use std::sync::{MutexGuard, PoisonError};
 use std::thread::{self, ThreadId};
@@ -128,9 +127,9 @@ fn dispatch(backend: &Backend) -> Result<usize, WaylandError> {
     let mut dispatched = 0;
     let mut session = connection.lock();
     let mut received = session.receive(connection.socket());
-    let mut message = no_message();
+    let mut message = None;
     let result = loop {
-        match session.next_event(&mut message) {
+        match session.next_event(message.insert(no_message())) {
             Ok(event) => {
                 drop(session);
                 session = hand_out(backend, event, &mut message, &mut leftovers, &mut panics);
@@ -184,7 +183,7 @@ impl Connection {
 fn hand_out<'a>(
     backend: &'a Backend,
     event: OpenEvent,
-    message: &mut Message<ObjectId, OwnedFd>,
+    message: &mut Option<Message<ObjectId, OwnedFd>>,
     leftovers: &mut Leftovers,
     panics: &mut Panics,
 ) -> MutexGuard<'a, Session> {
@@ -195,8 +194,8 @@ fn hand_out<'a>(
         ended,
     } = event;
     let answer = panics.catch(|| {
-        // It leaves its place also if the printing panics.
-        let message = mem::replace(message, no_message());
+        // It is taken here, and not moved with this closure, since it is large.
+        let message = message.take().expect("an event has a message");
         connection.print_event(&message);
         data.event(backend, message)
     });

@@ -120,8 +120,8 @@ impl Client {
     /// Receives once from the socket. The end of the stream and a failure are told to the session, which answers them
     /// when its events are taken.
     pub(crate) fn receive(&mut self, from: BorrowedFd<'_>) -> Received {
-        let (place, buffer) = (&mut self.place, self.lent.receiving());
-        let arrival = self.inbox.receive(from, buffer, |bytes, numbers| {
+        let (place, room) = (&mut self.place, self.lent.receiving());
+        let arrival = self.inbox.receive(from, room, |bytes, numbers| {
             // SAFETY: each slice is lent with its own length.
             answer(unsafe {
                 sys::nb_client_received(
@@ -169,7 +169,9 @@ impl Client {
     ) -> Result<Event, Status> {
         let mut event = Event::default();
         loop {
-            let Lent { arguments, bytes } = &mut self.lent;
+            let Lent {
+                arguments, bytes, ..
+            } = &mut self.lent;
             // SAFETY: each slice is lent with its own length.
             let status = unsafe {
                 sys::nb_client_next_event(

@@ -9,6 +9,7 @@ use smallvec::SmallVec;
 
 use super::{take_back, RawArgument, RawObjectId, FIRST_TRY, NO_DESCRIPTOR};
 use crate::protocol::{Argument, INLINE_ARGS};
+use crate::socket::CONTROL_ROOM;
 
 /// The arguments of a message that came.
 pub(crate) type Arguments<Id> = SmallVec<[Argument<Id, OwnedFd>; INLINE_ARGS]>;
@@ -139,6 +140,8 @@ fn duplicate(descriptor: RawFd) -> Result<OwnedFd, Errno> {
 pub(super) struct Lent {
     pub(super) arguments: Vec<RawArgument>,
     pub(super) bytes: Vec<u8>,
+    /// Where descriptors come in.
+    control: Box<[u8]>,
 }
 
 impl Lent {
@@ -146,12 +149,13 @@ impl Lent {
         Lent {
             arguments: vec![RawArgument::default(); 32],
             bytes: vec![0; sys::NB_MOST_BYTES],
+            control: vec![0; CONTROL_ROOM].into(),
         }
     }
 
-    /// Room for one receive: as much as a session reads at once.
-    pub(super) fn receiving(&mut self) -> &mut [u8] {
-        &mut self.bytes[..sys::NB_MOST_BYTES]
+    /// Room for one receive, as much as a session reads at once; and for its control data.
+    pub(super) fn receiving(&mut self) -> (&mut [u8], &mut [u8]) {
+        (&mut self.bytes[..sys::NB_MOST_BYTES], &mut self.control)
     }
 
     /// Room for one send: little, if the socket took nothing the last time.
@@ -180,33 +184,48 @@ impl Lent {
     }
 
     /// Appends the arguments of a message that was written here. `id` answers the id for an object and its data, 0 if it has
-    /// none.
+    /// none. The answer is how many descriptors are among them.
     ///
     /// # Safety
     ///
     /// A session has handed the message out by the last call, and nobody has taken its descriptors yet.
+    #[inline]
     pub(super) unsafe fn take<Id>(
         &self,
         count: u32,
         to: &mut Arguments<Id>,
         mut id: impl FnMut(&RawArgument) -> Id,
-    ) {
+    ) -> usize {
         let range = |flat: &RawArgument| &self.bytes[flat.at as usize..][..flat.length as usize];
+        let mut descriptors = 0;
         let flats = &self.arguments[..count as usize];
-        to.extend(flats.iter().map(|flat| match flat.kind {
-            sys::NB_INT => Argument::Int(flat.value),
-            sys::NB_UINT => Argument::Uint(flat.value as u32),
-            sys::NB_FIXED => Argument::Fixed(flat.value),
-            sys::NB_STRING => Argument::Str(Some(Box::new(text(range(flat))))),
-            sys::NB_NULL_STRING => Argument::Str(None),
-            sys::NB_OBJECT => Argument::Object(id(flat)),
-            sys::NB_NEW_ID => Argument::NewId(id(flat)),
-            sys::NB_ARRAY => Argument::Array(Box::new(range(flat).to_vec())),
-            _ => {
-                // SAFETY: the session has handed this descriptor out with the message, by the caller's promise.
-                Argument::Fd(unsafe { take_back(flat.value) })
+        if to.capacity() - to.len() < flats.len() {
+            to.reserve(flats.len());
+        }
+        for flat in flats {
+            let argument = match flat.kind {
+                sys::NB_INT => Argument::Int(flat.value),
+                sys::NB_UINT => Argument::Uint(flat.value as u32),
+                sys::NB_FIXED => Argument::Fixed(flat.value),
+                sys::NB_STRING => Argument::Str(Some(Box::new(text(range(flat))))),
+                sys::NB_NULL_STRING => Argument::Str(None),
+                sys::NB_OBJECT => Argument::Object(id(flat)),
+                sys::NB_NEW_ID => Argument::NewId(id(flat)),
+                sys::NB_ARRAY => Argument::Array(Box::new(range(flat).to_vec())),
+                _ => {
+                    descriptors += 1;
+                    // SAFETY: the session has handed this descriptor out with the message, by the caller's promise.
+                    Argument::Fd(unsafe { take_back(flat.value) })
+                }
+            };
+            let length = to.len();
+            // SAFETY: room was reserved for all of them, and nothing else is appended meanwhile.
+            unsafe {
+                to.as_mut_ptr().add(length).write(argument);
+                to.set_len(length + 1);
             }
-        }));
+        }
+        descriptors
     }
 }
 

@@ -189,8 +189,8 @@ impl Server {
         from: BorrowedFd<'_>,
         inbox: &mut Inbox,
     ) -> Received {
-        let (place, buffer) = (&mut self.place, self.lent.receiving());
-        let arrival = inbox.receive(from, buffer, |bytes, numbers| {
+        let (place, room) = (&mut self.place, self.lent.receiving());
+        let arrival = inbox.receive(from, room, |bytes, numbers| {
             // SAFETY: each slice is lent with its own length.
             answer(unsafe {
                 sys::nb_server_received(
@@ -218,7 +218,7 @@ impl Server {
     }
 
     /// The next action of a client. It is open until it is finished. Its arguments are appended to `arguments`; `id` answers
-    /// an id for an object among them.
+    /// an id for an object among them. The answer is how many descriptors are among them.
     ///
     /// Statuses: `INVALID_ID`, `OPEN`, `CLOSED`, `PROTOCOL_ERROR`, `WOULD_BLOCK`, `IO_ERROR`. The client is killed after
     /// `CLOSED`, `PROTOCOL_ERROR` and `IO_ERROR`.
@@ -229,9 +229,11 @@ impl Server {
         action: &mut Action,
         arguments: &mut Arguments<Id>,
         mut id: impl FnMut(&Action, &RawArgument) -> Id,
-    ) -> Result<(), Status> {
+    ) -> Result<usize, Status> {
         loop {
-            let Lent { arguments, bytes } = &mut self.lent;
+            let Lent {
+                arguments, bytes, ..
+            } = &mut self.lent;
             // SAFETY: each slice is lent with its own length.
             let status = unsafe {
                 sys::nb_server_next_action(
@@ -251,11 +253,10 @@ impl Server {
             self.lent.grow(action.arguments, action.bytes);
         }
         // SAFETY: the session has just handed the message out.
-        unsafe {
+        Ok(unsafe {
             self.lent
-                .take(action.arguments, arguments, |argument| id(action, argument));
-        }
-        Ok(())
+                .take(action.arguments, arguments, |argument| id(action, argument))
+        })
     }
 
     /// Finishes the open request, with the data of the object that it made. The answer is whether that object has the

@@ -1,7 +1,7 @@
 //! The server itself: it reads, and calls the handlers.
 
 use std::{
-    fmt, io, mem,
+    fmt, io,
     os::fd::{AsFd, BorrowedFd, OwnedFd},
     sync::{Arc, Mutex, MutexGuard},
 };
@@ -10,7 +10,7 @@ use rustix::{event::epoll, io::retry_on_intr};
 use smallvec::SmallVec;
 
 use super::{
-    state::{lock, Called, Data, State, Unused},
+    state::{lock, Bound, Called, Data, State, Unused},
     ClientId, Handle, InitError, ObjectId,
 };
 use crate::{
@@ -37,8 +37,6 @@ pub struct Backend<D: 'static> {
     /// What the handlers get.
     handle: Handle,
     poll: Arc<OwnedFd>,
-    /// Where the system tells who has sent something. It is kept for its memory.
-    ready: epoll::EventVec,
 }
 
 impl<D> fmt::Debug for Backend<D> {
@@ -63,7 +61,6 @@ impl<D> Backend<D> {
             },
             state,
             poll,
-            ready: epoll::EventVec::with_capacity(MOST_READY),
         })
     }
 
@@ -125,10 +122,7 @@ impl<D> Backend<D> {
     ///
     /// As [`Self::dispatch_single_client`].
     pub fn dispatch_all_clients(&mut self, data: &mut D) -> io::Result<usize> {
-        let mut ready = mem::replace(&mut self.ready, epoll::EventVec::with_capacity(0));
-        // An error has left it without memory.
-        ready.clear();
-        ready.reserve(MOST_READY);
+        let mut ready = epoll::EventVec::with_capacity(MOST_READY);
         let mut dispatched = 0;
         let mut panics = Panics::default();
         // Clients that are ready stand in a queue, so after so many rounds each has had its turns.
@@ -159,7 +153,6 @@ impl<D> Backend<D> {
             }
             self.clean(data, &mut panics);
         }
-        self.ready = ready;
         panics.go_on();
         Ok(dispatched)
     }
@@ -218,38 +211,42 @@ impl<D> Backend<D> {
         panics: &mut Panics,
     ) -> (MutexGuard<'a, State<D>>, Status) {
         let raw = client.raw();
-        let mut message = no_message();
+        let mut message = None;
         loop {
-            let (called, open) = match state.next_call(&raw, &mut message) {
-                Ok(next) => next,
+            let called = match state.next_call(&raw, message.insert(no_message())) {
+                Ok(called) => called,
                 Err(status) => return (state, status),
             };
             drop(state);
+            let is_plain = matches!(called, Called::Plain(_));
             let mut is_told = false;
+            // The message is taken here, and not moved with the closure, since it is large.
+            let mut message = || message.take().expect("a request has a message");
             let answer = panics.catch(|| match called {
-                Called::Object(object) if open.ends() => {
-                    let message = mem::replace(&mut message, no_message());
-                    self.call_last(data, client, object, message, &mut is_told)
+                Called::Plain(object) | Called::Making(object) => {
+                    object.request(&self.handle, data, client.clone(), message())
                 }
-                Called::Object(object) => {
-                    let message = mem::replace(&mut message, no_message());
-                    object.request(&self.handle, data, client.clone(), message)
+                Called::Last(object) => {
+                    self.call_last(data, client, object, message(), &mut is_told)
                 }
-                Called::Global {
-                    handler,
-                    global,
-                    object,
-                } => handler.map(|it| it.bind(&self.handle, data, client.clone(), global, object)),
+                Called::Global(bound) => {
+                    let Bound {
+                        handler,
+                        global,
+                        object,
+                    } = *bound;
+                    handler.map(|it| it.bind(&self.handle, data, client.clone(), global, object))
+                }
             });
             let has_answered = answer.is_some();
             let answer = answer.flatten();
             state = lock(&self.state);
-            if answer.is_none() && open.is_plain() {
-                state.finish_alone(&open);
+            if is_plain && answer.is_none() {
+                state.finish_alone(&raw);
                 continue;
             }
             let mut unused = Unused::new();
-            let misuse = state.finish(&open, answer, is_told, &mut unused);
+            let misuse = state.finish(&raw, answer, is_told, &mut unused);
             let misuse = misuse.filter(|_| has_answered);
             if misuse.is_some() || !unused.is_empty() {
                 drop(state);

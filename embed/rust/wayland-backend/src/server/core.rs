@@ -2,7 +2,7 @@
 
 use std::{
     collections::{HashMap, VecDeque},
-    fmt, io,
+    fmt, io, mem,
     os::{
         fd::{AsFd, BorrowedFd, OwnedFd, RawFd},
         unix::net::UnixStream,
@@ -73,7 +73,7 @@ impl Connection {
     }
 
     fn unwatch(&mut self, poll: &OwnedFd) {
-        if std::mem::take(&mut self.is_watched) {
+        if mem::take(&mut self.is_watched) {
             let _ = epoll::delete(poll, &self.stream);
         }
     }
@@ -138,7 +138,7 @@ impl Names {
     }
 
     /// The object that a request made. Its static is the one that the sender's names.
-    pub(super) fn created_id(&self, action: &Action) -> ObjectId {
+    fn created_id(&self, action: &Action) -> ObjectId {
         let known = self.table.interface(action.created.interface);
         let sender = self.interface(&action.sender, action.data);
         let request = sender.requests.get(action.opcode as usize);
@@ -536,14 +536,13 @@ impl Core {
             opcode,
             args,
         } = message;
-        server.next_action(client, action, args, |action, argument| {
+        let descriptors = server.next_action(client, action, args, |action, argument| {
             names.argument(client, action, argument)
         })?;
-        let has_descriptors = args.iter().any(|arg| matches!(arg, Argument::Fd(_)));
         *sender_id = names.id(&action.sender, action.data);
         *opcode = action.opcode as u16;
-        if has_descriptors {
-            self.hand_out(client, args);
+        if descriptors > 0 {
+            self.hand_out(client, descriptors);
         }
         if self.is_logging {
             self.log_request(message);
@@ -551,11 +550,9 @@ impl Core {
         Ok(())
     }
 
-    /// The descriptors among the arguments are not unread any more.
+    /// So many descriptors are not unread any more.
     #[cold]
-    fn hand_out(&mut self, client: &RawClientId, args: &[Argument<ObjectId, OwnedFd>]) {
-        let is_descriptor = |arg: &&Argument<_, _>| matches!(arg, Argument::Fd(_));
-        let count = args.iter().filter(is_descriptor).count();
+    fn hand_out(&mut self, client: &RawClientId, count: usize) {
         if let Some(connection) = self.connection(&ClientId::of(client)) {
             connection.handed_out += count;
         }
@@ -665,20 +662,33 @@ impl Core {
         }
     }
 
+    /// The slot of the next client for which something may wait.
+    fn next_to_flush(&mut self) -> Option<u32> {
+        if let Some(slot) = self.listed.pop_front() {
+            return Some(slot);
+        }
+        while let Some(client) = self.server.next_writable() {
+            let place = self.connections.get_mut(client.slot as usize);
+            let Some(Some(connection)) = place else {
+                continue;
+            };
+            if !mem::replace(&mut connection.is_listed, true) {
+                return Some(client.slot);
+            }
+        }
+        None
+    }
+
     /// Sends what waits for all clients, as far as their sockets take it.
     pub(super) fn flush_all(&mut self) {
         let mut full = VecDeque::new();
-        loop {
-            // When all was sent that the session had ready for a client, there may be more.
-            self.list_writable();
-            let Some(slot) = self.listed.pop_front() else {
-                break;
-            };
+        // When all was sent that the session had ready for a client, there may be more: then it comes again.
+        while let Some(slot) = self.next_to_flush() {
             if self.flush_slot(slot).is_err() {
                 full.push_back(slot);
             }
         }
-        self.listed.append(&mut full);
+        self.listed = full;
         self.server.close_dropped();
         self.take_notes();
     }
