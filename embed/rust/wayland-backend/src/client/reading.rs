@@ -194,9 +194,11 @@ fn hand_out<'a>(
         ended,
     } = event;
     let answer = panics.catch(|| {
+        if let Some(message) = message {
+            connection.print_event(message);
+        }
         // It is taken here, and not moved with this closure, since it is large.
         let message = message.take().expect("an event has a message");
-        connection.print_event(&message);
         data.event(backend, message)
     });
     // What a callback that panicked would have answered is not known.
