@@ -183,13 +183,7 @@ fn read_action(
 }
 
 /// Keeps the action in the client's ledger, until there is room for it. `out` says how much it needs.
-fn keep(
-    ledger: &mut Ledger,
-    action: &mut Action,
-    needs: Needs,
-    alloc: Global,
-    out: &mut FlatAction,
-)
+fn keep(ledger: &mut Ledger, action: &mut Action, needs: Needs, alloc: Global, out: &mut FlatAction)
     ensures kept { ledger.new ≡ record ledger.old { kept = Some action.old } }
     ensures out { out.new ≡ record no_action { arguments = count_number needs.arguments; bytes = count_number needs.bytes } }
 {
