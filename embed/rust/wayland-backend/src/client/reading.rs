@@ -2,8 +2,8 @@
 
 use std::io;
 use std::os::unix::io::OwnedFd;
+use std::ptr;
 use std::sync::{MutexGuard, PoisonError};
-use std::thread::{self, ThreadId};
 
 use rustix::io::Errno;
 
@@ -15,6 +15,17 @@ use crate::library::{Arguments, Received, Status};
 use crate::panics::Panics;
 use crate::protocol::Message;
 
+/// Tells threads apart, as long as they run. To ask the standard library for the thread's id counts up and down who shares it.
+#[derive(Clone, Copy, Debug, PartialEq, Eq)]
+struct ThreadMark(usize);
+
+impl ThreadMark {
+    fn of_this() -> ThreadMark {
+        thread_local!(static PLACE: u8 = const { 0 });
+        PLACE.with(|place| ThreadMark(ptr::from_ref(place) as usize))
+    }
+}
+
 /// Who reads, or is going to.
 #[derive(Debug, Default)]
 pub(super) struct Readers {
@@ -23,7 +34,7 @@ pub(super) struct Readers {
     /// How many readings have ended.
     ended: usize,
     /// The thread that reads now.
-    current: Option<ThreadId>,
+    current: Option<ThreadMark>,
     /// How many threads wait until a reading has ended.
     waiting: usize,
 }
@@ -38,7 +49,7 @@ impl Connection {
     pub(super) fn prepare_read(&self) {
         let mut readers = self.lock_readers();
         if readers.current.is_some() {
-            let thread = thread::current().id();
+            let thread = ThreadMark::of_this();
             while readers.current.is_some_and(|current| current != thread) {
                 readers = self.wait(readers);
             }
@@ -77,7 +88,7 @@ impl Connection {
 
     /// Begins a prepared reading. The answer is whether this thread is the one that reads; otherwise another one has.
     fn begin_reading(&self) -> Result<bool, WaylandError> {
-        let thread = thread::current().id();
+        let thread = ThreadMark::of_this();
         let mut readers = self.lock_readers();
         readers.prepared -= 1;
         if readers.current == Some(thread) {

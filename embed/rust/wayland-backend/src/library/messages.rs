@@ -229,10 +229,11 @@ impl Lent {
     }
 }
 
-/// A string that came. The library hands out none with a zero byte.
+/// A string that came.
 fn text(bytes: &[u8]) -> CString {
     // With room for the zero at its end, it is not allocated again.
     let mut owned = Vec::with_capacity(bytes.len() + 1);
     owned.extend_from_slice(bytes);
-    CString::new(owned).expect("a string without zero bytes")
+    // SAFETY: the library hands out no string with a zero byte.
+    unsafe { CString::from_vec_unchecked(owned) }
 }

@@ -29,6 +29,11 @@ const MOST_BYTES_IN_TURN: usize = 1 << 18;
 /// How often it is each client's turn in one dispatch of all, at most.
 const MOST_TURNS: usize = 4;
 
+/// The flags of a client that sends nothing more.
+const HAS_ENDED: epoll::EventFlags = epoll::EventFlags::HUP
+    .union(epoll::EventFlags::RDHUP)
+    .union(epoll::EventFlags::ERR);
+
 /// A server. It reads what clients ask, and calls the program's handlers.
 ///
 /// `D` is what the handlers get besides: the program's state.
@@ -106,7 +111,7 @@ impl<D> Backend<D> {
         let answer = self.read(state, data, &client_id, until, &mut panics);
         self.clean(data, &mut panics);
         panics.go_on();
-        answer
+        answer.count
     }
 
     /// Reads what all clients sent, and calls the handlers. It does not wait.
@@ -125,9 +130,8 @@ impl<D> Backend<D> {
         let mut ready = epoll::EventVec::with_capacity(MOST_READY);
         let mut dispatched = 0;
         let mut panics = Panics::default();
-        // Clients that are ready stand in a queue, so after so many rounds each has had its turns.
-        let clients = lock(&self.state).core.slots();
-        for _ in 0..MOST_TURNS * (1 + clients / MOST_READY) {
+        let (mut rounds, mut most_rounds) = (0, MOST_TURNS);
+        while rounds < most_rounds {
             let waited = retry_on_intr(|| epoll::wait(&*self.poll, &mut ready, 0));
             if let Err(error) = waited {
                 panics.go_on();
@@ -136,22 +140,34 @@ impl<D> Backend<D> {
             if ready.is_empty() {
                 break;
             }
+            let (calls, mut has_more) = (panics.calls(), false);
             for event in ready.iter() {
                 let state = lock(&self.state);
                 let Some(client) = state.core.client_at(event.data.u64() as u32) else {
                     continue;
                 };
                 let flags = event.flags;
-                let has_ended = flags.contains(epoll::EventFlags::HUP);
-                let until = if has_ended {
+                let until = if flags.intersects(HAS_ENDED) {
                     Until::Blocked
                 } else {
                     Until::Short
                 };
                 let answer = self.read(state, data, &client, until, &mut panics);
-                dispatched += answer.unwrap_or(0);
+                has_more |= answer.has_more;
+                dispatched += answer.count.unwrap_or(0);
             }
             self.clean(data, &mut panics);
+            // All that was there was read, and no code of the program has run that could have sent more. What other threads
+            // have sent meanwhile is there for the next dispatch.
+            if ready.len() < MOST_READY && !has_more && panics.calls() == calls {
+                break;
+            }
+            rounds += 1;
+            if rounds == MOST_TURNS {
+                // Clients that are ready stand in a queue, so after so many rounds each has had its turns.
+                let clients = lock(&self.state).core.slots();
+                most_rounds *= 1 + clients / MOST_READY;
+            }
         }
         panics.go_on();
         Ok(dispatched)
@@ -165,9 +181,9 @@ impl<D> Backend<D> {
         client: &ClientId,
         until: Until,
         panics: &mut Panics,
-    ) -> io::Result<usize> {
+    ) -> WasRead {
         let mut bytes = 0;
-        let status = loop {
+        let (status, received) = loop {
             let received = state.core.receive(client);
             bytes += state.core.take_bytes(client);
             // They are asked for in any case: a client that was killed has none.
@@ -179,12 +195,16 @@ impl<D> Backend<D> {
                 Received::Some => until == Until::Blocked || bytes < MOST_BYTES_IN_TURN,
             };
             if status != Status::WOULD_BLOCK || !has_more {
-                break status;
+                break (status, received);
             }
         };
+        let has_more = received == Received::Some;
         let count = state.core.take_count(client);
         if status == Status::WOULD_BLOCK && count > 0 {
-            return Ok(count);
+            return WasRead {
+                count: Ok(count),
+                has_more,
+            };
         }
         let error = state.core.error_of(client, status);
         if status != Status::WOULD_BLOCK {
@@ -197,7 +217,10 @@ impl<D> Backend<D> {
                 panics.catch(|| due.tell());
             }
         }
-        Err(error)
+        WasRead {
+            count: Err(error),
+            has_more,
+        }
     }
 
     /// Calls the handlers for what the client asks, until there is no whole request any more. No lock is held while one
@@ -297,8 +320,18 @@ impl<D> Backend<D> {
             let client = id.client();
             panics.catch(|| object.destroyed(&self.handle, data, client, id));
         }
-        panics.catch(|| drop(killed));
+        if !killed.is_empty() {
+            panics.catch(|| drop(killed));
+        }
     }
+}
+
+/// How a client was read.
+struct WasRead {
+    /// How many requests were read.
+    count: io::Result<usize>,
+    /// Whether more of what the client has sent may be there.
+    has_more: bool,
 }
 
 /// A message without arguments, of no object.

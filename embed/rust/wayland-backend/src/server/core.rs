@@ -364,7 +364,8 @@ impl Core {
             return Ok(()); // it was killed meanwhile
         };
         let slot = epoll::EventData::new_u64(id.slot.into());
-        let watched = epoll::add(&*poll, &connection.stream, slot, epoll::EventFlags::IN);
+        let flags = epoll::EventFlags::IN | epoll::EventFlags::RDHUP;
+        let watched = epoll::add(&*poll, &connection.stream, slot, flags);
         connection.is_watched = watched.is_ok();
         if watched.is_err() {
             self.kill(id, DisconnectReason::ConnectionClosed);
