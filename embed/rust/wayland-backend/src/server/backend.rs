@@ -3,7 +3,10 @@
 use std::{
     fmt, io,
     os::fd::{AsFd, BorrowedFd, OwnedFd},
-    sync::{Arc, Mutex, MutexGuard},
+    sync::{
+        atomic::{AtomicUsize, Ordering},
+        Arc, Mutex, MutexGuard,
+    },
 };
 
 use rustix::{event::epoll, io::retry_on_intr};
@@ -42,6 +45,8 @@ pub struct Backend<D: 'static> {
     /// What the handlers get.
     handle: Handle,
     poll: Arc<OwnedFd>,
+    /// How often the program has done what may end an object.
+    ends: Arc<AtomicUsize>,
 }
 
 impl<D> fmt::Debug for Backend<D> {
@@ -59,13 +64,15 @@ impl<D> Backend<D> {
     pub fn new() -> Result<Self, InitError> {
         let poll = epoll::create(epoll::CreateFlags::CLOEXEC);
         let poll = Arc::new(poll.map_err(|error| InitError::Io(error.into()))?);
-        let state = Arc::new(Mutex::new(State::new(poll.clone())));
+        let ends = Arc::default();
+        let state = Arc::new(Mutex::new(State::new(poll.clone(), Arc::clone(&ends))));
         Ok(Backend {
             handle: Handle {
                 state: state.clone(),
             },
             state,
             poll,
+            ends,
         })
     }
 
@@ -292,10 +299,16 @@ impl<D> Backend<D> {
         is_told: &mut bool,
     ) -> Option<Data<D>> {
         let (again, id) = (object.clone(), message.sender_id.clone());
+        let ends = self.ends.load(Ordering::Relaxed);
         let answer = object.request(&self.handle, data, client.clone(), message);
         // If the handler has destroyed the object by itself, the program is told by the next clean-up.
-        let info = lock(&self.state).core.server.object_info(&id.raw());
-        if info.is_some() {
+        let is_there = self.ends.load(Ordering::Relaxed) == ends
+            || lock(&self.state)
+                .core
+                .server
+                .object_info(&id.raw())
+                .is_some();
+        if is_there {
             *is_told = true;
             again.destroyed(&self.handle, data, client.clone(), id);
         }

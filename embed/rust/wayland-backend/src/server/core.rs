@@ -7,7 +7,10 @@ use std::{
         fd::{AsFd, BorrowedFd, OwnedFd, RawFd},
         unix::net::UnixStream,
     },
-    sync::Arc,
+    sync::{
+        atomic::{AtomicUsize, Ordering},
+        Arc,
+    },
 };
 
 use numbyroga_sys as sys;
@@ -178,11 +181,13 @@ pub(super) struct Core {
     /// What a client has asked last.
     pub(super) action: Action,
     poll: Arc<OwnedFd>,
+    /// How often the program has done what may end an object. It is read without the state's lock.
+    ends: Arc<AtomicUsize>,
     is_logging: bool,
 }
 
 impl Core {
-    pub(super) fn new(poll: Arc<OwnedFd>) -> Core {
+    pub(super) fn new(poll: Arc<OwnedFd>, ends: Arc<AtomicUsize>) -> Core {
         let mut server = Server::new();
         server.set_default_max_buffer_size(MOST_WAITING);
         Core {
@@ -200,6 +205,7 @@ impl Core {
             outgoing: Outgoing::default(),
             action: Action::default(),
             poll,
+            ends,
             is_logging: debug::is_on_for_servers(),
         }
     }
@@ -378,6 +384,7 @@ impl Core {
             return;
         };
         connection.reason = Some(reason);
+        self.count_end();
         self.server.kill_client(&id.raw());
         self.take_notes();
         if let Some(connection) = self.connection(id) {
@@ -461,7 +468,14 @@ impl Core {
         self.names.id(object, data.unwrap_or(0))
     }
 
+    /// The program does what may end an object. Nobody else counts while the state is locked.
+    fn count_end(&self) {
+        let ends = self.ends.load(Ordering::Relaxed);
+        self.ends.store(ends.wrapping_add(1), Ordering::Relaxed);
+    }
+
     pub(super) fn destroy_object(&mut self, id: &ObjectId) -> Result<(), InvalidId> {
+        self.count_end();
         let answer = self.server.destroy_object(&id.raw());
         self.take_notes();
         answer.map_err(|_| InvalidId)
@@ -589,6 +603,8 @@ impl Core {
             return self.send_without_descriptor(message);
         }
         let size = self.outgoing.size();
+        // It may be a destructor.
+        self.count_end();
         let answer = self
             .server
             .send_event(&sender_id.raw(), *opcode, &mut self.outgoing);
@@ -644,6 +660,7 @@ impl Core {
         let mut raw = object.raw();
         // An object's interface has a row. The null object's is any.
         raw.interface = self.row(object.interface).unwrap_or_default();
+        self.count_end();
         self.server.post_error(&raw, code, message);
         let _ = self.flush_client(&object.client());
         self.take_notes();

@@ -5,7 +5,7 @@ use std::{
     collections::{HashMap, VecDeque},
     fmt, mem,
     os::fd::OwnedFd,
-    sync::{Arc, Mutex, MutexGuard, PoisonError},
+    sync::{atomic::AtomicUsize, Arc, Mutex, MutexGuard, PoisonError},
 };
 
 use numbyroga_sys as sys;
@@ -174,9 +174,9 @@ pub(super) enum NotMade {
 }
 
 impl<D> State<D> {
-    pub(super) fn new(poll: Arc<OwnedFd>) -> State<D> {
+    pub(super) fn new(poll: Arc<OwnedFd>, ends: Arc<AtomicUsize>) -> State<D> {
         State {
-            core: Core::new(poll),
+            core: Core::new(poll, ends),
             objects: Slab::new(),
             globals: Vec::new(),
             ended: VecDeque::new(),
