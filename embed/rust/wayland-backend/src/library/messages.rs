@@ -30,48 +30,59 @@ impl Outgoing {
     ///
     /// Descriptors are duplicated: the caller's stay its own. An error is that of the first one that could not be. The
     /// message can be handed to a session all the same, if that sends nothing any more.
+    #[inline]
     pub(crate) fn set<Id>(
         &mut self,
         arguments: &[Argument<Id, RawFd>],
         id: impl Fn(&Id) -> RawObjectId,
     ) -> Result<(), Errno> {
         self.clear();
-        let Outgoing {
-            arguments: flats,
-            bytes,
-            descriptors,
-        } = self;
         let mut answer = Ok(());
-        flats.extend(arguments.iter().map(|argument| match argument {
-            Argument::Int(value) => number(sys::NB_INT, *value),
-            Argument::Uint(value) => number(sys::NB_UINT, *value as i32),
-            Argument::Fixed(value) => number(sys::NB_FIXED, *value),
-            Argument::Str(None) => number(sys::NB_NULL_STRING, 0),
-            Argument::Str(Some(text)) => range(sys::NB_STRING, text.as_bytes(), bytes),
-            Argument::Array(array) => range(sys::NB_ARRAY, array, bytes),
-            Argument::Object(object) => RawArgument {
-                kind: sys::NB_OBJECT,
-                object: id(object),
-                ..Default::default()
-            },
-            Argument::NewId(object) => RawArgument {
-                kind: sys::NB_NEW_ID,
-                object: id(object),
-                ..Default::default()
-            },
-            Argument::Fd(descriptor) => match duplicate(*descriptor) {
-                Ok(copy) => {
-                    let flat = number(sys::NB_DESCRIPTOR, copy.as_raw_fd());
-                    descriptors.push(copy);
-                    flat
-                }
-                Err(error) => {
-                    answer = answer.and(Err(error));
-                    number(sys::NB_DESCRIPTOR, NO_DESCRIPTOR)
-                }
-            },
-        }));
+        for argument in arguments {
+            let flat = match argument {
+                Argument::Int(value) => number(sys::NB_INT, *value),
+                Argument::Uint(value) => number(sys::NB_UINT, *value as i32),
+                Argument::Fixed(value) => number(sys::NB_FIXED, *value),
+                Argument::Object(object) => named(sys::NB_OBJECT, id(object)),
+                Argument::NewId(object) => named(sys::NB_NEW_ID, id(object)),
+                Argument::Str(None) => number(sys::NB_NULL_STRING, 0),
+                Argument::Str(Some(text)) => self.range(sys::NB_STRING, text.as_bytes()),
+                Argument::Array(bytes) => self.range(sys::NB_ARRAY, bytes),
+                Argument::Fd(descriptor) => self.duplicate(*descriptor, &mut answer),
+            };
+            self.arguments.push(flat);
+        }
         answer
+    }
+
+    /// Keeps a copy of a caller's descriptor. The first error is put into `answer`.
+    #[inline(never)]
+    fn duplicate(&mut self, descriptor: RawFd, answer: &mut Result<(), Errno>) -> RawArgument {
+        match duplicate(descriptor) {
+            Ok(copy) => {
+                let flat = number(sys::NB_DESCRIPTOR, copy.as_raw_fd());
+                self.descriptors.push(copy);
+                flat
+            }
+            Err(error) => {
+                *answer = answer.and(Err(error));
+                number(sys::NB_DESCRIPTOR, NO_DESCRIPTOR)
+            }
+        }
+    }
+
+    /// Puts a string or an array behind the other bytes.
+    #[inline(never)]
+    fn range(&mut self, kind: u32, bytes: &[u8]) -> RawArgument {
+        let bytes = &bytes[..bytes.len().min(TOO_MANY_BYTES)];
+        let at = self.bytes.len() as u32;
+        self.bytes.extend_from_slice(bytes);
+        RawArgument {
+            kind,
+            at,
+            length: bytes.len() as u32,
+            ..Default::default()
+        }
     }
 
     /// Takes so many numbers as arguments.
@@ -89,6 +100,7 @@ impl Outgoing {
     }
 
     /// Forgets the message, and closes its descriptors.
+    #[inline]
     pub(crate) fn clear(&mut self) {
         self.arguments.clear();
         self.bytes.clear();
@@ -111,15 +123,10 @@ fn number(kind: u32, value: i32) -> RawArgument {
     }
 }
 
-/// A string or an array, which is put behind the other bytes.
-fn range(kind: u32, from: &[u8], bytes: &mut Vec<u8>) -> RawArgument {
-    let from = &from[..from.len().min(TOO_MANY_BYTES)];
-    let at = bytes.len() as u32;
-    bytes.extend_from_slice(from);
+fn named(kind: u32, object: RawObjectId) -> RawArgument {
     RawArgument {
         kind,
-        at,
-        length: from.len() as u32,
+        object,
         ..Default::default()
     }
 }
