@@ -7,7 +7,7 @@ use numbyroga_sys as sys;
 use rustix::io::Errno;
 use smallvec::SmallVec;
 
-use super::{take_back, RawArgument, RawObjectId, FIRST_TRY, NO_DESCRIPTOR};
+use super::{take_back, RawArgument, RawObjectId, FIRST_TRY, MOST_DESCRIPTORS, NO_DESCRIPTOR};
 use crate::protocol::{Argument, INLINE_ARGS};
 use crate::socket::CONTROL_ROOM;
 
@@ -147,6 +147,8 @@ fn duplicate(descriptor: RawFd) -> Result<OwnedFd, Errno> {
 pub(super) struct Lent {
     pub(super) arguments: Vec<RawArgument>,
     pub(super) bytes: Vec<u8>,
+    /// The descriptors of one send.
+    pub(super) descriptors: [i32; MOST_DESCRIPTORS],
     /// Where descriptors come in.
     control: Box<[u8]>,
 }
@@ -156,6 +158,7 @@ impl Lent {
         Lent {
             arguments: vec![RawArgument::default(); 32],
             bytes: vec![0; sys::NB_MOST_BYTES],
+            descriptors: [NO_DESCRIPTOR; MOST_DESCRIPTORS],
             control: vec![0; CONTROL_ROOM].into(),
         }
     }
@@ -165,11 +168,11 @@ impl Lent {
         (&mut self.bytes[..sys::NB_MOST_BYTES], &mut self.control)
     }
 
-    /// Room for one send: little, if the socket took nothing the last time.
-    pub(super) fn sending(&mut self, is_full: bool) -> &mut [u8] {
+    /// Room for one send: little, if the socket took nothing the last time. And room for its descriptors.
+    pub(super) fn sending(&mut self, is_full: bool) -> (&mut [u8], &mut [i32]) {
         let most = if is_full { FIRST_TRY } else { usize::MAX };
         let room = self.bytes.len().min(most);
-        &mut self.bytes[..room]
+        (&mut self.bytes[..room], &mut self.descriptors)
     }
 
     /// Makes room for as much as the session says it needs.
