@@ -15,7 +15,7 @@ use crate::library::{Arguments, Received, Status};
 use crate::panics::Panics;
 use crate::protocol::Message;
 
-/// Tells threads apart, as long as they run. To ask the standard library for the thread's id counts up and down who shares it.
+/// Tells threads apart, as long as they run. It costs less than the standard library's id, for which references are counted.
 #[derive(Clone, Copy, Debug, PartialEq, Eq)]
 struct ThreadMark(usize);
 

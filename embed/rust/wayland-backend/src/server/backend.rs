@@ -147,22 +147,9 @@ impl<D> Backend<D> {
             if ready.is_empty() {
                 break;
             }
-            let (calls, mut has_more) = (panics.calls(), false);
-            for event in ready.iter() {
-                let state = lock(&self.state);
-                let Some(client) = state.core.client_at(event.data.u64() as u32) else {
-                    continue;
-                };
-                let flags = event.flags;
-                let until = if flags.intersects(HAS_ENDED) {
-                    Until::Blocked
-                } else {
-                    Until::Short
-                };
-                let answer = self.read(state, data, &client, until, &mut panics);
-                has_more |= answer.has_more;
-                dispatched += answer.count.unwrap_or(0);
-            }
+            let calls = panics.calls();
+            let (count, has_more) = self.read_ready(&ready, data, &mut panics);
+            dispatched += count;
             self.clean(data, &mut panics);
             // All that was there was read, and no code of the program has run that could have sent more. What other threads
             // have sent meanwhile is there for the next dispatch.
@@ -178,6 +165,32 @@ impl<D> Backend<D> {
         }
         panics.go_on();
         Ok(dispatched)
+    }
+
+    /// Reads the clients that are ready. The answer is how many requests were read, and whether there may be more.
+    fn read_ready(
+        &self,
+        ready: &epoll::EventVec,
+        data: &mut D,
+        panics: &mut Panics,
+    ) -> (usize, bool) {
+        let (mut count, mut has_more) = (0, false);
+        for event in ready.iter() {
+            let state = lock(&self.state);
+            let Some(client) = state.core.client_at(event.data.u64() as u32) else {
+                continue;
+            };
+            let flags = event.flags;
+            let until = if flags.intersects(HAS_ENDED) {
+                Until::Blocked
+            } else {
+                Until::Short
+            };
+            let read = self.read(state, data, &client, until, panics);
+            count += read.count.unwrap_or(0);
+            has_more |= read.has_more;
+        }
+        (count, has_more)
     }
 
     /// Receives from the client, and calls the handlers for what it asks.
@@ -250,24 +263,8 @@ impl<D> Backend<D> {
             drop(state);
             let is_plain = matches!(called, Called::Plain(_));
             let mut is_told = false;
-            // The message is taken here, and not moved with the closure, since it is large.
-            let mut message = || message.take().expect("a request has a message");
-            let answer = panics.catch(|| match called {
-                Called::Plain(object) | Called::Making(object) => {
-                    object.request(&self.handle, data, client.clone(), message())
-                }
-                Called::Last(object) => {
-                    self.call_last(data, client, object, message(), &mut is_told)
-                }
-                Called::Global(bound) => {
-                    let Bound {
-                        handler,
-                        global,
-                        object,
-                    } = *bound;
-                    handler.map(|it| it.bind(&self.handle, data, client.clone(), global, object))
-                }
-            });
+            let answer =
+                panics.catch(|| self.call(data, client, called, &mut message, &mut is_told));
             let has_answered = answer.is_some();
             let answer = answer.flatten();
             state = lock(&self.state);
@@ -285,6 +282,34 @@ impl<D> Backend<D> {
                     panics.catch(|| panic!("{misuse}"));
                 }
                 state = lock(&self.state);
+            }
+        }
+    }
+
+    /// Calls a handler. Where an object ends, and the program is told so, that is noted.
+    #[inline]
+    fn call(
+        &self,
+        data: &mut D,
+        client: &ClientId,
+        called: Called<D>,
+        message: &mut Option<Message<ObjectId, OwnedFd>>,
+        is_told: &mut bool,
+    ) -> Option<Data<D>> {
+        // The message is taken where it is handed over, since it is large.
+        let mut message = || message.take().expect("a request has a message");
+        match called {
+            Called::Plain(object) | Called::Making(object) => {
+                object.request(&self.handle, data, client.clone(), message())
+            }
+            Called::Last(object) => self.call_last(data, client, object, message(), is_told),
+            Called::Global(bound) => {
+                let Bound {
+                    handler,
+                    global,
+                    object,
+                } = *bound;
+                handler.map(|it| it.bind(&self.handle, data, client.clone(), global, object))
             }
         }
     }
