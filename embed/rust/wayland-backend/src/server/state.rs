@@ -405,7 +405,9 @@ impl<D> State<D> {
             (Some(created), answer) => self.finish_with(client, is_bind, &created, answer, unused),
         };
         if is_sender_told {
-            unused.extend(ends.and_then(|key| self.forget(key)));
+            if let Some(object) = ends.and_then(|key| self.forget(key)) {
+                unused.push(object);
+            }
         }
         misuse
     }
