@@ -7,7 +7,7 @@ ghost use Rattle.wl_host.specs.declared.status.Status.TheVariants as status;
 ghost use Rattle.wl_host.specs.Actions.{EndsBind, EndsRequest, HandsFrom, NextAction, ReadsNext, args_of, ended, flat_action, flat_created, is_end, kills, marked_if, status_of_end, version_created};
 ghost use Rattle.wl_host.specs.Arguments.{all_bytes, flat_arguments, queue_after_all};
 ghost use Rattle.wl_host.specs.Calls.{bit_of, data_or_zero, global_data_or_zero, kept_by, version_or_zero};
-ghost use Rattle.wl_host.specs.Flat.{client_of, flat_resource, no_action, over_front};
+ghost use Rattle.wl_host.specs.Flat.{client_of, count_number, flat_resource, no_action, over_front};
 ghost use Rattle.wl_host.specs.Descriptors.{Conserves};
 ghost use Rattle.wl_host.specs.Kinds as kinds;
 ghost use Rattle.wl_host.specs.Inside.Actions.{NextOf, is_killed_in, status_of_next};
@@ -154,22 +154,45 @@ fn write_arguments_of(
     }
 }
 
-/// Puts the action that was kept, or else the next one, into `action`.
+/// Takes the action that was kept into `action`.
+fn take_kept(kept: &mut Option<Action>, action: &mut Action)
+    ensures taken { (a : Action) → kept.old ≡ Some a → action.new ≡ a }
+    ensures none { kept.new ≡ None }
+{
+    if let Some(kept) = kept.take() {
+        *action = kept;
+    }
+}
+
+/// Puts the action that was kept, or else the next one, into `action`. No action is kept after that.
 fn read_action(
     core: &mut Core,
     id: &ClientId,
-    kept: Option<Action>,
+    kept: &mut Option<Action>,
     action: &mut Action,
 ) -> Result<(), ActionError>
-    ensures { ReadsNext core.old id.now kept (result_and result (Ok action.new)) core.new }
+    ensures read { ReadsNext core.old id.now kept.old (result_and result (Ok action.new)) core.new }
+    ensures none { kept.new ≡ None }
 {
-    match kept {
-        Some(kept) => {
-            *action = kept;
-            Ok(())
-        }
-        None => core.next_action_into(id, action),
+    // An action is large: none is moved for one that is not there.
+    if kept.is_none() {
+        return core.next_action_into(id, action);
     }
+    take_kept(kept, action);
+    Ok(())
+}
+
+/// Keeps the action in the client's ledger, until there is room for it. `out` says how much it needs.
+fn keep(ledger: &mut Ledger, action: &mut Action, needs: Needs, alloc: Global, out: &mut FlatAction)
+    ensures kept { ledger.new ≡ record ledger.old { kept = Some action.old } }
+    ensures out { out.new ≡ record no_action { arguments = count_number needs.arguments; bytes = count_number needs.bytes } }
+{
+    *out = FlatAction {
+        arguments: count_number(needs.arguments),
+        bytes: count_number(needs.bytes),
+        ..FlatAction::none()
+    };
+    ledger.kept = Some(mem::replace(action, no_action(alloc)));
 }
 
 /// Writes the action to the lent memory, if that has room for it. Else it is kept in the client's ledger.
@@ -186,12 +209,7 @@ fn hand_out(
 {
     let needs = needs_of(action);
     if !needs.fit(arguments, bytes) {
-        *out = FlatAction {
-            arguments: count_number(needs.arguments),
-            bytes: count_number(needs.bytes),
-            ..FlatAction::none()
-        };
-        ledger.kept = Some(mem::replace(action, no_action(alloc)));
+        keep(ledger, action, needs, alloc, out);
         return Status::TooSmall;
     }
     *out = FlatAction {
@@ -217,8 +235,7 @@ fn next_of(
 ) -> Result<Status, ActionError>
     ensures { NextOf core.old id.now ledger.old (record { out = out.old; arguments = arguments.old; bytes = bytes.old }) result (record { out = out.new; arguments = arguments.new; bytes = bytes.new }) core.new ledger.new }
 {
-    let kept = ledger.kept.take();
-    match read_action(core, id, kept, action) {
+    match read_action(core, id, &mut ledger.kept, action) {
         Ok(()) => Ok(hand_out(core, ledger, action, alloc, out, arguments, bytes)),
         Err(error) => Err(error),
     }

@@ -8,25 +8,35 @@ use std::panic::{catch_unwind, resume_unwind, AssertUnwindSafe};
 /// What was received with the message whose callback panicked is not announced again by `poll`. So the rest is handed
 /// out before the panic goes on, and nothing is lost. The panics behind the first one were printed when they came.
 #[derive(Default)]
-pub(crate) struct Panics(Option<Box<dyn Any + Send>>);
+pub(crate) struct Panics {
+    first: Option<Box<dyn Any + Send>>,
+    /// How often the program's code was called.
+    calls: usize,
+}
 
 impl Panics {
     /// Calls the program's code. The answer is `None` if it panics.
     #[inline]
     pub(crate) fn catch<R>(&mut self, call: impl FnOnce() -> R) -> Option<R> {
+        self.calls = self.calls.wrapping_add(1);
         match catch_unwind(AssertUnwindSafe(call)) {
             Ok(answer) => Some(answer),
             Err(panic) => {
-                self.0.get_or_insert(panic);
+                self.first.get_or_insert(panic);
                 None
             }
         }
     }
 
+    /// How often the program's code was called.
+    pub(crate) fn calls(&self) -> usize {
+        self.calls
+    }
+
     /// Lets the first panic go on, if there was one.
     #[inline]
     pub(crate) fn go_on(self) {
-        if let Some(panic) = self.0 {
+        if let Some(panic) = self.first {
             resume_unwind(panic);
         }
     }

@@ -15,18 +15,21 @@ use crate::library::MOST_DESCRIPTORS;
 /// As many descriptors as the kernel gives at once. If there were room for fewer, it would open some and tell of none.
 const MOST_RECEIVED: usize = 253;
 
-/// Receives once. The answer is how many bytes came, 0 at the end of the stream; the descriptors that came with them are
-/// appended.
+/// How many bytes of control data find room in one receive.
+pub(crate) const CONTROL_ROOM: usize = rustix::cmsg_space!(ScmRights(MOST_RECEIVED));
+
+/// Receives once, with `space` for control data: [`CONTROL_ROOM`] bytes. The answer is how many bytes came, 0 at the end of
+/// the stream; the descriptors that came with them are appended.
 ///
 /// The error is `AGAIN` if the socket has nothing. It is `PROTO` if the other side sent more descriptors at once than
 /// Wayland allows, or if this process may open no more: then the stream has a hole.
 pub(crate) fn receive(
     socket: BorrowedFd<'_>,
     buffer: &mut [u8],
+    space: &mut [u8],
     descriptors: &mut VecDeque<OwnedFd>,
 ) -> Result<usize, Errno> {
-    let mut space = [0; rustix::cmsg_space!(ScmRights(MOST_RECEIVED))];
-    let mut control = RecvAncillaryBuffer::new(&mut space);
+    let mut control = RecvAncillaryBuffer::new(space);
     let flags = RecvFlags::DONTWAIT | RecvFlags::CMSG_CLOEXEC;
     let parts = &mut [IoSliceMut::new(buffer)];
     let came = retry_on_intr(|| recvmsg(socket, parts, &mut control, flags))?;
@@ -78,6 +81,10 @@ mod tests {
         UnixStream::pair().unwrap()
     }
 
+    fn control_room() -> Vec<u8> {
+        vec![0; CONTROL_ROOM]
+    }
+
     /// A file with this text.
     fn file(text: &str) -> File {
         let flags = rustix::fs::MemfdFlags::CLOEXEC;
@@ -107,7 +114,13 @@ mod tests {
         let mut descriptors = VecDeque::new();
         let mut came = Vec::new();
         while came.len() < 9 {
-            let count = receive(two.as_fd(), &mut buffer, &mut descriptors).unwrap();
+            let count = receive(
+                two.as_fd(),
+                &mut buffer,
+                &mut control_room(),
+                &mut descriptors,
+            )
+            .unwrap();
             came.extend_from_slice(&buffer[..count]);
         }
         assert_eq!(came, b"bytesmore");
@@ -120,7 +133,13 @@ mod tests {
         let (one, two) = pair();
         send(one.as_fd(), b"x", &[file("").as_fd()]).unwrap();
         let mut descriptors = VecDeque::new();
-        receive(two.as_fd(), &mut [0; 8], &mut descriptors).unwrap();
+        receive(
+            two.as_fd(),
+            &mut [0; 8],
+            &mut control_room(),
+            &mut descriptors,
+        )
+        .unwrap();
         let flags = rustix::io::fcntl_getfd(&descriptors[0]).unwrap();
         assert!(flags.contains(rustix::io::FdFlags::CLOEXEC));
     }
@@ -131,7 +150,12 @@ mod tests {
         let mut buffer = vec![0; 65536];
         let mut descriptors = VecDeque::new();
         assert_eq!(
-            receive(two.as_fd(), &mut buffer, &mut descriptors),
+            receive(
+                two.as_fd(),
+                &mut buffer,
+                &mut control_room(),
+                &mut descriptors
+            ),
             Err(Errno::AGAIN)
         );
         let full = loop {
@@ -147,7 +171,12 @@ mod tests {
         let (one, two) = pair();
         drop(one);
         assert_eq!(
-            receive(two.as_fd(), &mut [0; 8], &mut VecDeque::new()),
+            receive(
+                two.as_fd(),
+                &mut [0; 8],
+                &mut control_room(),
+                &mut VecDeque::new()
+            ),
             Ok(0)
         );
         assert_eq!(send(two.as_fd(), b"x", &[]), Err(Errno::PIPE));
@@ -166,11 +195,24 @@ mod tests {
         drop(sent);
         let mut descriptors = VecDeque::new();
         assert_eq!(
-            receive(two.as_fd(), &mut [0; 8], &mut descriptors),
+            receive(
+                two.as_fd(),
+                &mut [0; 8],
+                &mut control_room(),
+                &mut descriptors
+            ),
             Err(Errno::PROTO)
         );
         assert!(descriptors.is_empty());
         // All copies of the other end are closed: so this end has come to its end.
-        assert_eq!(receive(kept.as_fd(), &mut [0; 8], &mut descriptors), Ok(0));
+        assert_eq!(
+            receive(
+                kept.as_fd(),
+                &mut [0; 8],
+                &mut control_room(),
+                &mut descriptors
+            ),
+            Ok(0)
+        );
     }
 }

@@ -84,8 +84,13 @@ impl Table {
         }
     }
 
-    /// Takes what is to be logged of the interfaces that were named. It is nothing almost always.
+    /// Whether something is to be logged of the interfaces that were named. It is not almost always.
     #[inline]
+    pub(crate) fn has_longer(&self) -> bool {
+        !self.longer.is_empty()
+    }
+
+    /// Takes what is to be logged.
     pub(crate) fn take_longer(&mut self) -> std::vec::Drain<'_, Longer> {
         self.longer.drain(..)
     }

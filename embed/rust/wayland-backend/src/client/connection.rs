@@ -91,7 +91,7 @@ impl Connection {
         if session.library.destroy_object(&id.raw()).is_err() {
             return Err(InvalidId);
         }
-        session.take_notes(&mut leftovers);
+        session.take_notes(id, &mut leftovers);
         drop(session);
         leftovers.settle();
         Ok(())
@@ -134,12 +134,12 @@ impl Connection {
     }
 
     fn print_sent(&self, message: &Message<ObjectId, RawFd>, created: &ObjectId) {
-        let (sender, name) = (&message.sender_id, name_of(message));
+        let sender = &message.sender_id;
         let arguments = debug::WithNewId(&message.args, created);
         if self.prints {
-            debug::print_sent(sender, name, &arguments);
+            debug::print_sent(sender, name_of(message), &arguments);
         }
-        crate::log_debug!("Sending {sender}.{name} ({arguments})");
+        crate::log_debug!("Sending {sender}.{} ({arguments})", name_of(message));
     }
 
     pub(super) fn flush(&self) -> Result<(), WaylandError> {

@@ -2,8 +2,8 @@
 
 use std::io;
 use std::os::unix::io::OwnedFd;
+use std::ptr;
 use std::sync::{MutexGuard, PoisonError};
-use std::thread::{self, ThreadId};
 
 use rustix::io::Errno;
 
@@ -15,6 +15,17 @@ use crate::library::{Arguments, Received, Status};
 use crate::panics::Panics;
 use crate::protocol::Message;
 
+/// Tells threads apart, as long as they run. It costs less than the standard library's id, for which references are counted.
+#[derive(Clone, Copy, Debug, PartialEq, Eq)]
+struct ThreadMark(usize);
+
+impl ThreadMark {
+    fn of_this() -> ThreadMark {
+        thread_local!(static PLACE: u8 = const { 0 });
+        PLACE.with(|place| ThreadMark(ptr::from_ref(place) as usize))
+    }
+}
+
 /// Who reads, or is going to.
 #[derive(Debug, Default)]
 pub(super) struct Readers {
@@ -23,7 +34,9 @@ pub(super) struct Readers {
     /// How many readings have ended.
     ended: usize,
     /// The thread that reads now.
-    current: Option<ThreadId>,
+    current: Option<ThreadMark>,
+    /// How many threads wait until a reading has ended.
+    waiting: usize,
 }
 
 impl Connection {
@@ -36,7 +49,7 @@ impl Connection {
     pub(super) fn prepare_read(&self) {
         let mut readers = self.lock_readers();
         if readers.current.is_some() {
-            let thread = thread::current().id();
+            let thread = ThreadMark::of_this();
             while readers.current.is_some_and(|current| current != thread) {
                 readers = self.wait(readers);
             }
@@ -45,10 +58,14 @@ impl Connection {
     }
 
     /// Waits until a reading has ended, or all that were prepared were given up.
-    fn wait<'a>(&self, readers: MutexGuard<'a, Readers>) -> MutexGuard<'a, Readers> {
-        self.read
+    fn wait<'a>(&self, mut readers: MutexGuard<'a, Readers>) -> MutexGuard<'a, Readers> {
+        readers.waiting += 1;
+        let mut readers = self
+            .read
             .wait(readers)
-            .unwrap_or_else(PoisonError::into_inner)
+            .unwrap_or_else(PoisonError::into_inner);
+        readers.waiting -= 1;
+        readers
     }
 
     /// Gives a prepared reading up. If it was the last one, those that wait for a reader go on.
@@ -63,12 +80,15 @@ impl Connection {
     fn end_reading(&self, readers: &mut Readers) {
         readers.current = None;
         readers.ended = readers.ended.wrapping_add(1);
-        self.read.notify_all();
+        // To wake nobody is a system call, too.
+        if readers.waiting > 0 {
+            self.read.notify_all();
+        }
     }
 
     /// Begins a prepared reading. The answer is whether this thread is the one that reads; otherwise another one has.
     fn begin_reading(&self) -> Result<bool, WaylandError> {
-        let thread = thread::current().id();
+        let thread = ThreadMark::of_this();
         let mut readers = self.lock_readers();
         readers.prepared -= 1;
         if readers.current == Some(thread) {
@@ -118,16 +138,12 @@ fn dispatch(backend: &Backend) -> Result<usize, WaylandError> {
     let mut dispatched = 0;
     let mut session = connection.lock();
     let mut received = session.receive(connection.socket());
+    let mut message = None;
     let result = loop {
-        let mut message = Message {
-            sender_id: ObjectId::null(),
-            opcode: 0,
-            args: Arguments::new(),
-        };
-        match session.next_event(&mut message) {
+        match session.next_event(message.insert(no_message())) {
             Ok(event) => {
                 drop(session);
-                session = hand_out(backend, event, message, &mut leftovers, &mut panics);
+                session = hand_out(backend, event, &mut message, &mut leftovers, &mut panics);
                 dispatched += 1;
             }
             // If the socket had no more, it may have by now. Then poll says so.
@@ -148,6 +164,15 @@ fn dispatch(backend: &Backend) -> Result<usize, WaylandError> {
     result.expect("no callback has panicked")
 }
 
+/// A message without arguments, of no object.
+fn no_message() -> Message<ObjectId, OwnedFd> {
+    Message {
+        sender_id: ObjectId::null(),
+        opcode: 0,
+        args: Arguments::new(),
+    }
+}
+
 impl Connection {
     fn print_event(&self, message: &Message<ObjectId, OwnedFd>) {
         let (sender, arguments) = (&message.sender_id, debug::List(&message.args));
@@ -164,11 +189,12 @@ impl Connection {
     }
 }
 
-/// Hands an event to its object's data, and finishes it. The session stays locked for the next event.
+/// Hands an event to its object's data, and finishes it. The message is taken out of its place. The session stays locked
+/// for the next event.
 fn hand_out<'a>(
     backend: &'a Backend,
     event: OpenEvent,
-    message: Message<ObjectId, OwnedFd>,
+    message: &mut Option<Message<ObjectId, OwnedFd>>,
     leftovers: &mut Leftovers,
     panics: &mut Panics,
 ) -> MutexGuard<'a, Session> {
@@ -176,10 +202,14 @@ fn hand_out<'a>(
     let OpenEvent {
         data,
         created,
-        ends_sender,
+        ended,
     } = event;
     let answer = panics.catch(|| {
-        connection.print_event(&message);
+        if let Some(message) = message {
+            connection.print_event(message);
+        }
+        // It is taken here, and not moved with this closure, since it is large.
+        let message = message.take().expect("an event has a message");
         data.event(backend, message)
     });
     // What a callback that panicked would have answered is not known.
@@ -187,7 +217,12 @@ fn hand_out<'a>(
         .as_ref()
         .map_or(created.is_some(), |answer| answer.is_some());
     let mut session = connection.lock();
-    session.finish_event(created.as_ref(), ends_sender, answer.flatten(), leftovers);
+    session.finish_event(
+        created.as_ref(),
+        ended.as_ref(),
+        answer.flatten(),
+        leftovers,
+    );
     if leftovers.is_empty() && created.is_some() == is_answered {
         return session;
     }

@@ -2,11 +2,11 @@
 
 use std::collections::VecDeque;
 use std::io;
+use std::mem;
 use std::os::unix::io::{BorrowedFd, OwnedFd, RawFd};
 use std::sync::Arc;
 
 use rustix::io::Errno;
-use smallvec::SmallVec;
 
 use super::{DisplayData, MissingData, ObjectData, ObjectId, WaylandError};
 use crate::data::Slab;
@@ -14,7 +14,7 @@ use crate::library::{
     Client, Event, Outgoing, RawArgument, RawObjectId, Received, Request, SessionError, Status,
 };
 use crate::panics::Panics;
-use crate::protocol::{ArgumentType, Interface, Message, ObjectInfo, ProtocolError};
+use crate::protocol::{ArgumentType, Interface, Message, MessageDesc, ObjectInfo, ProtocolError};
 use crate::table::{BadInterface, Longer, Table};
 
 /// What is kept for an object.
@@ -83,15 +83,29 @@ pub(super) struct OpenEvent {
     pub(super) data: Arc<dyn ObjectData>,
     /// The object that it made.
     pub(super) created: Option<ObjectId>,
-    pub(super) ends_sender: bool,
+    /// Of a destructor: its sender.
+    pub(super) ended: Option<ObjectId>,
 }
 
 /// What a call leaves to be done when the lock is free, since it is the program's code.
+///
+/// Most calls leave nothing or one object, so that is cheap to make and to drop.
 #[derive(Default)]
 pub(super) struct Leftovers {
-    /// The objects that were destroyed, whose data are to be told. There is one, almost always.
-    ended: SmallVec<[(Arc<dyn ObjectData>, ObjectId); 1]>,
-    /// Data that nobody can ask for any more.
+    /// The first object that was destroyed, whose data are to be told.
+    ended: Option<Ended>,
+    /// The first data that nobody can ask for any more.
+    unused: Option<Arc<dyn ObjectData>>,
+    more: Option<Box<MoreLeftovers>>,
+}
+
+/// An object that was destroyed, with its data.
+type Ended = (Arc<dyn ObjectData>, ObjectId);
+
+/// What does not fit into [`Leftovers`].
+#[derive(Default)]
+struct MoreLeftovers {
+    ended: Vec<Ended>,
     unused: Vec<Arc<dyn ObjectData>>,
     /// Interfaces that can be used in part, which is to be logged.
     longer: Vec<Longer>,
@@ -108,27 +122,59 @@ impl Leftovers {
 
     #[inline]
     pub(super) fn is_empty(&self) -> bool {
-        self.ended.is_empty() && self.unused.is_empty() && self.longer.is_empty()
+        self.ended.is_none() && self.unused.is_none() && self.more.is_none()
     }
 
     /// These data are not needed any more. There are none almost always.
     #[inline]
     fn leave(&mut self, data: Option<Arc<dyn ObjectData>>) {
-        if let Some(data) = data {
-            self.unused.push(data);
+        if data.is_some() {
+            if self.unused.is_none() {
+                self.unused = data;
+            } else {
+                self.more().unused.extend(data);
+            }
         }
+    }
+
+    /// The data of this object are to be told that it was destroyed.
+    #[inline]
+    fn end(&mut self, data: Arc<dyn ObjectData>, id: ObjectId) {
+        if self.ended.is_none() {
+            self.ended = Some((data, id));
+        } else {
+            self.more().ended.push((data, id));
+        }
+    }
+
+    #[cold]
+    fn more(&mut self) -> &mut MoreLeftovers {
+        self.more.get_or_insert_with(Box::default)
     }
 
     fn settle_all(&mut self) {
         let mut panics = Panics::default();
-        for longer in self.longer.drain(..) {
-            panics.catch(|| longer.log());
+        let mut more = self.more.take();
+        if let Some(more) = &mut more {
+            for longer in more.longer.drain(..) {
+                panics.catch(|| longer.log());
+            }
         }
-        for (data, id) in self.ended.drain(..) {
+        if let Some((data, id)) = self.ended.take() {
             panics.catch(|| data.destroyed(id));
         }
-        for data in self.unused.drain(..) {
+        if let Some(more) = &mut more {
+            for (data, id) in more.ended.drain(..) {
+                panics.catch(|| data.destroyed(id));
+            }
+        }
+        if let Some(data) = self.unused.take() {
             panics.catch(|| drop(data));
+        }
+        if let Some(more) = more {
+            for data in more.unused {
+                panics.catch(|| drop(data));
+            }
         }
         panics.go_on();
     }
@@ -190,7 +236,7 @@ impl Session {
         let error = self
             .error()
             .unwrap_or_else(|| io::Error::from(Errno::PIPE).into());
-        let is_new = !std::mem::replace(&mut self.has_failed, true);
+        let is_new = !mem::replace(&mut self.has_failed, true);
         Failure { error, is_new }
     }
 
@@ -244,7 +290,7 @@ impl Session {
     ) -> Result<Option<Arc<dyn ObjectData>>, Arc<dyn ObjectData>> {
         let old = self.library.object_data(&id.raw());
         if let Some(kept) = old.and_then(|key| self.data.get_mut(key)) {
-            return Ok(Some(std::mem::replace(&mut kept.data, data)));
+            return Ok(Some(mem::replace(&mut kept.data, data)));
         }
         // An object that an event has just made has none.
         let key = self.data.insert(Kept {
@@ -273,12 +319,14 @@ impl Session {
             ..Request::default()
         };
         let mut interface = None;
-        if description.is_some_and(|it| it.signature.contains(&ArgumentType::NewId)) {
+        if description.is_some_and(makes_object) {
             interface = description.and_then(|description| description.child_interface);
             if let Some((child, version)) = child_spec {
                 let library = &mut self.library;
                 let row = self.table.row(child, |rows| library.add_interfaces(rows));
-                leftovers.longer.extend(self.table.take_longer());
+                if self.table.has_longer() {
+                    leftovers.more().longer.extend(self.table.take_longer());
+                }
                 match row {
                     Ok(row) => request.child_interface = row,
                     Err(error) => {
@@ -317,7 +365,7 @@ impl Session {
             }
         };
         if description.is_some_and(|description| description.is_destructor) {
-            self.take_notes(leftovers);
+            self.take_notes(sender, leftovers);
         }
         Ok(created)
     }
@@ -385,15 +433,16 @@ impl Session {
         Ok(OpenEvent {
             data: receiver,
             created,
-            ends_sender: event.is_destructor != 0,
+            ended: (event.is_destructor != 0).then(|| message.sender_id.clone()),
         })
     }
 
-    /// Finishes the open event. An object that it made gets the data that the callback answered.
+    /// Finishes the open event, which made `created` and, as a destructor, ends `ended`. An object that it made gets the data
+    /// that the callback answered.
     pub(super) fn finish_event(
         &mut self,
         created: Option<&ObjectId>,
-        ends_sender: bool,
+        ended: Option<&ObjectId>,
         answer: Option<Arc<dyn ObjectData>>,
         leftovers: &mut Leftovers,
     ) {
@@ -405,8 +454,8 @@ impl Session {
             }
             Some(created) => self.finish_making(created, answer, leftovers),
         }
-        if ends_sender {
-            self.take_notes(leftovers);
+        if let Some(ended) = ended {
+            self.take_notes(ended, leftovers);
         }
     }
 
@@ -434,13 +483,16 @@ impl Session {
         }
     }
 
-    /// Takes the objects with data that were destroyed.
-    pub(super) fn take_notes(&mut self, leftovers: &mut Leftovers) {
+    /// Takes the objects with data that were destroyed, up to this one, which was the last.
+    pub(super) fn take_notes(&mut self, last: &ObjectId, leftovers: &mut Leftovers) {
         while let Some((raw, key)) = self.library.next_note() {
             if let Some(kept) = self.data.get(key) {
                 let id = ObjectId::new(&raw, kept.interface);
-                leftovers.ended.push((kept.data.clone(), id));
+                leftovers.end(kept.data.clone(), id);
                 self.keep_until_free(raw, key);
+            }
+            if raw.serial == last.serial && raw.number == last.number {
+                break;
             }
         }
     }
@@ -469,6 +521,12 @@ impl Session {
             }
         }
     }
+}
+
+/// Whether the request makes an object.
+fn makes_object(request: &MessageDesc) -> bool {
+    let mut types = request.signature.iter();
+    types.any(|argument| matches!(argument, ArgumentType::NewId))
 }
 
 /// The id of an object among an event's arguments.

@@ -10,8 +10,7 @@ use super::receiving::{Arrival, Inbox};
 use super::rows::table_answer;
 use super::{
     answer, done, send_once, take_back, Arguments, Event, Outgoing, RawArgument, RawObjectId,
-    RawObjectInfo, Received, Request, Rows, Sent, Status, TableFault, MOST_DESCRIPTORS,
-    NO_DESCRIPTOR,
+    RawObjectInfo, Received, Request, Rows, Sent, Status, TableFault, NO_DESCRIPTOR,
 };
 
 /// No limit of a session's buffers is lower.
@@ -120,8 +119,8 @@ impl Client {
     /// Receives once from the socket. The end of the stream and a failure are told to the session, which answers them
     /// when its events are taken.
     pub(crate) fn receive(&mut self, from: BorrowedFd<'_>) -> Received {
-        let (place, buffer) = (&mut self.place, self.lent.receiving());
-        let arrival = self.inbox.receive(from, buffer, |bytes, numbers| {
+        let (place, room) = (&mut self.place, self.lent.receiving());
+        let arrival = self.inbox.receive(from, room, |bytes, numbers| {
             // SAFETY: each slice is lent with its own length.
             answer(unsafe {
                 sys::nb_client_received(
@@ -169,7 +168,9 @@ impl Client {
     ) -> Result<Event, Status> {
         let mut event = Event::default();
         loop {
-            let Lent { arguments, bytes } = &mut self.lent;
+            let Lent {
+                arguments, bytes, ..
+            } = &mut self.lent;
             // SAFETY: each slice is lent with its own length.
             let status = unsafe {
                 sys::nb_client_next_event(
@@ -293,9 +294,8 @@ impl Client {
 
     /// Sends once to the socket what was handed over.
     pub(crate) fn send(&mut self, to: BorrowedFd<'_>) -> Result<Sent, Errno> {
-        let mut numbers = [0; MOST_DESCRIPTORS];
         let mut counts = sys::nb_counts::default();
-        let bytes = self.lent.sending(self.is_full);
+        let (bytes, numbers) = self.lent.sending(self.is_full);
         // SAFETY: each slice is lent with its own length.
         let status = unsafe {
             sys::nb_client_to_send(
@@ -309,7 +309,7 @@ impl Client {
         };
         done(status);
         let place = &mut self.place;
-        send_once(to, &mut self.is_full, counts, bytes, &numbers, |count| {
+        send_once(to, &mut self.is_full, counts, bytes, numbers, |count| {
             done(sys::nb_client_sent(place, count))
         })
     }

@@ -7,8 +7,9 @@ use numbyroga_sys as sys;
 use rustix::io::Errno;
 use smallvec::SmallVec;
 
-use super::{take_back, RawArgument, RawObjectId, FIRST_TRY, NO_DESCRIPTOR};
+use super::{take_back, RawArgument, RawObjectId, FIRST_TRY, MOST_DESCRIPTORS, NO_DESCRIPTOR};
 use crate::protocol::{Argument, INLINE_ARGS};
+use crate::socket::CONTROL_ROOM;
 
 /// The arguments of a message that came.
 pub(crate) type Arguments<Id> = SmallVec<[Argument<Id, OwnedFd>; INLINE_ARGS]>;
@@ -29,6 +30,7 @@ impl Outgoing {
     ///
     /// Descriptors are duplicated: the caller's stay its own. An error is that of the first one that could not be. The
     /// message can be handed to a session all the same, if that sends nothing any more.
+    #[inline]
     pub(crate) fn set<Id>(
         &mut self,
         arguments: &[Argument<Id, RawFd>],
@@ -41,42 +43,36 @@ impl Outgoing {
                 Argument::Int(value) => number(sys::NB_INT, *value),
                 Argument::Uint(value) => number(sys::NB_UINT, *value as i32),
                 Argument::Fixed(value) => number(sys::NB_FIXED, *value),
+                Argument::Object(object) => named(sys::NB_OBJECT, id(object)),
+                Argument::NewId(object) => named(sys::NB_NEW_ID, id(object)),
                 Argument::Str(None) => number(sys::NB_NULL_STRING, 0),
                 Argument::Str(Some(text)) => self.range(sys::NB_STRING, text.as_bytes()),
                 Argument::Array(bytes) => self.range(sys::NB_ARRAY, bytes),
-                Argument::Object(object) => RawArgument {
-                    kind: sys::NB_OBJECT,
-                    object: id(object),
-                    ..Default::default()
-                },
-                Argument::NewId(object) => RawArgument {
-                    kind: sys::NB_NEW_ID,
-                    object: id(object),
-                    ..Default::default()
-                },
-                Argument::Fd(descriptor) => match duplicate(*descriptor) {
-                    Ok(copy) => {
-                        let flat = number(sys::NB_DESCRIPTOR, copy.as_raw_fd());
-                        self.descriptors.push(copy);
-                        flat
-                    }
-                    Err(error) => {
-                        answer = answer.and(Err(error));
-                        number(sys::NB_DESCRIPTOR, NO_DESCRIPTOR)
-                    }
-                },
+                Argument::Fd(descriptor) => self.duplicate(*descriptor, &mut answer),
             };
             self.arguments.push(flat);
         }
         answer
     }
 
-    /// Takes so many numbers as arguments.
-    pub(crate) fn set_numbers(&mut self, count: usize) {
-        self.clear();
-        self.arguments.resize(count, number(sys::NB_INT, 0));
+    /// Keeps a copy of a caller's descriptor. The first error is put into `answer`.
+    #[inline(never)]
+    fn duplicate(&mut self, descriptor: RawFd, answer: &mut Result<(), Errno>) -> RawArgument {
+        match duplicate(descriptor) {
+            Ok(copy) => {
+                let flat = number(sys::NB_DESCRIPTOR, copy.as_raw_fd());
+                self.descriptors.push(copy);
+                flat
+            }
+            Err(error) => {
+                *answer = answer.and(Err(error));
+                number(sys::NB_DESCRIPTOR, NO_DESCRIPTOR)
+            }
+        }
     }
 
+    /// Puts a string or an array behind the other bytes.
+    #[inline(never)]
     fn range(&mut self, kind: u32, bytes: &[u8]) -> RawArgument {
         let bytes = &bytes[..bytes.len().min(TOO_MANY_BYTES)];
         let at = self.bytes.len() as u32;
@@ -89,6 +85,12 @@ impl Outgoing {
         }
     }
 
+    /// Takes so many numbers as arguments.
+    pub(crate) fn set_numbers(&mut self, count: usize) {
+        self.clear();
+        self.arguments.resize(count, number(sys::NB_INT, 0));
+    }
+
     /// How many bytes the message has, at most.
     pub(crate) fn size(&self) -> usize {
         const HEADER: usize = 8;
@@ -98,6 +100,7 @@ impl Outgoing {
     }
 
     /// Forgets the message, and closes its descriptors.
+    #[inline]
     pub(crate) fn clear(&mut self) {
         self.arguments.clear();
         self.bytes.clear();
@@ -120,6 +123,14 @@ fn number(kind: u32, value: i32) -> RawArgument {
     }
 }
 
+fn named(kind: u32, object: RawObjectId) -> RawArgument {
+    RawArgument {
+        kind,
+        object,
+        ..Default::default()
+    }
+}
+
 /// A copy of a caller's descriptor.
 fn duplicate(descriptor: RawFd) -> Result<OwnedFd, Errno> {
     if descriptor < 0 {
@@ -136,6 +147,10 @@ fn duplicate(descriptor: RawFd) -> Result<OwnedFd, Errno> {
 pub(super) struct Lent {
     pub(super) arguments: Vec<RawArgument>,
     pub(super) bytes: Vec<u8>,
+    /// The descriptors of one send.
+    pub(super) descriptors: [i32; MOST_DESCRIPTORS],
+    /// Where descriptors come in.
+    control: Box<[u8]>,
 }
 
 impl Lent {
@@ -143,19 +158,21 @@ impl Lent {
         Lent {
             arguments: vec![RawArgument::default(); 32],
             bytes: vec![0; sys::NB_MOST_BYTES],
+            descriptors: [NO_DESCRIPTOR; MOST_DESCRIPTORS],
+            control: vec![0; CONTROL_ROOM].into(),
         }
     }
 
-    /// Room for one receive: as much as a session reads at once.
-    pub(super) fn receiving(&mut self) -> &mut [u8] {
-        &mut self.bytes[..sys::NB_MOST_BYTES]
+    /// Room for one receive, as much as a session reads at once; and for its control data.
+    pub(super) fn receiving(&mut self) -> (&mut [u8], &mut [u8]) {
+        (&mut self.bytes[..sys::NB_MOST_BYTES], &mut self.control)
     }
 
-    /// Room for one send: little, if the socket took nothing the last time.
-    pub(super) fn sending(&mut self, is_full: bool) -> &mut [u8] {
+    /// Room for one send: little, if the socket took nothing the last time. And room for its descriptors.
+    pub(super) fn sending(&mut self, is_full: bool) -> (&mut [u8], &mut [i32]) {
         let most = if is_full { FIRST_TRY } else { usize::MAX };
         let room = self.bytes.len().min(most);
-        &mut self.bytes[..room]
+        (&mut self.bytes[..room], &mut self.descriptors)
     }
 
     /// Makes room for as much as the session says it needs.
@@ -177,22 +194,26 @@ impl Lent {
     }
 
     /// Appends the arguments of a message that was written here. `id` answers the id for an object and its data, 0 if it has
-    /// none.
+    /// none. The answer is how many descriptors are among them.
     ///
     /// # Safety
     ///
     /// A session has handed the message out by the last call, and nobody has taken its descriptors yet.
+    #[inline]
     pub(super) unsafe fn take<Id>(
         &self,
         count: u32,
         to: &mut Arguments<Id>,
         mut id: impl FnMut(&RawArgument) -> Id,
-    ) {
+    ) -> usize {
         let range = |flat: &RawArgument| &self.bytes[flat.at as usize..][..flat.length as usize];
+        let mut descriptors = 0;
         let flats = &self.arguments[..count as usize];
-        to.reserve(flats.len());
+        if to.capacity() - to.len() < flats.len() {
+            to.reserve(flats.len());
+        }
         for flat in flats {
-            to.push(match flat.kind {
+            let argument = match flat.kind {
                 sys::NB_INT => Argument::Int(flat.value),
                 sys::NB_UINT => Argument::Uint(flat.value as u32),
                 sys::NB_FIXED => Argument::Fixed(flat.value),
@@ -202,18 +223,27 @@ impl Lent {
                 sys::NB_NEW_ID => Argument::NewId(id(flat)),
                 sys::NB_ARRAY => Argument::Array(Box::new(range(flat).to_vec())),
                 _ => {
+                    descriptors += 1;
                     // SAFETY: the session has handed this descriptor out with the message, by the caller's promise.
                     Argument::Fd(unsafe { take_back(flat.value) })
                 }
-            });
+            };
+            let length = to.len();
+            // SAFETY: room was reserved for all of them, and nothing else is appended meanwhile.
+            unsafe {
+                to.as_mut_ptr().add(length).write(argument);
+                to.set_len(length + 1);
+            }
         }
+        descriptors
     }
 }
 
-/// A string that came. The library hands out none with a zero byte.
+/// A string that came.
 fn text(bytes: &[u8]) -> CString {
     // With room for the zero at its end, it is not allocated again.
     let mut owned = Vec::with_capacity(bytes.len() + 1);
     owned.extend_from_slice(bytes);
-    CString::new(owned).expect("a string without zero bytes")
+    // SAFETY: the library hands out no string with a zero byte.
+    unsafe { CString::from_vec_unchecked(owned) }
 }

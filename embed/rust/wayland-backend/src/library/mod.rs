@@ -98,6 +98,7 @@ impl std::fmt::Display for Status {
 }
 
 /// What a call answered.
+#[inline]
 fn answer(status: sys::nb_status) -> Result<(), Status> {
     match status {
         sys::NB_OK => Ok(()),

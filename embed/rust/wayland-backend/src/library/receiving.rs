@@ -20,7 +20,8 @@ pub(crate) struct Inbox {
     came: usize,
     /// How many bytes have come since that was asked.
     bytes: usize,
-    frames: Frames,
+    /// Counts the messages, if that is asked for.
+    frames: Option<Frames>,
     fault: Option<Errno>,
 }
 
@@ -43,11 +44,20 @@ pub(super) enum Arrival {
 }
 
 impl Inbox {
-    /// Receives once from the socket, by way of `buffer`. `arrive` hands bytes and descriptors to the session.
+    /// An inbox that counts the messages.
+    pub(crate) fn counting() -> Inbox {
+        Inbox {
+            frames: Some(Frames::default()),
+            ..Inbox::default()
+        }
+    }
+
+    /// Receives once from the socket, by way of a buffer, and of another one for control data. `arrive` hands bytes and
+    /// descriptors to the session.
     pub(super) fn receive(
         &mut self,
         from: BorrowedFd<'_>,
-        buffer: &mut [u8],
+        (buffer, control): (&mut [u8], &mut [u8]),
         mut arrive: impl FnMut(&[u8], &[i32]) -> Result<(), Status>,
     ) -> Arrival {
         if !self.descriptors.is_empty() {
@@ -58,46 +68,58 @@ impl Inbox {
                 _ => Arrival::Came(Received::Some),
             };
         }
-        let count = match socket::receive(from, buffer, &mut self.descriptors) {
+        let count = match socket::receive(from, buffer, control, &mut self.descriptors) {
             Ok(0) => return Arrival::Ended,
             Ok(count) => count,
             Err(Errno::AGAIN) => return Arrival::Came(Received::Nothing),
             Err(error) => return self.fail(error),
         };
-        self.frames.push(&buffer[..count]);
+        let bytes = &buffer[..count];
+        if let Some(frames) = &mut self.frames {
+            frames.push(bytes);
+        }
         self.came += self.descriptors.len();
         self.bytes += count;
+        if !self.descriptors.is_empty() {
+            return self.arrive_with_descriptors(bytes, arrive);
+        }
+        // The error is that the client is gone.
+        let is_taken = arrive(bytes, &[]).is_ok();
+        Arrival::Came(if is_taken && count < buffer.len() {
+            Received::All
+        } else {
+            Received::Some
+        })
+    }
+
+    /// Hands over bytes, and the descriptors that have come with them. More may be there: the kernel ends a receive behind
+    /// descriptors.
+    fn arrive_with_descriptors(
+        &mut self,
+        bytes: &[u8],
+        mut arrive: impl FnMut(&[u8], &[i32]) -> Result<(), Status>,
+    ) -> Arrival {
         let mut numbers = SmallVec::<[i32; MOST_DESCRIPTORS]>::new();
         for descriptor in &self.descriptors {
             numbers.push(descriptor.as_raw_fd());
         }
-        // The kernel ends a receive behind descriptors, also if more bytes are there.
-        let received = if count < buffer.len() && numbers.is_empty() {
-            Received::All
-        } else {
-            Received::Some
-        };
-        match arrive(&buffer[..count], &numbers) {
+        match arrive(bytes, &numbers) {
             Ok(()) => {
                 for descriptor in self.descriptors.drain(..) {
                     let _ = descriptor.into_raw_fd();
                 }
-                Arrival::Came(received)
             }
             Err(Status::TOO_MANY_DESCRIPTORS) => {
                 // The bytes first, and then one descriptor after the other.
-                if arrive(&buffer[..count], &[]).is_err() {
+                if arrive(bytes, &[]).is_err() {
                     return self.fail(Errno::PROTO);
                 }
                 self.give(arrive);
-                Arrival::Came(Received::Some)
             }
-            Err(_) => {
-                // The client is gone.
-                self.descriptors.clear();
-                Arrival::Came(Received::Some)
-            }
+            // The client is gone.
+            Err(_) => self.descriptors.clear(),
         }
+        Arrival::Came(Received::Some)
     }
 
     /// Hands over as many descriptors as there is room for, and answers how many these were.
@@ -119,9 +141,9 @@ impl Inbox {
         Arrival::Failed(error)
     }
 
-    /// How many messages have come as a whole since this was asked before.
+    /// How many messages have come as a whole since this was asked before. None, if they are not counted.
     pub(crate) fn take_count(&mut self) -> usize {
-        self.frames.take_count()
+        self.frames.as_mut().map_or(0, Frames::take_count)
     }
 
     /// How many bytes have come since this was asked before.

@@ -12,7 +12,7 @@ use super::rows::table_answer;
 use super::{
     answer, done, send_once, take_back, Action, Arguments, Outgoing, RawArgument, RawClientId,
     RawGlobalId, RawGlobalInfo, RawObjectId, RawObjectInfo, Received, Rows, Sent, Status,
-    TableFault, MOST_DESCRIPTORS,
+    TableFault,
 };
 
 /// All clients and globals have this group in common. What is hidden is said by lists.
@@ -68,6 +68,8 @@ pub(crate) struct Gone<'a> {
 pub(crate) struct Server {
     place: sys::nb_server,
     lent: Lent,
+    /// The note that was taken last.
+    note: sys::nb_note,
 }
 
 impl Server {
@@ -95,6 +97,7 @@ impl Server {
         Server {
             place,
             lent: Lent::new(),
+            note: sys::nb_note::default(),
         }
     }
 
@@ -189,8 +192,8 @@ impl Server {
         from: BorrowedFd<'_>,
         inbox: &mut Inbox,
     ) -> Received {
-        let (place, buffer) = (&mut self.place, self.lent.receiving());
-        let arrival = inbox.receive(from, buffer, |bytes, numbers| {
+        let (place, room) = (&mut self.place, self.lent.receiving());
+        let arrival = inbox.receive(from, room, |bytes, numbers| {
             // SAFETY: each slice is lent with its own length.
             answer(unsafe {
                 sys::nb_server_received(
@@ -218,7 +221,7 @@ impl Server {
     }
 
     /// The next action of a client. It is open until it is finished. Its arguments are appended to `arguments`; `id` answers
-    /// an id for an object among them.
+    /// an id for an object among them. The answer is how many descriptors are among them.
     ///
     /// Statuses: `INVALID_ID`, `OPEN`, `CLOSED`, `PROTOCOL_ERROR`, `WOULD_BLOCK`, `IO_ERROR`. The client is killed after
     /// `CLOSED`, `PROTOCOL_ERROR` and `IO_ERROR`.
@@ -229,9 +232,11 @@ impl Server {
         action: &mut Action,
         arguments: &mut Arguments<Id>,
         mut id: impl FnMut(&Action, &RawArgument) -> Id,
-    ) -> Result<(), Status> {
+    ) -> Result<usize, Status> {
         loop {
-            let Lent { arguments, bytes } = &mut self.lent;
+            let Lent {
+                arguments, bytes, ..
+            } = &mut self.lent;
             // SAFETY: each slice is lent with its own length.
             let status = unsafe {
                 sys::nb_server_next_action(
@@ -251,11 +256,10 @@ impl Server {
             self.lent.grow(action.arguments, action.bytes);
         }
         // SAFETY: the session has just handed the message out.
-        unsafe {
+        Ok(unsafe {
             self.lent
-                .take(action.arguments, arguments, |argument| id(action, argument));
-        }
-        Ok(())
+                .take(action.arguments, arguments, |argument| id(action, argument))
+        })
     }
 
     /// Finishes the open request, with the data of the object that it made. The answer is whether that object has the
@@ -516,9 +520,8 @@ impl Server {
         to: BorrowedFd<'_>,
         is_full: &mut bool,
     ) -> Result<Sent, Errno> {
-        let mut numbers = [0; MOST_DESCRIPTORS];
         let mut counts = sys::nb_counts::default();
-        let bytes = self.lent.sending(*is_full);
+        let (bytes, numbers) = self.lent.sending(*is_full);
         // SAFETY: each slice is lent with its own length.
         let status = unsafe {
             sys::nb_server_to_send(
@@ -535,7 +538,7 @@ impl Server {
             return Ok(Sent::Nothing);
         }
         let place = &mut self.place;
-        send_once(to, is_full, counts, bytes, &numbers, |count| {
+        send_once(to, is_full, counts, bytes, numbers, |count| {
             done(sys::nb_server_sent(place, client, count));
         })
     }
@@ -547,10 +550,13 @@ impl Server {
 
     /// The next client that was taken out.
     pub(crate) fn next_gone(&mut self) -> Option<Gone<'_>> {
-        let mut numbers = [0; MOST_DESCRIPTORS];
         let mut gone = sys::nb_gone::default();
         loop {
-            let bytes = &mut self.lent.bytes;
+            let Lent {
+                bytes,
+                descriptors: numbers,
+                ..
+            } = &mut self.lent;
             // SAFETY: each slice is lent with its own length.
             let status = unsafe {
                 sys::nb_server_next_gone(
@@ -569,7 +575,7 @@ impl Server {
             answer(status).ok()?;
             break;
         }
-        let descriptors = numbers[..gone.waiting.descriptors as usize]
+        let descriptors = self.lent.descriptors[..gone.waiting.descriptors as usize]
             .iter()
             // SAFETY: the session has just handed these out.
             .map(|&number| unsafe { take_back(number) })
@@ -583,23 +589,32 @@ impl Server {
     }
 
     /// The next note, the oldest first.
+    #[inline]
     pub(crate) fn next_note(&mut self) -> Option<Note> {
-        let mut note = sys::nb_note::default();
         loop {
             let text = &mut self.lent.bytes;
             // SAFETY: the slice is lent with its own length.
             let status = unsafe {
-                sys::nb_server_next_note(&mut self.place, &mut note, text.as_mut_ptr(), text.len())
+                sys::nb_server_next_note(
+                    &mut self.place,
+                    &mut self.note,
+                    text.as_mut_ptr(),
+                    text.len(),
+                )
             };
-            if status == sys::NB_TOO_SMALL {
-                self.lent
-                    .grow(0, note.message_length + note.interface_length);
-                continue;
+            if status != sys::NB_TOO_SMALL {
+                answer(status).ok()?;
+                return Some(self.note());
             }
-            answer(status).ok()?;
-            break;
+            self.lent
+                .grow(0, self.note.message_length + self.note.interface_length);
         }
-        Some(match note.kind {
+    }
+
+    /// The note that was taken last.
+    fn note(&self) -> Note {
+        let note = &self.note;
+        match note.kind {
             sys::NB_INSERTED => Note::Inserted(note.client),
             sys::NB_KILLED => Note::Killed {
                 client: note.client,
@@ -618,7 +633,7 @@ impl Server {
                 object: note.object,
                 data: note.data,
             },
-        })
+        }
     }
 
     /// Closes the descriptors that the session had and will not hand out.

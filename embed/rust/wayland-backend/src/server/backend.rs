@@ -3,14 +3,17 @@
 use std::{
     fmt, io,
     os::fd::{AsFd, BorrowedFd, OwnedFd},
-    sync::{Arc, Mutex, MutexGuard},
+    sync::{
+        atomic::{AtomicUsize, Ordering},
+        Arc, Mutex, MutexGuard,
+    },
 };
 
 use rustix::{event::epoll, io::retry_on_intr};
 use smallvec::SmallVec;
 
 use super::{
-    state::{lock, Called, Data, State, Unused},
+    state::{lock, Bound, Called, Data, State, Unused},
     ClientId, Handle, InitError, ObjectId,
 };
 use crate::{
@@ -29,12 +32,21 @@ const MOST_BYTES_IN_TURN: usize = 1 << 18;
 /// How often it is each client's turn in one dispatch of all, at most.
 const MOST_TURNS: usize = 4;
 
+/// The flags of a client that sends nothing more.
+const HAS_ENDED: epoll::EventFlags = epoll::EventFlags::HUP
+    .union(epoll::EventFlags::RDHUP)
+    .union(epoll::EventFlags::ERR);
+
 /// A server. It reads what clients ask, and calls the program's handlers.
 ///
 /// `D` is what the handlers get besides: the program's state.
 pub struct Backend<D: 'static> {
     state: Arc<Mutex<State<D>>>,
+    /// What the handlers get.
+    handle: Handle,
     poll: Arc<OwnedFd>,
+    /// How often the program has done what may end an object.
+    ends: Arc<AtomicUsize>,
 }
 
 impl<D> fmt::Debug for Backend<D> {
@@ -52,9 +64,15 @@ impl<D> Backend<D> {
     pub fn new() -> Result<Self, InitError> {
         let poll = epoll::create(epoll::CreateFlags::CLOEXEC);
         let poll = Arc::new(poll.map_err(|error| InitError::Io(error.into()))?);
+        let ends = Arc::default();
+        let state = Arc::new(Mutex::new(State::new(poll.clone(), Arc::clone(&ends))));
         Ok(Backend {
-            state: Arc::new(Mutex::new(State::new(poll.clone()))),
+            handle: Handle {
+                state: state.clone(),
+            },
+            state,
             poll,
+            ends,
         })
     }
 
@@ -64,14 +82,12 @@ impl<D> Backend<D> {
     ///
     /// Those of [`Handle::flush`].
     pub fn flush(&mut self, client: Option<ClientId>) -> io::Result<()> {
-        self.handle().flush(client)
+        self.handle.flush(client)
     }
 
     /// A handle of the server.
     pub fn handle(&self) -> Handle {
-        Handle {
-            state: self.state.clone(),
-        }
+        self.handle.clone()
     }
 
     /// The descriptor that can be read when there is something to dispatch. Wait for it, and use it for nothing else.
@@ -96,14 +112,13 @@ impl<D> Backend<D> {
         data: &mut D,
         client_id: ClientId,
     ) -> io::Result<usize> {
-        let handle = self.handle();
         let mut panics = Panics::default();
         let state = lock(&self.state);
         let until = Until::Blocked;
-        let answer = self.read(state, &handle, data, &client_id, until, &mut panics);
-        self.clean(&handle, data, &mut panics);
+        let answer = self.read(state, data, &client_id, until, &mut panics);
+        self.clean(data, &mut panics);
         panics.go_on();
-        answer
+        answer.count
     }
 
     /// Reads what all clients sent, and calls the handlers. It does not wait.
@@ -119,13 +134,11 @@ impl<D> Backend<D> {
     ///
     /// As [`Self::dispatch_single_client`].
     pub fn dispatch_all_clients(&mut self, data: &mut D) -> io::Result<usize> {
-        let handle = self.handle();
         let mut ready = epoll::EventVec::with_capacity(MOST_READY);
         let mut dispatched = 0;
         let mut panics = Panics::default();
-        // Clients that are ready stand in a queue, so after so many rounds each has had its turns.
-        let clients = lock(&self.state).core.slots();
-        for _ in 0..MOST_TURNS * (1 + clients / MOST_READY) {
+        let (mut rounds, mut most_rounds) = (0, MOST_TURNS);
+        while rounds < most_rounds {
             let waited = retry_on_intr(|| epoll::wait(&*self.poll, &mut ready, 0));
             if let Err(error) = waited {
                 panics.go_on();
@@ -134,56 +147,84 @@ impl<D> Backend<D> {
             if ready.is_empty() {
                 break;
             }
-            for event in ready.iter() {
-                let state = lock(&self.state);
-                let Some(client) = state.core.client_at(event.data.u64() as u32) else {
-                    continue;
-                };
-                let flags = event.flags;
-                let has_ended = flags.contains(epoll::EventFlags::HUP);
-                let until = if has_ended {
-                    Until::Blocked
-                } else {
-                    Until::Short
-                };
-                let answer = self.read(state, &handle, data, &client, until, &mut panics);
-                dispatched += answer.unwrap_or(0);
+            let calls = panics.calls();
+            let (count, has_more) = self.read_ready(&ready, data, &mut panics);
+            dispatched += count;
+            self.clean(data, &mut panics);
+            // All that was there was read, and no code of the program has run that could have sent more. What other threads
+            // have sent meanwhile is there for the next dispatch.
+            if ready.len() < MOST_READY && !has_more && panics.calls() == calls {
+                break;
             }
-            self.clean(&handle, data, &mut panics);
+            rounds += 1;
+            if rounds == MOST_TURNS {
+                // Clients that are ready stand in a queue, so after so many rounds each has had its turns.
+                let clients = lock(&self.state).core.slots();
+                most_rounds *= 1 + clients / MOST_READY;
+            }
         }
         panics.go_on();
         Ok(dispatched)
+    }
+
+    /// Reads the clients that are ready. The answer is how many requests were read, and whether there may be more.
+    fn read_ready(
+        &self,
+        ready: &epoll::EventVec,
+        data: &mut D,
+        panics: &mut Panics,
+    ) -> (usize, bool) {
+        let (mut count, mut has_more) = (0, false);
+        for event in ready.iter() {
+            let state = lock(&self.state);
+            let Some(client) = state.core.client_at(event.data.u64() as u32) else {
+                continue;
+            };
+            let flags = event.flags;
+            let until = if flags.intersects(HAS_ENDED) {
+                Until::Blocked
+            } else {
+                Until::Short
+            };
+            let read = self.read(state, data, &client, until, panics);
+            count += read.count.unwrap_or(0);
+            has_more |= read.has_more;
+        }
+        (count, has_more)
     }
 
     /// Receives from the client, and calls the handlers for what it asks.
     fn read<'a>(
         &'a self,
         mut state: MutexGuard<'a, State<D>>,
-        handle: &Handle,
         data: &mut D,
         client: &ClientId,
         until: Until,
         panics: &mut Panics,
-    ) -> io::Result<usize> {
+    ) -> WasRead {
         let mut bytes = 0;
-        let status = loop {
+        let (status, received) = loop {
             let received = state.core.receive(client);
             bytes += state.core.take_bytes(client);
             // They are asked for in any case: a client that was killed has none.
             let status;
-            (state, status) = self.call_all(state, handle, data, client, panics);
+            (state, status) = self.call_all(state, data, client, panics);
             let has_more = match received {
                 Received::Nothing => false,
                 Received::All => until == Until::Blocked,
                 Received::Some => until == Until::Blocked || bytes < MOST_BYTES_IN_TURN,
             };
             if status != Status::WOULD_BLOCK || !has_more {
-                break status;
+                break (status, received);
             }
         };
+        let has_more = received == Received::Some;
         let count = state.core.take_count(client);
         if status == Status::WOULD_BLOCK && count > 0 {
-            return Ok(count);
+            return WasRead {
+                count: Ok(count),
+                has_more,
+            };
         }
         let error = state.core.error_of(client, status);
         if status != Status::WOULD_BLOCK {
@@ -196,7 +237,10 @@ impl<D> Backend<D> {
                 panics.catch(|| due.tell());
             }
         }
-        Err(error)
+        WasRead {
+            count: Err(error),
+            has_more,
+        }
     }
 
     /// Calls the handlers for what the client asks, until there is no whole request any more. No lock is held while one
@@ -205,44 +249,31 @@ impl<D> Backend<D> {
     fn call_all<'a>(
         &'a self,
         mut state: MutexGuard<'a, State<D>>,
-        handle: &Handle,
         data: &mut D,
         client: &ClientId,
         panics: &mut Panics,
     ) -> (MutexGuard<'a, State<D>>, Status) {
         let raw = client.raw();
+        let mut message = None;
         loop {
-            let mut message = Message {
-                sender_id: ObjectId::null(),
-                opcode: 0,
-                args: SmallVec::new(),
-            };
-            let (called, open) = match state.next_call(&raw, &mut message) {
-                Ok(next) => next,
+            let called = match state.next_call(&raw, message.insert(no_message())) {
+                Ok(called) => called,
                 Err(status) => return (state, status),
             };
             drop(state);
+            let is_plain = matches!(called, Called::Plain(_));
             let mut is_told = false;
-            let answer = panics.catch(|| match called {
-                Called::Object(object) if open.ends() => {
-                    self.call_last(handle, data, client, object, message, &mut is_told)
-                }
-                Called::Object(object) => object.request(handle, data, client.clone(), message),
-                Called::Global {
-                    handler,
-                    global,
-                    object,
-                } => handler.map(|it| it.bind(handle, data, client.clone(), global, object)),
-            });
+            let answer =
+                panics.catch(|| self.call(data, client, called, &mut message, &mut is_told));
             let has_answered = answer.is_some();
             let answer = answer.flatten();
             state = lock(&self.state);
-            if answer.is_none() && open.is_plain() {
-                state.finish_alone(&open);
+            if is_plain && answer.is_none() {
+                state.finish_alone(&raw);
                 continue;
             }
             let mut unused = Unused::new();
-            let misuse = state.finish(&open, answer, is_told, &mut unused);
+            let misuse = state.finish(&raw, answer, is_told, &mut unused);
             let misuse = misuse.filter(|_| has_answered);
             if misuse.is_some() || !unused.is_empty() {
                 drop(state);
@@ -255,10 +286,37 @@ impl<D> Backend<D> {
         }
     }
 
+    /// Calls a handler. Where an object ends, and the program is told so, that is noted.
+    #[inline]
+    fn call(
+        &self,
+        data: &mut D,
+        client: &ClientId,
+        called: Called<D>,
+        message: &mut Option<Message<ObjectId, OwnedFd>>,
+        is_told: &mut bool,
+    ) -> Option<Data<D>> {
+        // The message is taken where it is handed over, since it is large.
+        let mut message = || message.take().expect("a request has a message");
+        match called {
+            Called::Plain(object) | Called::Making(object) => {
+                object.request(&self.handle, data, client.clone(), message())
+            }
+            Called::Last(object) => self.call_last(data, client, object, message(), is_told),
+            Called::Global(bound) => {
+                let Bound {
+                    handler,
+                    global,
+                    object,
+                } = *bound;
+                handler.map(|it| it.bind(&self.handle, data, client.clone(), global, object))
+            }
+        }
+    }
+
     /// Calls the handler of a destructor, and tells the program then that the object ends.
     fn call_last(
         &self,
-        handle: &Handle,
         data: &mut D,
         client: &ClientId,
         object: Data<D>,
@@ -266,19 +324,25 @@ impl<D> Backend<D> {
         is_told: &mut bool,
     ) -> Option<Data<D>> {
         let (again, id) = (object.clone(), message.sender_id.clone());
-        let answer = object.request(handle, data, client.clone(), message);
+        let ends = self.ends.load(Ordering::Relaxed);
+        let answer = object.request(&self.handle, data, client.clone(), message);
         // If the handler has destroyed the object by itself, the program is told by the next clean-up.
-        let info = lock(&self.state).core.server.object_info(&id.raw());
-        if info.is_some() {
+        let is_there = self.ends.load(Ordering::Relaxed) == ends
+            || lock(&self.state)
+                .core
+                .server
+                .object_info(&id.raw())
+                .is_some();
+        if is_there {
             *is_told = true;
-            again.destroyed(handle, data, client.clone(), id);
+            again.destroyed(&self.handle, data, client.clone(), id);
         }
         answer
     }
 
     /// Tells the program of objects that are gone, and takes the clients out that were killed. If another thread tells the
     /// program that a client is gone, this waits for it: the objects of the client come after it.
-    fn clean(&self, handle: &Handle, data: &mut D, panics: &mut Panics) {
+    fn clean(&self, data: &mut D, panics: &mut Panics) {
         let mut state = lock(&self.state);
         let killed = state.clean();
         let count = state.gather_ended();
@@ -292,9 +356,28 @@ impl<D> Backend<D> {
                 break;
             };
             let client = id.client();
-            panics.catch(|| object.destroyed(handle, data, client, id));
+            panics.catch(|| object.destroyed(&self.handle, data, client, id));
         }
-        panics.catch(|| drop(killed));
+        if !killed.is_empty() {
+            panics.catch(|| drop(killed));
+        }
+    }
+}
+
+/// How a client was read.
+struct WasRead {
+    /// How many requests were read.
+    count: io::Result<usize>,
+    /// Whether more of what the client has sent may be there.
+    has_more: bool,
+}
+
+/// A message without arguments, of no object.
+fn no_message() -> Message<ObjectId, OwnedFd> {
+    Message {
+        sender_id: ObjectId::null(),
+        opcode: 0,
+        args: SmallVec::new(),
     }
 }
 

@@ -2,12 +2,15 @@
 
 use std::{
     collections::{HashMap, VecDeque},
-    fmt, io,
+    fmt, io, mem,
     os::{
         fd::{AsFd, BorrowedFd, OwnedFd, RawFd},
         unix::net::UnixStream,
     },
-    sync::Arc,
+    sync::{
+        atomic::{AtomicUsize, Ordering},
+        Arc,
+    },
 };
 
 use numbyroga_sys as sys;
@@ -73,7 +76,7 @@ impl Connection {
     }
 
     fn unwatch(&mut self, poll: &OwnedFd) {
-        if std::mem::take(&mut self.is_watched) {
+        if mem::take(&mut self.is_watched) {
             let _ = epoll::delete(poll, &self.stream);
         }
     }
@@ -138,7 +141,7 @@ impl Names {
     }
 
     /// The object that a request made. Its static is the one that the sender's names.
-    pub(super) fn created_id(&self, action: &Action) -> ObjectId {
+    fn created_id(&self, action: &Action) -> ObjectId {
         let known = self.table.interface(action.created.interface);
         let sender = self.interface(&action.sender, action.data);
         let request = sender.requests.get(action.opcode as usize);
@@ -171,16 +174,20 @@ pub(super) struct Core {
     pub(super) news: Arc<News>,
     /// How many news have been put so far.
     put: u64,
+    /// So many of them are known to have been told.
+    told: u64,
     pub(super) ended: VecDeque<Ended>,
     outgoing: Outgoing,
     /// What a client has asked last.
     pub(super) action: Action,
     poll: Arc<OwnedFd>,
+    /// How often the program has done what may end an object. It is read without the state's lock.
+    ends: Arc<AtomicUsize>,
     is_logging: bool,
 }
 
 impl Core {
-    pub(super) fn new(poll: Arc<OwnedFd>) -> Core {
+    pub(super) fn new(poll: Arc<OwnedFd>, ends: Arc<AtomicUsize>) -> Core {
         let mut server = Server::new();
         server.set_default_max_buffer_size(MOST_WAITING);
         Core {
@@ -193,10 +200,12 @@ impl Core {
             listed: VecDeque::new(),
             news: Arc::default(),
             put: 0,
+            told: 0,
             ended: VecDeque::new(),
             outgoing: Outgoing::default(),
             action: Action::default(),
             poll,
+            ends,
             is_logging: debug::is_on_for_servers(),
         }
     }
@@ -206,9 +215,11 @@ impl Core {
         let Core { server, names, .. } = self;
         let table = &mut names.table;
         let row = table.row(interface, |rows| server.add_interfaces(rows));
-        for longer in table.take_longer() {
-            self.news.put(Told::Longer(longer));
-            self.put += 1;
+        if table.has_longer() {
+            for longer in table.take_longer() {
+                self.news.put(Told::Longer(longer));
+                self.put += 1;
+            }
         }
         row
     }
@@ -236,9 +247,11 @@ impl Core {
     }
 
     /// All that was put and has not been told.
-    pub(super) fn all_due(&self) -> Option<Due> {
-        let is_due = !self.news.are_told(self.put);
-        is_due.then(|| self.due_until(self.put))
+    pub(super) fn all_due(&mut self) -> Option<Due> {
+        if self.told < self.put && self.news.are_told(self.put) {
+            self.told = self.put;
+        }
+        (self.told < self.put).then(|| self.due_until(self.put))
     }
 
     fn due_until(&self, until: u64) -> Due {
@@ -338,7 +351,7 @@ impl Core {
             serial: raw.serial,
             stream,
             data,
-            inbox: Inbox::default(),
+            inbox: Inbox::counting(),
             handed_out: 0,
             is_watched: false,
             is_listed: false,
@@ -357,7 +370,8 @@ impl Core {
             return Ok(()); // it was killed meanwhile
         };
         let slot = epoll::EventData::new_u64(id.slot.into());
-        let watched = epoll::add(&*poll, &connection.stream, slot, epoll::EventFlags::IN);
+        let flags = epoll::EventFlags::IN | epoll::EventFlags::RDHUP;
+        let watched = epoll::add(&*poll, &connection.stream, slot, flags);
         connection.is_watched = watched.is_ok();
         if watched.is_err() {
             self.kill(id, DisconnectReason::ConnectionClosed);
@@ -370,6 +384,7 @@ impl Core {
             return;
         };
         connection.reason = Some(reason);
+        self.count_end();
         self.server.kill_client(&id.raw());
         self.take_notes();
         if let Some(connection) = self.connection(id) {
@@ -453,7 +468,14 @@ impl Core {
         self.names.id(object, data.unwrap_or(0))
     }
 
+    /// The program does what may end an object. Nobody else counts while the state is locked.
+    fn count_end(&self) {
+        let ends = self.ends.load(Ordering::Relaxed);
+        self.ends.store(ends.wrapping_add(1), Ordering::Relaxed);
+    }
+
     pub(super) fn destroy_object(&mut self, id: &ObjectId) -> Result<(), InvalidId> {
+        self.count_end();
         let answer = self.server.destroy_object(&id.raw());
         self.take_notes();
         answer.map_err(|_| InvalidId)
@@ -529,14 +551,13 @@ impl Core {
             opcode,
             args,
         } = message;
-        server.next_action(client, action, args, |action, argument| {
+        let descriptors = server.next_action(client, action, args, |action, argument| {
             names.argument(client, action, argument)
         })?;
-        let has_descriptors = args.iter().any(|arg| matches!(arg, Argument::Fd(_)));
         *sender_id = names.id(&action.sender, action.data);
         *opcode = action.opcode as u16;
-        if has_descriptors {
-            self.hand_out(client, args);
+        if descriptors > 0 {
+            self.hand_out(client, descriptors);
         }
         if self.is_logging {
             self.log_request(message);
@@ -544,11 +565,9 @@ impl Core {
         Ok(())
     }
 
-    /// The descriptors among the arguments are not unread any more.
+    /// So many descriptors are not unread any more.
     #[cold]
-    fn hand_out(&mut self, client: &RawClientId, args: &[Argument<ObjectId, OwnedFd>]) {
-        let is_descriptor = |arg: &&Argument<_, _>| matches!(arg, Argument::Fd(_));
-        let count = args.iter().filter(is_descriptor).count();
+    fn hand_out(&mut self, client: &RawClientId, count: usize) {
         if let Some(connection) = self.connection(&ClientId::of(client)) {
             connection.handed_out += count;
         }
@@ -584,6 +603,8 @@ impl Core {
             return self.send_without_descriptor(message);
         }
         let size = self.outgoing.size();
+        // It may be a destructor.
+        self.count_end();
         let answer = self
             .server
             .send_event(&sender_id.raw(), *opcode, &mut self.outgoing);
@@ -639,6 +660,7 @@ impl Core {
         let mut raw = object.raw();
         // An object's interface has a row. The null object's is any.
         raw.interface = self.row(object.interface).unwrap_or_default();
+        self.count_end();
         self.server.post_error(&raw, code, message);
         let _ = self.flush_client(&object.client());
         self.take_notes();
@@ -658,20 +680,33 @@ impl Core {
         }
     }
 
+    /// The slot of the next client for which something may wait.
+    fn next_to_flush(&mut self) -> Option<u32> {
+        if let Some(slot) = self.listed.pop_front() {
+            return Some(slot);
+        }
+        while let Some(client) = self.server.next_writable() {
+            let place = self.connections.get_mut(client.slot as usize);
+            let Some(Some(connection)) = place else {
+                continue;
+            };
+            if !mem::replace(&mut connection.is_listed, true) {
+                return Some(client.slot);
+            }
+        }
+        None
+    }
+
     /// Sends what waits for all clients, as far as their sockets take it.
     pub(super) fn flush_all(&mut self) {
         let mut full = VecDeque::new();
-        loop {
-            // When all was sent that the session had ready for a client, there may be more.
-            self.list_writable();
-            let Some(slot) = self.listed.pop_front() else {
-                break;
-            };
+        // When all was sent that the session had ready for a client, there may be more: then it comes again.
+        while let Some(slot) = self.next_to_flush() {
             if self.flush_slot(slot).is_err() {
                 full.push_back(slot);
             }
         }
-        self.listed.append(&mut full);
+        self.listed = full;
         self.server.close_dropped();
         self.take_notes();
     }

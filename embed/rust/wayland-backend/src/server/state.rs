@@ -3,9 +3,9 @@
 use std::{
     any::Any,
     collections::{HashMap, VecDeque},
-    fmt,
+    fmt, mem,
     os::fd::OwnedFd,
-    sync::{Arc, Mutex, MutexGuard, PoisonError},
+    sync::{atomic::AtomicUsize, Arc, Mutex, MutexGuard, PoisonError},
 };
 
 use numbyroga_sys as sys;
@@ -20,7 +20,7 @@ use super::{
 use crate::{
     data::Slab,
     library::{RawClientId, Status},
-    protocol::{Interface, Message},
+    protocol::{Argument, Interface, Message},
     table::BadInterface,
 };
 
@@ -65,6 +65,8 @@ pub(super) struct State<D: 'static> {
     globals: Vec<Option<Global<D>>>,
     /// Objects that are gone. A dispatch tells the program of them.
     ended: VecDeque<(Data<D>, ObjectId)>,
+    /// The request or bind whose handler was called last.
+    open: Open,
     /// The handler of a request or bind may have given data to the object that it makes, before it answered others.
     is_given: bool,
 }
@@ -111,9 +113,9 @@ impl<D> AnyState for State<D> {
     }
 }
 
-/// A request or bind that was handed out and is to be finished.
-pub(super) struct Open {
-    client: RawClientId,
+/// What becomes of a request or bind that was handed out, when it is finished.
+#[derive(Default)]
+struct Open {
     is_bind: bool,
     /// The object that it makes, with the number that the library has for its interface.
     created: Option<(ObjectId, u32)>,
@@ -121,27 +123,22 @@ pub(super) struct Open {
     ends: Option<u64>,
 }
 
-impl Open {
-    /// Whether the sender ends.
-    pub(super) fn ends(&self) -> bool {
-        self.ends.is_some()
-    }
-
-    /// Whether nothing is made by it, and nothing ends.
-    #[inline]
-    pub(super) fn is_plain(&self) -> bool {
-        self.created.is_none() && self.ends.is_none()
-    }
-}
-
 /// Whose handler is to be called.
 pub(super) enum Called<D: 'static> {
-    Object(Data<D>),
-    Global {
-        handler: Option<Arc<dyn GlobalHandler<D>>>,
-        global: GlobalId,
-        object: ObjectId,
-    },
+    /// An object's, for a request that makes nothing and ends nothing.
+    Plain(Data<D>),
+    /// An object's, for a request that makes an object.
+    Making(Data<D>),
+    /// An object's, for the request that ends it.
+    Last(Data<D>),
+    Global(Box<Bound<D>>),
+}
+
+/// A global that was bound.
+pub(super) struct Bound<D: 'static> {
+    pub(super) handler: Option<Arc<dyn GlobalHandler<D>>>,
+    pub(super) global: GlobalId,
+    pub(super) object: ObjectId,
 }
 
 /// What the program does not need any more. It is to be dropped when the state is not locked.
@@ -177,12 +174,13 @@ pub(super) enum NotMade {
 }
 
 impl<D> State<D> {
-    pub(super) fn new(poll: Arc<OwnedFd>) -> State<D> {
+    pub(super) fn new(poll: Arc<OwnedFd>, ends: Arc<AtomicUsize>) -> State<D> {
         State {
-            core: Core::new(poll),
+            core: Core::new(poll, ends),
             objects: Slab::new(),
             globals: Vec::new(),
             ended: VecDeque::new(),
+            open: Open::default(),
             is_given: false,
         }
     }
@@ -211,7 +209,7 @@ impl<D> State<D> {
         let raw = id.raw();
         let key = self.core.server.object_data(&raw);
         if let Some(place) = key.and_then(|key| self.objects.get_mut(key)) {
-            return (Ok(()), Some(std::mem::replace(place, object)));
+            return (Ok(()), Some(mem::replace(place, object)));
         }
         let Some(info) = self.core.server.object_info(&raw) else {
             return (Err(InvalidId), Some(object));
@@ -331,35 +329,38 @@ impl<D> State<D> {
 
     // ---- Requests
 
-    /// The next thing that the client asks, and whose handler is to be called for it. A request is written into the message.
+    /// Whose handler is to be called for the next thing that the client asks. A request is written into the message.
     #[inline]
     pub(super) fn next_call(
         &mut self,
         client: &RawClientId,
         message: &mut Message<ObjectId, OwnedFd>,
-    ) -> Result<(Called<D>, Open), Status> {
+    ) -> Result<Called<D>, Status> {
         self.core.next_action(client, message)?;
         let action = &self.core.action;
         if action.kind == sys::NB_BIND {
-            return Ok(self.bind(client));
+            return Ok(self.bind());
         }
-        let created = (action.created.number != 0)
-            .then(|| (self.core.names.created_id(action), action.created.interface));
+        let makes = action.created.number != 0;
+        let ends = action.is_destructor != 0;
+        self.open = Open {
+            is_bind: false,
+            created: makes.then(|| (created_in(message), action.created.interface)),
+            ends: ends.then_some(action.data),
+        };
         let object = match self.objects.get(action.data) {
             Some(object) => object.clone(),
             None => Arc::new(NoData),
         };
-        let open = Open {
-            client: *client,
-            is_bind: false,
-            created,
-            ends: (action.is_destructor != 0).then_some(action.data),
-        };
-        Ok((Called::Object(object), open))
+        Ok(match (makes, ends) {
+            (false, false) => Called::Plain(object),
+            (true, false) => Called::Making(object),
+            (_, true) => Called::Last(object),
+        })
     }
 
     #[cold]
-    fn bind(&self, client: &RawClientId) -> (Called<D>, Open) {
+    fn bind(&mut self) -> Called<D> {
         let action = &self.core.action;
         let global = GlobalId::of(&action.global);
         let bound = self.global(&global);
@@ -367,54 +368,54 @@ impl<D> State<D> {
             Some(bound) => ObjectId::of(&action.created, bound.interface),
             None => self.core.names.id(&action.created, 0),
         };
-        let open = Open {
-            client: *client,
+        let handler = bound.map(|bound| bound.handler.clone());
+        self.open = Open {
             is_bind: true,
             created: Some((object.clone(), action.created.interface)),
             ends: None,
         };
-        let handler = bound.map(|bound| bound.handler.clone());
-        (
-            Called::Global {
-                handler,
-                global,
-                object,
-            },
-            open,
-        )
+        Called::Global(Box::new(Bound {
+            handler,
+            global,
+            object,
+        }))
     }
 
-    /// Finishes a request or bind by what its handler answered. What is not used any more is put to `unused`.
-    #[inline]
+    /// Finishes the request or bind of the client whose handler was called last, by what that answered. What is not used any
+    /// more is put to `unused`.
     pub(super) fn finish(
         &mut self,
-        open: &Open,
+        client: &RawClientId,
         answer: Option<Data<D>>,
         is_sender_told: bool,
         unused: &mut Unused<D>,
     ) -> Option<Misuse> {
-        let misuse = match (&open.created, answer) {
+        let is_bind = self.open.is_bind;
+        let (created, ends) = (self.open.created.take(), self.open.ends.take());
+        let misuse = match (created, answer) {
             (None, None) => {
-                self.finish_alone(open);
+                self.finish_alone(client);
                 None
             }
             (None, Some(object)) => {
-                self.finish_alone(open);
+                self.finish_alone(client);
                 unused.push(object);
                 Some(Misuse::UnexpectedData)
             }
-            (Some((id, row)), answer) => self.finish_with(open, id, *row, answer, unused),
+            (Some(created), answer) => self.finish_with(client, is_bind, &created, answer, unused),
         };
         if is_sender_told {
-            unused.extend(open.ends.and_then(|key| self.forget(key)));
+            if let Some(object) = ends.and_then(|key| self.forget(key)) {
+                unused.push(object);
+            }
         }
         misuse
     }
 
     /// Finishes a request that made no object.
     #[inline]
-    pub(super) fn finish_alone(&mut self, open: &Open) {
-        let answer = self.core.server.finish_request(&open.client, None);
+    pub(super) fn finish_alone(&mut self, client: &RawClientId) {
+        let answer = self.core.server.finish_request(client, None);
         debug_assert!(
             matches!(answer, Ok(_) | Err(Status::INVALID_ID)),
             "{answer:?}"
@@ -424,45 +425,46 @@ impl<D> State<D> {
     /// Finishes a request or bind that made an object.
     fn finish_with(
         &mut self,
-        open: &Open,
-        id: &ObjectId,
-        row: u32,
+        client: &RawClientId,
+        is_bind: bool,
+        created: &(ObjectId, u32),
         answer: Option<Data<D>>,
         unused: &mut Unused<D>,
     ) -> Option<Misuse> {
-        if std::mem::take(&mut self.is_given) {
+        let (id, _) = created;
+        if mem::take(&mut self.is_given) {
             let key = self.core.server.object_data(&id.raw());
             unused.extend(key.and_then(|key| self.forget(key)));
         }
         let Some(object) = answer else {
             // A client that was killed needs no data for its new object.
-            if self.core.server.finish_request(&open.client, None).is_err() {
-                self.give(open, id, row, Arc::new(NoData), unused);
+            if self.core.server.finish_request(client, None).is_err() {
+                self.give(client, is_bind, created, Arc::new(NoData), unused);
                 return Some(Misuse::NoData(id.clone()));
             }
             return None;
         };
-        self.give(open, id, row, object, unused);
+        self.give(client, is_bind, created, object, unused);
         None
     }
 
     /// Finishes with the data of the object that was made.
     fn give(
         &mut self,
-        open: &Open,
-        id: &ObjectId,
-        row: u32,
+        client: &RawClientId,
+        is_bind: bool,
+        (id, row): &(ObjectId, u32),
         object: Data<D>,
         unused: &mut Unused<D>,
     ) {
         let key = self.objects.insert(object);
         let server = &mut self.core.server;
-        let answer = match open.is_bind {
-            true => server.finish_bind(&open.client, key),
-            false => server.finish_request(&open.client, Some(key)),
+        let answer = match is_bind {
+            true => server.finish_bind(client, key),
+            false => server.finish_request(client, Some(key)),
         };
         match answer {
-            Ok(true) => self.core.names.keep(id, row, key),
+            Ok(true) => self.core.names.keep(id, *row, key),
             _ => unused.extend(self.objects.remove(key)),
         }
     }
@@ -476,6 +478,16 @@ impl<D> State<D> {
     pub(super) fn clean(&mut self) -> Vec<Connection> {
         self.core.take_killed()
     }
+}
+
+/// The object that a request makes: one of its arguments.
+fn created_in(message: &Message<ObjectId, OwnedFd>) -> ObjectId {
+    let mut arguments = message.args.iter();
+    let created = arguments.find_map(|argument| match argument {
+        Argument::NewId(object) => Some(object.clone()),
+        _ => None,
+    });
+    created.expect("what a request makes is among its arguments")
 }
 
 /// The data of objects that the program has given none: the display, registries, and an object whose handler panicked
