@@ -2,6 +2,7 @@
 pub mod Doing
 pub mod Numbering
 pub mod Slots
+pub mod Lent
 pub mod OneClient
 pub mod Moved
 pub mod OverScripts

@@ -2,6 +2,7 @@ pub mod OverRuns
 pub mod Dispatches
 mod Worked
 mod CallSteps
+mod Touched
 mod CleanupSteps
 mod ObjectCalls
 mod Readings

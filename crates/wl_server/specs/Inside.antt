@@ -25,3 +25,5 @@ pub mod EventChecks
 pub mod Ending
 pub mod Performing
 pub mod Dispatching
+pub mod SlotSets
+pub mod Touched

@@ -7,6 +7,7 @@ ghost use Rattle.std.specs.Prelude.{◌≡◌, false};
 ghost use Rattle.wl_server.specs.Server.{new_server};
 
 use crate::client::Client;
+use crate::client::touched::Touched;
 use crate::globals::KeptGlobal;
 use crate::notes::Note;
 use crate::notes::queues::NoteNumbers;
@@ -43,6 +44,8 @@ pub struct Backend<T, U, G, C> {
     pub(crate) last_client: u64,
     /// The clients by slot, which is an index of 32 bits. `None` is a free slot.
     pub(crate) clients: Vec<Option<Client<T, U, C>>>,
+    /// Which of them were touched: for no other does anything wait.
+    pub(crate) touched: Touched,
     /// The first slot that may be free: each slot below it has a client. The search for a free slot begins here.
     pub(crate) free_from: usize,
     /// The notes that are gathered and not taken by the program yet, the oldest first.
@@ -68,6 +71,7 @@ impl<T, U, G, C> Model for Backend<T, U, G, C> {
     ghost use Rattle.wl_link.specs.ObjectMap.{store_code};
     ghost use Rattle.wl_server.specs.Backend.{BackendState};
     ghost use Rattle.wl_server.specs.Inside.Inserting.{HasSlots};
+    ghost use Rattle.wl_server.specs.Inside.Touched.{AreTouched};
     ghost use Rattle.wl_server.specs.NoteOrder.{AllNumbered, HasNumbers, times_of};
 
     ghost Value = { BackendState T U G C };
@@ -89,7 +93,7 @@ impl<T, U, G, C> Model for Backend<T, U, G, C> {
       refused = b.refused;
     } };
 
-    ghost invariant = { λ b. HasSlots (vec_len b.clients) b.free_from b.clients.items × HasNumbers b.numbers (map times_of b.clients.items) × AllNumbered b.clients.items };
+    ghost invariant = { λ b. HasSlots (vec_len b.clients) b.free_from b.clients.items × HasNumbers b.numbers (map times_of b.clients.items) × AllNumbered b.clients.items × AreTouched b.touched b.clients.items };
 }
 
 impl<T: Drop, U: Drop, G: Drop, C: Drop> Backend<T, U, G, C> {
@@ -105,6 +109,7 @@ impl<T: Drop, U: Drop, G: Drop, C: Drop> Backend<T, U, G, C> {
             default_limit: DEFAULT_MAX_BUFFER_SIZE,
             last_client: 0,
             clients: Vec::new(alloc),
+            touched: Touched::all(alloc),
             free_from: 0,
             notes: Vec::new(alloc),
             numbers: NoteNumbers::new(),

@@ -9,7 +9,9 @@ pub mod flush;
 pub mod insert;
 pub mod kill;
 pub mod limits;
+pub mod slot_set;
 pub mod stored;
+pub mod touched;
 pub mod transport;
 
 use crate::notes::queues::{MadeNotes, WaitingNotes};

@@ -3,21 +3,23 @@
 //! A client is *stored* from its insertion until `Backend::cleanup` takes it out. It is *live* as long as it is stored
 //! and not killed. The *slot* of a client is its index in the server's list of clients.
 
-ghost use Rattle.std.specs.Prelude.{◌≡◌, ℕ, length, map, Some};
+ghost use Rattle.std.specs.Prelude.{◌≡◌, ℕ, IsTrue, List, length, map, Some};
 ghost use Rattle.wl_link.specs.Puts.{lacks_memory};
 ghost use Rattle.wl_server.specs.Backend.{Calls};
 ghost use Rattle.wl_server.specs.Inside.Client.{Does};
-ghost use Rattle.wl_server.specs.Felt.{FlushedTo};
-ghost use Rattle.wl_server.specs.Inside.Leaving.{Flushes};
+ghost use Rattle.wl_server.specs.Felt.{FlushedTo, FlushesLive};
+ghost use Rattle.wl_server.specs.Inside.Leaving.{Flushes, FlushesKilled};
 ghost use Rattle.wl_server.specs.NoteOrder.{AllNumbered, IsNumbered, times_of};
 ghost use Rattle.wl_server.specs.PartStep.{over};
 ghost use Rattle.wl_server.specs.Plain.{FlushesClients};
 ghost use Rattle.wl_server.specs.Inside.Places.{AllFeel, PlaceFeels};
+ghost use Rattle.wl_server.specs.Inside.Touched.{AllQuiet, AllSent, HasSent, IsQuiet};
 ghost use Rattle.wl_server.specs.declared.runs.step.Reply.TheVariants as reply;
 ghost use Rattle.wl_server.specs.declared.runs.step.Step.TheVariants as step;
 
 use crate::backend::Backend;
 use crate::client::Client;
+use crate::client::slot_set::SlotSet;
 use crate::client::stored::stored_mut;
 use crate::events::display::is_out_of_memory;
 use crate::globals::handler::GlobalHandler;
@@ -45,6 +47,8 @@ fn flush_at<T: Transport + Drop, U: Drop, C: Drop>(
     ensures felt { (slot : ℕ) → PlaceFeels (λ id p lacked did q. Flushes T.sends killed p lacked did q) slot client.old result client.new }
     ensures times { times_of client.new ≡ times_of client.old }
     ensures numbered { IsNumbered client.old → IsNumbered client.new }
+    ensures sent { HasSent client.old → HasSent client.new }
+    ensures quiet { IsQuiet client.old → IsQuiet client.new }
 {
     match client {
         Some(client) if client.is_killed == killed => {
@@ -55,19 +59,51 @@ fn flush_at<T: Transport + Drop, U: Drop, C: Drop>(
     }
 }
 
-/// Sends what waits for each killed client, or for each live one, as `killed` says. Faults are dropped. Returns whether
-/// memory was refused.
-pub fn flush_each<T: Transport + Drop, U: Drop, C: Drop>(
+/// Sends what waits for each killed client. Faults are dropped. Returns whether memory was refused.
+pub fn flush_killed<T: Transport + Drop, U: Drop, C: Drop>(
     clients: &mut Vec<Option<Client<T, U, C>>>,
-    killed: bool,
 ) -> bool
-    ensures felt { AllFeel (λ id p lacked did q. Flushes T.sends killed p lacked did q) result (length clients.old.items) clients.old.items clients.new.items }
+    ensures felt { AllFeel (λ id p lacked did q. FlushesKilled T.sends p lacked did q) result (length clients.old.items) clients.old.items clients.new.items }
     ensures times { map times_of clients.new.items ≡ map times_of clients.old.items }
     ensures numbered { AllNumbered clients.old.items → AllNumbered clients.new.items }
 {
     let mut refused = false;
     for slot in 0..clients.len() {
-        refused |= flush_at(&mut clients[slot], killed);
+        refused |= flush_at(&mut clients[slot], true);
+    }
+    refused
+}
+
+/// Whether no bytes wait to be sent to the client of a slot.
+fn has_sent<T, U, C>(client: &Option<Client<T, U, C>>) -> bool
+    ensures { IsTrue result → HasSent client.now }
+{
+    match client {
+        Some(client) => client.socket.waiting()[2] == 0,
+        None => true,
+    }
+}
+
+/// Sends what waits for each live client, of those for which something may wait. Faults are dropped. Returns whether memory
+/// was refused.
+pub fn flush_live<T: Transport + Drop, U: Drop, C: Drop>(
+    clients: &mut Vec<Option<Client<T, U, C>>>,
+    to_send: &mut SlotSet,
+) -> bool
+    requires { AllSent to_send.old.words.items clients.old.items }
+    ensures felt { AllFeel (λ id p lacked did q. FlushesLive T.sends p lacked did q) result (length clients.old.items) clients.old.items clients.new.items }
+    ensures times { map times_of clients.new.items ≡ map times_of clients.old.items }
+    ensures numbered { AllNumbered clients.old.items → AllNumbered clients.new.items }
+    ensures sent { AllSent to_send.new.words.items clients.new.items }
+    ensures quiet { (words : List ℕ) → AllQuiet words clients.old.items → AllQuiet words clients.new.items }
+{
+    let end = clients.len();
+    let mut refused = false;
+    let mut slot = to_send.next_from(0, end);
+    while slot < end {
+        refused |= flush_at(&mut clients[slot], false);
+        to_send.remove_if(slot, has_sent(&clients[slot]));
+        slot = to_send.next_from(slot + 1, end);
     }
     refused
 }
@@ -92,11 +128,11 @@ impl<T: Transport + Drop, U: Drop, G: GlobalHandler<C> + Drop, C: Drop> Backend<
         ensures plain { FlushesClients T.sends self.old client result self.new }
     {
         let Some(id) = client else {
-            self.refused = flush_each(&mut self.clients, false);
+            self.refused = flush_live(&mut self.clients, &mut self.touched.to_send);
             return Ok(());
         };
         self.refused = false;
-        let Some(client) = stored_mut(&mut self.clients, &id) else {
+        let Some(client) = stored_mut(&mut self.clients, &mut self.touched, &id) else {
             return Ok(());
         };
         let answer = client.flush();

@@ -12,6 +12,7 @@ ghost use Rattle.wl_server.specs.Inside.Client.{IsInserted};
 ghost use Rattle.wl_server.specs.NoteOrder.{IsNumbered, AllNumbered, AllInTime, GivesNumbers, NotesInTime, times_of};
 ghost use Rattle.wl_server.specs.Inside.NoteOrder.{one_made};
 ghost use Rattle.wl_server.specs.Inside.Inserting.{AreTaken, IsPut};
+ghost use Rattle.wl_server.specs.Inside.Touched.{AreTouched, StayTouched};
 ghost use Rattle.wl_server.specs.Next.{NextClient, NextClientIsGiven};
 ghost use Rattle.wl_server.specs.Part.{display_object};
 ghost use Rattle.wl_server.specs.PartStep.{over};
@@ -24,6 +25,7 @@ ghost use Rattle.wl_server.specs.declared.runs.step.Step.TheVariants as step;
 
 use crate::backend::Backend;
 use crate::client::Client;
+use crate::client::touched::Touched;
 use crate::error::InsertClientError;
 use crate::events::display::DISPLAY;
 use crate::globals::handler::GlobalHandler;
@@ -111,19 +113,22 @@ impl<T: Drop, U: Drop, C: Drop> Client<T, U, C> {
     }
 }
 
-/// Makes room for a client at the slot. The slot is in the list, or is the first one after it.
+/// Makes room for a client at the slot, and for its bits. The slot is in the list, or is the first one after it.
 fn reserve_slot<T, U, C>(
     clients: &mut Vec<Option<Client<T, U, C>>>,
+    touched: &mut Touched,
     slot: usize,
 ) -> Result<(), OutOfMemory>
     ensures items { clients.new.items ≡ clients.old.items }
     ensures len { vec_len clients.new ≡ vec_len clients.old }
     ensures room { OnOk result (vec_len clients.new ≤ slot → vec_len clients.new < vec_capacity clients.new) }
+    ensures touched { StayTouched touched.old touched.new }
 {
     if slot < clients.len() {
         return Ok(());
     }
-    Ok(clients.reserve(1)?)
+    clients.reserve(1)?;
+    touched.grow_to(slot)
 }
 
 /// The least slot that has no client, or `None` if each has one. All slots below `from` have one.
@@ -175,6 +180,7 @@ fn put_at<T: Drop, U: Drop, C: Drop>(
 fn put_new<T: Drop, U: Drop, C: Drop>(
     alloc: Global,
     clients: &mut Vec<Option<Client<T, U, C>>>,
+    touched: &mut Touched,
     numbers: &mut NoteNumbers,
     id: &ClientId,
     transport: T,
@@ -188,10 +194,11 @@ fn put_new<T: Drop, U: Drop, C: Drop>(
     ensures slots { vec_len clients.old ≤ 0x100000000 → vec_len clients.new ≤ 0x100000000 }
     ensures numbers { MatchResult result (λ _. numbers.new ≡ one_made numbers.old) (λ e. numbers.new ≡ numbers.old) }
     ensures numbered { AllNumbered clients.old.items → AllNumbered clients.new.items }
+    ensures touched { AreTouched touched.old clients.old.items → AreTouched touched.new clients.new.items }
     ensures in_time { stored_at id.now.slot clients.old.items ≡ None → AllInTime (map times_of clients.old.items) numbers.old (map times_of clients.new.items) numbers.new }
 {
     let slot = id.slot() as usize;
-    reserve_slot(clients, slot)?;
+    reserve_slot(clients, touched, slot)?;
     let serial = id.serial();
     let client = Client::new(
         alloc,
@@ -202,6 +209,7 @@ fn put_new<T: Drop, U: Drop, C: Drop>(
         numbers,
     )?;
     put_at(clients, slot, client);
+    touched.insert(slot);
     Ok(())
 }
 
@@ -252,6 +260,7 @@ impl<T: Transport + Drop, U: Drop, G: GlobalHandler<C> + Drop, C: Drop> Backend<
         match put_new(
             alloc,
             &mut self.clients,
+            &mut self.touched,
             &mut self.numbers,
             &id,
             transport,

@@ -74,7 +74,7 @@ impl<T: Transport + Drop, U: Drop, G: GlobalHandler<C> + Drop, C: Drop> Backend<
         ensures plain { KillsClient self.old id.now reason self.new }
     {
         self.refused = false;
-        let Some(client) = stored_mut(&mut self.clients, id) else {
+        let Some(client) = stored_mut(&mut self.clients, &mut self.touched, id) else {
             return;
         };
         client.kill(&mut self.numbers, reason);

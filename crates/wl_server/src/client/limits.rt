@@ -36,7 +36,7 @@ impl<T: Transport + Drop, U: Drop, G: GlobalHandler<C> + Drop, C: Drop> Backend<
         ensures plain { SetsLimit self.old client.now max_buffer_size self.new }
     {
         self.refused = false;
-        let Some(stored) = stored_mut(&mut self.clients, client) else {
+        let Some(stored) = stored_mut(&mut self.clients, &mut self.touched, client) else {
             return;
         };
         stored.socket.set_max_buffer_size(Some(max_buffer_size));

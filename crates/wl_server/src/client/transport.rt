@@ -12,7 +12,7 @@ ghost use Rattle.wl_server.specs.Backend.{IsChange};
 
 use crate::backend::Backend;
 use crate::client::Client;
-use crate::client::stored::stored_mut;
+use crate::client::stored::lend_stored;
 use crate::error::InvalidId;
 use crate::globals::handler::GlobalHandler;
 use crate::ids::client_id::ClientId;
@@ -43,7 +43,7 @@ impl<T: Transport + Drop, U: Drop, G: GlobalHandler<C> + Drop, C: Drop> Backend<
             (λ _. transport_of self.old.server id.now ≡ None) }
         ensures step { OnOk result ((t : _) → IsChange (over T.sends T.receives G.views) self.old.server id.now t (server_over self.old.server id.now t)) }
     {
-        let Some(client) = stored_mut(&mut self.clients, id) else {
+        let Some(client) = lend_stored(&mut self.clients, id) else {
             return Err(InvalidId);
         };
         Ok(client.transport_mut())

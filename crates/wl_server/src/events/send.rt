@@ -156,7 +156,7 @@ impl<T: Transport + Drop, U: Drop, G: GlobalHandler<C> + Drop, C: Drop> Backend<
     {
         self.refused = false;
         let id = message.sender_id.client();
-        let Some(client) = stored_mut(&mut self.clients, &id) else {
+        let Some(client) = stored_mut(&mut self.clients, &mut self.touched, &id) else {
             return Err(EventError::InvalidId);
         };
         let (answer, lacked) = client.send_event(&self.protocol, &mut self.numbers, message);

@@ -139,6 +139,7 @@ impl<T: Transport + Drop, U: Drop, G: GlobalHandler<C> + Drop, C: Drop> Backend<
         );
         match created {
             Ok(id) => {
+                self.touched.insert_all();
                 self.refused = tell_named(
                     &mut self.clients,
                     &mut self.numbers,

@@ -95,6 +95,7 @@ impl<T: Transport + Drop, U: Drop, G: GlobalHandler<C> + Drop, C: Drop> Backend<
         let was_enabled = is_enabled(&self.globals, id);
         disable(&mut self.globals, id);
         if was_enabled {
+            self.touched.insert_all();
             self.refused = tell_loss(&mut self.clients, &mut self.numbers, id.name());
         }
     }
@@ -114,6 +115,7 @@ impl<T: Transport + Drop, U: Drop, G: GlobalHandler<C> + Drop, C: Drop> Backend<
         let was_enabled = is_enabled(&self.globals, id);
         remove(&mut self.globals, id);
         if was_enabled {
+            self.touched.insert_all();
             self.refused = tell_loss(&mut self.clients, &mut self.numbers, id.name());
         }
     }

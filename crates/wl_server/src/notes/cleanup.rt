@@ -11,6 +11,7 @@ ghost use Rattle.wl_server.specs.Inside.Gathering.{count_leaving};
 ghost use Rattle.wl_server.specs.NoteOrder.{AllNumbered, AllTakeFirst, IsOrderOf, NoneWaits, times_of};
 ghost use Rattle.wl_server.specs.Inside.NoteOrder.{count_places};
 ghost use Rattle.wl_server.specs.Inside.Leaving.{all_staying, collected, ends_at, given_at, staying};
+ghost use Rattle.wl_server.specs.Inside.Touched.{AllQuiet};
 ghost use Rattle.wl_server.specs.PartStep.{over};
 ghost use Rattle.wl_server.specs.Plain.{CleansUpClients};
 ghost use Rattle.wl_server.specs.declared.runs.step.Reply.TheVariants as reply;
@@ -18,11 +19,12 @@ ghost use Rattle.wl_server.specs.declared.runs.step.Step.TheVariants as step;
 
 use crate::backend::Backend;
 use crate::client::Client;
-use crate::client::flush::flush_each;
+use crate::client::flush::flush_killed;
+use crate::client::slot_set::SlotSet;
 use crate::globals::handler::GlobalHandler;
 use crate::ids::client_id::ClientId;
 use crate::notes::Note;
-use crate::notes::gather::{count_of, gather, order_of};
+use crate::notes::gather::{count_of, gather, is_quiet, order_of};
 use crate::notes::leaving::{count_ending, end_objects};
 use crate::notes::queues::{NoteNumbers, NotePlace};
 use std::alloc::Global;
@@ -108,8 +110,14 @@ pub struct Work {
     pub ends: usize,
 }
 
-/// Counts what a cleanup has to do. It goes over the clients once.
-pub fn count_work<T: Drop, U: Drop, C: Drop>(clients: &[Option<Client<T, U, C>>]) -> Work
+/// Counts what a cleanup has to do. It looks once at the clients that may have notes or be killed, and takes those out of
+/// the set that turn out to be quiet.
+pub fn count_work<T: Drop, U: Drop, C: Drop>(
+    clients: &[Option<Client<T, U, C>>],
+    to_note: &mut SlotSet,
+) -> Work
+    requires { AllQuiet to_note.old.words.items clients.now }
+    ensures quiet { AllQuiet to_note.new.words.items clients.now }
     ensures gathered { result.gathered < 0xFFFFFFFFFFFFFFFF → count_leaving true clients.now ≤ result.gathered }
     ensures places { result.gathered < 0xFFFFFFFFFFFFFFFF → count_places true (map times_of clients.now) ≤ result.gathered }
     ensures few_gathered { result.gathered ≤ count_leaving true clients.now }
@@ -117,14 +125,18 @@ pub fn count_work<T: Drop, U: Drop, C: Drop>(clients: &[Option<Client<T, U, C>>]
     ensures few_leaving { result.leaving ≤ length (collected given_at 0 clients.now) }
     ensures ends { result.ends < 0xFFFFFFFFFFFFFFFF → length (collected ends_at 0 clients.now) ≤ result.ends }
 {
+    let end = clients.len();
     let mut gathered: usize = 0;
     let mut leaving: usize = 0;
     let mut ends: usize = 0;
-    for slot in 0..clients.len() {
+    let mut slot = to_note.next_from(0, end);
+    while slot < end {
         let place = &clients[slot];
         gathered = gathered.saturating_add(count_of(place, true));
         leaving = leaving.saturating_add(count_given_at(place));
         ends = ends.saturating_add(count_ends_at(place));
+        to_note.remove_if(slot, is_quiet(place));
+        slot = to_note.next_from(slot + 1, end);
     }
     Work {
         gathered,
@@ -162,9 +174,12 @@ fn memory_for_notes<T: Drop, U: Drop, C: Drop>(
 pub fn memory_for<T: Drop, U: Drop, C: Drop>(
     alloc: Global,
     clients: &[Option<Client<T, U, C>>],
+    to_note: &mut SlotSet,
     notes: &mut Vec<Note<U>>,
 ) -> Result<CleanupMemory<T>, OutOfMemory>
     requires slots { length clients.now ≤ 0x100000000 }
+    requires quiet { AllQuiet to_note.old.words.items clients.now }
+    ensures quiet { AllQuiet to_note.new.words.items clients.now }
     ensures notes { OnOk result (vec_len notes.new + count_leaving true clients.now + length (collected ends_at 0 clients.now) ≤ vec_capacity notes.new) }
     ensures given { IfOk result (λ memory. length (collected given_at 0 clients.now) ≤ vec_capacity memory.given) }
     ensures none { IfOk result (λ memory. memory.given.items ≡ []) }
@@ -172,7 +187,7 @@ pub fn memory_for<T: Drop, U: Drop, C: Drop>(
     ensures items { notes.new.items ≡ notes.old.items }
     ensures some { OnErr result (0 < count_leaving true clients.now + length (collected given_at 0 clients.now)) }
 {
-    let work = count_work(clients);
+    let work = count_work(clients, to_note);
     let count = work.gathered.saturating_add(work.leaving);
     if count == 0 {
         return Ok(CleanupMemory {
@@ -181,7 +196,7 @@ pub fn memory_for<T: Drop, U: Drop, C: Drop>(
         });
     }
     memory_for_notes(clients, &work, notes)?;
-    let order = order_of(alloc, clients, true, work.gathered)?;
+    let order = order_of(alloc, clients, to_note, true, work.gathered)?;
     let given = Vec::with_capacity(alloc, work.leaving)?;
     Ok(CleanupMemory { order, given })
 }
@@ -212,7 +227,7 @@ fn clean_up<T: Transport + Drop, U: Drop, C: Drop>(
         gather(clients, true, &memory.order, notes);
         return false;
     }
-    let refused = flush_each(clients, true);
+    let refused = flush_killed(clients);
     gather(clients, true, &memory.order, notes);
     leave_all(clients, notes, &mut memory.given);
     refused
@@ -236,7 +251,12 @@ impl<T: Transport + Drop, U: Drop, G: GlobalHandler<C> + Drop, C: Drop> Backend<
         ensures plain { CleansUpClients T.sends self.old result self.new }
     {
         let alloc = self.alloc();
-        match memory_for(alloc, &self.clients, &mut self.notes) {
+        match memory_for(
+            alloc,
+            &self.clients,
+            &mut self.touched.to_note,
+            &mut self.notes,
+        ) {
             Ok(mut memory) => {
                 self.refused = clean_up(
                     &mut self.clients,

@@ -3,14 +3,16 @@
 //! In this file `waits` says whether the notes that wait for a cleanup are gathered, too, after those that were made. The
 //! page of the module `notes` explains these words. The *slot* of a client is its index in the server's list of clients.
 
-ghost use Rattle.std.specs.Prelude.{◌≡◌, ℕ, ◌+◌, ◌++◌, ◌≤◌, ◌<◌, ◌==◌, ◌∷◌, [], if◌then◌else◌, length, map, false, None, Some, MatchOption, IfOk, IsPermutation, OnErr, OnOk};
+ghost use Rattle.std.specs.Prelude.{◌≡◌, ℕ, ◌+◌, ◌++◌, ◌≤◌, ◌<◌, ◌==◌, ◌∷◌, [], if◌then◌else◌, length, map, false, None, Some, MatchOption, IfOk, IsPermutation, IsTrue, OnErr, OnOk};
 ghost use Rattle.std.specs.Vec.{vec_capacity, vec_len};
 ghost use Rattle.wl_server.specs.Inside.Gathering.{AllLeft, Gathers, MovesNote, count_leaving, emptied};
 ghost use Rattle.wl_server.specs.NoteOrder.{AllNumbered, AllTakeFirst, Along, IsInOrder, IsNumbered, IsOrderOf, Rise, TakesFirst, places_at, places_of, slot_of, times_of, to_gather};
 ghost use Rattle.wl_server.specs.Inside.NoteOrder.{AreNumbered, NoneNumbered, count_places};
+ghost use Rattle.wl_server.specs.Inside.Touched.{AllQuiet, IsQuiet};
 ghost use Rattle.wl_server.specs.Server.{note_of as the_note};
 
 use crate::client::Client;
+use crate::client::slot_set::SlotSet;
 use crate::ids::client_id::ClientId;
 use crate::notes::queues::NotePlace;
 use crate::notes::{Happening, Note};
@@ -109,15 +111,37 @@ pub fn count_of<T, U, C>(client: &Option<Client<T, U, C>>, waits: bool) -> usize
     }
 }
 
-/// How many notes of all clients are gathered. `usize::MAX` stands for any larger number.
-pub fn count_notes<T, U, C>(clients: &[Option<Client<T, U, C>>], waits: bool) -> usize
+/// Whether the client of a slot is live and has no notes, if there is one.
+pub fn is_quiet<T, U, C>(client: &Option<Client<T, U, C>>) -> bool
+    ensures { IsTrue result → IsQuiet client.now }
+{
+    match client {
+        Some(client) => !client.is_killed && client.made.len() == 0 && client.waiting.len() == 0,
+        None => true,
+    }
+}
+
+/// How many notes of all clients are gathered. `usize::MAX` stands for any larger number. It looks at the clients that may
+/// have notes, and takes those out of the set that turn out to be quiet.
+pub fn count_notes<T, U, C>(
+    clients: &[Option<Client<T, U, C>>],
+    to_note: &mut SlotSet,
+    waits: bool,
+) -> usize
+    requires { AllQuiet to_note.old.words.items clients.now }
+    ensures quiet { AllQuiet to_note.new.words.items clients.now }
     ensures all { result < 0xFFFFFFFFFFFFFFFF → count_leaving waits clients.now ≤ result }
     ensures places { result < 0xFFFFFFFFFFFFFFFF → count_places waits (map times_of clients.now) ≤ result }
     ensures no_more { result ≤ count_leaving waits clients.now }
 {
+    let end = clients.len();
     let mut count: usize = 0;
-    for place in clients {
+    let mut slot = to_note.next_from(0, end);
+    while slot < end {
+        let place = &clients[slot];
         count = count.saturating_add(count_of(place, waits));
+        to_note.remove_if(slot, is_quiet(place));
+        slot = to_note.next_from(slot + 1, end);
     }
     count
 }
@@ -154,15 +178,20 @@ fn put_in_order(order: &mut Vec<NotePlace>)
 pub fn order_of<T, U, C>(
     alloc: Global,
     clients: &[Option<Client<T, U, C>>],
+    to_note: &SlotSet,
     waits: bool,
     count: usize,
 ) -> Result<Vec<NotePlace>, OutOfMemory>
-    requires { length clients.now ≤ 0x100000000 }
+    requires slots { length clients.now ≤ 0x100000000 }
+    requires quiet { AllQuiet to_note.now.words.items clients.now }
     ensures { IfOk result (λ order. IsOrderOf waits clients.now order.items) }
 {
     let mut order = Vec::with_capacity(alloc, count)?;
-    for slot in 0..clients.len() {
+    let end = clients.len();
+    let mut slot = to_note.next_from(0, end);
+    while slot < end {
         put_places_at(&clients[slot], waits, slot as u32, &mut order)?;
+        slot = to_note.next_from(slot + 1, end);
     }
     put_in_order(&mut order);
     Ok(order)
@@ -173,9 +202,12 @@ pub fn order_of<T, U, C>(
 pub fn gather_made<T, U, C>(
     alloc: Global,
     clients: &mut Vec<Option<Client<T, U, C>>>,
+    to_note: &mut SlotSet,
     notes: &mut Vec<Note<U>>,
 ) -> Result<(), OutOfMemory>
     requires slots { length clients.old.items ≤ 0x100000000 }
+    requires quiet { AllQuiet to_note.old.words.items clients.old.items }
+    ensures quiet { AllQuiet to_note.new.words.items clients.old.items }
     ensures gathered { IfOk result (λ _. Gathers false clients.old.items notes.old.items clients.new.items notes.new.items) }
     ensures ended { IfOk result (λ _. AllLeft false clients.new.items) }
     ensures numbered { AllNumbered clients.old.items → AllNumbered clients.new.items }
@@ -184,11 +216,11 @@ pub fn gather_made<T, U, C>(
     ensures unchanged { OnErr result ((clients.new.items ≡ clients.old.items) × (notes.new.items ≡ notes.old.items)) }
     ensures some { OnErr result (0 < count_leaving false clients.old.items) }
 {
-    let count = count_notes(clients, false);
+    let count = count_notes(clients, to_note, false);
     if count == 0 {
         return Ok(());
     }
-    let order = order_of(alloc, clients, false, count)?;
+    let order = order_of(alloc, clients, to_note, false, count)?;
     notes.reserve(count)?;
     gather(clients, false, &order, notes);
     Ok(())

@@ -27,7 +27,12 @@ impl<T: Transport + Drop, U: Drop, G: GlobalHandler<C> + Drop, C: Drop> Backend<
     {
         let alloc = self.alloc();
         self.refused = false;
-        match gather_made(alloc, &mut self.clients, &mut self.notes) {
+        match gather_made(
+            alloc,
+            &mut self.clients,
+            &mut self.touched.to_note,
+            &mut self.notes,
+        ) {
             Ok(()) => {
                 let none = Vec::new(alloc);
                 Ok(mem::replace(&mut self.notes, none))

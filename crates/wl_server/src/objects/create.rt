@@ -110,7 +110,7 @@ impl<T: Transport + Drop, U: Drop, G: GlobalHandler<C> + Drop, C: Drop> Backend<
         ensures plain { CreatesObject self.old client.now interface version user_data result self.new }
     {
         self.refused = false;
-        let Some(stored) = stored_mut(&mut self.clients, client) else {
+        let Some(stored) = stored_mut(&mut self.clients, &mut self.touched, client) else {
             return Err(CreateError::InvalidId);
         };
         let answer = stored.create_object(client, &self.protocol, interface, version, user_data);

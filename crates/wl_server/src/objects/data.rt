@@ -97,7 +97,7 @@ impl<T: Transport + Drop, U: Drop, G: GlobalHandler<C> + Drop, C: Drop> Backend<
     {
         self.refused = false;
         let client = id.client();
-        let Some(stored) = stored_mut(&mut self.clients, &client) else {
+        let Some(stored) = stored_mut(&mut self.clients, &mut self.touched, &client) else {
             return Err(InvalidId);
         };
         give_data(&mut stored.objects.map, id, user_data)
@@ -118,7 +118,7 @@ impl<T: Transport + Drop, U: Drop, G: GlobalHandler<C> + Drop, C: Drop> Backend<
     {
         self.refused = false;
         let client = id.client();
-        let Some(stored) = stored_mut(&mut self.clients, &client) else {
+        let Some(stored) = stored_mut(&mut self.clients, &mut self.touched, &client) else {
             return Err(InvalidId);
         };
         lend_data(&mut stored.objects.map, id, f)

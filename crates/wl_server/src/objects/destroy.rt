@@ -96,7 +96,7 @@ impl<T: Transport + Drop, U: Drop, G: GlobalHandler<C> + Drop, C: Drop> Backend<
     {
         self.refused = false;
         let client = id.client();
-        let Some(client) = stored_mut(&mut self.clients, &client) else {
+        let Some(client) = stored_mut(&mut self.clients, &mut self.touched, &client) else {
             return Err(DestroyError::InvalidId);
         };
         let answer = client.destroy_object(&mut self.numbers, id);

@@ -301,7 +301,7 @@ impl<T: Transport + Drop, U: Drop, G: GlobalHandler<C> + Drop, C: Drop> Backend<
         ensures data { ReturnsRequestData self.old client.now user_data result self.new }
     {
         self.refused = false;
-        let Some(stored) = stored_mut(&mut self.clients, client) else {
+        let Some(stored) = stored_mut(&mut self.clients, &mut self.touched, client) else {
             let error = FinishError::InvalidId;
             return Err(FinishRefused { error, user_data });
         };
@@ -348,7 +348,7 @@ impl<T: Transport + Drop, U: Drop, G: GlobalHandler<C> + Drop, C: Drop> Backend<
         ensures data { ReturnsBindData self.old client.now user_data result self.new }
     {
         self.refused = false;
-        let Some(stored) = stored_mut(&mut self.clients, client) else {
+        let Some(stored) = stored_mut(&mut self.clients, &mut self.touched, client) else {
             let error = FinishError::InvalidId;
             return Err(FinishRefused { error, user_data });
         };

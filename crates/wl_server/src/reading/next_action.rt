@@ -297,7 +297,7 @@ impl<T: Transport + Drop, U: Drop, G: GlobalHandler<C> + Drop, C: Drop> Backend<
             → Calls (over T.sends T.receives G.views) self.old (step.NextActionWithin id.now reading.old) (reply.NextActionWithin answer reading.new) self.new }
     {
         self.refused = false;
-        let Some(client) = stored_mut(&mut self.clients, id) else {
+        let Some(client) = stored_mut(&mut self.clients, &mut self.touched, id) else {
             return Err(ActionError::Io(IoFault::InvalidInput));
         };
         let around = Surroundings {

@@ -80,7 +80,7 @@ impl<U: Drop, G: GlobalHandler<C> + Drop, C: Drop> Backend<Memory, U, G, C> {
         ensures { Calls (over_scripts G.views) self.old (step_of id.now call) (reply_to call result) self.new }
     {
         self.refused = false;
-        let Some(client) = stored_mut(&mut self.clients, id) else {
+        let Some(client) = stored_mut(&mut self.clients, &mut self.touched, id) else {
             return Err(ScriptError::InvalidId);
         };
         let answer = make_move(client.socket.transport_mut(), call);
@@ -98,7 +98,7 @@ impl<U: Drop, G: GlobalHandler<C> + Drop, C: Drop> Backend<Memory, U, G, C> {
         ensures { Calls (over_scripts G.views) self.old (step.TakeSent id.now) (reply.TakeSent result) self.new }
     {
         self.refused = false;
-        let Some(client) = stored_mut(&mut self.clients, id) else {
+        let Some(client) = stored_mut(&mut self.clients, &mut self.touched, id) else {
             return Err(InvalidId);
         };
         Ok(client.socket.transport_mut().take_sent())

@@ -42,8 +42,11 @@ returns-clause-call g c = rw (← c.self.view_is)
     c.lacks_memory-self-inside.result refl c.in-Some.ensures.value
     (does c.self.inside.protocol c.args.client.now c.in-Some.stored.now c.create_object-answer.new.self c.args.interface c.args.version c.args.user_data c.create_object-answer.result _ c.lacks_memory-self-inside.ensures c.create_object-answer.ensures.does) _ (in_time_same _ _ _ _ c.create_object-answer.ensures.times refl) c.create_object-answer.ensures.numbered c.self.invariant.2)
 
+pub invariant_of-self : goal.invariant_of-self
+invariant_of-self g c = (c.self.invariant.0, c.self.invariant.1, c.self.invariant.2, c.in_default.ensures.touched c.self.invariant.3)
+
 pub invariant_of-self-2 : goal.invariant_of-self-2
-invariant_of-self-2 g c = (slots_set _ _ _ _ _ c.self.invariant.0, numbers_stay _ _ _ _ _ c.in-Some.ensures.value c.create_object-answer.ensures.times c.self.invariant.1, numbered_at _ _ _ _ c.in-Some.ensures.value c.create_object-answer.ensures.numbered c.self.invariant.2)
+invariant_of-self-2 g c = (slots_set _ _ _ _ _ c.self.invariant.0, numbers_stay _ _ _ _ _ c.in-Some.ensures.value c.create_object-answer.ensures.times c.self.invariant.1, numbered_at _ _ _ _ c.in-Some.ensures.value c.create_object-answer.ensures.numbered c.self.invariant.2, c.in-Some.ensures.touched c.self.invariant.3 _)
 
 pub returns-in_default-clause-plain : goal.returns-in_default-clause-plain
 returns-in_default-clause-plain g c = creates_object _ _ _ _ _ (returns-in_default-clause-call g c)

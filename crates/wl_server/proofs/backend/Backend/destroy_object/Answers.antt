@@ -42,8 +42,11 @@ returns-clause-call g c = rw (← c.self.view_is)
     (λ i l d b a h. (_, refl, h)) _ c.in-Some.client.now c.destroy_object-answer.new.self c.lacks_memory-self-inside.result
     c.client-client.ensures c.in-Some.ensures.value (does g.T.Transport.sends c.args.id.now c.in-Some.client.now c.destroy_object-answer.new.self c.destroy_object-answer.result _ c.lacks_memory-self-inside.ensures c.destroy_object-answer.ensures.does) _ c.destroy_object-answer.ensures.in_time c.destroy_object-answer.ensures.numbered c.self.invariant.2)
 
+pub invariant_of-self : goal.invariant_of-self
+invariant_of-self g c = (c.self.invariant.0, c.self.invariant.1, c.self.invariant.2, c.in_default.ensures.touched c.self.invariant.3)
+
 pub invariant_of-self-2 : goal.invariant_of-self-2
-invariant_of-self-2 g c = (slots_set _ _ _ _ _ c.self.invariant.0, numbers_set _ _ _ _ _ _ c.in-Some.ensures.value c.destroy_object-answer.ensures.in_time c.self.invariant.1, numbered_at _ _ _ _ c.in-Some.ensures.value c.destroy_object-answer.ensures.numbered c.self.invariant.2)
+invariant_of-self-2 g c = (slots_set _ _ _ _ _ c.self.invariant.0, numbers_set _ _ _ _ _ _ c.in-Some.ensures.value c.destroy_object-answer.ensures.in_time c.self.invariant.1, numbered_at _ _ _ _ c.in-Some.ensures.value c.destroy_object-answer.ensures.numbered c.self.invariant.2, c.in-Some.ensures.touched c.self.invariant.3 _)
 
 pub returns-in_default-clause-plain : goal.returns-in_default-clause-plain
 returns-in_default-clause-plain g c = destroys_object _ _ (returns-in_default-clause-call g c)

@@ -45,8 +45,11 @@ returns-in_default-clause-cutting g c = ((returns-in_default-clause-call g c).st
 pub returns-clause-cutting : goal.returns-clause-cutting
 returns-clause-cutting g c = ((returns-clause-call g c).step, histories_cut _ _ _ _)
 
+pub invariant_of-self : goal.invariant_of-self
+invariant_of-self g c = (c.self.invariant.0, c.self.invariant.1, c.self.invariant.2, c.in_default.ensures.touched c.self.invariant.3)
+
 pub invariant_of-self-2 : goal.invariant_of-self-2
-invariant_of-self-2 g c = (slots_set _ _ _ _ _ c.self.invariant.0, numbers_stay _ _ _ _ _ c.in-Some.ensures.value c.finish_bind.ensures.times c.self.invariant.1, numbered_at _ _ _ _ c.in-Some.ensures.value c.finish_bind.ensures.numbered c.self.invariant.2)
+invariant_of-self-2 g c = (slots_set _ _ _ _ _ c.self.invariant.0, numbers_stay _ _ _ _ _ c.in-Some.ensures.value c.finish_bind.ensures.times c.self.invariant.1, numbered_at _ _ _ _ c.in-Some.ensures.value c.finish_bind.ensures.numbered c.self.invariant.2, c.in-Some.ensures.touched c.self.invariant.3 _)
 
 pub returns-in_default-clause-plain : goal.returns-in_default-clause-plain
 returns-in_default-clause-plain g c = ends_bind _ _ _ (returns-in_default-clause-call g c)

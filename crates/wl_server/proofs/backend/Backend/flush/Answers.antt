@@ -23,20 +23,21 @@ felt client answer = record { last = refl; client = λ b. tt; order = tt; room =
 pub returns-in_default-clause-call : goal.returns-in_default-clause-call
 returns-in_default-clause-call g c =
     rw (← c.self.view_is, c.in_default.is)
-    (felt_call _ _ _ _ (felt _ _) (λ id p lacked did q. FlushesLive g.T.Transport.sends p lacked did q) c.flush_each-self-inside.result _ c.flush_each-self-inside.new.clients.items
-    _ refl tt refl (λ i l d b a h. (_, refl, (refl, h))) c.flush_each-self-inside.ensures.felt (all_same _ _ _ c.flush_each-self-inside.ensures.times)
-    (c.flush_each-self-inside.ensures.numbered c.self.invariant.2))
+    (felt_call _ _ _ _ (felt _ _) (λ id p lacked did q. FlushesLive g.T.Transport.sends p lacked did q) c.flush_live-self-inside.result _ c.flush_live-self-inside.new.clients.items
+    _ refl tt refl (λ i l d b a h. (_, refl, (refl, h))) c.flush_live-self-inside.ensures.felt (all_same _ _ _ c.flush_live-self-inside.ensures.times)
+    (c.flush_live-self-inside.ensures.numbered c.self.invariant.2))
 
 pub invariant_of-self : goal.invariant_of-self
 invariant_of-self g c =
-    let all = c.flush_each-self-inside.ensures.felt in
+    let all = c.flush_live-self-inside.ensures.felt in
     let same = all.len in
     let before = c.self.inside.clients.ok.0 in
-    let after = c.flush_each-self-inside.new.clients.ok.0 in
+    let after = c.flush_live-self-inside.new.clients.ok.0 in
     let within = c.self.invariant.0.within in (
       record { within = omega (arith, same, before, after, within); taken = taken_felt _ _ _ _ _ all c.self.invariant.0.taken },
-      subst (λ (ts : List NoteTimes). HasNumbers c.self.inside.numbers ts) (sym c.flush_each-self-inside.ensures.times) c.self.invariant.1,
-      c.flush_each-self-inside.ensures.numbered c.self.invariant.2,
+      subst (λ (ts : List NoteTimes). HasNumbers c.self.inside.numbers ts) (sym c.flush_live-self-inside.ensures.times) c.self.invariant.1,
+      c.flush_live-self-inside.ensures.numbered c.self.invariant.2,
+      record { sent = c.flush_live-self-inside.ensures.sent; quiet = c.flush_live-self-inside.ensures.quiet _ c.self.invariant.3.quiet },
     )
 
 pub returns-in_default-stored_mut-clause-call : goal.returns-in_default-stored_mut-clause-call
@@ -53,8 +54,11 @@ returns-clause-call g c =
     (done_to _ _ _ _ (own _ _) c.in-Some.id (λ i p lacked did q. FlushedTo g.T.Transport.sends p c.flush-answer.result lacked did q) (c.flush-answer.result ≡ Ok tt) (λ i l d b a h. (_, refl, h))
     _ c.in-Some-stored_mut.client.now c.flush-answer.new.self c.is_out_of_memory-self-inside.result refl c.in-Some-stored_mut.ensures.value does _ (in_time_same _ _ _ _ c.flush-answer.ensures.times refl) c.flush-answer.ensures.numbered c.self.invariant.2)
 
+pub invariant_of-self-in_default-stored_mut : goal.invariant_of-self-in_default-stored_mut
+invariant_of-self-in_default-stored_mut g c = (c.self.invariant.0, c.self.invariant.1, c.self.invariant.2, c.in_default-stored_mut.ensures.touched c.self.invariant.3)
+
 pub invariant_of-self-2 : goal.invariant_of-self-2
-invariant_of-self-2 g c = (slots_set _ _ _ _ _ c.self.invariant.0, numbers_stay _ _ _ _ _ c.in-Some-stored_mut.ensures.value c.flush-answer.ensures.times c.self.invariant.1, numbered_at _ _ _ _ c.in-Some-stored_mut.ensures.value c.flush-answer.ensures.numbered c.self.invariant.2)
+invariant_of-self-2 g c = (slots_set _ _ _ _ _ c.self.invariant.0, numbers_stay _ _ _ _ _ c.in-Some-stored_mut.ensures.value c.flush-answer.ensures.times c.self.invariant.1, numbered_at _ _ _ _ c.in-Some-stored_mut.ensures.value c.flush-answer.ensures.numbered c.self.invariant.2, c.in-Some-stored_mut.ensures.touched c.self.invariant.3 _)
 
 pub returns-in_default-clause-plain : goal.returns-in_default-clause-plain
 returns-in_default-clause-plain g c = flushes_clients _ _ (returns-in_default-clause-call g c)

@@ -35,6 +35,7 @@ invariant_of-self-in-Ok g c =
       },
       all.1.keeps c.self.invariant.1,
       c.put_new.ensures.numbered c.self.invariant.2,
+      c.put_new.ensures.touched c.self.invariant.3,
     )
 
 pub invariant_of-self-in-Err : goal.invariant_of-self-in-Err
@@ -45,6 +46,7 @@ invariant_of-self-in-Err g c = (
   },
   (c.put_new.ensures.in_time c.in-Some.ensures.next.0.free).1.keeps c.self.invariant.1,
   c.put_new.ensures.numbered c.self.invariant.2,
+  c.put_new.ensures.touched c.self.invariant.3,
 )
 
 pub returns-in_default-clause-plain : goal.returns-in_default-clause-plain

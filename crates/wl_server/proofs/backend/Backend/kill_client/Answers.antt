@@ -33,8 +33,11 @@ returns-clause-call g c = rw (← c.self.view_is)
     (done_to _ _ _ _ (own _ _) c.args.id.now (kills c.args.reason) (Unit {0}) (λ i l d b a h. (refl, h))
     _ c.in-Some.client.now c.kill.new.self false refl c.in-Some.ensures.value (kill_does c.in-Some.client.now _ c.kill.new.self c.kill.ensures.killed) _ c.kill.ensures.in_time c.kill.ensures.numbered c.self.invariant.2)
 
+pub invariant_of-self : goal.invariant_of-self
+invariant_of-self g c = (c.self.invariant.0, c.self.invariant.1, c.self.invariant.2, c.in_default.ensures.touched c.self.invariant.3)
+
 pub invariant_of-self-2 : goal.invariant_of-self-2
-invariant_of-self-2 g c = (slots_set _ _ _ _ _ c.self.invariant.0, numbers_set _ _ _ _ _ _ c.in-Some.ensures.value c.kill.ensures.in_time c.self.invariant.1, numbered_at _ _ _ _ c.in-Some.ensures.value c.kill.ensures.numbered c.self.invariant.2)
+invariant_of-self-2 g c = (slots_set _ _ _ _ _ c.self.invariant.0, numbers_set _ _ _ _ _ _ c.in-Some.ensures.value c.kill.ensures.in_time c.self.invariant.1, numbered_at _ _ _ _ c.in-Some.ensures.value c.kill.ensures.numbered c.self.invariant.2, c.in-Some.ensures.touched c.self.invariant.3 _)
 
 pub returns-in_default-clause-plain : goal.returns-in_default-clause-plain
 returns-in_default-clause-plain g c = kills_client _ _ (returns-in_default-clause-call g c)

@@ -39,8 +39,11 @@ returns-clause-call g c = rw (← c.self.view_is)
     (λ i l d b a h. (refl, h)) _ c.in-Some.client.now c.post_error-self-inside.new.self c.post_error-self-inside.result
     c.client-client.ensures c.in-Some.ensures.value c.post_error-self-inside.ensures.does _ c.post_error-self-inside.ensures.in_time c.post_error-self-inside.ensures.numbered c.self.invariant.2)
 
+pub invariant_of-self : goal.invariant_of-self
+invariant_of-self g c = (c.self.invariant.0, c.self.invariant.1, c.self.invariant.2, c.in_default.ensures.touched c.self.invariant.3)
+
 pub invariant_of-self-2 : goal.invariant_of-self-2
-invariant_of-self-2 g c = (slots_set _ _ _ _ _ c.self.invariant.0, numbers_set _ _ _ _ _ _ c.in-Some.ensures.value c.post_error-self-inside.ensures.in_time c.self.invariant.1, numbered_at _ _ _ _ c.in-Some.ensures.value c.post_error-self-inside.ensures.numbered c.self.invariant.2)
+invariant_of-self-2 g c = (slots_set _ _ _ _ _ c.self.invariant.0, numbers_set _ _ _ _ _ _ c.in-Some.ensures.value c.post_error-self-inside.ensures.in_time c.self.invariant.1, numbered_at _ _ _ _ c.in-Some.ensures.value c.post_error-self-inside.ensures.numbered c.self.invariant.2, c.in-Some.ensures.touched c.self.invariant.3 _)
 
 pub returns-in_default-clause-exactly : goal.returns-in_default-clause-exactly
 returns-in_default-clause-exactly g c = λ p q before after.

@@ -13,6 +13,7 @@ use Rattle.wl_server.specs.declared.runs.step.Step.TheVariants as step
 use Rattle.wl_server.specs.NoteOrder.{AllInTime, AllNumbered, times_of}
 use Rattle.wl_server.proofs.CallSteps.Feeling.{IsFelt, felt_call, unfelt_call}
 use Rattle.wl_server.proofs.CleanupSteps.Taken.{slots_felt}
+use Rattle.wl_server.proofs.Touched.Kept.{all_touched}
 use Rattle.wl_server.proofs.Plain.Globals.{removes_global}
 use Rattle.wl_server.proofs.backend.Backend.remove_global.Goals as goal
 
@@ -50,6 +51,7 @@ invariant_of-self g c =
       slots_felt _ _ _ _ _ _ all c.self.invariant.0,
       numbers.1.keeps c.self.invariant.1,
       subst (λ (xs : List (Option (Stored _ _ _))). AllNumbered xs → AllNumbered c.tell_loss-self-inside.new.clients) c.deref_mut.ensures.value c.tell_loss-self-inside.ensures.numbered c.self.invariant.2,
+      all_touched c.insert_all.new.self _ c.insert_all.ensures.to_send c.insert_all.ensures.to_note,
     )
 
 pub returns-then-was_enabled-clause-plain : goal.returns-then-was_enabled-clause-plain

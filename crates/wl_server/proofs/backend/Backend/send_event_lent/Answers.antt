@@ -40,8 +40,11 @@ returns-clause-call g c = rw (← c.self.view_is)
     c.client-id.ensures c.in-Some.ensures.value
     c.send_event-answer.ensures.does _ c.send_event-answer.ensures.in_time c.send_event-answer.ensures.numbered c.self.invariant.2)
 
+pub invariant_of-self : goal.invariant_of-self
+invariant_of-self g c = (c.self.invariant.0, c.self.invariant.1, c.self.invariant.2, c.in_default.ensures.touched c.self.invariant.3)
+
 pub invariant_of-self-2 : goal.invariant_of-self-2
-invariant_of-self-2 g c = (slots_set _ _ _ _ _ c.self.invariant.0, numbers_set _ _ _ _ _ _ c.in-Some.ensures.value c.send_event-answer.ensures.in_time c.self.invariant.1, numbered_at _ _ _ _ c.in-Some.ensures.value c.send_event-answer.ensures.numbered c.self.invariant.2)
+invariant_of-self-2 g c = (slots_set _ _ _ _ _ c.self.invariant.0, numbers_set _ _ _ _ _ _ c.in-Some.ensures.value c.send_event-answer.ensures.in_time c.self.invariant.1, numbered_at _ _ _ _ c.in-Some.ensures.value c.send_event-answer.ensures.numbered c.self.invariant.2, c.in-Some.ensures.touched c.self.invariant.3 _)
 
 pub returns-in_default-clause-plain : goal.returns-in_default-clause-plain
 returns-in_default-clause-plain g c = emits_event _ _ _ c.args.message.now _ (returns-in_default-clause-call g c)

@@ -46,6 +46,9 @@ returns-clause-call g c = rw (← c.self.view_is)
       ap (λ (s : Stored _ _ _). length s.times.waiting) c.stored.view_is ∙ (is.1 ∙ sym (ap (λ (s : Stored _ _ _). length s.part.waiting) c.stored.view_is)),
     )) c.self.invariant.2)
 
+pub invariant_of-self : goal.invariant_of-self
+invariant_of-self g c = (c.self.invariant.0, c.self.invariant.1, c.self.invariant.2, c.in_default.ensures.touched c.self.invariant.3)
+
 pub invariant_of-self-2 : goal.invariant_of-self-2
 invariant_of-self-2 g c = (
   slots_set _ _ _ _ _ c.self.invariant.0,
@@ -54,6 +57,7 @@ invariant_of-self-2 g c = (
     ap (λ (s : Stored _ _ _). length s.times.made) c.stored.view_is ∙ (is.0 ∙ sym (ap (λ (s : Stored _ _ _). length s.made) c.stored.view_is)),
     ap (λ (s : Stored _ _ _). length s.times.waiting) c.stored.view_is ∙ (is.1 ∙ sym (ap (λ (s : Stored _ _ _). length s.part.waiting) c.stored.view_is)),
   )) c.self.invariant.2,
+  c.in-Some.ensures.touched c.self.invariant.3 _,
 )
 
 pub returns-in_default-clause-plain : goal.returns-in_default-clause-plain

@@ -1,9 +1,10 @@
-use Rattle.std.proofs.Common.{◌∙◌, Vec, ap, arith}
+use Rattle.std.proofs.Common.{◌∙◌, Vec, ap, arith, false}
 use Rattle.wl_server.proofs.CallSteps.Numbering.{numbers_left}
 use Rattle.wl_server.proofs.CleanupSteps.GatheredSlots.{slots_kept}
 use Rattle.wl_server.proofs.CleanupSteps.TakingNotes.{notes_starved, notes_taken}
 use Rattle.wl_server.proofs.CleanupSteps.Taken.{taken_kept}
 use Rattle.wl_server.proofs.Plain.Cleanup.{takes_notes}
+use Rattle.wl_server.proofs.Touched.Gathered.{emptied_kept, quiet_gathered, sent_emptied}
 use Rattle.wl_server.proofs.backend.Backend.take_notes.Goals as goal
 
 pub returns-in-Ok-clause-call : goal.returns-in-Ok-clause-call
@@ -20,6 +21,7 @@ invariant_of-self g c =
     let same = slots_kept _ _ _ _ _ c.gather_made.ensures.gathered c.gather_made.ensures.unchanged in
     let before = c.self.inside.clients.ok.0 in
     let after = c.gather_made.new.clients.ok.0 in
+    let emptied = emptied_kept _ _ _ _ _ c.gather_made.ensures.gathered c.gather_made.ensures.unchanged in
     let within = c.self.invariant.0.within in (
       record {
         within = omega (arith, same, before, after, within);
@@ -27,6 +29,10 @@ invariant_of-self g c =
       },
       numbers_left _ _ _ c.gather_made.ensures.first c.self.invariant.1,
       c.gather_made.ensures.numbered c.self.invariant.2,
+      record {
+        sent = sent_emptied false _ _ _ emptied c.self.invariant.3.sent;
+        quiet = quiet_gathered _ _ _ emptied c.gather_made.ensures.first (c.gather_made.ensures.numbered c.self.invariant.2) c.gather_made.ensures.quiet;
+      },
     )
 
 pub invariant_of-self-in-Err : goal.invariant_of-self-in-Err
@@ -34,6 +40,7 @@ invariant_of-self-in-Err g c =
     let same = slots_kept _ _ _ _ _ c.gather_made.ensures.gathered c.gather_made.ensures.unchanged in
     let before = c.self.inside.clients.ok.0 in
     let after = c.gather_made.new.clients.ok.0 in
+    let emptied = emptied_kept _ _ _ _ _ c.gather_made.ensures.gathered c.gather_made.ensures.unchanged in
     let within = c.self.invariant.0.within in (
       record {
         within = omega (arith, same, before, after, within);
@@ -41,6 +48,10 @@ invariant_of-self-in-Err g c =
       },
       numbers_left _ _ _ c.gather_made.ensures.first c.self.invariant.1,
       c.gather_made.ensures.numbered c.self.invariant.2,
+      record {
+        sent = sent_emptied false _ _ _ emptied c.self.invariant.3.sent;
+        quiet = quiet_gathered _ _ _ emptied c.gather_made.ensures.first (c.gather_made.ensures.numbered c.self.invariant.2) c.gather_made.ensures.quiet;
+      },
     )
 
 pub returns-in-Ok-clause-plain : goal.returns-in-Ok-clause-plain

@@ -13,6 +13,7 @@ use Rattle.wl_server.specs.Server.{ServerState, Stored, client_at}
 use Rattle.wl_server.proofs.CallSteps.Changing.{changed}
 use Rattle.wl_server.proofs.CallSteps.Slots.{slot_of_client}
 use Rattle.wl_server.proofs.CleanupSteps.Taken.{slots_set}
+use Rattle.wl_server.proofs.Touched.Moved.{moved_touched}
 use Rattle.wl_server.proofs.backend.Backend.transport_mut.Goals as goal
 
 -- the transport of a stored client, if there is one
@@ -52,4 +53,4 @@ returns g c = (
 )
 
 pub invariant_of-self-lent : goal.invariant_of-self-lent
-invariant_of-self-lent g c = λ w. (slots_set _ _ _ _ _ c.self.invariant.0, numbers_stay _ _ _ _ _ c.in-Some.ensures.value refl c.self.invariant.1, numbered_at _ _ _ _ c.in-Some.ensures.value (λ is. is) c.self.invariant.2)
+invariant_of-self-lent g c = λ w. (slots_set _ _ _ _ _ c.self.invariant.0, numbers_stay _ _ _ _ _ c.in-Some.ensures.value refl c.self.invariant.1, numbered_at _ _ _ _ c.in-Some.ensures.value (λ is. is) c.self.invariant.2, moved_touched _ _ c.args.id.now c.in-Some.client.now w c.in-Some.ensures.value c.self.invariant.3)

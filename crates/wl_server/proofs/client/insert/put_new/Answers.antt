@@ -1,8 +1,10 @@
-use Rattle.std.proofs.Common.{◌≡◌, Option, List, Some, arith, subst}
+use Rattle.std.proofs.Common.{◌≡◌, Option, List, Some, arith, refl, subst, sym}
 use Rattle.wl_server.specs.Inside.Client.{IsInserted}
 use Rattle.wl_server.specs.Inside.Inserting.{IsPut}
 use Rattle.wl_server.specs.Server.{Stored}
 use Rattle.wl_server.proofs.CallSteps.Numbering.{numbered_put, put_in_time}
+use Rattle.wl_server.specs.Inside.Touched.{AreTouched}
+use Rattle.wl_server.proofs.Touched.Kept.{put_touched, stay_touched}
 use Rattle.wl_server.proofs.client.insert.put_new.Goals as goal
 
 moved : {T U C : Type 0} (xs ys after : List (Option (Stored T U C))) (n m : _) (s : Stored T U C) → xs ≡ ys → n ≡ m → IsPut xs n s after → IsPut ys m s after
@@ -31,3 +33,19 @@ pub returns-clause-numbered : goal.returns-clause-numbered
 returns-clause-numbered g c all =
     numbered_put c.args.clients.now.items c.put_at.new.clients.items c.args.id.now.slot c.in_ok-client.client
     (moved _ _ _ _ _ _ c.in_ok-reserve_slot.ensures.items c.slot-slot.ensures c.put_at.ensures.put) c.in_ok-client.ensures.numbered all
+
+pub returns-clause-touched : goal.returns-clause-touched
+returns-clause-touched g c are =
+    put_touched c.reserve_slot.new.touched c.insert.new.self c.args.clients.now.items c.put_at.new.clients.items c.slot-slot.result c.in_ok-client.client c.insert.ensures.to_send c.insert.ensures.to_note
+    (moved _ _ _ _ _ _ c.in_ok-reserve_slot.ensures.items refl c.put_at.ensures.put)
+    (stay_touched c.args.touched.now c.reserve_slot.new.touched c.args.clients.now.items c.reserve_slot.ensures.touched are)
+
+pub returns-in_err-reserve_slot-clause-touched : goal.returns-in_err-reserve_slot-clause-touched
+returns-in_err-reserve_slot-clause-touched g c are =
+    subst (λ (clients : List (Option (Stored _ _ _))). AreTouched c.reserve_slot.new.touched clients) (sym c.reserve_slot.ensures.items)
+    (stay_touched c.args.touched.now c.reserve_slot.new.touched c.args.clients.now.items c.reserve_slot.ensures.touched are)
+
+pub returns-in_err-client-clause-touched : goal.returns-in_err-client-clause-touched
+returns-in_err-client-clause-touched g c are =
+    subst (λ (clients : List (Option (Stored _ _ _))). AreTouched c.reserve_slot.new.touched clients) (sym c.reserve_slot.ensures.items)
+    (stay_touched c.args.touched.now c.reserve_slot.new.touched c.args.clients.now.items c.reserve_slot.ensures.touched are)

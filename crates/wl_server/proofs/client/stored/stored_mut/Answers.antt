@@ -1,22 +1,19 @@
-use Rattle.std.proofs.Common.{◌≡◌, ◌∙◌, ℕ, Option, None, Some, is_some, true, ap, inl, sym, MutBor}
-use Rattle.std.proofs.Math.Path.{fun_ext}
-use Rattle.std.proofs.lemmas.Bool.{false≢true}
-use Rattle.std.specs.Option.{ghost_name_of}
+use Rattle.std.proofs.Common.{◌∙◌, ℕ, Some, is_some, ap, sym}
 use Rattle.std.specs.Vec.{with_item}
-use borrow.Follows.Closed.{read_of}
+use Rattle.wl_server.proofs.CallSteps.Lent.{read_same}
 use Rattle.wl_server.proofs.CallSteps.Slots.{slot_reads}
+use Rattle.wl_server.proofs.Touched.Kept.{looked_up}
 use Rattle.wl_server.proofs.client.stored.stored_mut.Goals as goal
-
--- where there is a reference, what it is followed by decides
-read_same : {D E : Type 0} (o : Option (MutBor E)) (F G : E → D) (v w : D) → is_some o ≡ true → ((z : E) → F z ≡ G z)
-    → read_of (ghost_name_of o) F v ≡ read_of (ghost_name_of o) G w
-read_same None F G v w some same = absurd (false≢true some)
-read_same (Some r) F G v w some same = ap (λ f. inl (r.ghost_name, f)) (fun_ext same)
 
 pub returns-then-is_stored : goal.returns-then-is_stored
 returns-then-is_stored g c =
     let stored = sym c.is_stored.ensures.stored ∙ c.if-is_stored.true in
-    let reads = slot_reads c.args.clients.now.items c.args.id.now c.slot.result c.index_mut.result.now stored c.slot.ensures c.index_mut.ensures.value in (
-      read_same c.as_mut.result _ _ _ _ (c.as_mut.ensures.variant ∙ (ap is_some reads ∙ stored)) (λ z. ap (λ (n : ℕ). with_item c.args.clients.now n (Some z)) c.slot.ensures),
-      record { lends = tt; value = c.as_mut.ensures.value ∙ reads },
+    let reads = slot_reads c.args.clients.now.items c.args.id.now c.slot-slot.result c.index_mut.result.now stored c.slot-slot.ensures c.index_mut.ensures.value in (
+      read_same c.as_mut.result _ _ _ _ (c.as_mut.ensures.variant ∙ (ap is_some reads ∙ stored)) (λ z. ap (λ (n : ℕ). with_item c.args.clients.now n (Some z)) c.slot-slot.ensures),
+      record {
+        lends = tt;
+        value = c.as_mut.ensures.value ∙ reads;
+        touched = looked_up c.as_mut.result c.args.touched.now c.insert.new.self c.args.clients.now.items c.slot-slot.result c.args.id.now.slot c.slot-slot.ensures
+            c.insert.ensures.to_send c.insert.ensures.to_note;
+      },
     )

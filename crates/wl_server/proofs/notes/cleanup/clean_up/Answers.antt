@@ -38,25 +38,25 @@ gather-requires-clause-room g c = let fits = c.requires.notes in omega (arith, f
 
 pub gather-requires-2-clause-order : goal.gather-requires-2-clause-order
 gather-requires-2-clause-order g c =
-    subst (λ (l : List NotePlace). IsOrderOf true c.flush_each-refused.new.clients.items l) (sym c.deref-2.ensures.value)
-    (flushed_order g.T.Transport.sends _ _ _ _ c.flush_each-refused.ensures.felt c.flush_each-refused.ensures.times c.requires.order)
+    subst (λ (l : List NotePlace). IsOrderOf true c.flush_killed-refused.new.clients.items l) (sym c.deref-2.ensures.value)
+    (flushed_order g.T.Transport.sends _ _ _ _ c.flush_killed-refused.ensures.felt c.flush_killed-refused.ensures.times c.requires.order)
 
 pub gather-requires-2-clause-room : goal.gather-requires-2-clause-room
 gather-requires-2-clause-room g c =
-    let same = (flushed_counts g.T.Transport.sends _ _ _ c.flush_each-refused.ensures.felt).0 in
+    let same = (flushed_counts g.T.Transport.sends _ _ _ c.flush_killed-refused.ensures.felt).0 in
     let fits = c.requires.notes in
     omega (arith, same, fits)
 
 pub leave_all-requires-clause-slots : goal.leave_all-requires-clause-slots
 leave_all-requires-clause-slots g c =
-    let len = c.flush_each-refused.ensures.felt.len in
+    let len = c.flush_killed-refused.ensures.felt.len in
     let few = c.requires.slots in
     let gathered = gathers_length _ _ _ _ _ c.gather-2.ensures.gathered in
     omega (arith, len, few, gathered)
 
 pub leave_all-requires-clause-notes : goal.leave_all-requires-clause-notes
 leave_all-requires-clause-notes g c =
-    let counts = flushed_counts g.T.Transport.sends _ _ _ c.flush_each-refused.ensures.felt in
+    let counts = flushed_counts g.T.Transport.sends _ _ _ c.flush_killed-refused.ensures.felt in
     let same = counts.0 in
     let ends = counts.1 in
     let gathered = ap length (gathered_ends _ _ _ _ c.gather-2.ensures.gathered) in
@@ -69,7 +69,7 @@ leave_all-requires-clause-notes g c =
 
 pub leave_all-requires-clause-given : goal.leave_all-requires-clause-given
 leave_all-requires-clause-given g c =
-    let same = (flushed_counts g.T.Transport.sends _ _ _ c.flush_each-refused.ensures.felt).2 in
+    let same = (flushed_counts g.T.Transport.sends _ _ _ c.flush_killed-refused.ensures.felt).2 in
     let gathered = ap length (gathered_given _ _ _ _ c.gather-2.ensures.gathered) in
     let none = ap length c.requires.none in
     let long = c.args.memory.now.given.ok.0 in
@@ -78,10 +78,10 @@ leave_all-requires-clause-given g c =
 
 pub returns-clause-cleaned : goal.returns-clause-cleaned
 returns-clause-cleaned g c = record {
-  flushed = c.flush_each-refused.new.clients.items;
+  flushed = c.flush_killed-refused.new.clients.items;
   left = c.gather-2.new.clients.items;
   told = c.gather-2.new.notes.items;
-  flushes = c.flush_each-refused.ensures.felt;
+  flushes = c.flush_killed-refused.ensures.felt;
   gathers = c.gather-2.ensures.gathered;
   all = c.gather-2.ensures.ended;
   in_order = (c.args.memory.now.order.items, c.requires.order, subst (λ (l : List NotePlace). Along c.args.notes.now.items c.gather-2.new.notes.items l) c.deref-2.ensures.value c.gather-2.ensures.along);
@@ -93,7 +93,7 @@ returns-clause-cleaned g c = record {
 pub returns-clause-first : goal.returns-clause-first
 returns-clause-first g c =
     all_take_both _ _ _
-    (subst (λ (ts : List NoteTimes). AllTakeFirst ts (map times_of c.gather-2.new.clients.items)) c.flush_each-refused.ensures.times c.gather-2.ensures.first)
+    (subst (λ (ts : List NoteTimes). AllTakeFirst ts (map times_of c.gather-2.new.clients.items)) c.flush_killed-refused.ensures.times c.gather-2.ensures.first)
     (subst (λ (xs : List (Option (Stored _ _ _))). AllTakeFirst (map times_of c.gather-2.new.clients.items) (map times_of xs)) (sym c.leave_all.ensures.stay)
     (all_take_leave c.gather-2.new.clients.items))
 
@@ -109,4 +109,4 @@ returns-clause-none_waits g c =
 pub returns-clause-numbered : goal.returns-clause-numbered
 returns-clause-numbered g c all =
     subst (λ (xs : List (Option (Stored _ _ _))). AllNumbered xs) (sym c.leave_all.ensures.stay)
-    (numbered_staying c.gather-2.new.clients.items (c.gather-2.ensures.numbered (c.flush_each-refused.ensures.numbered all)))
+    (numbered_staying c.gather-2.new.clients.items (c.gather-2.ensures.numbered (c.flush_killed-refused.ensures.numbered all)))

@@ -1,37 +1,81 @@
-use Rattle.std.proofs.Common.{◌<◌, true, arith, refl}
+use Rattle.std.proofs.Common.{◌<◌, true, List, Option, arith, ap, length, map, refl}
 use Rattle.std.proofs.lemmas.Option.{slice_get_read}
-use Rattle.wl_server.specs.Inside.Leaving.{ends_at, given_at}
-use Rattle.wl_server.proofs.CleanupSteps.Ordering.{places_rest}
+use Rattle.wl_server.specs.Inside.Gathering.{count_leaving}
+use Rattle.wl_server.specs.Inside.Leaving.{collected, ends_at, given_at}
+use Rattle.wl_server.specs.Inside.NoteOrder.{count_places}
+use Rattle.wl_server.specs.NoteOrder.{times_of}
+use Rattle.wl_server.specs.Server.{Stored}
+use Rattle.wl_server.specs.Inside.Touched.{IsQuiet}
+use Rattle.wl_server.proofs.CleanupSteps.Ordering.{drop_past, places_rest}
 use Rattle.wl_server.proofs.CleanupSteps.Gathering.{count_drop}
 use Rattle.wl_server.proofs.CleanupSteps.Outgoing.{counted_fewer, counted_more}
+use Rattle.wl_server.proofs.Touched.Counted.{pass_collected, pass_notes, pass_places, quiet_ends, quiet_given}
+use Rattle.wl_server.proofs.Touched.Kept.{out_taken}
 use Rattle.wl_server.proofs.notes.cleanup.count_work.Goals as goal
+
+pub loop-slot-init : goal.loop-slot-init
+loop-slot-init g c =
+    let next = c.next_from-slot.ensures in
+    let notes = pass_notes c.args.to_note.now.words.items c.args.clients.now 0 c.next_from-slot.result next.from next.within next.skipped c.requires true in
+    let places = pass_places c.args.to_note.now.words.items c.args.clients.now 0 c.next_from-slot.result next.from next.within next.skipped c.requires true in
+    let given = ap length (pass_collected c.args.to_note.now.words.items c.args.clients.now 0 c.next_from-slot.result next.from next.within next.skipped c.requires given_at quiet_given) in
+    let ends = ap length (pass_collected c.args.to_note.now.words.items c.args.clients.now 0 c.next_from-slot.result next.from next.within next.skipped c.requires ends_at quiet_ends) in
+    record {
+      gathered = λ below. omega (arith, notes);
+      places = λ below. omega (arith, places);
+      few_gathered = omega (arith, notes);
+      leaving = λ below. omega (arith, given);
+      few_leaving = omega (arith, given);
+      ends = λ below. omega (arith, ends);
+      quiet = c.requires;
+      within = next.within;
+      all = refl;
+    }
 
 pub loop-slot-preserved : goal.loop-slot-preserved
 loop-slot-preserved g c =
+    let inv = c.loop-slot.invariant in
+    let next = c.next_from-slot-in-loop-slot.ensures in
+    let to = c.next_from-slot-in-loop-slot.result in
+    let words = c.remove_if.new.self.words.items in
     let here = slice_get_read c.args.clients.now _ c.loop-slot.slot c.index-clients-slot.result refl c.loop-slot-test.true c.index-clients-slot.is in
+    let quiet = out_taken IsQuiet c.loop-slot.to_note.words.items words c.args.clients.now c.loop-slot.slot c.index-clients-slot.result c.is_quiet.result c.remove_if.ensures here
+    c.is_quiet.ensures inv.quiet in
+    let notes = pass_notes words c.args.clients.now _ to next.from next.within next.skipped quiet true in
+    let spots = pass_places words c.args.clients.now _ to next.from next.within next.skipped quiet true in
+    let gone = ap length (pass_collected words c.args.clients.now _ to next.from next.within next.skipped quiet given_at quiet_given) in
+    let ended = ap length (pass_collected words c.args.clients.now _ to next.from next.within next.skipped quiet ends_at quiet_ends) in
     let more = count_drop true c.args.clients.now c.loop-slot.slot c.index-clients-slot.result here in
     let added = c.saturating_add-gathered.ensures in
     let one = c.count_of.ensures.notes in
-    let fewer = c.loop-slot.invariant.few_gathered in
+    let fewer = inv.few_gathered in
     record {
       gathered = λ below.
           let fits : c.loop-slot.gathered < 0xFFFFFFFFFFFFFFFF = omega (arith, added, below) in
-          let before = c.loop-slot.invariant.gathered fits in
-          omega (arith, added, below, one, before, more);
+          let before = inv.gathered fits in
+          omega (arith, added, below, one, before, more, notes);
       places = λ below.
           let fits : c.loop-slot.gathered < 0xFFFFFFFFFFFFFFFF = omega (arith, added, below) in
-          let before = c.loop-slot.invariant.places fits in
+          let before = inv.places fits in
           let this = c.count_of.ensures.places in
           let rest = places_rest true c.args.clients.now c.loop-slot.slot c.index-clients-slot.result here in
-          omega (arith, added, below, this, before, rest);
-      few_gathered = omega (arith, added, one, fewer, more);
-      leaving = counted_more given_at c.args.clients.now c.loop-slot.slot c.index-clients-slot.result c.loop-slot.leaving c.count_given_at.result c.saturating_add-leaving.result here
-          c.loop-slot.invariant.leaving (λ below. (let killed = c.count_given_at.ensures c.loop-slot.slot in omega (arith, killed))) c.saturating_add-leaving.ensures;
-      few_leaving = counted_fewer given_at c.args.clients.now c.loop-slot.slot c.index-clients-slot.result c.loop-slot.leaving c.count_given_at.result c.saturating_add-leaving.result here
-          c.loop-slot.invariant.few_leaving (let killed = c.count_given_at.ensures c.loop-slot.slot in omega (arith, killed)) c.saturating_add-leaving.ensures;
-      ends = counted_more ends_at c.args.clients.now c.loop-slot.slot c.index-clients-slot.result c.loop-slot.ends c.count_ends_at.result c.saturating_add-ends.result here
-          c.loop-slot.invariant.ends (c.count_ends_at.ensures c.loop-slot.slot) c.saturating_add-ends.ensures;
-      end = refl;
+          omega (arith, added, below, this, before, rest, spots);
+      few_gathered = omega (arith, added, one, fewer, more, notes);
+      leaving = λ below.
+          let before = counted_more given_at c.args.clients.now c.loop-slot.slot c.index-clients-slot.result c.loop-slot.leaving c.count_given_at.result c.saturating_add-leaving.result here
+          inv.leaving (λ below. (let killed = c.count_given_at.ensures c.loop-slot.slot in omega (arith, killed))) c.saturating_add-leaving.ensures below in
+          omega (arith, before, gone);
+      few_leaving =
+          let before = counted_fewer given_at c.args.clients.now c.loop-slot.slot c.index-clients-slot.result c.loop-slot.leaving c.count_given_at.result c.saturating_add-leaving.result here
+          inv.few_leaving (let killed = c.count_given_at.ensures c.loop-slot.slot in omega (arith, killed)) c.saturating_add-leaving.ensures in
+          omega (arith, before, gone);
+      ends = λ below.
+          let before = counted_more ends_at c.args.clients.now c.loop-slot.slot c.index-clients-slot.result c.loop-slot.ends c.count_ends_at.result c.saturating_add-ends.result here
+          inv.ends (c.count_ends_at.ensures c.loop-slot.slot) c.saturating_add-ends.ensures below in
+          omega (arith, before, ended);
+      quiet = quiet;
+      within = next.within;
+      all = refl;
     }
 
 pub returns-clause-few_gathered : goal.returns-clause-few_gathered
@@ -39,3 +83,30 @@ returns-clause-few_gathered g c = let fewer = c.loop-slot.invariant.few_gathered
 
 pub returns-clause-few_leaving : goal.returns-clause-few_leaving
 returns-clause-few_leaving g c = let fewer = c.loop-slot.invariant.few_leaving in omega (arith, fewer)
+
+pub returns-clause-gathered : goal.returns-clause-gathered
+returns-clause-gathered g c below =
+    let most = c.loop-slot.invariant.gathered below in
+    let none = ap (count_leaving true) (drop_past c.args.clients.now c.loop-slot.slot (omega (arith, c.loop-slot-test.false, c.loop-slot.invariant.all))) in
+    omega (arith, most, none)
+
+pub returns-clause-places : goal.returns-clause-places
+returns-clause-places g c below =
+    let most = c.loop-slot.invariant.places below in
+    let none = ap (λ (l : List (Option (Stored _ _ _))). count_places true (map times_of l))
+    (drop_past c.args.clients.now c.loop-slot.slot (omega (arith, c.loop-slot-test.false, c.loop-slot.invariant.all))) in
+    omega (arith, most, none)
+
+pub returns-clause-leaving : goal.returns-clause-leaving
+returns-clause-leaving g c below =
+    let most = c.loop-slot.invariant.leaving below in
+    let none = ap (λ (l : List (Option (Stored _ _ _))). length (collected given_at c.loop-slot.slot l))
+    (drop_past c.args.clients.now c.loop-slot.slot (omega (arith, c.loop-slot-test.false, c.loop-slot.invariant.all))) in
+    omega (arith, most, none)
+
+pub returns-clause-ends : goal.returns-clause-ends
+returns-clause-ends g c below =
+    let most = c.loop-slot.invariant.ends below in
+    let none = ap (λ (l : List (Option (Stored _ _ _))). length (collected ends_at c.loop-slot.slot l))
+    (drop_past c.args.clients.now c.loop-slot.slot (omega (arith, c.loop-slot-test.false, c.loop-slot.invariant.all))) in
+    omega (arith, most, none)

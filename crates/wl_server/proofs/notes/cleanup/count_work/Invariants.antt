@@ -1,6 +1,7 @@
-use Rattle.std.proofs.Common.{◌≡◌, ◌<◌, ◌≤◌, ◌+◌, true, drop, length, map}
+use Rattle.std.proofs.Common.{◌≡◌, ◌<◌, ◌≤◌, ◌+◌, ◌-◌, true, drop, length, map}
 use Rattle.wl_server.specs.Inside.Gathering.{count_leaving}
 use Rattle.wl_server.specs.Inside.Leaving.{collected, ends_at, given_at}
+use Rattle.wl_server.specs.Inside.Touched.{AllQuiet}
 use Rattle.wl_server.specs.NoteOrder.{times_of}
 use Rattle.wl_server.specs.Inside.NoteOrder.{count_places}
 use Rattle.wl_server.proofs.notes.cleanup.count_work.Given as goal
@@ -13,5 +14,10 @@ invariant-loop-slot g l = record {
   leaving : l.leaving < 0xFFFFFFFFFFFFFFFF → length (collected given_at 0 l.clients) ≤ l.leaving + length (collected given_at l.slot (drop l.slot l.clients));
   few_leaving : l.leaving + length (collected given_at l.slot (drop l.slot l.clients)) ≤ length (collected given_at 0 l.clients);
   ends : l.ends < 0xFFFFFFFFFFFFFFFF → length (collected ends_at 0 l.clients) ≤ l.ends + length (collected ends_at l.slot (drop l.slot l.clients));
-  end : l.slot-end ≡ length l.clients;
+  quiet : AllQuiet l.to_note.words.items l.clients;
+  within : l.slot ≤ l.end;
+  all : l.end ≡ length l.clients;
 }
+
+abbrev pub decreases-loop-slot : goal.decreases-loop-slot
+decreases-loop-slot g l = l.end - l.slot

@@ -1,29 +1,55 @@
 use Rattle.std.proofs.Common.{◌<◌, arith, refl}
 use Rattle.std.proofs.lemmas.Option.{slice_get_read}
-use Rattle.wl_server.proofs.CleanupSteps.Ordering.{places_rest}
+use Rattle.wl_server.specs.Inside.Touched.{IsQuiet}
 use Rattle.wl_server.proofs.CleanupSteps.Gathering.{count_drop}
+use Rattle.wl_server.proofs.CleanupSteps.Ordering.{places_rest}
+use Rattle.wl_server.proofs.Touched.Counted.{pass_notes, pass_places}
+use Rattle.wl_server.proofs.Touched.Kept.{out_taken}
 use Rattle.wl_server.proofs.notes.gather.count_notes.Goals as goal
 
-pub loop-place-preserved : goal.loop-place-preserved
-loop-place-preserved g c =
-    let here = slice_get_read c.args.clients.now _ c.loop-place.place-index c.place-item.result refl c.loop-place-test.true c.place-item.is in
-    let more = count_drop c.args.waits c.args.clients.now c.loop-place.place-index c.place-item.result here in
+pub loop-slot-init : goal.loop-slot-init
+loop-slot-init g c =
+    let next = c.next_from-slot.ensures in
+    let notes = pass_notes c.args.to_note.now.words.items c.args.clients.now 0 c.next_from-slot.result next.from next.within next.skipped c.requires c.args.waits in
+    let places = pass_places c.args.to_note.now.words.items c.args.clients.now 0 c.next_from-slot.result next.from next.within next.skipped c.requires c.args.waits in
+    record {
+      all = λ below. omega (arith, notes);
+      places = λ below. omega (arith, places);
+      no_more = omega (arith, notes);
+      quiet = c.requires;
+      within = next.within;
+      ends = refl;
+    }
+
+pub loop-slot-preserved : goal.loop-slot-preserved
+loop-slot-preserved g c =
+    let inv = c.loop-slot.invariant in
+    let next = c.next_from-slot-in-loop-slot.ensures in
+    let here = slice_get_read c.args.clients.now _ c.loop-slot.slot c.index-clients-slot.result refl c.loop-slot-test.true c.index-clients-slot.is in
+    let quiet = out_taken IsQuiet c.loop-slot.to_note.words.items c.remove_if.new.self.words.items c.args.clients.now c.loop-slot.slot c.index-clients-slot.result c.is_quiet.result c.remove_if.ensures
+    here c.is_quiet.ensures inv.quiet in
+    let notes = pass_notes c.remove_if.new.self.words.items c.args.clients.now _ c.next_from-slot-in-loop-slot.result next.from next.within next.skipped quiet c.args.waits in
+    let places = pass_places c.remove_if.new.self.words.items c.args.clients.now _ c.next_from-slot-in-loop-slot.result next.from next.within next.skipped quiet c.args.waits in
+    let more = count_drop c.args.waits c.args.clients.now c.loop-slot.slot c.index-clients-slot.result here in
     let added = c.saturating_add-count.ensures in
     let one = c.count_of.ensures.notes in
-    let fewer = c.loop-place.invariant.no_more in
+    let fewer = inv.no_more in
     record {
       all = λ below.
-          let fits : c.loop-place.count < 0xFFFFFFFFFFFFFFFF = omega (arith, added, below) in
-          let before = c.loop-place.invariant.all fits in
-          omega (arith, added, below, one, before, more);
+          let fits : c.loop-slot.count < 0xFFFFFFFFFFFFFFFF = omega (arith, added, below) in
+          let before = inv.all fits in
+          omega (arith, added, below, one, before, more, notes);
       places = λ below.
-          let fits : c.loop-place.count < 0xFFFFFFFFFFFFFFFF = omega (arith, added, below) in
-          let before = c.loop-place.invariant.places fits in
+          let fits : c.loop-slot.count < 0xFFFFFFFFFFFFFFFF = omega (arith, added, below) in
+          let before = inv.places fits in
           let this = c.count_of.ensures.places in
-          let rest = places_rest c.args.waits c.args.clients.now c.loop-place.place-index c.place-item.result here in
-          omega (arith, added, below, this, before, rest);
-      no_more = omega (arith, added, one, fewer, more);
+          let rest = places_rest c.args.waits c.args.clients.now c.loop-slot.slot c.index-clients-slot.result here in
+          omega (arith, added, below, this, before, rest, places);
+      no_more = omega (arith, added, one, fewer, more, notes);
+      quiet = quiet;
+      within = next.within;
+      ends = refl;
     }
 
 pub returns-clause-no_more : goal.returns-clause-no_more
-returns-clause-no_more g c = let fewer = c.loop-place.invariant.no_more in omega (arith, fewer)
+returns-clause-no_more g c = let fewer = c.loop-slot.invariant.no_more in omega (arith, fewer)

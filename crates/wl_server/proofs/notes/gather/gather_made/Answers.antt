@@ -1,4 +1,4 @@
-use Rattle.std.proofs.Common.{◌<◌, ◌≤◌, false, subst, [], map, refl, sym, append-nil}
+use Rattle.std.proofs.Common.{◌<◌, ◌≤◌, List, Option, false, subst, [], map, refl, sym, append-nil}
 use Rattle.std.specs.Vec.{vec_capacity, vec_len}
 use Rattle.wl_server.specs.Inside.Gathering.{count_leaving}
 use Rattle.wl_server.specs.NoteOrder.{times_of}
@@ -6,6 +6,8 @@ use Rattle.wl_server.specs.Inside.NoteOrder.{count_places}
 use Rattle.wl_server.proofs.CleanupSteps.Ordering.{none_order}
 use Rattle.wl_server.proofs.CallSteps.Numbering.{all_take_none}
 use Rattle.wl_server.proofs.CleanupSteps.Asking.{none_leaving, none_of, on_err, positive, room_of}
+use Rattle.wl_server.specs.Inside.Touched.{AllQuiet}
+use Rattle.wl_server.specs.Server.{Stored}
 use Rattle.wl_server.proofs.notes.gather.gather_made.Goals as goal
 
 pub returns-then-count-eq0-clause-ended : goal.returns-then-count-eq0-clause-ended
@@ -55,3 +57,12 @@ returns-in_err-order-clause-numbered g c = λ all. all
 
 pub returns-in_err-reserve-clause-numbered : goal.returns-in_err-reserve-clause-numbered
 returns-in_err-reserve-clause-numbered g c = λ all. all
+
+pub returns-in_err-order-clause-quiet : goal.returns-in_err-order-clause-quiet
+returns-in_err-order-clause-quiet g c = subst (λ (xs : List (Option (Stored _ _ _))). AllQuiet c.count_notes-count.new.to_note.words.items xs) c.deref.ensures.value c.count_notes-count.ensures.quiet
+
+pub returns-in_err-reserve-clause-quiet : goal.returns-in_err-reserve-clause-quiet
+returns-in_err-reserve-clause-quiet g c = subst (λ (xs : List (Option (Stored _ _ _))). AllQuiet c.count_notes-count.new.to_note.words.items xs) c.deref.ensures.value c.count_notes-count.ensures.quiet
+
+pub returns-clause-quiet : goal.returns-clause-quiet
+returns-clause-quiet g c = subst (λ (xs : List (Option (Stored _ _ _))). AllQuiet c.count_notes-count.new.to_note.words.items xs) c.deref.ensures.value c.count_notes-count.ensures.quiet

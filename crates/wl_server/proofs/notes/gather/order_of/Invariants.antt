@@ -1,4 +1,4 @@
-use Rattle.std.proofs.Common.{◌≡◌, length, ◌++◌, drop, map}
+use Rattle.std.proofs.Common.{◌≡◌, ◌≤◌, ◌-◌, length, ◌++◌, drop, map}
 use Rattle.wl_server.specs.NoteOrder.{all_places, times_of}
 use Rattle.wl_server.proofs.CleanupSteps.Ordering.{Placed}
 use Rattle.wl_server.proofs.notes.gather.order_of.Given as goal
@@ -7,5 +7,9 @@ abbrev pub invariant-loop-slot : goal.invariant-loop-slot
 invariant-loop-slot g l = record {
   placed : Placed l.waits l.clients l.slot l.order.items;
   numbers : l.order.items ++ all_places l.waits l.slot (map times_of (drop l.slot l.clients)) ≡ all_places l.waits 0 (map times_of l.clients);
-  ends : l.slot-end ≡ length l.clients;
+  within : l.slot ≤ l.end;
+  ends : l.end ≡ length l.clients;
 }
+
+abbrev pub decreases-loop-slot : goal.decreases-loop-slot
+decreases-loop-slot g l = l.end - l.slot

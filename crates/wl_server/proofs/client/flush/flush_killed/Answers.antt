@@ -1,12 +1,12 @@
 use Rattle.std.proofs.Common.{◌≡◌, ◌∙◌, ℕ, arith, length, subst, sym, refl}
 use Rattle.std.proofs.lemmas.Option.{slice_get_read}
-use Rattle.wl_server.specs.Inside.Leaving.{Flushes}
+use Rattle.wl_server.specs.Inside.Leaving.{FlushesKilled}
 use Rattle.wl_server.specs.Inside.Places.{AllFeel}
 use Rattle.wl_server.specs.NoteOrder.{times_of}
 use Rattle.wl_server.proofs.CleanupSteps.Gathering.{map_set}
 use Rattle.wl_server.proofs.CallSteps.Numbering.{numbered_set}
 use Rattle.wl_server.proofs.CallSteps.Feeling.{none_felt, one_more_felt}
-use Rattle.wl_server.proofs.client.flush.flush_each.Goals as goal
+use Rattle.wl_server.proofs.client.flush.flush_killed.Goals as goal
 
 pub loop-slot-init : goal.loop-slot-init
 loop-slot-init g c = record { felt = none_felt _ _; ends = c.len-slot-end.ensures ∙ c.args.clients.now.ok.0; times = refl; numbered = λ all. all }
@@ -24,5 +24,5 @@ loop-slot-preserved g c =
 pub returns-clause-felt : goal.returns-clause-felt
 returns-clause-felt g c =
     let end : c.loop-slot.slot ≡ length c.args.clients.now.items = omega (arith, c.loop-slot-test.false, c.loop-slot.auto.slot-end, c.loop-slot.invariant.ends) in
-    subst (λ (n : ℕ). AllFeel (λ id p lacked did q. Flushes g.T.Transport.sends c.args.killed p lacked did q) c.loop-slot.refused n c.args.clients.now.items c.loop-slot.clients.items)
+    subst (λ (n : ℕ). AllFeel (λ id p lacked did q. FlushesKilled g.T.Transport.sends p lacked did q) c.loop-slot.refused n c.args.clients.now.items c.loop-slot.clients.items)
     end c.loop-slot.invariant.felt

@@ -1,12 +1,12 @@
 use Rattle.std.proofs.Common.{◌≡◌, length, map}
-use Rattle.wl_server.specs.Inside.Leaving.{Flushes}
+use Rattle.wl_server.specs.Inside.Leaving.{FlushesKilled}
 use Rattle.wl_server.specs.Inside.Places.{AllFeel}
 use Rattle.wl_server.specs.NoteOrder.{AllNumbered, times_of}
-use Rattle.wl_server.proofs.client.flush.flush_each.Given as goal
+use Rattle.wl_server.proofs.client.flush.flush_killed.Given as goal
 
 abbrev pub invariant-loop-slot : goal.invariant-loop-slot
 invariant-loop-slot g l = record {
-  felt : AllFeel (λ id p lacked did q. Flushes g.T.Transport.sends l.fn.killed p lacked did q) l.refused l.slot l.fn.clients.items l.clients.items;
+  felt : AllFeel (λ id p lacked did q. FlushesKilled g.T.Transport.sends p lacked did q) l.refused l.slot l.fn.clients.items l.clients.items;
   ends : l.slot-end ≡ length l.fn.clients.items;
   times : map times_of l.clients.items ≡ map times_of l.fn.clients.items;
   numbered : AllNumbered l.fn.clients.items → AllNumbered l.clients.items;

@@ -1,0 +1,8 @@
+-- The clients that were touched, and those for which nothing waits.
+pub mod LowestBit
+pub mod SlotSets
+pub mod Kept
+pub mod Flushed
+pub mod Gathered
+pub mod Counted
+pub mod Moved

@@ -1,0 +1,56 @@
+use Rattle.std.proofs.Common.{◌≡◌, ◌∙◌, ◌+◌, ℕ, arith, length, refl, subst, sym}
+use Rattle.std.specs.Prelude.{slice_set}
+use Rattle.std.proofs.lemmas.List.{length-set}
+use Rattle.std.proofs.lemmas.Option.{slice_get_read}
+use Rattle.wl_server.specs.Felt.{FlushesLive}
+use Rattle.wl_server.specs.Inside.Places.{AllFeel}
+use Rattle.wl_server.specs.Inside.Touched.{HasSent, IsQuiet}
+use Rattle.wl_server.specs.NoteOrder.{times_of}
+use Rattle.wl_server.proofs.CallSteps.Feeling.{none_felt, one_more_felt}
+use Rattle.wl_server.proofs.CallSteps.Numbering.{numbered_set}
+use Rattle.wl_server.proofs.CleanupSteps.Gathering.{map_set}
+use Rattle.wl_server.proofs.Touched.Flushed.{felt_on}
+use Rattle.wl_server.proofs.Touched.Kept.{out_set, out_taken}
+use Rattle.wl_server.proofs.client.flush.flush_live.Goals as goal
+
+pub loop-slot-init : goal.loop-slot-init
+loop-slot-init g c =
+    let ends = c.len-end.ensures ∙ c.args.clients.now.ok.0 in
+    let next = c.next_from-slot.ensures in
+    record {
+      felt = felt_on g.T.Transport.sends _ 0 c.next_from-slot.result c.args.clients.now.items c.args.clients.now.items c.args.to_send.now.words.items next.from (omega (arith, next.within, ends))
+          next.skipped c.requires (none_felt _ _);
+      within = next.within;
+      ends = ends;
+      times = refl;
+      numbered = λ all. all;
+      sent = c.requires;
+      quiet = λ words all. all;
+    }
+
+pub loop-slot-preserved : goal.loop-slot-preserved
+loop-slot-preserved g c =
+    let inv = c.loop-slot.invariant in
+    let here = slice_get_read c.loop-slot.clients.items _ c.loop-slot.slot c.index_mut.result.now (inv.ends ∙ sym inv.felt.len) c.loop-slot-test.true c.index_mut.ensures.value in
+    let next = c.next_from-slot-in-loop-slot.ensures in
+    let now = slice_set c.loop-slot.clients.items c.loop-slot.slot c.flush_at-refused.new.client in
+    let long = length-set c.loop-slot.clients.items c.loop-slot.slot c.flush_at-refused.new.client in
+    let read = slice_get_read now (length now) c.loop-slot.slot c.index.result.now refl (omega (arith, c.loop-slot-test.true, long, inv.ends, inv.felt.len)) c.index.ensures in
+    let sent = out_taken HasSent _ c.remove_if.new.self.words.items now c.loop-slot.slot c.index.result.now c.has_sent.result c.remove_if.ensures read c.has_sent.ensures
+    (out_set HasSent _ c.loop-slot.clients.items c.loop-slot.slot _ c.flush_at-refused.new.client here c.flush_at-refused.ensures.sent inv.sent) in
+    record {
+      felt = felt_on g.T.Transport.sends _ (c.loop-slot.slot + 1) c.next_from-slot-in-loop-slot.result c.args.clients.now.items now _ next.from (omega (arith, next.within, long, inv.ends, inv.felt.len))
+          next.skipped sent (one_more_felt _ _ _ _ _ _ _ _ inv.felt here (c.flush_at-refused.ensures.felt c.loop-slot.slot));
+      within = next.within;
+      ends = inv.ends;
+      times = map_set times_of _ _ _ _ here c.flush_at-refused.ensures.times ∙ inv.times;
+      numbered = λ all. numbered_set _ _ _ _ here c.flush_at-refused.ensures.numbered (inv.numbered all);
+      sent = sent;
+      quiet = λ words all. out_set IsQuiet words c.loop-slot.clients.items c.loop-slot.slot _ _ here c.flush_at-refused.ensures.quiet (inv.quiet words all);
+    }
+
+pub returns-clause-felt : goal.returns-clause-felt
+returns-clause-felt g c =
+    let end : c.loop-slot.slot ≡ length c.args.clients.now.items = omega (arith, c.loop-slot-test.false, c.loop-slot.invariant.within, c.loop-slot.invariant.ends) in
+    subst (λ (n : ℕ). AllFeel (λ id p lacked did q. FlushesLive g.T.Transport.sends p lacked did q) c.loop-slot.refused n c.args.clients.now.items c.loop-slot.clients.items)
+    end c.loop-slot.invariant.felt

@@ -1,0 +1,20 @@
+use Rattle.std.proofs.Common.{◌≡◌, ◌-◌, ◌≤◌, List, ℕ, length, map}
+use Rattle.wl_server.specs.Felt.{FlushesLive}
+use Rattle.wl_server.specs.Inside.Places.{AllFeel}
+use Rattle.wl_server.specs.Inside.Touched.{AllQuiet, AllSent}
+use Rattle.wl_server.specs.NoteOrder.{AllNumbered, times_of}
+use Rattle.wl_server.proofs.client.flush.flush_live.Given as goal
+
+abbrev pub invariant-loop-slot : goal.invariant-loop-slot
+invariant-loop-slot g l = record {
+  felt : AllFeel (λ id p lacked did q. FlushesLive g.T.Transport.sends p lacked did q) l.refused l.slot l.fn.clients.items l.clients.items;
+  within : l.slot ≤ l.end;
+  ends : l.end ≡ length l.fn.clients.items;
+  times : map times_of l.clients.items ≡ map times_of l.fn.clients.items;
+  numbered : AllNumbered l.fn.clients.items → AllNumbered l.clients.items;
+  sent : AllSent l.to_send.words.items l.clients.items;
+  quiet : (words : List ℕ) → AllQuiet words l.fn.clients.items → AllQuiet words l.clients.items;
+}
+
+abbrev pub decreases-loop-slot : goal.decreases-loop-slot
+decreases-loop-slot g l = l.end - l.slot
