@@ -121,7 +121,7 @@ impl<T: Transport + Drop, U: Drop, G: GlobalHandler<C> + Drop, C: Drop> Backend<
         ensures kept { OnErr result (action.new ≡ action.old) }
     {
         self.refused = false;
-        let Some(client) = stored_mut(&mut self.clients, id) else {
+        let Some(client) = stored_mut(&mut self.clients, &mut self.touched, id) else {
             return Err(ActionError::Io(IoFault::InvalidInput));
         };
         let around = Surroundings {

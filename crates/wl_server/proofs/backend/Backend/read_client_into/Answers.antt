@@ -26,5 +26,8 @@ returns-clause-within g c =
     (within_done g.T.Transport.sends g.T.Transport.receives g.G.GlobalHandler.views _ c.args.id.now c.args.reading.now c.find_action_into-answer.new.reading _ c.in-Some.client.now c.find_action_into-answer.new.self c.find_action_into-answer.result.1
     c.in-Some.ensures.value c.find_action_into-answer.ensures.does _ c.find_action_into-answer.ensures.in_time c.find_action_into-answer.ensures.numbered c.self.invariant.2)
 
+pub invariant_of-self : goal.invariant_of-self
+invariant_of-self g c = (c.self.invariant.0, c.self.invariant.1, c.self.invariant.2, c.in_default.ensures.touched c.self.invariant.3)
+
 pub invariant_of-self-2 : goal.invariant_of-self-2
-invariant_of-self-2 g c = (slots_set _ _ _ _ _ c.self.invariant.0, numbers_set _ _ _ _ _ _ c.in-Some.ensures.value c.find_action_into-answer.ensures.in_time c.self.invariant.1, numbered_at _ _ _ _ c.in-Some.ensures.value c.find_action_into-answer.ensures.numbered c.self.invariant.2)
+invariant_of-self-2 g c = (slots_set _ _ _ _ _ c.self.invariant.0, numbers_set _ _ _ _ _ _ c.in-Some.ensures.value c.find_action_into-answer.ensures.in_time c.self.invariant.1, numbered_at _ _ _ _ c.in-Some.ensures.value c.find_action_into-answer.ensures.numbered c.self.invariant.2, c.in-Some.ensures.touched c.self.invariant.3 _)
