@@ -1,9 +1,10 @@
 -- A message that is handled in place is handled as any other.
-use Rattle.std.proofs.Common.{◌≡◌, ◌≢◌, ◌∙◌, ℕ, ◌==◌, false, List, [], ◌∷◌, append-nil, length, Option, None, Some, is_some, option_map, Ok, MatchOption, refl, sym, ap, ap₂, subst, true≢false}
+use Rattle.std.proofs.Common.{◌≡◌, ◌≢◌, ◌≤◌, ◌∙◌, ◌+◌, ◌-◌, ◌++◌, ℕ, arith, ◌==◌, Bool, cond, false, List, [], ◌∷◌, append-nil, append_assoc, drop, take, length, Option, None, Some, is_some, option_map, Ok, MatchOption, refl, sym, ap, ap₂, subst, true≢false}
 use mathlib.Core.Logic.{inr}
 use Rattle.std.proofs.lemmas.Bool.{le-leb, ne_eqb}
+use Rattle.std.proofs.lemmas.List.{length-drop, take-append-drop, take_all}
 use Rattle.std.specs.Int.{w32, cast_signed}
-use Rattle.std.specs.Prelude.{IfSome}
+use Rattle.std.specs.Prelude.{IfSome, fold}
 use Rattle.wl_wire.specs.declared.argument.Argument.{Argument}
 use Rattle.wl_wire.specs.declared.argument.Argument.TheVariants as arg
 use Rattle.wl_wire.specs.declared.argument.ArgumentType.{ArgumentType}
@@ -11,8 +12,8 @@ use Rattle.wl_wire.specs.declared.argument.ArgumentType.TheVariants as kind
 use Rattle.wl_wire.specs.declared.argument.Token.{Token}
 use Rattle.wl_wire.specs.declared.message.Message.{Message}
 use Rattle.wl_wire.specs.Argument.{WireArgument}
-use Rattle.wl_wire.specs.Message.{WireMessage}
-use Rattle.wl_wire.specs.Parse.{IsWhole, length_of, opcode_of, payload_of, sender_of}
+use Rattle.wl_wire.specs.Message.{WireMessage, token}
+use Rattle.wl_wire.specs.Parse.{IsWhole, fd_count, is_fd, length_of, opcode_of, payload_of, sender_of}
 use Rattle.wl_wire.specs.Reading.{IsPiece, IsWord, Reads}
 use Rattle.wl_wire.specs.Table.{InterfaceRow, MessageRow}
 use Rattle.wl_link.specs.Exchange.{Queue}
@@ -20,15 +21,14 @@ use Rattle.wl_link.specs.Identity.{Objects}
 use Rattle.wl_link.specs.Link.{LinkState, after_first, with_incoming}
 use Rattle.wl_link.specs.Store.{Store, held}
 use Rattle.wl_client.specs.declared.event.OpenEvent.{OpenEvent}
-use Rattle.wl_client.specs.declared.in_place.NumberEvent.{NumberEvent}
 use Rattle.wl_client.specs.declared.objects.Kept.{Kept}
-use Rattle.wl_client.specs.Events.{Outcome, Whole, convert, deleted, start}
+use Rattle.wl_client.specs.Events.{Converted, Converting, Whole, convert, convert_one, deleted, going_on, start}
 use Rattle.wl_client.specs.Handling.{Handling, HandsOut, handling, row_in}
 use Rattle.wl_client.specs.ObjectId.{IdParts}
 use Rattle.wl_client.specs.Reading.{with_link}
 use Rattle.wl_client.specs.Requests.{SessionMessage, session_content}
-use Rattle.wl_client.specs.Session.{SessionState, objects_of}
-use Rattle.wl_client.specs.Inside.InPlace.{DeleteWaits, NumberWaits, number_argument}
+use Rattle.wl_client.specs.Session.{SessionState, id_at, objects_of}
+use Rattle.wl_client.specs.Inside.InPlace.{DeleteWaits, NumbersAre, NumbersWait, number_argument}
 use Rattle.wl_client.specs.Inside.ReadingLoop.{GaveEvent, HandledTo, HandlesMessage, ReadsIn, WentOn}
 
 abbrev one_uint : List ArgumentType
@@ -84,7 +84,7 @@ deleted_in_place {T} {U} s link store n display waits taken_is deleted_is =
       ap₂ (λ (l : LinkState T) (x : Store (Kept U)). let after : SessionState T U = record s { link = l; store = x } in after) taken_is deleted_is,
     )
 
--- ---- an event whose only argument is a number
+-- ---- an event whose arguments are numbers
 
 what_is : {A : Type 0} → A → Option A → A
 what_is a None = a
@@ -93,70 +93,125 @@ what_is a (Some b) = b
 no_number : {A : Type 0} (b : A) → ◌≡◌ {A = Option A} None (Some b) → ⊥
 no_number b is = true≢false (ap is_some (sym is))
 
-module _ {U : Type 0} (objects : Objects (Kept U)) (row : MessageRow) (version : ℕ) (payload : List ℕ) (fds : List Token) (n : ℕ) (word : IsWord n payload) where
+pub no_numbers : (kinds : List ArgumentType) (payload : List ℕ) → 0 ≡ length kinds → NumbersAre kinds payload []
+unfolding NumbersAre
+no_numbers [] payload none = tt
+no_numbers (k ∷ kinds) payload none = absurd (omega arith)
+
+pub numbers_more : (k : ArgumentType) (kinds : List ArgumentType) (payload : List ℕ) (n : ℕ) (b : Argument IdParts Token) (values : List (Argument IdParts Token))
+    → 4 ≤ length payload → IsWord n (take 4 payload) → number_argument k n ≡ Some b → NumbersAre kinds (take (length payload - 4) (drop 4 payload)) values
+    → NumbersAre (k ∷ kinds) payload (b ∷ values)
+unfolding NumbersAre
+numbers_more k kinds payload n b values four word is are =
+    let all = take_all (length payload - 4) (drop 4 payload) (omega (arith, length-drop 4 payload)) in
+    (n, four, word, is, subst (λ rest. NumbersAre kinds rest values) all are)
+
+module _ (U : Type 0) where
   -- the word is this argument on the wire, which is handed out as that one, and takes no token
-  abbrev Becomes : ArgumentType → Argument IdParts Token → WireArgument → Type 0
-  Becomes k b a =
-      Reads (k ∷ []) (a ∷ []) payload fds
-      × (convert version false (start objects row) [] (a ∷ []) ≡ Whole (start objects row) (b ∷ []))
-      × ((q : Queue) → after_first [] q ≡ after_first (k ∷ []) q)
+  record Becomes (k : ArgumentType) (b : Argument IdParts Token) (raw : List ℕ) (a : WireArgument) : Type 0 where
+    piece : IsPiece k a raw
+    tokens : token a ≡ []
+    converts : (version : ℕ) (c : Converting U) → convert_one version false c a ≡ Ok (b, c)
+    none : is_fd k ≡ false
 
-  whole : Argument IdParts Token → Outcome U
-  whole b = Whole (start objects row) (b ∷ [])
+  becomes : (k : ArgumentType) (b : Argument IdParts Token) (n : ℕ) (raw : List ℕ) → IsWord n raw → number_argument k n ≡ Some b
+      → (a : WireArgument) × Becomes k b raw a
+  unfolding IsPiece what_is
+  becomes kind.Int b n raw word is = (
+    arg.Int (cast_signed w32 n),
+    record { piece = (n, word, refl); tokens = refl; converts = λ version c. ap (λ o. Ok (what_is b o, c)) is; none = refl },
+  )
+  becomes kind.Uint b n raw word is = (
+    arg.Uint n,
+    record { piece = word; tokens = refl; converts = λ version c. ap (λ o. Ok (what_is b o, c)) is; none = refl },
+  )
+  becomes kind.Fixed b n raw word is = (
+    arg.Fixed (cast_signed w32 n),
+    record { piece = (n, word, refl); tokens = refl; converts = λ version c. ap (λ o. Ok (what_is b o, c)) is; none = refl },
+  )
+  becomes (kind.Str _) b n raw word is = absurd (no_number b is)
+  becomes (kind.Object _) b n raw word is = absurd (no_number b is)
+  becomes kind.NewId b n raw word is = absurd (no_number b is)
+  becomes kind.Array b n raw word is = absurd (no_number b is)
+  becomes kind.Fd b n raw word is = absurd (no_number b is)
 
-  becomes : (k : ArgumentType) (b : Argument IdParts Token) → number_argument k n ≡ Some b → (a : WireArgument) × Becomes k b a
-  unfolding Reads IsPiece whole what_is
-  becomes kind.Int b is =
-      (arg.Int (cast_signed w32 n), ((payload, [], fds, sym (append-nil payload), refl, (n, word, refl), tt), ap (λ o. whole (what_is b o)) is, λ q. refl))
-  becomes kind.Uint b is = (arg.Uint n, ((payload, [], fds, sym (append-nil payload), refl, word, tt), ap (λ o. whole (what_is b o)) is, λ q. refl))
-  becomes kind.Fixed b is =
-      (arg.Fixed (cast_signed w32 n), ((payload, [], fds, sym (append-nil payload), refl, (n, word, refl), tt), ap (λ o. whole (what_is b o)) is, λ q. refl))
-  becomes (kind.Str _) b is = absurd (no_number b is)
-  becomes (kind.Object _) b is = absurd (no_number b is)
-  becomes kind.NewId b is = absurd (no_number b is)
-  becomes kind.Array b is = absurd (no_number b is)
-  becomes kind.Fd b is = absurd (no_number b is)
+  -- the same of all arguments
+  record BecomeAll (kinds : List ArgumentType) (values : List (Argument IdParts Token)) (payload : List ℕ) (fds : List Token) (args : List WireArgument) : Type 0 where
+    reads : Reads kinds args payload fds
+    converts : (version : ℕ) (c : Converting U) (done : List (Argument IdParts Token)) → convert version false c done args ≡ Whole c (done ++ values)
+    none : fd_count kinds ≡ 0
 
-module _ {T U : Type 0} (s : SessionState T U) (e : NumberEvent) (waits : NumberWaits s.table s.store s.link e) where
+  become_all : (kinds : List ArgumentType) (payload : List ℕ) (fds : List Token) (values : List (Argument IdParts Token)) → NumbersAre kinds payload values
+      → (args : List WireArgument) × BecomeAll kinds values payload fds args
+  unfolding NumbersAre Reads
+  become_all [] payload fds [] are = ([], record { reads = tt; converts = λ version c done. ap (Whole c) (sym (append-nil done)); none = refl })
+  become_all [] payload fds (b ∷ values) are = absurd are
+  become_all (k ∷ kinds) payload fds [] are = absurd are
+  become_all (k ∷ kinds) payload fds (b ∷ values) (n, four, word, is, are) =
+      let one = becomes k b n (take 4 payload) word is in
+      let others = become_all kinds (drop 4 payload) fds values are in
+      let first : ◌≡◌ {A = ℕ} (cond (is_fd k) 1 0) 0 = ap (λ (t : Bool). cond t 1 0) one.1.none in
+      let counted : fd_count (k ∷ kinds) ≡ fd_count kinds
+      = ap (λ (i : ℕ). fold (λ (n : ℕ) (x : ArgumentType). n + cond (is_fd x) 1 0) (0 + i) kinds) first in (
+        one.0 ∷ others.0,
+        record {
+          reads = (take 4 payload, drop 4 payload, fds, sym (take-append-drop 4 payload), sym (ap (λ (ts : List Token). ts ++ fds) one.1.tokens), one.1.piece, others.1.reads);
+          converts = λ version c done.
+              ap (λ (o : Converted U). going_on o c.objects (λ x next. convert version false next (done ++ x ∷ []) others.0)) (one.1.converts version c)
+              ∙ others.1.converts version c (done ++ b ∷ []) ∙ ap (Whole c) (append_assoc done (b ∷ []) values);
+          none = counted ∙ others.1.none;
+        },
+      )
+
+-- a message without descriptors takes no tokens
+no_tokens : (kinds : List ArgumentType) (q : Queue) → fd_count kinds ≡ 0 → after_first [] q ≡ after_first kinds q
+no_tokens kinds q none = ap (λ (n : ℕ). let rest : Queue = record { bytes = drop (length_of q.bytes) q.bytes; tokens = drop n q.tokens } in rest) (sym none)
+
+module _ {T U : Type 0} (s : SessionState T U) (m : SessionMessage) (opened : OpenEvent) (waits : NumbersWait s.table s.store s.link m opened) where
   abbrev front : List ℕ
   front = s.link.incoming.bytes
 
-  abbrev event_message : WireArgument → WireMessage
-  event_message a = record { sender = sender_of front; opcode = opcode_of front; args = a ∷ [] }
+  abbrev event_message : List WireArgument → WireMessage
+  event_message args = record { sender = sender_of front; opcode = opcode_of front; args = args }
 
   abbrev given : SessionMessage
-  given = record { sender = e.sender; opcode = opcode_of front; args = e.arg ∷ [] }
+  given = record { sender = id_at (sender_of front) waits.receiver; opcode = opcode_of front; args = waits.values }
 
-  abbrev opened : OpenEvent
-  opened = record { sender = e.sender; is_destructor = e.is_destructor; created = None }
+  abbrev opens : OpenEvent
+  opens = record { sender = id_at (sender_of front) waits.receiver; is_destructor = waits.row.is_destructor; created = None }
 
   row_is : row_in s.table (held s.store (sender_of front)) (opcode_of front) ≡ Some waits.row
   row_is = ap (λ o. row_in s.table o (opcode_of front)) waits.holds ∙ waits.has
 
-  number_reads : (a : WireArgument) → Becomes (objects_of s) waits.row waits.receiver.version (payload_of front) s.link.incoming.tokens waits.number waits.word waits.type e.arg a
-      → ReadsIn s.table s.store s.link (Ok (event_message a)) (taken s.link)
-  number_reads a (args, converts, tokens) =
+  numbers_read : (args : List WireArgument) → BecomeAll U waits.row.signature waits.values (payload_of front) s.link.incoming.tokens args
+      → ReadsIn s.table s.store s.link (Ok (event_message args)) (taken s.link)
+  numbers_read args all =
       rw (le-leb 8 (length front) waits.whole.header) (
-        Some (waits.type ∷ []),
-        sym (ap (option_map (λ r. r.signature)) row_is ∙ ap Some waits.signature),
-        (record { whole = waits.whole; sender = refl; opcode = refl; args = args }, ap (with_incoming s.link s.link.transport) (tokens s.link.incoming)),
+        Some waits.row.signature,
+        sym (ap (option_map (λ r. r.signature)) row_is),
+        (
+          record { whole = waits.whole; sender = refl; opcode = refl; args = all.reads },
+          ap (with_incoming s.link s.link.transport) (no_tokens waits.row.signature s.link.incoming all.none),
+        ),
       )
 
-  is_handled : (a : WireArgument) → (sender_of front == 1) ≡ false
-      → convert waits.receiver.version false (start (objects_of s) waits.row) [] (a ∷ []) ≡ Whole (start (objects_of s) waits.row) (e.arg ∷ [])
-      → handling s.table (objects_of s) (event_message a) ≡ HandsOut given opened (objects_of s)
-  is_handled a other converts = rw (other, waits.holds, waits.has, waits.live, converts, waits.sender, waits.ends) refl
+  is_handled : (args : List WireArgument) → (sender_of front == 1) ≡ false
+      → convert waits.receiver.version false (start (objects_of s) waits.row) [] args ≡ Whole (start (objects_of s) waits.row) waits.values
+      → handling s.table (objects_of s) (event_message args) ≡ HandsOut given opens (objects_of s)
+  is_handled args other converts = rw (other, waits.holds, waits.has, waits.live, converts) refl
 
   -- the message was taken, and the event was handed out
-  pub number_handled : (event : Message IdParts Token) (link : LinkState T) → sender_of front ≢ 1 → session_content event ≡ given → link ≡ taken s.link
+  pub numbers_handled : (event : Message IdParts Token) (link : LinkState T) → sender_of front ≢ 1 → session_content event ≡ m → link ≡ taken s.link
       → HandlesMessage s (GaveEvent event) (record s { link = link; open_event = Some opened })
-  number_handled event link other content is =
-      let b = becomes (objects_of s) waits.row waits.receiver.version (payload_of front) s.link.incoming.tokens waits.number waits.word waits.type e.arg waits.argument in
+  numbers_handled event link other content is =
+      let all = become_all U waits.row.signature (payload_of front) s.link.incoming.tokens waits.values waits.are in
       let after : SessionState T U = record s { link = link; open_event = Some opened } in
-      let over : LinkState T → SessionState T U = λ l. record s { link = l; open_event = Some opened } in
+      let over : LinkState T → OpenEvent → SessionState T U = λ l o. record s { link = l; open_event = Some o } in
       inr (
-        event_message b.0,
+        event_message all.0,
         taken s.link,
-        number_reads b.0 b.1,
-        subst (λ (h : Handling U). HandledTo (with_link s (taken s.link)) h (GaveEvent event) after) (sym (is_handled b.0 (ne_eqb (sender_of front) 1 other) b.1.1)) (content, ap over is),
+        numbers_read all.0 all.1,
+        subst (λ (h : Handling U). HandledTo (with_link s (taken s.link)) h (GaveEvent event) after)
+            (sym (is_handled all.0 (ne_eqb (sender_of front) 1 other) (all.1.converts waits.receiver.version (start (objects_of s) waits.row) [])))
+            (content ∙ waits.is, ap₂ over is waits.opens),
       )

@@ -1,16 +1,25 @@
-//! Messages of one word that are handled where they stand, without being read first: a `delete_id`, and an event whose
-//! argument is a number.
+//! Messages of words that are handled where they stand, without being read first: a `delete_id`, and an event whose arguments
+//! are numbers.
 
-ghost use Rattle.std.specs.Prelude.{◌≡◌, ◌≤◌, ◌∷◌, [], IfSome, MatchBool};
-ghost use Rattle.wl_client.specs.Inside.InPlace.{DeleteWaits, HandledInPlace, NumberWaits, number_argument};
+ghost use Rattle.std.specs.Prelude.{◌≡◌, ◌≤◌, ◌*◌, ◌++◌, List, Some, IfSome, IsTrue, MatchBool, MatchOption, length, take};
+ghost use Rattle.std.specs.List.{AllByRecursion};
+ghost use Rattle.smallvec.specs.SmallVec.{HasRoomFor};
+ghost use Rattle.wl_wire.specs.declared.argument.Argument.{Argument as EventArgument};
+ghost use Rattle.wl_wire.specs.declared.argument.Token.{Token as WireToken};
+ghost use Rattle.wl_wire.specs.Parse.{IsWhole, payload_of};
+ghost use Rattle.wl_wire.specs.Reading.{IsWord};
+ghost use Rattle.wl_client.specs.ObjectId.{IdParts};
+ghost use Rattle.wl_client.specs.Requests.{session_content};
+ghost use Rattle.wl_client.specs.Inside.InPlace.{DeleteWaits, HandledInPlace, IsNumber, NumbersAre, NumbersWait, number_argument};
 ghost use Rattle.wl_client.specs.Inside.ReadingLoop.{GaveEvent, HandlesMessage, IsHeader, WentOn};
 
 use crate::backend::{Backend, DISPLAY};
 use crate::display::{DELETE_ID, delete_id};
 use crate::event::OpenEvent;
-use crate::message::event_desc;
+use crate::message::{desc_of, event_desc};
 use crate::object_id::ObjectId;
 use crate::objects::{Kept, id_at};
+use smallvec::SmallVec;
 use wl_link::{BufferedSocket, ObjectMap, Transport};
 use wl_wire::{Argument, ArgumentType, INLINE_ARGS, Message, Protocol, Token};
 
@@ -23,17 +32,6 @@ pub enum InPlace {
     Deleted,
     /// It is no message that is handled in place.
     Not,
-}
-
-/// An event whose only argument is a number.
-#[derive(Drop)]
-pub struct NumberEvent {
-    /// The object that it was sent to.
-    pub sender: ObjectId,
-    /// Whether it ends that object.
-    pub is_destructor: bool,
-    /// The argument.
-    pub arg: Argument<ObjectId, Token>,
 }
 
 /// The number that the server gives up, if the first message that was received is a `delete_id`, is complete, and has no
@@ -58,53 +56,126 @@ fn waiting_delete<T: Drop, U: Drop>(
     }
 }
 
-/// The type in a signature of one argument.
-fn only_type(signature: &[ArgumentType]) -> Option<ArgumentType>
-    ensures { IfSome result (λ kind. signature.now ≡ kind ∷ []) }
-{
-    match signature {
-        [kind] => Some(*kind),
-        _ => None,
-    }
-}
-
-/// The argument of this type that a word is, if that is a number.
-fn number_argument(kind: ArgumentType, word: u32) -> Option<Argument<ObjectId, Token>>
-    ensures { result ≡ number_argument kind word }
+/// Whether an argument of that type is a number, which is a word on the wire and is handed out as it is.
+fn is_number(kind: ArgumentType) -> bool
+    ensures { IsTrue result → IsNumber kind }
 {
     match kind {
-        ArgumentType::Int => Some(Argument::Int(word.cast_signed())),
-        ArgumentType::Uint => Some(Argument::Uint(word)),
-        ArgumentType::Fixed => Some(Argument::Fixed(word.cast_signed())),
-        _ => None,
+        ArgumentType::Int | ArgumentType::Uint | ArgumentType::Fixed => true,
+        ArgumentType::Str(_)
+        | ArgumentType::Object(_)
+        | ArgumentType::NewId
+        | ArgumentType::Array
+        | ArgumentType::Fd => false,
     }
 }
 
-/// The first message that was received, which has this header, if it is an event whose only argument is a number, for an object
-/// that the client has not destroyed, and is complete and has no more bytes than it needs.
-fn waiting_number<T: Drop, U: Drop>(
+/// Whether each argument under this signature is a number.
+fn are_numbers(signature: &[ArgumentType]) -> bool
+    ensures { IsTrue result → AllByRecursion IsNumber signature.now }
+{
+    let Some((kind, kinds)) = signature.split_first() else {
+        return true;
+    };
+    if !is_number(*kind) {
+        return false;
+    }
+    are_numbers(kinds)
+}
+
+/// The argument of this type that a word is.
+fn number_of(kind: ArgumentType, word: u32) -> Argument<ObjectId, Token>
+    requires { IsNumber kind }
+    ensures { number_argument kind word ≡ Some result }
+{
+    match kind {
+        ArgumentType::Int => Argument::Int(word.cast_signed()),
+        ArgumentType::Uint => Argument::Uint(word),
+        ArgumentType::Fixed => Argument::Fixed(word.cast_signed()),
+        ArgumentType::Str(_)
+        | ArgumentType::Object(_)
+        | ArgumentType::NewId
+        | ArgumentType::Array
+        | ArgumentType::Fd => unreachable!(),
+    }
+}
+
+/// The word at the front of the payload.
+fn front_word(payload: &[u8]) -> u32
+    requires { 4 ≤ length payload.now }
+    ensures { IsWord result (take 4 payload.now) }
+{
+    u32::from_le_bytes([payload[0], payload[1], payload[2], payload[3]])
+}
+
+/// Appends the arguments under this signature, which are numbers. The payload has their words.
+fn push_numbers(
+    signature: &[ArgumentType],
+    payload: &[u8],
+    args: &mut SmallVec<Argument<ObjectId, Token>, INLINE_ARGS>,
+)
+    requires numbers { AllByRecursion IsNumber signature.now }
+    requires words { 4 * length signature.now ≤ length payload.now }
+    requires room { HasRoomFor args.old (length signature.now) }
+    ensures pushed { (values : List (EventArgument IdParts WireToken)) × (args.new.items ≡ args.old.items ++ values) × NumbersAre signature.now payload.now values }
+    ensures capacity { args.new.capacity ≡ args.old.capacity }
+{
+    if let Some((kind, kinds)) = signature.split_first() {
+        args.push_reserved(number_of(*kind, front_word(payload)));
+        push_numbers(kinds, &payload[4..], args);
+    }
+}
+
+/// The payload of the first message that was received, if it is there to its end, and its arguments under this signature are at
+/// most four, all of them numbers, for which it has the words.
+fn waiting_numbers<'s, T: Drop>(
+    socket: &'s BufferedSocket<T>,
+    signature: &[ArgumentType],
+) -> Option<&'s [u8]>
+    ensures { IfSome result (λ payload. IsWhole socket.now.incoming.bytes × (payload.now ≡ payload_of socket.now.incoming.bytes)
+        × AllByRecursion IsNumber signature.now × (4 * length signature.now ≤ length payload.now) × (length signature.now ≤ INLINE_ARGS)) }
+{
+    if signature.len() > INLINE_ARGS || !are_numbers(signature) {
+        return None;
+    }
+    let payload = &socket.front()?[8..];
+    if payload.len() < 4 * signature.len() {
+        return None;
+    }
+    Some(payload)
+}
+
+/// Puts the first message that was received, which has this header, into `event`, if it is an event of at most four numbers and
+/// nothing else, for an object that the client has not destroyed, and is there to its end. Returns what is open then. If it is
+/// not, `event` is as it was.
+fn read_numbers<T: Drop, U: Drop>(
     protocol: &Protocol,
     objects: &ObjectMap<Kept<U>>,
     socket: &BufferedSocket<T>,
     header: (u32, u16),
-) -> Option<NumberEvent>
-    requires { IsHeader socket.now header }
-    ensures { IfSome result (λ e. NumberWaits protocol.now objects.now.store socket.now e) }
+    event: &mut Message<ObjectId, Token>,
+) -> Option<OpenEvent>
+    requires header { IsHeader socket.now header }
+    requires inline { INLINE_ARGS ≤ event.old.args.capacity }
+    ensures waits { MatchOption result (event.new ≡ event.old)
+        (λ opened. NumbersWait protocol.now objects.now.store socket.now (session_content event.new) opened) }
+    ensures inline { INLINE_ARGS ≤ event.new.args.capacity }
 {
-    // This comes first: most other events have more words, and are left to be read at little cost.
-    let word = socket.next_word()?;
     let (sender, opcode) = header;
     let object = objects.find(sender)?;
     if object.value.client_destroyed {
         return None;
     }
-    let desc = event_desc(protocol, objects, sender, opcode)?;
-    let kind = only_type(desc.signature.as_slice())?;
-    let arg = number_argument(kind, word)?;
-    Some(NumberEvent {
-        sender: id_at(sender, object),
+    let desc = desc_of(protocol, object, opcode)?;
+    let payload = waiting_numbers(socket, desc.signature.as_slice())?;
+    event.sender_id = id_at(sender, object);
+    event.opcode = opcode;
+    event.args.clear();
+    push_numbers(desc.signature.as_slice(), payload, &mut event.args);
+    Some(OpenEvent {
+        sender: event.sender_id,
         is_destructor: desc.is_destructor,
-        arg,
+        created: None,
     })
 }
 
@@ -127,9 +198,9 @@ impl<T: Transport + Drop, U: Drop> Backend<T, U> {
         true
     }
 
-    /// Hands out the first message that was received, which has this header, if it is an event whose only argument is a number.
-    /// If it is not, nothing is changed.
-    pub(crate) fn take_number(
+    /// Hands out the first message that was received, which has this header, if it is an event of at most four numbers. If it is
+    /// not, nothing is changed.
+    pub(crate) fn take_numbers(
         &mut self,
         header: (u32, u16),
         event: &mut Message<ObjectId, Token>,
@@ -143,19 +214,11 @@ impl<T: Transport + Drop, U: Drop> Backend<T, U> {
         if header.0 == DISPLAY {
             return false;
         }
-        let waiting = waiting_number(&self.protocol, &self.objects, &self.socket, header);
-        let Some(found) = waiting else {
+        let waiting = read_numbers(&self.protocol, &self.objects, &self.socket, header, event);
+        let Some(opened) = waiting else {
             return false;
         };
-        self.open_event = Some(OpenEvent {
-            sender: found.sender,
-            is_destructor: found.is_destructor,
-            created: None,
-        });
-        event.sender_id = found.sender;
-        event.opcode = header.1;
-        event.args.clear();
-        event.args.push_reserved(found.arg);
+        self.open_event = Some(opened);
         self.socket.skip_message();
         true
     }
@@ -175,7 +238,7 @@ impl<T: Transport + Drop, U: Drop> Backend<T, U> {
         if self.delete_in_place(header) {
             return InPlace::Deleted;
         }
-        if self.take_number(header, event) {
+        if self.take_numbers(header, event) {
             return InPlace::Event;
         }
         InPlace::Not

@@ -32,7 +32,7 @@ use crate::objects::Kept;
 use crate::protocol_error::{EventFault, fault_text, told_error};
 use smallvec::SmallVec;
 use std::alloc::Global;
-use wl_link::{BufferedSocket, ObjectMap, Transport, clear_message};
+use wl_link::{BufferedSocket, Object, ObjectMap, Transport, clear_message};
 use wl_wire::{
     Argument, INLINE_ARGS, IoFault, Message, MessageDesc, MessageParseError, OutOfMemory, Protocol,
     ProtocolError, Text, Token,
@@ -70,7 +70,17 @@ pub fn event_desc<'p, U: Drop>(
 ) -> Option<&'p MessageDesc>
     ensures { option_map message_row (option_copied result) ≡ row_in protocol.now (held objects.now.store sender) opcode }
 {
-    let object = objects.find(sender)?;
+    desc_of(protocol, objects.find(sender)?, opcode)
+}
+
+/// The description of the event with that opcode, of this object. `None` if there is no such event.
+pub fn desc_of<'p, U: Drop>(
+    protocol: &'p Protocol,
+    object: &Object<Kept<U>>,
+    opcode: u16,
+) -> Option<&'p MessageDesc>
+    ensures { option_map message_row (option_copied result) ≡ row_in protocol.now (Some object.now) opcode }
+{
     let interface = protocol.get(object.interface)?;
     interface.events.get(opcode as usize)
 }

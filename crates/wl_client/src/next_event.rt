@@ -160,7 +160,7 @@ impl<T: Transport + Drop, U: Drop> Backend<T, U> {
     {
         // It is at least `INLINE_ARGS`, as that of each such list.
         let _capacity = event.args.capacity();
-        if self.read_number(event) {
+        if self.read_numbers(event) {
             return Ok(());
         }
         let mut next = Message {
@@ -177,9 +177,9 @@ impl<T: Transport + Drop, U: Drop> Backend<T, U> {
         }
     }
 
-    /// Reads the next event into `event`, if it waits and its only argument is a number. If not, or if the session has an error
-    /// or an event is open, nothing is changed.
-    fn read_number(&mut self, event: &mut Message<ObjectId, Token>) -> bool
+    /// Reads the next event into `event`, if it waits and its arguments are at most four numbers. If not, or if the session has
+    /// an error or an event is open, nothing is changed.
+    fn read_numbers(&mut self, event: &mut Message<ObjectId, Token>) -> bool
         requires { INLINE_ARGS ≤ event.old.args.capacity }
         ensures { MatchBool result
             (NextEvent T.sends T.receives self.old.session (Ok (session_content event.new)) self.new.refused self.new.session)
@@ -191,7 +191,7 @@ impl<T: Transport + Drop, U: Drop> Backend<T, U> {
         let Some(header) = self.socket.next_header() else {
             return false;
         };
-        if !self.take_number(header, event) {
+        if !self.take_numbers(header, event) {
             return false;
         }
         self.refused = false;

@@ -289,11 +289,9 @@ pub enum Received {
     Full,
 }
 
-/// How much the buffer of what was received holds at most.
-const MOST_RECEIVED: usize = 65536;
-
 /// Receives once.
 fn fill(from: &mut Link, to: &Link) -> Result<Received, OutOfMemory>
+    requires is_open { IsOpen from.old }
     ensures kept { OnOk result (Kept from.old to.now from.new to.now) }
     ensures same { still_to_read from.new ≡ still_to_read from.old }
     ensures to_send { still_to_send from.new ≡ still_to_send from.old }
@@ -305,9 +303,10 @@ fn fill(from: &mut Link, to: &Link) -> Result<Received, OutOfMemory>
     }
     match from.fill_incoming_buffers() {
         Ok(()) => Ok(Received::Some),
-        Err(IoFault::Pipe) if from.received().len() >= MOST_RECEIVED => Ok(Received::Full),
-        // The buffer may grow so far, and the mailbox gives what it has, if there is memory.
-        Err(_) => Err(OutOfMemory),
+        // The mailbox gives what it has. So only a full buffer, which has no limit but its greatest size, takes nothing.
+        Err(IoFault::Pipe) => Ok(Received::Full),
+        Err(IoFault::OutOfMemory) => Err(OutOfMemory),
+        Err(_) => unreachable!(),
     }
 }
 
@@ -319,6 +318,7 @@ fn receive_once(
     from: &mut Link,
     to: &mut Link,
 ) -> Result<bool, OutOfMemory>
+    requires open_from { IsOpen from.old }
     requires is_open { IsOpen to.old }
     requires done { IsDone table.now side (known notes.old) from.old.incoming }
     ensures kept { OnOk result (KeptUnlessChanged notes.old.has_changed from.old to.old notes.new.has_changed from.new to.new) }
@@ -346,6 +346,7 @@ pub fn receive(
     from: &mut Link,
     to: &mut Link,
 ) -> Result<(), OutOfMemory>
+    requires open_from { IsOpen from.old }
     requires is_open { IsOpen to.old }
     ensures kept { OnOk result (KeptUnlessChanged notes.old.has_changed from.old to.old notes.new.has_changed from.new to.new) }
     ensures logged { OnOk result (GrowsLog table.now side (known notes.old) (still_to_read from.old) from.old.transport.arrived (still_to_send to.old)

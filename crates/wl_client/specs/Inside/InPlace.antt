@@ -1,5 +1,5 @@
--- Messages of one word that are handled in place.
-use Rattle.std.specs.Prelude.{◌≡◌, ℕ, List, [], ◌∷◌, false, Option, None, Some}
+-- Messages of words that are handled in place.
+use Rattle.std.specs.Prelude.{◌≡◌, ◌≤◌, ℕ, List, [], ◌∷◌, false, Option, None, Some, drop, length, take}
 use Rattle.std.specs.Int.{w32, cast_signed}
 use Rattle.wl_wire.specs.declared.argument.Argument.{Argument}
 use Rattle.wl_wire.specs.declared.argument.Argument.TheVariants as arg
@@ -13,12 +13,13 @@ use Rattle.wl_wire.specs.Table.{InterfaceRow, MessageRow}
 use Rattle.wl_link.specs.declared.object.Object.{Object}
 use Rattle.wl_link.specs.Link.{LinkState}
 use Rattle.wl_link.specs.Store.{Store, held}
+use Rattle.wl_client.specs.declared.event.OpenEvent.{OpenEvent}
 use Rattle.wl_client.specs.declared.in_place.InPlace.{InPlace}
 use Rattle.wl_client.specs.declared.in_place.InPlace.TheVariants as place
-use Rattle.wl_client.specs.declared.in_place.NumberEvent.{NumberEvent}
 use Rattle.wl_client.specs.declared.objects.Kept.{Kept}
 use Rattle.wl_client.specs.ObjectId.{IdParts}
 use Rattle.wl_client.specs.Handling.{row_in, signature_in}
+use Rattle.wl_client.specs.Requests.{SessionMessage}
 use Rattle.wl_client.specs.Session.{SessionState, id_at}
 use Rattle.wl_client.specs.Inside.ReadingLoop.{GaveEvent, HandlesMessage, WentOn}
 
@@ -28,6 +29,20 @@ number_argument kind.Int n = Some (arg.Int (cast_signed w32 n))
 number_argument kind.Uint n = Some (arg.Uint n)
 number_argument kind.Fixed n = Some (arg.Fixed (cast_signed w32 n))
 number_argument _ n = None
+
+-- an argument of this type is a number
+abbrev pub IsNumber : ArgumentType → Type 0
+IsNumber kind.Int = Unit {0}
+IsNumber kind.Uint = Unit {0}
+IsNumber kind.Fixed = Unit {0}
+IsNumber _ = ⊥
+
+-- the payload begins with a word for each type, and these are the arguments that the words are
+unfoldable pub NumbersAre : List ArgumentType → List ℕ → List (Argument IdParts Token) → Type 0
+NumbersAre [] payload [] = Unit {0}
+NumbersAre (k ∷ kinds) payload (b ∷ values) =
+    (n : ℕ) × (4 ≤ length payload) × IsWord n (take 4 payload) × (number_argument k n ≡ Some b) × NumbersAre kinds (drop 4 payload) values
+NumbersAre _ payload _ = ⊥
 
 module _ {T U : Type 0} where
   -- The message at the front says that the server gives up this number: its sender has an event 1 of one word, it is there
@@ -39,23 +54,19 @@ module _ {T U : Type 0} where
     pub twelve : length_of link.incoming.bytes ≡ 12
     pub word : IsWord n (payload_of link.incoming.bytes)
 
-  -- The message at the front is this event, whose only argument is a number: its sender is an object that the client has not
-  -- destroyed, it is there whole, and it has one word after its header.
-  pub record NumberWaits (table : List InterfaceRow) (store : Store (Kept U)) (link : LinkState T) (e : NumberEvent) : Type 0 where
+  -- The message at the front is this event, whose arguments are numbers, and this is open once it is handed out: its sender is
+  -- an object that the client has not destroyed, and it is there whole.
+  pub record NumbersWait (table : List InterfaceRow) (store : Store (Kept U)) (link : LinkState T) (m : SessionMessage) (opened : OpenEvent) : Type 0 where
     pub receiver : Object (Kept U)
     pub holds : held store (sender_of link.incoming.bytes) ≡ Some receiver
     pub live : receiver.value.client_destroyed ≡ false
     pub row : MessageRow
     pub has : row_in table (Some receiver) (opcode_of link.incoming.bytes) ≡ Some row
-    pub type : ArgumentType
-    pub signature : row.signature ≡ type ∷ []
-    pub number : ℕ
-    pub argument : number_argument type number ≡ Some e.arg
     pub whole : IsWhole link.incoming.bytes
-    pub twelve : length_of link.incoming.bytes ≡ 12
-    pub word : IsWord number (payload_of link.incoming.bytes)
-    pub sender : e.sender ≡ id_at (sender_of link.incoming.bytes) receiver
-    pub ends : e.is_destructor ≡ row.is_destructor
+    pub values : List (Argument IdParts Token)
+    pub are : NumbersAre row.signature (payload_of link.incoming.bytes) values
+    pub is : m ≡ record { sender = id_at (sender_of link.incoming.bytes) receiver; opcode = opcode_of link.incoming.bytes; args = values }
+    pub opens : opened ≡ record { sender = id_at (sender_of link.incoming.bytes) receiver; is_destructor = row.is_destructor; created = None }
 
   -- the message at the front was handled in place, or nothing is changed
   abbrev pub HandledInPlace : SessionState T U → InPlace → Message IdParts Token → SessionState T U → Type 0
