@@ -1,6 +1,6 @@
 //! Readings into an action that the program lends. A request of words that waits is written into it where it stands.
 
-ghost use Rattle.std.specs.Prelude.{◌≡◌, false, MatchBool, Ok, OnErr, Some};
+ghost use Rattle.std.specs.Prelude.{◌≡◌, false, IfSome, MatchBool, Ok, OnErr, Some};
 ghost use Rattle.std.specs.Result.{result_and};
 ghost use Rattle.wl_server.specs.Backend.{Calls};
 ghost use Rattle.wl_server.specs.Deeds.{handed};
@@ -10,7 +10,7 @@ ghost use Rattle.wl_server.specs.Reading.{NextAction, action_content, new_readin
 ghost use Rattle.wl_server.specs.declared.runs.step.Reply.TheVariants as reply;
 ghost use Rattle.wl_server.specs.declared.runs.step.Step.TheVariants as step;
 ghost use Rattle.wl_server.specs.Inside.Client.{Does};
-ghost use Rattle.wl_server.specs.Inside.ReadingLoop.{around_of};
+ghost use Rattle.wl_server.specs.Inside.ReadingLoop.{IsHeader, Live, around_of};
 
 use crate::backend::Backend;
 use crate::client::Client;
@@ -26,6 +26,16 @@ use wl_link::{MessagePlace, Transport};
 use wl_wire::{INLINE_ARGS, IoFault};
 
 impl<T: Transport + Drop, U: Drop, C: Drop> Client<T, U, C> {
+    /// The header of the message at the front, if the client may be read: no action is open, and it was not killed.
+    fn readable_header(&self) -> Option<(u32, u16)>
+        ensures { IfSome result (λ header. Live self.now.part × IsHeader self.now.part.link header) }
+    {
+        if self.action.is_open() || self.is_killed {
+            return None;
+        }
+        self.socket.next_header()
+    }
+
     /// Hands the request at the front out into `action`, if the client may be read, its arguments are at most four words and
     /// make no object, and `action` is a request too. If not, nothing is changed.
     fn act_at_once<G: GlobalHandler<C> + Drop>(
@@ -40,13 +50,7 @@ impl<T: Transport + Drop, U: Drop, C: Drop> Client<T, U, C> {
         ensures times { self.new.times ≡ self.old.times }
         ensures numbered { IsNumbered (Some self.old) → IsNumbered (Some self.new) }
     {
-        if self.action.is_open() {
-            return false;
-        }
-        if self.is_killed {
-            return false;
-        }
-        let Some(header) = self.socket.next_header() else {
+        let Some(header) = self.readable_header() else {
             return false;
         };
         match action {
@@ -60,16 +64,42 @@ impl<T: Transport + Drop, U: Drop, C: Drop> Client<T, U, C> {
                 // There is always room for so many.
                 let room = args.capacity();
                 prove!(INLINE_ARGS <= room);
-                let Some(request) = self.take_words(around, reading, header, args) else {
-                    return false;
-                };
-                *sender = request.0;
-                *opcode = header.1;
-                *is_destructor = request.1;
-                *created = None;
-                true
+                match self.take_words(around, reading, header, args) {
+                    Some(request) => {
+                        *sender = request.0;
+                        *opcode = header.1;
+                        *is_destructor = request.1;
+                        *created = None;
+                        true
+                    }
+                    None => false,
+                }
             }
             Action::Bind { .. } => false,
+        }
+    }
+
+    /// Does the same as `find_action`, and returns the action.
+    fn find_whole_action<G: GlobalHandler<C> + Drop>(
+        &mut self,
+        numbers: &mut NoteNumbers,
+        around: &Surroundings<'_, G>,
+        reading: &mut Reading,
+        place: &mut MessagePlace,
+    ) -> (Result<Action, ActionError>, bool)
+        ensures does { Does self.old (λ p did q. NextAction T.sends T.receives (around_of G.views around.now) reading.old p
+            (action_content result.0) reading.new result.1 did q) self.new }
+        ensures in_time { NotesInTime self.old.times numbers.old self.new.times numbers.new }
+        ensures numbered { IsNumbered (Some self.old) → IsNumbered (Some self.new) }
+    {
+        let mut found = Found::none();
+        let mut args = SmallVec::new(self.alloc());
+        let (answer, refused) = self.find_action(
+            numbers, around, reading, place, &mut found, &mut args,
+        );
+        match answer {
+            Ok(()) => (Ok(found.with_args(args)), refused),
+            Err(error) => (Err(error), refused),
         }
     }
 
@@ -91,14 +121,10 @@ impl<T: Transport + Drop, U: Drop, C: Drop> Client<T, U, C> {
         if self.act_at_once(around, reading, action) {
             return (Ok(()), false);
         }
-        let mut found = Found::none();
-        let mut args = SmallVec::new(self.alloc());
-        let (answer, refused) = self.find_action(
-            numbers, around, reading, place, &mut found, &mut args,
-        );
+        let (answer, refused) = self.find_whole_action(numbers, around, reading, place);
         match answer {
-            Ok(()) => {
-                *action = found.with_args(args);
+            Ok(next) => {
+                *action = next;
                 (Ok(()), refused)
             }
             Err(error) => (Err(error), refused),

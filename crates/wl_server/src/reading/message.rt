@@ -211,8 +211,7 @@ impl<T: Transport + Drop, U: Drop, C: Drop> Client<T, U, C> {
             return MessageEnd::Continues;
         }
         // Most requests have few arguments, all of them words.
-        if let Some(request) = self.take_words(around, reading, header, args) {
-            *found = Found::Request(request.0, header.1, request.1, None);
+        if self.find_words(around, reading, header, found, args) {
             return MessageEnd::Acts;
         }
         let end = self.handle_at(numbers, around, reading, header, message, found, args);

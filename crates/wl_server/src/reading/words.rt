@@ -1,13 +1,13 @@
 //! Requests whose arguments are words: they are handed out where they stand, without being read into a message.
 
-ghost use Rattle.std.specs.Prelude.{◌≡◌, ◌≤◌, ◌*◌, ◌++◌, ◌∷◌, [], true, None, IfSome, IsTrue, MatchOption, Some, length};
+ghost use Rattle.std.specs.Prelude.{◌≡◌, ◌≤◌, ◌*◌, ◌++◌, ◌∷◌, [], true, None, IfSome, IsTrue, MatchBool, MatchOption, Some, length};
 ghost use Rattle.smallvec.specs.SmallVec.{HasRoomFor};
 ghost use Rattle.wl_wire.specs.MessageRows.{next_interface};
 ghost use Rattle.wl_wire.specs.Table.{message_row};
 ghost use Rattle.wl_server.specs.Requests.{allows_null};
 ghost use Rattle.wl_server.specs.NoteOrder.{IsNumbered};
 ghost use Rattle.wl_server.specs.Deeds.{Request};
-ghost use Rattle.wl_server.specs.Inside.ReadingLoop.{Acts, HandlesMessage, IsHeader, Live, around_of};
+ghost use Rattle.wl_server.specs.Inside.ReadingLoop.{Acts, HandlesMessage, IsHeader, Live, around_of, found_with};
 ghost use Rattle.wl_server.specs.Inside.Words.{MayStand, WordsWait, asked_after, first_word, handed_object, handed_word, handed_words, object_fits, word_fits, words_fit};
 
 use crate::client::Client;
@@ -16,7 +16,7 @@ use crate::ids::client_id::ClientId;
 use crate::ids::object_id::ObjectId;
 use crate::objects::{Kept, id_at};
 use crate::reading::Surroundings;
-use crate::reading::action::Reading;
+use crate::reading::action::{Found, Reading};
 use crate::reading::message::request_desc;
 use crate::reading::request::Sender;
 use smallvec::SmallVec;
@@ -255,5 +255,34 @@ impl<T: Transport + Drop, U: Drop, C: Drop> Client<T, U, C> {
         self.socket.skip_message();
         reading.read = reading.read.saturating_add(1);
         Some((sender, is_destructor))
+    }
+
+    /// Does the same as `take_words`, and puts what is handed out into `found`. Returns whether something is.
+    #[inline(always)]
+    pub fn find_words<G: GlobalHandler<C> + Drop>(
+        &mut self,
+        around: &Surroundings<'_, G>,
+        reading: &mut Reading,
+        header: (u32, u16),
+        found: &mut Found,
+        args: &mut SmallVec<Argument<ObjectId, Token>, INLINE_ARGS>,
+    ) -> bool
+        requires live { Live self.old.part }
+        requires header { IsHeader self.old.part.link header }
+        requires inline { INLINE_ARGS ≤ args.old.capacity }
+        ensures handles { MatchBool result
+            (HandlesMessage T.sends T.receives (around_of G.views around.now) self.old reading.old (Acts (found_with found.new args.new.items)) self.new reading.new)
+            ((self.new ≡ self.old) × (reading.new ≡ reading.old)) }
+        ensures inline { INLINE_ARGS ≤ args.new.capacity }
+        ensures times { self.new.times ≡ self.old.times }
+        ensures numbered { IsNumbered (Some self.old) → IsNumbered (Some self.new) }
+    {
+        match self.take_words(around, reading, header, args) {
+            Some(request) => {
+                *found = Found::Request(request.0, header.1, request.1, None);
+                true
+            }
+            None => false,
+        }
     }
 }

@@ -1,13 +1,11 @@
-use Rattle.std.proofs.Common.{◌∙◌, None, Ok, sym}
+use Rattle.std.proofs.Common.{None, Ok}
 use Rattle.wl_server.specs.Deeds.{Request}
 use Rattle.wl_server.specs.Inside.ReadingLoop.{around_of}
-use Rattle.wl_server.proofs.Readings.OneMessage.{live_is, reading_done}
+use Rattle.wl_server.proofs.Readings.OneMessage.{reading_done}
 use Rattle.wl_server.proofs.client.Client.act_at_once.Goals as goal
 
 pub returns-in-Some-take_words-clause-done : goal.returns-in-Some-take_words-clause-done
 returns-in-Some-take_words-clause-done g c =
     let request = c.in-Some-take_words.request in
-    rw (← c.self.view_is)
-    (reading_done g.T.Transport.sends g.T.Transport.receives (around_of g.G.GlobalHandler.views c.args.around.now) _ c.take_words.new.self c.args.reading.now c.take_words.new.reading
-    (Ok (Request request.0 c.in-Some.header.1 c.take_words.new.args.items request.1 None)) (c.if-self.false, live_is _ (sym c.is_open.ensures ∙ c.if-is_open.false))
-    (rw (← c.self.view_is) at c.in-Some-take_words.ensures.handles))
+    reading_done g.T.Transport.sends g.T.Transport.receives (around_of g.G.GlobalHandler.views c.args.around.now) _ c.take_words.new.self c.args.reading.now c.take_words.new.reading
+    (Ok (Request request.0 c.in-Some.header.1 c.take_words.new.args.items request.1 None)) c.in-Some.ensures.0 c.in-Some-take_words.ensures.handles
