@@ -1,6 +1,7 @@
 //! The server itself: it reads, and calls the handlers.
 
 use std::{
+    cell::Cell,
     fmt, io,
     os::fd::{AsFd, BorrowedFd, OwnedFd},
     sync::{
@@ -134,7 +135,7 @@ impl<D> Backend<D> {
     ///
     /// As [`Self::dispatch_single_client`].
     pub fn dispatch_all_clients(&mut self, data: &mut D) -> io::Result<usize> {
-        let mut ready = epoll::EventVec::with_capacity(MOST_READY);
+        let mut ready = take_ready();
         let mut dispatched = 0;
         let mut panics = Panics::default();
         let (mut rounds, mut most_rounds) = (0, MOST_TURNS);
@@ -163,6 +164,7 @@ impl<D> Backend<D> {
                 most_rounds *= 1 + clients / MOST_READY;
             }
         }
+        _ = READY.try_with(|kept| kept.set(Some(ready)));
         panics.go_on();
         Ok(dispatched)
     }
@@ -370,6 +372,17 @@ struct WasRead {
     count: io::Result<usize>,
     /// Whether more of what the client has sent may be there.
     has_more: bool,
+}
+
+thread_local! {
+    /// Where the system tells which clients are ready. It is kept for its memory.
+    static READY: Cell<Option<epoll::EventVec>> = const { Cell::new(None) };
+}
+
+/// Memory for as many clients as are told of at once.
+fn take_ready() -> epoll::EventVec {
+    let kept = READY.try_with(Cell::take).ok().flatten();
+    kept.unwrap_or_else(|| epoll::EventVec::with_capacity(MOST_READY))
 }
 
 /// A message without arguments, of no object.

@@ -813,6 +813,53 @@ fn a_thousand_clients_are_served() {
 }
 
 #[test]
+fn all_clients_are_answered_in_one_round_also_if_no_handler_is_called() {
+    let mut server = plain_server();
+    let mut peers: Vec<Peer> = (0..100).map(|_| server.connect().0).collect();
+    for peer in &peers {
+        peer.send(1, 0, &[Arg::Word(2)]);
+    }
+    assert_eq!(server.round(), 100);
+    for peer in &mut peers {
+        assert_eq!(peer.events().len(), 2);
+    }
+    assert_eq!(server.round(), 0);
+}
+
+#[test]
+fn the_end_behind_a_request_without_a_handler_is_told_in_the_same_round() {
+    for end in [std::net::Shutdown::Write, std::net::Shutdown::Both] {
+        let mut server = plain_server();
+        let (peer, _, told) = server.connect_and_bind();
+        peer.send(1, 0, &[Arg::Word(4)]);
+        peer.stream.shutdown(end).unwrap();
+        server.round();
+        assert_eq!(told.take(), ["closed"]);
+        assert_eq!(server.program.take_log(), ["gone maker@3"]);
+    }
+}
+
+#[test]
+fn what_a_handler_sends_as_a_client_is_read_in_the_same_round() {
+    let other: Arc<Mutex<Option<std::os::unix::net::UnixStream>>> = Arc::default();
+    let sender = other.clone();
+    let mut server = Server::with_maker(move || {
+        let sender = sender.clone();
+        Object::handling("maker", move |_, _, _, _| {
+            if let Some(mut other) = sender.lock().unwrap().take() {
+                other.write_all(&message(3, maker::POKE, &[])).unwrap();
+            }
+            None
+        })
+    });
+    let (peer, _, _) = server.connect_and_bind();
+    let (sent, _, _) = server.connect_and_bind();
+    *other.lock().unwrap() = Some(sent.stream.try_clone().unwrap());
+    peer.send(3, maker::POKE, &[]);
+    assert_eq!(server.round(), 2);
+}
+
+#[test]
 fn a_client_that_sends_without_end_keeps_nobody_waiting() {
     let count = Arc::new(AtomicUsize::new(0));
     let counted = count.clone();
