@@ -3,7 +3,6 @@
 use Rattle.std.proofs.Common.{◌≡◌, ℕ, Bool, true, false, List, [], ◌∷◌, ◌++◌, Option, None, Some, Result, Ok, Err, refl, sym, ap, subst, ◌∙◌, true≢false}
 use mathlib.Core.Logic.{inl, inr}
 use Rattle.wl_wire.specs.declared.error.IoFault.{IoFault}
-use Rattle.wl_wire.specs.Table.{interface_rows}
 use Rattle.wl_link.proofs.Calls.Branches.{both_bool, both_option}
 use Rattle.wl_link.specs.Exchange.{Queue}
 use Rattle.wl_link.specs.Link.{LinkState}
