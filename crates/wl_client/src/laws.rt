@@ -3,9 +3,8 @@
 //! A *run* is a list of calls over the transport by script, each with its reply. A *history* is a list of calls over any
 //! transport, each with its reply, of changes that the program makes to the transport between them, and of interfaces that it
 //! adds. A history *from `connect` on* begins with a session as `connect` returns it (`IsConnected`); any other may begin
-//! with any session. A law
-//! that is about every transport has a clause for the transport by script, whose own calls may be among the steps. An id
-//! *names* an object if its number has that object and its serial is that object's.
+//! with any session. A law that is about every transport has a clause for the transport by script, whose own calls may be
+//! among the steps. An id *names* an object if its number has that object and its serial is that object's.
 
 ghost use Rattle.std.specs.Prelude.{◌≡◌, ◌∷◌, ◌++◌, ◌↔◌, [], Bool, List, Option, None, Result, Ok, Err, IsSome, Vec, false, length, map, ℕ};
 ghost use Rattle.std.specs.Global.{Global};

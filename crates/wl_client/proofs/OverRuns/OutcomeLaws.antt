@@ -39,7 +39,7 @@ use Rattle.wl_client.specs.OneOutcome.{SameAnswers, SameDeeds}
 use Rattle.wl_client.specs.Replies.{SameReply, SameReplies}
 use Rattle.wl_client.specs.Requests.{Numbered, Requested, Sent, SentAs, SentWithChild, SessionMessage, Spec, Written, ended_by, error_after, id_of_new, new_child, number_of_new, request_check, session_content, wire_message, with_born, with_ended}
 use Rattle.wl_client.specs.Session.{SessionState, last_possible_serial, named, over_transport}
-use Rattle.wl_client.specs.Steps.{ArrivesWith, CallOf, Scripts, InterfacesAdded, StepOf, Leads, entries, refused_arrive, refused_destroy, refused_finish, refused_flush, refused_request, refused_script}
+use Rattle.wl_client.specs.Steps.{ArrivesWith, CallOf, Making, Scripts, InterfacesAdded, StepOf, Leads, entries, refused_arrive, refused_destroy, refused_finish, refused_flush, refused_request, refused_script}
 
 -- an answer by which memory was not refused is not one by which it was
 not_refused : (b : Bool) → false ≡ b → b ≡ true → ⊥

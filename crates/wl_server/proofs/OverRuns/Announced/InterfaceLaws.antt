@@ -7,7 +7,7 @@ use Rattle.std.proofs.lemmas.Option.{same_Some, slice_get_within}
 use mathlib.Core.Logic.{inl, inr}
 use Rattle.wl_wire.specs.declared.interface.InterfaceId.{InterfaceId}
 use Rattle.wl_wire.specs.declared.protocol.TableError.{TableError}
-use Rattle.wl_wire.specs.Table.{InterfaceRow, grown, interface_rows, name_of}
+use Rattle.wl_wire.specs.Table.{InterfaceRow, grown, name_of}
 use Rattle.wl_wire.proofs.Growth.{row_stays}
 use Rattle.wl_link.specs.declared.object.Object.{Object}
 use Rattle.wl_link.specs.Store.{held}

@@ -23,6 +23,27 @@ use Rattle.wl_server.specs.Runs.{Leads, Own, concerns, is_about, mine, offer_ove
 use Rattle.wl_server.specs.Server.{Seen, ServerState, new_server}
 use Rattle.wl_server.specs.Steps.{Entry, AnswersShared, lacks_growth, offer_after}
 
+-- ---- interfaces that were to be added
+
+-- the offer after them, where the answers are alike
+pub growth_offer : {G : Type 0} (offer : Offer G) (rows rows' : List InterfaceRow) (p q : Result (Unit {0}) TableError) → rows ≡ rows' → p ≡ q
+    → with_table offer (grown offer.table rows p) ≡ with_table offer (grown offer.table rows' q)
+growth_offer offer rows rows' p q same answers =
+    ap (λ these. with_table offer (grown offer.table these p)) same ∙ ap (λ answer. with_table offer (grown offer.table rows' answer)) answers
+
+-- a want of memory for them is told by the answer
+growth_allowed : (T U G C : Type 0) (rows : List InterfaceRow) (p : Result (Unit {0}) TableError) → lacks_growth {T = T} {U = U} {G = G} {C = C} (Grown rows p) ≡ false
+    → p ≢ Err table.OutOfMemory
+growth_allowed T U G C rows p ample lacks = true≢false (subst (λ z. lacks_growth {T = T} {U = U} {G = G} {C = C} (Grown rows z) ≡ false) lacks ample)
+
+-- what is shared determines the answer
+pub growth_same : (T U G C : Type 0) (offer : Offer G) (rows rows' : List InterfaceRow) (p q : Result (Unit {0}) TableError) → rows ≡ rows'
+    → lacks_growth {T = T} {U = U} {G = G} {C = C} (Grown rows p) ≡ false → lacks_growth {T = T} {U = U} {G = G} {C = C} (Grown rows' q) ≡ false
+    → AnswersGrowth offer.table rows p → AnswersGrowth offer.table rows' q → p ≡ q
+growth_same T U G C offer rows rows' p q same ample ample' n n' =
+    AnswersGrowth-unique offer.table rows p q (growth_allowed T U G C rows p ample) (growth_allowed T U G C rows' q ample') n
+    (subst (λ these. AnswersGrowth offer.table these q) (sym same) n')
+
 module _ {T U G C : Type 0} where
   -- ---- a call
 
@@ -50,25 +71,6 @@ module _ {T U G C : Type 0} where
   numbers_as offer (step.SendEvent m) s' q same n = tt
   numbers_as offer (step.Arrive target bytes tokens) s' q same n = tt
   numbers_as offer s s' q same n = subst (λ (z : Step T U G C). AnswersShared offer (Asked z q)) (sym same) n
-
-  -- the offer after interfaces were to be added, where the answers are alike
-  pub growth_offer : (offer : Offer G) (rows rows' : List InterfaceRow) (p q : Result (Unit {0}) TableError) → rows ≡ rows' → p ≡ q
-      → with_table offer (grown offer.table rows p) ≡ with_table offer (grown offer.table rows' q)
-  growth_offer offer rows rows' p q same answers =
-      ap (λ these. with_table offer (grown offer.table these p)) same ∙ ap (λ answer. with_table offer (grown offer.table rows' answer)) answers
-
-  -- a want of memory for interfaces is told by the answer
-  growth_allowed : (rows : List InterfaceRow) (p : Result (Unit {0}) TableError) → lacks_growth {T = T} {U = U} {G = G} {C = C} (Grown rows p) ≡ false
-      → p ≢ Err table.OutOfMemory
-  growth_allowed rows p ample lacks = true≢false (subst (λ z. lacks_growth {T = T} {U = U} {G = G} {C = C} (Grown rows z) ≡ false) lacks ample)
-
-  -- what is shared determines the answer to interfaces
-  pub growth_same : (offer : Offer G) (rows rows' : List InterfaceRow) (p q : Result (Unit {0}) TableError) → rows ≡ rows'
-      → lacks_growth {T = T} {U = U} {G = G} {C = C} (Grown rows p) ≡ false → lacks_growth {T = T} {U = U} {G = G} {C = C} (Grown rows' q) ≡ false
-      → AnswersGrowth offer.table rows p → AnswersGrowth offer.table rows' q → p ≡ q
-  growth_same offer rows rows' p q same ample ample' n n' =
-      AnswersGrowth-unique offer.table rows p q (growth_allowed rows p ample) (growth_allowed rows' q ample') n
-      (subst (λ these. AnswersGrowth offer.table these q) (sym same) n')
 
   -- the creation of a global is answered as one
   abbrev pub Answered : Call T U G C → Type 0
@@ -122,7 +124,7 @@ module _ {T U G C : Type 0} where
         (shared, offer_one offer s p q shared ∙ offer_as offer s s' q same)
     shared_call (Changed target t) (Changed target' t') same own ample ample' n n' h g = (tt, refl)
     shared_call (Grown rows p) (Grown rows' q) same own ample ample' n n' h g =
-        let answers = growth_same offer rows rows' p q same ample ample' n n' in (answers, growth_offer offer rows rows' p q same answers)
+        let answers = growth_same T U G C offer rows rows' p q same ample ample' n n' in (answers, growth_offer offer rows rows' p q same answers)
     shared_call (Asked s p) (Changed target t) same own ample ample' n n' h g = absurd same
     shared_call (Asked s p) (Grown rows q) same own ample ample' n n' h g = absurd same
     shared_call (Changed target t) (Asked s p) same own ample ample' n n' h g = absurd same

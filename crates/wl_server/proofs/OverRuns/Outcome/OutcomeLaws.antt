@@ -3,7 +3,6 @@
 use Rattle.std.proofs.Common.{◌≡◌, ℕ, Bool, true, false, List, [], ◌∷◌, ◌++◌, Option, None, Some, Result, Ok, Err, refl, sym, ap, subst, ◌∙◌, true≢false}
 use mathlib.Core.Logic.{inl, inr}
 use Rattle.wl_wire.specs.declared.error.IoFault.{IoFault}
-use Rattle.wl_wire.specs.Table.{interface_rows}
 use Rattle.wl_link.proofs.Calls.Branches.{both_bool, both_option}
 use Rattle.wl_link.specs.Exchange.{Queue}
 use Rattle.wl_link.specs.Link.{LinkState}
@@ -107,7 +106,7 @@ with_none one = (one, tt)
 -- ---- a step
 
 -- two outcomes of a step are the same to a client
-record SameStepOutcome {T U C : Type 0} (id : ClientParts) (is_own : Bool) (answer answer' : Reply T U) (did did' : List (Deed U))
+pub record SameStepOutcome {T U C : Type 0} (id : ClientParts) (is_own : Bool) (answer answer' : Reply T U) (did did' : List (Deed U))
     (after after' : Seen T U C) : Type 0 where
   pub reply : is_own ≡ true → SameReply id answer answer'
   pub deeds : did ≡ did'

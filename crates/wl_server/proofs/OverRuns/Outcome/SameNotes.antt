@@ -10,7 +10,6 @@ use Rattle.std.proofs.lemmas.List.{append_cancel_left, length-append, length-map
 use Rattle.std.proofs.lemmas.List.Sorted.{sum_by-IsPermutation}
 use Rattle.std.proofs.lemmas.List.Sums.{sum_by-cons}
 use Rattle.std.proofs.lemmas.Option.{same_Some}
-use Rattle.wl_wire.specs.Table.{interface_rows}
 use Rattle.wl_wire.specs.declared.error.OutOfMemory.{OutOfMemory}
 use Rattle.wl_server.specs.declared.notes.Happening.{Happening}
 use Rattle.wl_server.specs.declared.notes.Note.{Note}
@@ -23,7 +22,7 @@ use Rattle.wl_server.specs.declared.runs.step.Step.TheVariants as step
 use Rattle.wl_server.specs.Events.{session_content}
 use Rattle.wl_server.specs.Ids.{ClientParts}
 use Rattle.wl_server.specs.NoteOrder.{AllNumbered, AllTakeFirst, GivesNumbers, InTurn, IsInOrder, IsNoLater, IsNumbered, Rise, RiseFromSlot, all_places, number_past, numbers_from, places_of, slot_of, times_at, times_of}
-use Rattle.wl_server.specs.Outcome.{AddsSame, ArrivesSame, SameCall, SameStep, SendsSame}
+use Rattle.wl_server.specs.Outcome.{ArrivesSame, SameCall, SameStep, SendsSame}
 use Rattle.wl_server.specs.Outcome.Whole.{OrdersSame}
 use Rattle.wl_server.specs.Part.{Part}
 use Rattle.wl_server.specs.PartStep.{Asked, Call, Changed, Grown, PartCall, World}

@@ -133,7 +133,7 @@ module _ {T U G C : Type 0} where
     call_whole (Changed target v) (Changed target' v') same ample ample' c c' n n' rises rises' took h g =
         (tt, tt, λ id. (call_one w known id s.offer (seen id s) (d id) (e id) (x id) (y id) (Changed target v) (Changed target' v') same ample ample' tt (h id) (g id)).1)
     call_whole (Grown rows p) (Grown rows' q) same ample ample' c c' n n' rises rises' took h g =
-        let answers = growth_same s.offer rows rows' p q same ample ample' n n' in
+        let answers = growth_same T U G C s.offer rows rows' p q same ample ample' n n' in
         (answers, answers, λ id. (call_one w known id s.offer (seen id s) (d id) (e id) (x id) (y id) (Grown rows p) (Grown rows' q) same ample ample' answers (h id) (g id)).1)
     call_whole (Asked k p) (Changed target v) same ample ample' c c' n n' rises rises' took h g = absurd same
     call_whole (Asked k p) (Grown rows q) same ample ample' c c' n n' rises rises' took h g = absurd same
