@@ -64,5 +64,5 @@ returns-clause-lent g c =
 pub returns-clause-call : goal.returns-clause-call
 returns-clause-call g c =
     rw (← c.self.view_is)
-    (lends_as_call _ _ c.args.id.now c.lend_data.result _
+    (lends_as_call _ (record { session = _; refused = c.self.inside.refused }) c.args.id.now c.lend_data.result _
     (lends_of_session _ _ c.args.id.now c.lend_data.result c.lend_data.new.objects.store c.lend_data.ensures))
