@@ -19,7 +19,7 @@ use Rattle.wl_client.specs.Noted.{NotesWhatEnded}
 use Rattle.wl_client.specs.ObjectId.{IdParts}
 use Rattle.wl_client.specs.Objects.{user_data_of}
 use Rattle.wl_client.specs.Session.{ClientState, IsConnected, SessionState, id_of, named, objects_of, serial_of}
-use Rattle.wl_client.specs.Steps.{Entry, Making, StepOf, entries}
+use Rattle.wl_client.specs.Steps.{Entry, LocalCall, Making, StepOf, entries}
 use Rattle.wl_client.specs.Stretches.{EachPartIsCut}
 
 module _ {T U : Type 0} (makes : Making T U) where
@@ -66,13 +66,19 @@ module _ {T U : Type 0} (makes : Making T U) where
     pub refused : after.refused ≡ refused_growth answer
     pub accounted : StaysAccountedFor before.session (Grown rows answer) after.session
 
-module _ {T U R : Type 0} (makes : Making T U) (lend : U → R → U → Type 0) where
+module _ {T U : Type 0} where
+  -- What a public call does that neither sends nor receives. Over every transport it is a step with this reply, and stays
+  -- accounted for (`local_calls_are_calls` of `laws`).
+  abbrev pub CallsLocally : ClientState T U → Step U → Reply U → ClientState T U → Type 0
+  CallsLocally before call answer after = LocalCall before.session call answer after.refused after.session
+
+module _ {T U R : Type 0} (lend : U → R → U → Type 0) where
   -- The closure is called once with the user data of the object that the id names. What it leaves is set as if `set_data` had
   -- been called with it. Without such data it is not called, and nothing is changed.
   abbrev pub LendsAsCall : ClientState T U → IdParts → Result R InvalidId → ClientState T U → Type 0
   LendsAsCall before id answer after =
       MatchOption (user_data_of before.session id) ((answer ≡ Err _) × (after ≡ record before { refused = false }))
-      (λ u. (r : R) × (left : U) × lend u r left × (answer ≡ Ok r) × Calls makes before (step.SetData id left) (reply.SetData (Ok tt)) after)
+      (λ u. (r : R) × (left : U) × lend u r left × (answer ≡ Ok r) × CallsLocally before (step.SetData id left) (reply.SetData (Ok tt)) after)
 
 module _ {U : Type 0} where
   -- A history, and then steps that stopped because memory was refused in one of them; those before it have these replies.

@@ -2,7 +2,8 @@
 --
 -- A step is a call that changes the session, with its arguments, or a call by which the program changes the transport by
 -- script. An entry of a run is a step, its reply, and whether memory was refused in it. `CallOf` says what a call does over
--- any transport, and `StepOf` what a step does over the transport by script.
+-- any transport, `LocalCall` what one does that neither sends nor receives, and `StepOf` what a step does over the transport
+-- by script.
 use Rattle.std.specs.Prelude.{◌≡◌, ℕ, ◌<◌, List, [], ◌∷◌, ◌++◌, length, map, Bool, true, false, Result, Ok, Err}
 use Rattle.wl_wire.specs.declared.error.IoFault.{IoFault}
 use Rattle.wl_wire.specs.declared.error.OutOfMemory.{OutOfMemory}
@@ -88,29 +89,34 @@ module _ {T U : Type 0} where
 abbrev pub Making : Type 0 → Type 0 → Type 1
 Making T U = SessionState T U → Step U → Reply U → Bool → SessionState T U → Type 0
 
+module _ {T U : Type 0} where
+  -- a call of a session that neither sends nor receives, over whatever transport
+  abbrev pub LocalCall : Making T U
+  LocalCall before (step.SetData id u) answer refused after =
+      (r : _) × (answer ≡ reply.SetData r) × (refused ≡ false) × DataSet before id u r after
+  LocalCall before (step.DestroyObject id) answer refused after =
+      (r : _) × (answer ≡ reply.DestroyObject r) × (refused ≡ refused_destroy r) × DestroyedBy before id r after
+  LocalCall before (step.FinishEvent u) answer refused after =
+      (r : _) × (answer ≡ reply.FinishEvent r) × (refused ≡ refused_finish r) × Finishes before u r after
+  LocalCall before step.DispatchInnerQueue answer refused after =
+      (answer ≡ reply.DispatchInnerQueue (Ok 0)) × (refused ≡ false) × (after ≡ before)
+  LocalCall before (step.SetMaxBufferSize limit) answer refused after =
+      (answer ≡ reply.SetMaxBufferSize) × (refused ≡ false)
+      × ((link : LinkState T) × LimitSet before.link limit link × (after ≡ record before { link = link }))
+  LocalCall before step.TakeNotes answer refused after =
+      (notes : _) × (answer ≡ reply.TakeNotes notes) × (refused ≡ false) × (notes.items ≡ before.notes) × (after ≡ record before { notes = [] })
+  LocalCall before _ answer refused after = ⊥
+
 module _ {T U : Type 0} (sends : T → Queue → Result ℕ IoFault → T → Type 0) (receives : T → ℕ → Result Queue IoFault → T → Type 0) where
   -- a call of a session over a transport that sends and receives so; the steps of the transport by script are none
   abbrev pub CallOf : Making T U
-  CallOf before (step.SetData id u) answer refused after =
-      (r : _) × (answer ≡ reply.SetData r) × (refused ≡ false) × DataSet before id u r after
-  CallOf before (step.DestroyObject id) answer refused after =
-      (r : _) × (answer ≡ reply.DestroyObject r) × (refused ≡ refused_destroy r) × DestroyedBy before id r after
   CallOf before (step.SendRequest m u spec) answer refused after =
       (r : _) × (answer ≡ reply.SendRequest r) × (refused ≡ refused_request r) × Requested sends before (session_content m) u spec r after
   CallOf before step.Flush answer refused after =
       (r : _) × (answer ≡ reply.Flush r) × (refused ≡ refused_flush r) × SessionFlushed sends before r after
   CallOf before step.NextEvent answer refused after =
       (r : _) × (answer ≡ reply.NextEvent r) × NextEvent sends receives before (event_content r) refused after
-  CallOf before (step.FinishEvent u) answer refused after =
-      (r : _) × (answer ≡ reply.FinishEvent r) × (refused ≡ refused_finish r) × Finishes before u r after
-  CallOf before step.DispatchInnerQueue answer refused after =
-      (answer ≡ reply.DispatchInnerQueue (Ok 0)) × (refused ≡ false) × (after ≡ before)
-  CallOf before (step.SetMaxBufferSize limit) answer refused after =
-      (answer ≡ reply.SetMaxBufferSize) × (refused ≡ false)
-      × ((link : LinkState T) × LimitSet before.link limit link × (after ≡ record before { link = link }))
-  CallOf before step.TakeNotes answer refused after =
-      (notes : _) × (answer ≡ reply.TakeNotes notes) × (refused ≡ false) × (notes.items ≡ before.notes) × (after ≡ record before { notes = [] })
-  CallOf before _ answer refused after = ⊥
+  CallOf before call answer refused after = LocalCall before call answer refused after
 
 module _ {U : Type 0} where
   -- a step over the transport by script: a call of that transport, or of the session

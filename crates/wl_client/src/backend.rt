@@ -6,8 +6,8 @@ ghost use Rattle.std.specs.Borrow.{sem};
 ghost use Rattle.wl_wire.specs.Table.{AnswersGrowth, IsAcceptedTable, display_id, grown, interface_rows, refused_growth};
 ghost use Rattle.wl_link.specs.Link.{LinkState, LimitSet};
 ghost use Rattle.wl_link.specs.Store.{empty_store, stored};
-ghost use Rattle.wl_client.specs.Accounts.{Calls, IsChange, IsGrowth};
-ghost use Rattle.wl_client.specs.Session.{IsConnected, display_object, over_transport};
+ghost use Rattle.wl_client.specs.Accounts.{CallsLocally, IsGrowth};
+ghost use Rattle.wl_client.specs.Session.{IsConnected, display_object};
 ghost use Rattle.wl_client.specs.Steps.{CallOf};
 ghost use Rattle.wl_client.specs.declared.step.Reply.TheVariants as reply;
 ghost use Rattle.wl_client.specs.declared.step.Step.TheVariants as step;
@@ -177,39 +177,23 @@ impl<T: Drop, U: Drop> Backend<T, U> {
     }
 }
 
-impl<T: Transport + Drop, U: Drop> Backend<T, U> {
+impl<T: Drop, U: Drop> Backend<T, U> {
     ghost use Rattle.wl_client.specs.Lending.{LendsClientTransport};
 
     /// The transport, which the caller may change. The session is otherwise as it was.
     ///
-    /// Whatever the caller leaves in it is a change in the session's history (`laws`).
+    /// Whatever the caller leaves in it is a change in the session's history (`laws::local_calls_are_calls`).
     pub fn transport_mut(&mut self) -> &mut T
         ensures* lends { sem 𝓛 (LendsClientTransport T.row U.row self.entry result) }
-        ensures call { (t : _) → IsChange (CallOf T.sends T.receives) self.old.session t (over_transport self.old.session t) }
         ensures value { result.now ≡ self.old.session.link.transport }
     {
         self.socket.transport_mut()
     }
 
-    /// Appends more interfaces to the session's table, all of them or none, as `Protocol::extend` does. The interfaces that
-    /// are there keep their ids, and nothing else of the session changes. After an error the table is as it was.
-    pub fn add_interfaces(&mut self, interfaces: Vec<Interface>) -> Result<(), TableError>
-        ensures call { IsGrowth (CallOf T.sends T.receives) self.old (interface_rows interfaces.items) result self.new }
-        ensures answer { AnswersGrowth self.old.session.table (interface_rows interfaces.items) result }
-        ensures session { self.new.session
-            ≡ record self.old.session { table = grown self.old.session.table (interface_rows interfaces.items) result } }
-        ensures accepted { IsAcceptedTable self.new.session.table }
-        ensures refused { self.new.refused ≡ refused_growth result }
-    {
-        let answer = self.protocol.extend(interfaces);
-        self.refused = lacks_memory(&answer);
-        answer
-    }
-
     /// Takes the notes, the oldest first. A *note* says that an object which had user data was destroyed. It allocates
     /// nothing.
     pub fn take_notes(&mut self) -> Vec<Note>
-        ensures call { Calls (CallOf T.sends T.receives) self.old step.TakeNotes (reply.TakeNotes result) self.new }
+        ensures call { CallsLocally self.old step.TakeNotes (reply.TakeNotes result) self.new }
         ensures taken { result.items ≡ self.old.session.notes }
         ensures left { self.new.session ≡ record self.old.session { notes = [] } }
         ensures refused { self.new.refused ≡ false }
@@ -225,7 +209,7 @@ impl<T: Transport + Drop, U: Drop> Backend<T, U> {
     /// rounded up to a power of two, and is at least 4096. `None` is no limit, as in a new session. The buffer of what was
     /// received never grows beyond 65536 bytes.
     pub fn set_max_buffer_size(&mut self, max_buffer_size: Option<usize>)
-        ensures call { Calls (CallOf T.sends T.receives) self.old (step.SetMaxBufferSize max_buffer_size) reply.SetMaxBufferSize self.new }
+        ensures call { CallsLocally self.old (step.SetMaxBufferSize max_buffer_size) reply.SetMaxBufferSize self.new }
         ensures set { (link : LinkState T) × LimitSet self.old.session.link max_buffer_size link
             × (self.new.session ≡ record self.old.session { link = link }) }
         ensures refused { self.new.refused ≡ false }
@@ -236,12 +220,29 @@ impl<T: Transport + Drop, U: Drop> Backend<T, U> {
 
     /// Does nothing and returns `Ok(0)`: there is no inner queue.
     pub fn dispatch_inner_queue(&mut self) -> Result<usize, WaylandError>
-        ensures call { Calls (CallOf T.sends T.receives) self.old step.DispatchInnerQueue (reply.DispatchInnerQueue result) self.new }
+        ensures call { CallsLocally self.old step.DispatchInnerQueue (reply.DispatchInnerQueue result) self.new }
         ensures answer { result ≡ Ok 0 }
         ensures session { self.new.session ≡ self.old.session }
         ensures refused { self.new.refused ≡ false }
     {
         self.refused = false;
         Ok(0)
+    }
+}
+
+impl<T: Transport + Drop, U: Drop> Backend<T, U> {
+    /// Appends more interfaces to the session's table, all of them or none, as `Protocol::extend` does. The interfaces that
+    /// are there keep their ids, and nothing else of the session changes. After an error the table is as it was.
+    pub fn add_interfaces(&mut self, interfaces: Vec<Interface>) -> Result<(), TableError>
+        ensures call { IsGrowth (CallOf T.sends T.receives) self.old (interface_rows interfaces.items) result self.new }
+        ensures answer { AnswersGrowth self.old.session.table (interface_rows interfaces.items) result }
+        ensures session { self.new.session
+            ≡ record self.old.session { table = grown self.old.session.table (interface_rows interfaces.items) result } }
+        ensures accepted { IsAcceptedTable self.new.session.table }
+        ensures refused { self.new.refused ≡ refused_growth result }
+    {
+        let answer = self.protocol.extend(interfaces);
+        self.refused = lacks_memory(&answer);
+        answer
     }
 }

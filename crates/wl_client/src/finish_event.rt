@@ -5,8 +5,8 @@ ghost use Rattle.wl_client.specs.Session.{alive, core_of, named, with_core};
 ghost use Rattle.wl_client.specs.Cutting.{CutsFinish};
 ghost use Rattle.wl_client.specs.Finish.{Finishes, refusal, with_data_for, with_dead};
 ghost use Rattle.wl_client.specs.Plain.{EndsEvent};
-ghost use Rattle.wl_client.specs.Accounts.{Calls};
-ghost use Rattle.wl_client.specs.Steps.{CallOf, refused_finish};
+ghost use Rattle.wl_client.specs.Accounts.{CallsLocally};
+ghost use Rattle.wl_client.specs.Steps.{refused_finish};
 ghost use Rattle.wl_client.specs.declared.step.Reply.TheVariants as reply;
 ghost use Rattle.wl_client.specs.declared.step.Step.TheVariants as step;
 
@@ -15,7 +15,6 @@ use crate::error::{FinishError, FinishRefused};
 use crate::event::OpenEvent;
 use crate::object_id::ObjectId;
 use crate::objects::{give_data, named_in, note_end};
-use wl_link::Transport;
 use wl_wire::OutOfMemory;
 
 /// Why an event that made this object cannot be ended with these data, if memory is not refused.
@@ -29,7 +28,7 @@ fn refusal<U>(created: &Option<ObjectId>, user_data: &Option<U>) -> Option<Finis
     }
 }
 
-impl<T: Transport + Drop, U: Drop> Backend<T, U> {
+impl<T: Drop, U: Drop> Backend<T, U> {
     /// Ends the event that `next_event` handed out. If the event made an object, the object gets this user data.
     ///
     /// An event may end its sender (`MessageDesc::is_destructor`). Then the sender is marked as destroyed by both sides. It
@@ -42,7 +41,7 @@ impl<T: Transport + Drop, U: Drop> Backend<T, U> {
     ///
     /// Each gives the data back. The event stays open, and nothing is changed.
     pub fn finish_event(&mut self, user_data: Option<U>) -> Result<(), FinishRefused<U>>
-        ensures call { Calls (CallOf T.sends T.receives) self.old (step.FinishEvent user_data) (reply.FinishEvent result) self.new }
+        ensures call { CallsLocally self.old (step.FinishEvent user_data) (reply.FinishEvent result) self.new }
         ensures plain { EndsEvent self.old.session user_data result self.new.session }
         ensures finished { Finishes self.old.session user_data result self.new.session }
         ensures refused { self.new.refused ≡ refused_finish result }
@@ -50,9 +49,7 @@ impl<T: Transport + Drop, U: Drop> Backend<T, U> {
     {
         self.end_event(user_data)
     }
-}
 
-impl<T: Drop, U: Drop> Backend<T, U> {
     /// Ends the event that is open, or says why it cannot be ended with these data.
     fn end_event(&mut self, user_data: Option<U>) -> Result<(), FinishRefused<U>>
         ensures finished { Finishes self.old.session user_data result self.new.session }

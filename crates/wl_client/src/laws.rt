@@ -24,7 +24,7 @@ ghost use Rattle.wl_client.specs.declared.step.Reply.{Reply};
 ghost use Rattle.wl_client.specs.declared.step.Reply.TheVariants as reply;
 ghost use Rattle.wl_client.specs.declared.step.Step.{Step};
 ghost use Rattle.wl_client.specs.declared.step.Step.TheVariants as step;
-ghost use Rattle.wl_client.specs.Accounts.{IsAccountedFor};
+ghost use Rattle.wl_client.specs.Accounts.{Calls, CallsLocally, IsAccountedFor, IsChange};
 ghost use Rattle.wl_client.specs.Failed.{StaysFailed};
 ghost use Rattle.wl_client.specs.Handed.{HasOwnIds};
 ghost use Rattle.wl_client.specs.Heard.{AllHeard, Hears, events_in, finished_in};
@@ -35,7 +35,7 @@ ghost use Rattle.wl_client.specs.Noted.{NotesWhatEnded};
 ghost use Rattle.wl_client.specs.OneOutcome.{SameAnswers, SameDeeds};
 ghost use Rattle.wl_client.specs.Replies.{SameReply, SameReplies};
 ghost use Rattle.wl_client.specs.Scripted.{Arrives, Becomes};
-ghost use Rattle.wl_client.specs.Session.{Core, SessionState, IsConnected, named, over_transport};
+ghost use Rattle.wl_client.specs.Session.{ClientState, Core, SessionState, IsConnected, named, over_transport};
 ghost use Rattle.wl_client.specs.Steps.{CallOf, Entry, Leads, StepOf, entries, refused_arrive, refused_script};
 ghost use Rattle.wl_client.specs.Stretches.{IsRunServed, IsStretch, IsStretchWithin, SameLeft, arrived, events_of, finished};
 
@@ -102,6 +102,16 @@ pub fn each_client_is_accounted_for<T: Transport, U>()
         IsConnected table transport begun → History (CallOf T.sends T.receives) begun deeds after → IsAccountedFor (CallOf T.sends T.receives) begun deeds after }
     ensures script { (table : List InterfaceRow) (transport : Script) (begun after : SessionState Script U) (deeds : List (Deed Script U)) →
         IsConnected table transport begun → History StepOf begun deeds after → IsAccountedFor StepOf begun deeds after }
+{}
+
+/// A call that neither sends nor receives is a call over every transport: a step of a history, which stays accounted for
+/// (`call`). So is each change of the transport that the program makes through `Backend::transport_mut` (`change`).
+///
+/// The contracts of such calls do not name what the transport sends and receives, so they need no bound.
+pub fn local_calls_are_calls<T: Transport, U>()
+    ensures call { (before after : ClientState T U) (call : Step U) (answer : Reply U) →
+        CallsLocally before call answer after → Calls (CallOf T.sends T.receives) before call answer after }
+    ensures change { (before : SessionState T U) (t : T) → IsChange (CallOf T.sends T.receives) before t (over_transport before t) }
 {}
 
 /// A call of a session over the transport by script is a step over that transport (`step`). So a history of such calls is one

@@ -7,15 +7,15 @@ ghost use Rattle.std.specs.Fn.{FnOnceReturnsAtMut};
 ghost use Rattle.wl_client.specs.Objects.{info_of, user_data_of, DataSet, DestroyedBy, LendsData, LendsDataIn, LendsDataOf};
 ghost use Rattle.wl_client.specs.Finish.{data_given};
 ghost use Rattle.wl_client.specs.Inside.Sending.{given_up_at};
-ghost use Rattle.wl_client.specs.Accounts.{Calls, LendsAsCall};
-ghost use Rattle.wl_client.specs.Steps.{CallOf, refused_destroy};
+ghost use Rattle.wl_client.specs.Accounts.{CallsLocally, LendsAsCall};
+ghost use Rattle.wl_client.specs.Steps.{refused_destroy};
 ghost use Rattle.wl_client.specs.declared.step.Reply.TheVariants as reply;
 ghost use Rattle.wl_client.specs.declared.step.Step.TheVariants as step;
 
 use crate::backend::{Backend, DISPLAY};
 use crate::error::{DestroyError, InvalidId};
 use crate::object_id::ObjectId;
-use wl_link::{Object, ObjectMap, Transport};
+use wl_link::{Object, ObjectMap};
 use wl_wire::{InterfaceId, ObjectInfo, OutOfMemory};
 
 /// What the session keeps of an object, beside its interface and version.
@@ -208,15 +208,13 @@ impl<T: Drop, U: Drop> Backend<T, U> {
             None => Err(InvalidId),
         }
     }
-}
 
-impl<T: Transport + Drop, U: Drop> Backend<T, U> {
     /// Gives the object that the id names this user data. The data that it had are dropped. It allocates nothing.
     ///
     /// It stands for `wayland_backend::client::Backend::set_data`. The error is `InvalidId` if the id names no object; then
     /// the given data are dropped.
     pub fn set_data(&mut self, id: &ObjectId, user_data: U) -> Result<(), InvalidId>
-        ensures call { Calls (CallOf T.sends T.receives) self.old (step.SetData id.now user_data) (reply.SetData result) self.new }
+        ensures call { CallsLocally self.old (step.SetData id.now user_data) (reply.SetData result) self.new }
         ensures set { DataSet self.old.session id.now user_data result self.new.session }
         ensures refused { self.new.refused ≡ false }
     {
@@ -235,7 +233,7 @@ impl<T: Transport + Drop, U: Drop> Backend<T, U> {
         f: F,
     ) -> Result<R, InvalidId>
         requires { F.IsAlwaysCallable f }
-        ensures call { LendsAsCall (CallOf T.sends T.receives) (FnOnceReturnsAtMut F.FnOnce f) self.old id.now result self.new }
+        ensures call { LendsAsCall (FnOnceReturnsAtMut F.FnOnce f) self.old id.now result self.new }
         ensures lent { LendsData (FnOnceReturnsAtMut F.FnOnce f) self.old.session id.now result self.new.session }
         ensures refused { self.new.refused ≡ false }
     {
@@ -250,7 +248,7 @@ impl<T: Transport + Drop, U: Drop> Backend<T, U> {
     /// or an object that the client has destroyed before, and else `OutOfMemory` if there is no memory for the note. An
     /// error changes nothing.
     pub fn destroy_object(&mut self, id: &ObjectId) -> Result<(), DestroyError>
-        ensures call { Calls (CallOf T.sends T.receives) self.old (step.DestroyObject id.now) (reply.DestroyObject result) self.new }
+        ensures call { CallsLocally self.old (step.DestroyObject id.now) (reply.DestroyObject result) self.new }
         ensures destroyed { DestroyedBy self.old.session id.now result self.new.session }
         ensures refused { self.new.refused ≡ refused_destroy result }
     {

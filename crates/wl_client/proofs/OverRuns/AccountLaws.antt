@@ -12,10 +12,10 @@ use Rattle.wl_client.specs.declared.step.Step.TheVariants as step
 use Rattle.wl_client.proofs.OverRuns.FailedLaws.{IsKept, calls_kept, steps_kept}
 use Rattle.wl_client.proofs.OverRuns.IdentityLaws.{accounted}
 use Rattle.wl_client.proofs.OverRuns.StretchLaws.{parts_cut}
-use Rattle.wl_client.specs.Accounts.{AccountsForStopped, Calls, IsChange, IsGrowth, StaysAccountedFor}
+use Rattle.wl_client.specs.Accounts.{AccountsForStopped, Calls, CallsLocally, IsChange, IsGrowth, StaysAccountedFor}
 use Rattle.wl_client.specs.Histories.{Called, Changed, Deed, Does, Grown, History, called}
 use Rattle.wl_client.specs.Session.{ClientState, IsConnected, SessionState, over_transport}
-use Rattle.wl_client.specs.Steps.{CallOf, Entry, InterfacesAdded, Leads, Making, StepOf, StopsAt, entries}
+use Rattle.wl_client.specs.Steps.{CallOf, Entry, InterfacesAdded, Leads, LocalCall, Making, StepOf, StopsAt, entries}
 
 module _ {T U : Type 0} (makes : Making T U) where
   -- ---- histories behind one another
@@ -55,6 +55,18 @@ module _ {T U : Type 0} (sends : T → Queue → Result ℕ IoFault → T → Ty
   pub calls : (before : ClientState T U) (call : Step U) (answer : Reply U) (after : ClientState T U)
       → CallOf sends receives before.session call answer after.refused after.session → Calls (CallOf sends receives) before call answer after
   calls = calls_by (CallOf sends receives) (calls_kept sends receives)
+
+  local_call : (before : SessionState T U) (call : Step U) (answer : Reply U) (refused : Bool) (after : SessionState T U)
+      → LocalCall before call answer refused after → CallOf sends receives before call answer refused after
+  local_call before (step.SendRequest m u spec) answer refused after h = absurd h
+  local_call before step.Flush answer refused after h = absurd h
+  local_call before step.NextEvent answer refused after h = absurd h
+  local_call before call answer refused after h = h
+
+  -- a call that neither sends nor receives, over this transport
+  pub local_calls : (before after : ClientState T U) (call : Step U) (answer : Reply U) → CallsLocally before call answer after
+      → Calls (CallOf sends receives) before call answer after
+  local_calls before after call answer h = calls before call answer after (local_call before.session call answer after.refused after.session h)
 
   pub is_change : (before : SessionState T U) (t : T) → IsChange (CallOf sends receives) before t (over_transport before t)
   is_change = change_by (CallOf sends receives) (calls_kept sends receives)

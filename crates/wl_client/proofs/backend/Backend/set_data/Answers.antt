@@ -7,7 +7,6 @@ use Rattle.wl_client.specs.Finish.{data_given}
 use Rattle.wl_client.specs.ObjectId.{IdParts}
 use Rattle.wl_client.specs.Objects.{DataSet}
 use Rattle.wl_client.specs.Session.{SessionState, named, with_user_data}
-use Rattle.wl_client.proofs.OverRuns.AccountLaws.{calls}
 use Rattle.wl_client.proofs.backend.Backend.set_data.Goals as goal
 
 -- data that are given to an object of a session are set
@@ -28,5 +27,4 @@ data_set {T} {U} s id u answer store = at (named s.store id)
 pub returns-clause-call : goal.returns-clause-call
 returns-clause-call g c =
     rw (← c.self.view_is)
-    (calls g.T.Transport.sends g.T.Transport.receives _ _ _ _
-    (c.give_data.result, refl, refl, data_set _ c.args.id.now c.args.user_data c.give_data.result c.give_data.new.objects.store c.give_data.ensures.answer c.give_data.ensures.given))
+    (c.give_data.result, refl, refl, data_set _ c.args.id.now c.args.user_data c.give_data.result c.give_data.new.objects.store c.give_data.ensures.answer c.give_data.ensures.given)

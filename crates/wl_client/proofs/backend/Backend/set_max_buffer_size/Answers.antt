@@ -1,9 +1,8 @@
 use Rattle.std.proofs.Common.{refl}
-use Rattle.wl_client.proofs.OverRuns.AccountLaws.{calls}
 use Rattle.wl_client.proofs.backend.Backend.set_max_buffer_size.Goals as goal
 
 pub returns-clause-set : goal.returns-clause-set
 returns-clause-set g c = rw (← c.self.view_is) (c.set_max_buffer_size.new.self, c.set_max_buffer_size.ensures, refl)
 
 pub returns-clause-call : goal.returns-clause-call
-returns-clause-call g c = rw (← c.self.view_is) (calls g.T.Transport.sends g.T.Transport.receives _ _ _ _ (refl, refl, (c.set_max_buffer_size.new.self, c.set_max_buffer_size.ensures, refl)))
+returns-clause-call g c = rw (← c.self.view_is) (refl, refl, (c.set_max_buffer_size.new.self, c.set_max_buffer_size.ensures, refl))

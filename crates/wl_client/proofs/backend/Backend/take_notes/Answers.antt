@@ -1,14 +1,12 @@
 use Rattle.std.proofs.Common.{◌∙◌, Vec, ap, refl}
-use Rattle.wl_client.proofs.OverRuns.AccountLaws.{calls}
 use Rattle.wl_client.proofs.backend.Backend.take_notes.Goals as goal
 
 pub returns-clause-call : goal.returns-clause-call
 returns-clause-call g c =
-    rw (← c.self.view_is)
-    (calls g.T.Transport.sends g.T.Transport.receives _ _ _ _ (
+    rw (← c.self.view_is) (
       c.replace.result,
       refl,
       refl,
       ap (λ (v : Vec _ _). v.items) c.replace.ensures.value,
       rw (ap (λ (v : Vec _ _). v.items) c.replace.ensures.after ∙ c.new-none.ensures.items) refl,
-    ))
+    )

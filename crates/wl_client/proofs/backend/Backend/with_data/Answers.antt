@@ -1,18 +1,14 @@
 use Rattle.std.proofs.Common.{◌≡◌, ℕ, false, Option, None, Some, Result, Ok, Err, MatchOption, refl, ap}
-use Rattle.wl_wire.specs.declared.error.IoFault.{IoFault}
 use Rattle.wl_link.specs.declared.object.Object.{Object}
-use Rattle.wl_link.specs.Exchange.{Queue}
 use Rattle.wl_link.specs.Store.{Store, rewritten}
 use Rattle.wl_client.specs.declared.error.InvalidId.{InvalidId}
 use Rattle.wl_client.specs.declared.objects.Kept.{Kept}
 use Rattle.wl_client.specs.declared.step.Reply.TheVariants as reply
 use Rattle.wl_client.specs.declared.step.Step.TheVariants as step
-use Rattle.wl_client.specs.Accounts.{Calls, LendsAsCall}
+use Rattle.wl_client.specs.Accounts.{CallsLocally, LendsAsCall}
 use Rattle.wl_client.specs.ObjectId.{IdParts}
 use Rattle.wl_client.specs.Session.{ClientState, SessionState, named, with_user_data}
 use Rattle.wl_client.specs.Objects.{DataSet, LendsData, LendsDataIn, user_data_in, user_data_of}
-use Rattle.wl_client.specs.Steps.{CallOf}
-use Rattle.wl_client.proofs.OverRuns.AccountLaws.{calls}
 use Rattle.wl_client.proofs.backend.Backend.with_data.Goals as goal
 
 -- what is done to the objects of a session is done to the session
@@ -44,10 +40,10 @@ lends_of_session {T} {U} {R} call s id answer store = at (named s.store id)
     at (Some x) h = with_it x x.value.user_data h
 
 -- what was left is set as by a call
-lends_as_call : {T U R : Type 0} (sends : T → Queue → Result ℕ IoFault → T → Type 0) (receives : T → ℕ → Result Queue IoFault → T → Type 0) (lend : U → R → U → Type 0)
+lends_as_call : {T U R : Type 0} (lend : U → R → U → Type 0)
     (before : ClientState T U) (id : IdParts) (answer : Result R InvalidId) (after : SessionState T U) → LendsData lend before.session id answer after
-    → LendsAsCall (CallOf sends receives) lend before id answer (record { session = after; refused = false })
-lends_as_call {T} {U} {R} sends receives lend before id answer after = at (user_data_of before.session id)
+    → LendsAsCall lend before id answer (record { session = after; refused = false })
+lends_as_call {T} {U} {R} lend before id answer after = at (user_data_of before.session id)
   where
     calm : SessionState T U → ClientState T U
     calm s = record { session = s; refused = false }
@@ -57,10 +53,9 @@ lends_as_call {T} {U} {R} sends receives lend before id answer after = at (user_
         (λ u. (r : R) × (left : U) × lend u r left × (answer ≡ Ok r) × DataSet before.session id left (Ok tt) after)
         → MatchOption found ((answer ≡ Err _) × (calm after ≡ calm before.session))
         (λ u. (r : R) × (left : U) × lend u r left × (answer ≡ Ok r)
-        × Calls (CallOf sends receives) before (step.SetData id left) (reply.SetData (Ok tt)) (calm after))
+        × CallsLocally before (step.SetData id left) (reply.SetData (Ok tt)) (calm after))
     at None (is, same) = (is, ap calm same)
-    at (Some u) (r, left, lent, is, set) =
-        (r, left, lent, is, calls sends receives before (step.SetData id left) (reply.SetData (Ok tt)) (calm after) (Ok tt, refl, refl, set))
+    at (Some u) (r, left, lent, is, set) = (r, left, lent, is, (Ok tt, refl, refl, set))
 
 pub returns-clause-lent : goal.returns-clause-lent
 returns-clause-lent g c =
@@ -69,5 +64,5 @@ returns-clause-lent g c =
 pub returns-clause-call : goal.returns-clause-call
 returns-clause-call g c =
     rw (← c.self.view_is)
-    (lends_as_call g.T.Transport.sends g.T.Transport.receives _ _ c.args.id.now c.lend_data.result _
+    (lends_as_call _ (record { session = _; refused = c.self.inside.refused }) c.args.id.now c.lend_data.result _
     (lends_of_session _ _ c.args.id.now c.lend_data.result c.lend_data.new.objects.store c.lend_data.ensures))
