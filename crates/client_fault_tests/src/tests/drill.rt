@@ -9,9 +9,10 @@ use client_test_kit::told::write_reply;
 use std::alloc::Global;
 use std::test::Fail;
 use test_kit::log::{holds, row_tells};
-use test_kit::quad::quad_table;
+use test_kit::quad::{destructor, push_interface, quad_table};
 use wl_client::{Backend, Reply, Step, Stopped};
 use wl_link::Memory;
+use wl_wire::TableError;
 
 /// A client whose objects have numbers as their data.
 type Client = Backend<Memory, u32>;
@@ -175,10 +176,48 @@ fn connected(alloc: Global) -> Result<Client, Fail> {
     }
 }
 
-/// Makes the run of a new client, and fails if it is not as it has to be.
+/// Adds an interface to the client's table, and answers what the client does.
+fn add(alloc: Global, client: &mut Client) -> Result<Result<(), TableError>, Fail> {
+    let mut interfaces = Vec::new(alloc);
+    push_interface(
+        alloc,
+        &mut interfaces,
+        "solo",
+        1,
+        &[],
+        &[destructor("gone")],
+    )?;
+    Ok(client.add_interfaces(interfaces))
+}
+
+/// Adds an interface, and fails if that is not done. If memory was refused, the client has to say so, and the next try does it.
+fn grow(rt: &(impl Eprint + AllocGlobal), client: &mut Client) -> Result<(), Fail> {
+    let mut answer = add(rt.alloc(), client)?;
+    holds(
+        rt,
+        "interfaces",
+        client.memory_refused() == (answer == Err(TableError::OutOfMemory)),
+    )?;
+    if client.memory_refused() {
+        answer = add(rt.alloc(), client)?;
+    }
+    holds(rt, "interfaces are added", answer.is_ok())
+}
+
+/// Adds an interface, makes the run, and fails if it is not as it has to be.
+fn grow_and_play(
+    rt: &(impl Eprint + AllocGlobal),
+    client: &mut Client,
+    run: &Run,
+) -> Result<(), Fail> {
+    grow(rt, client)?;
+    play_to(rt, client, run)
+}
+
+/// Adds an interface to the table of a new client, makes the run, and fails if it is not as it has to be.
 pub fn drill(rt: &(impl Eprint + AllocGlobal), run: &Run) -> Result<(), Fail> {
     let mut client = connected(rt.alloc())?;
-    let answer = play_to(rt, &mut client, run);
+    let answer = grow_and_play(rt, &mut client, run);
     drop(client);
     answer
 }

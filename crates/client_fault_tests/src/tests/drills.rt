@@ -38,7 +38,6 @@ static RUNS: [Run; 7] = [
     Run {
         name: "a sync",
         entries: &[
-            (Call::Add("solo"), "done\n"),
             (Call::Send(Request::Sync), "sent: 2, 1\n"),
             (Call::Arrive(&ANSWER), "done\n"),
             (Call::Next, "event 0 of 2: 0\n"),
