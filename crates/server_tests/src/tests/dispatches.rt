@@ -1,6 +1,6 @@
 //! Dispatches of a server, each over scripts, with what was before it and what it left.
 
-use super::handlers::{Contrary, Killing, Numbering, TakingOut, Working};
+use super::handlers::{Contrary, Killing, Numbering, Summing, TakingOut, Working};
 use super::run::{Act, Look, Server, WITH_A_QUAD, perform_all};
 use server_test_kit::arrivals::{BIND, DESTROY, GET_REGISTRY, MAKE_BY_SERVER, SYNC};
 use server_test_kit::steps::Call;
@@ -24,6 +24,11 @@ const SYNC_AND_SYNC_AT_5: [u8; 24] = [
 const BIND_AND_DESTROY: [u8; 52] = [
     1, 0, 0, 0, 1, 0, 12, 0, 2, 0, 0, 0, 2, 0, 0, 0, 0, 0, 32, 0, 1, 0, 0, 0, 5, 0, 0, 0, 113, 117,
     97, 100, 0, 0, 0, 0, 3, 0, 0, 0, 3, 0, 0, 0, 3, 0, 0, 0, 2, 0, 8, 0,
+];
+
+/// `quad.poke` of 7, and then of 5, by object 3.
+const TWO_POKES: [u8; 24] = [
+    3, 0, 0, 0, 0, 0, 12, 0, 7, 0, 0, 0, 3, 0, 0, 0, 0, 0, 12, 0, 5, 0, 0, 0,
 ];
 
 /// Tells how many requests a dispatch read, or by which fault it ended.
@@ -140,6 +145,23 @@ fn handler_works_for_two_clients(rt: HostRuntime) -> Result<(), Fail> {
         log_of_first(rt.alloc(), &mut handler, (&before, &after)),
         "client 0, 1\nclient 1, 2\nglobal 1, 1\ncreated 4278190080, 1, 4 of 0\ncreated 4278190080, 1, 4 of 1\ndispatched 3\ndone\n02 00 00 00 00 00 1c 00 01 00 00 00 05 00 00 00 71 75 61 64 00 00 00 00 03 00 00 00 03 00 00 00 00 00 0c 00 07 00 00 00 01 00 00 00 01 00 0c 00 03 00 00 00\n00 00 00 ff 00 00 0c 00 07 00 00 00\ninitialized 0, 1\ninitialized 1, 2\ndestroyed 3, 3, 4 of 0 with 4\ndestroyed 4278190080, 1, 4 of 0 with 11\ndestroyed 4278190080, 1, 4 of 1 with 12\ndata 8\ndata 6\nInvalid Id\nInvalid Id\n",
     )
+}
+
+/// A handler that wants its arguments lent gets them so, of requests that come together and behind a bind.
+#[test]
+fn handler_is_lent_the_arguments(rt: HostRuntime) -> Result<(), Fail> {
+    let before = [
+        Act::Do(Call::Insert(true)),
+        Act::Do(Call::Global(QUAD, 3)),
+        Act::Do(Call::Arrive(FIRST, &GET_REGISTRY)),
+        Act::Do(Call::Arrive(FIRST, &BIND)),
+        Act::Do(Call::Arrive(FIRST, &TWO_POKES)),
+    ];
+    let mut handler = Summing(0);
+    let log = log_of_first(rt.alloc(), &mut handler, (&before, &[]));
+    tells(&rt, log, "client 0, 1\nglobal 1, 1\ndispatched 4\n")?;
+    assert_eq!(rt; handler.0, 12);
+    Ok(())
 }
 
 /// A handler takes the client out that binds: its answer has nothing to end.

@@ -45,6 +45,58 @@ impl Handler<Memory, u32, Shown, bool> for Numbering {
     }
 }
 
+/// Sums the integers of the requests that it is lent. A request that is not lent counts as 1000. It makes no call.
+#[derive(Drop)]
+pub struct Summing(pub i32);
+
+impl Handler<Memory, u32, Shown, bool> for Summing {
+    ghost use Rattle.std.specs.Prelude.{◌≡◌, None};
+
+    ghost requests = { λ h b id sender opcode args created u h' b'. (u ≡ None) × (b' ≡ b) };
+
+    ghost binds = { λ h b id global object u h' b'. (u ≡ 4) × (h' ≡ h) × (b' ≡ b) };
+
+    fn request(
+        &mut self,
+        _backend: &mut Backend<Memory, u32, Shown, bool>,
+        _client: &ClientId,
+        _sender: ObjectId,
+        _opcode: u16,
+        _args: SmallVec<Argument<ObjectId, Token>, INLINE_ARGS>,
+        _created: Option<ObjectId>,
+    ) -> Option<u32> {
+        self.0 = self.0.wrapping_add(1000);
+        None
+    }
+
+    fn request_lent(
+        &mut self,
+        _backend: &mut Backend<Memory, u32, Shown, bool>,
+        _client: &ClientId,
+        _sender: ObjectId,
+        _opcode: u16,
+        args: &mut SmallVec<Argument<ObjectId, Token>, INLINE_ARGS>,
+        _created: Option<ObjectId>,
+    ) -> Option<u32> {
+        for arg in args.as_slice() {
+            if let Argument::Int(value) = arg {
+                self.0 = self.0.wrapping_add(*value);
+            }
+        }
+        None
+    }
+
+    fn bind(
+        &mut self,
+        _backend: &mut Backend<Memory, u32, Shown, bool>,
+        _client: &ClientId,
+        _global: GlobalId,
+        _object: ObjectId,
+    ) -> u32 {
+        4
+    }
+}
+
 /// Kills the client that binds, as closed, and answers its number to the bind.
 #[derive(Drop)]
 pub struct Killing(pub u32);

@@ -14,6 +14,7 @@ use crate::ids::client_id::ClientId;
 use crate::ids::global_id::GlobalId;
 use crate::ids::object_id::ObjectId;
 use smallvec::SmallVec;
+use std::mem;
 use wl_link::Transport;
 use wl_wire::{Argument, INLINE_ARGS, Token};
 
@@ -46,6 +47,27 @@ pub trait Handler<T: Transport, U, G: GlobalHandler<C>, C> {
     ) -> Option<U>
         ensures answers { requests self.old backend.old client.now sender opcode args.items created result self.new backend.new }
         ensures reached { Reached (over T.sends T.receives G.views) client.now backend.old.server backend.new.server };
+
+    /// Handles a request as `request` does, but is lent the arguments: they are not moved. This is the call that a dispatch
+    /// makes. Unless a program writes its own, it takes the arguments out and calls `request`.
+    ///
+    /// What is left in `args` is dropped.
+    fn request_lent(
+        &mut self,
+        backend: &mut Backend<T, U, G, C>,
+        client: &ClientId,
+        sender: ObjectId,
+        opcode: u16,
+        args: &mut SmallVec<Argument<ObjectId, Token>, INLINE_ARGS>,
+        created: Option<ObjectId>,
+    ) -> Option<U>
+        ensures answers { requests self.old backend.old client.now sender opcode args.old.items created result self.new backend.new }
+        ensures reached { Reached (over T.sends T.receives G.views) client.now backend.old.server backend.new.server }
+    {
+        let none = SmallVec::new(*args.allocator());
+        let args = mem::replace(args, none);
+        self.request(backend, client, sender, opcode, args, created)
+    }
 
     /// Handles a bind: the client bound the new object `object` to the global. Returns the object's user data.
     fn bind(

@@ -11,7 +11,8 @@ use crate::dispatch::request_handler::Handler;
 use crate::error::{ActionError, FinishError};
 use crate::globals::handler::GlobalHandler;
 use crate::ids::client_id::ClientId;
-use crate::reading::action::{Action, Reading};
+use crate::reading::action::{Action, Found, Reading};
+use smallvec::SmallVec;
 use wl_link::Transport;
 use wl_wire::IoFault;
 
@@ -46,14 +47,15 @@ fn answer_of(fault: IoFault, read: usize) -> Result<usize, IoFault>
 }
 
 impl<T: Transport + Drop, U: Drop, G: GlobalHandler<C> + Drop, C: Drop> Backend<T, U, G, C> {
-    /// Calls the handler with the action, and finishes the action with its answer. Returns the error if that is refused.
+    /// Calls the handler with the action, and finishes the action with its answer. Returns the error if that is refused. The
+    /// handler may take the action's arguments out.
     fn handle<H: Handler<T, U, G, C>>(
         &mut self,
         handler: &mut H,
         id: &ClientId,
-        action: Action,
+        action: &mut Action,
     ) -> Option<FinishError>
-        ensures { (run : List (Entry T U G C)) × Handles (over T.sends T.receives G.views) (answering H.requests H.binds) id.now handler.old self.old action run self.new.refused result handler.new self.new.server }
+        ensures { (run : List (Entry T U G C)) × Handles (over T.sends T.receives G.views) (answering H.requests H.binds) id.now handler.old self.old action.old run self.new.refused result handler.new self.new.server }
     {
         match action {
             Action::Request {
@@ -63,14 +65,14 @@ impl<T: Transport + Drop, U: Drop, G: GlobalHandler<C> + Drop, C: Drop> Backend<
                 created,
                 is_destructor: _,
             } => {
-                let user_data = handler.request(self, id, sender, opcode, args, created);
+                let user_data = handler.request_lent(self, id, *sender, *opcode, args, *created);
                 match self.finish_request(id, user_data) {
                     Ok(()) => None,
                     Err(refused) => Some(refused.error),
                 }
             }
             Action::Bind { global, object } => {
-                let user_data = handler.bind(self, id, global, object);
+                let user_data = handler.bind(self, id, *global, *object);
                 match self.finish_bind(id, user_data) {
                     Ok(()) => None,
                     Err(refused) => Some(refused.error),
@@ -88,24 +90,22 @@ impl<T: Transport + Drop, U: Drop, G: GlobalHandler<C> + Drop, C: Drop> Backend<
         self.refused = refused;
     }
 
-    /// Reads the client's next action, and handles it. Returns the fault that ends the dispatch, if one does. Afterwards
-    /// `memory_refused` tells of all calls of the dispatch so far.
+    /// Reads the client's next action into `action`, and handles it. Returns the fault that ends the dispatch, if one does.
+    /// Afterwards `memory_refused` tells of all calls of the dispatch so far.
     fn serve_action<H: Handler<T, U, G, C>>(
         &mut self,
         handler: &mut H,
         id: &ClientId,
         reading: &mut Reading,
+        action: &mut Action,
     ) -> Option<IoFault>
         ensures { MakesRound (over T.sends T.receives G.views) (answering H.requests H.binds) id.now handler.old reading.old self.old result handler.new reading.new self.new }
     {
         let mut refused = self.memory_refused();
-        let action = match self.next_action_within(id, reading) {
-            Ok(action) => action,
-            Err(error) => {
-                self.keep_refused(refused);
-                return Some(fault_of_reading(error));
-            }
-        };
+        if let Err(error) = self.next_action_within_into(id, reading, action) {
+            self.keep_refused(refused);
+            return Some(fault_of_reading(error));
+        }
         refused |= self.memory_refused();
         let why = self.handle(handler, id, action);
         self.keep_refused(refused);
@@ -116,18 +116,19 @@ impl<T: Transport + Drop, U: Drop, G: GlobalHandler<C> + Drop, C: Drop> Backend<
     }
 
     /// Reads and handles the client's actions until a receive was made. Returns the fault that ends the dispatch before
-    /// that, if one does.
+    /// that, if one does. Each action is read into `action`.
     fn serve_some<H: Handler<T, U, G, C>>(
         &mut self,
         handler: &mut H,
         id: &ClientId,
         reading: &mut Reading,
+        action: &mut Action,
     ) -> Option<IoFault>
         ensures { MakesRounds (over T.sends T.receives G.views) (answering H.requests H.binds) id.now handler.old reading.old self.old result handler.new reading.new self.new }
     {
         let left = reading.turns_left;
         loop {
-            if let Some(fault) = self.serve_action(handler, id, reading) {
+            if let Some(fault) = self.serve_action(handler, id, reading, action) {
                 return Some(fault);
             }
             if reading.turns_left < left {
@@ -146,8 +147,10 @@ impl<T: Transport + Drop, U: Drop, G: GlobalHandler<C> + Drop, C: Drop> Backend<
         ensures { MakesAllRounds (over T.sends T.receives G.views) (answering H.requests H.binds) id.now handler.old self.old result handler.new self.new }
     {
         let mut reading = Reading::new();
+        // One place serves all actions: requests are written into it, and lent to the handler.
+        let mut action = Found::none().with_args(SmallVec::new(self.alloc()));
         loop {
-            if let Some(fault) = self.serve_some(handler, id, &mut reading) {
+            if let Some(fault) = self.serve_some(handler, id, &mut reading, &mut action) {
                 return answer_of(fault, reading.read);
             }
         }

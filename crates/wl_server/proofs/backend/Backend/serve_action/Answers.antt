@@ -6,19 +6,19 @@ use Rattle.wl_server.proofs.backend.Backend.serve_action.Goals as goal
 pub returns-in-Err : goal.returns-in-Err
 returns-in-Err g c =
     serves_last (over g.T.Transport.sends g.T.Transport.receives g.G.GlobalHandler.views) (answering g.H.Handler.requests g.H.Handler.binds) c.args.id.now
-    c.args.handler.now c.args.reading.now c.next_action_within.new.reading c.args.self.now c.next_action_within.new.self c.in-Err.error c.fault_of_reading.result c.keep_refused.new.self
+    c.args.handler.now c.args.reading.now c.next_action_within_into.new.reading c.args.self.now c.next_action_within_into.new.self c.in-Err.error c.fault_of_reading.result c.keep_refused.new.self
     c.memory_refused-refused.result c.memory_refused-refused.ensures c.in-Err.ensures.call c.fault_of_reading.ensures c.keep_refused.ensures
 
 pub returns-in-None : goal.returns-in-None
 returns-in-None g c =
     serves_round (over g.T.Transport.sends g.T.Transport.receives g.G.GlobalHandler.views) (answering g.H.Handler.requests g.H.Handler.binds) c.args.id.now
-    c.args.handler.now c.handle-why.new.handler c.args.reading.now c.next_action_within.new.reading c.args.self.now c.next_action_within.new.self c.handle-why.new.self c.in-Ok.action
+    c.args.handler.now c.handle-why.new.handler c.args.reading.now c.next_action_within_into.new.reading c.args.self.now c.next_action_within_into.new.self c.handle-why.new.self c.next_action_within_into.new.action
     c.keep_refused-2.new.self c.memory_refused-refused.result c.memory_refused-refused-2.result c.memory_refused-refused.ensures c.memory_refused-refused-2.ensures
-    c.in-Ok.ensures.call (rw c.in-None.is at c.handle-why.ensures) c.keep_refused-2.ensures
+    c.in_default.ensures.call (rw c.in-None.is at c.handle-why.ensures) c.keep_refused-2.ensures
 
 pub returns-in-Some : goal.returns-in-Some
 returns-in-Some g c =
     serves_refused (over g.T.Transport.sends g.T.Transport.receives g.G.GlobalHandler.views) (answering g.H.Handler.requests g.H.Handler.binds) c.args.id.now
-    c.args.handler.now c.handle-why.new.handler c.args.reading.now c.next_action_within.new.reading c.args.self.now c.next_action_within.new.self c.handle-why.new.self c.in-Ok.action
+    c.args.handler.now c.handle-why.new.handler c.args.reading.now c.next_action_within_into.new.reading c.args.self.now c.next_action_within_into.new.self c.handle-why.new.self c.next_action_within_into.new.action
     c.in-Some.error c.fault_of_end.result c.keep_refused-2.new.self c.memory_refused-refused.result c.memory_refused-refused-2.result c.memory_refused-refused.ensures
-    c.memory_refused-refused-2.ensures c.in-Ok.ensures.call c.in-Some.ensures c.fault_of_end.ensures c.keep_refused-2.ensures
+    c.memory_refused-refused-2.ensures c.in_default.ensures.call c.in-Some.ensures c.fault_of_end.ensures c.keep_refused-2.ensures
