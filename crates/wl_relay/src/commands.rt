@@ -233,6 +233,13 @@ fn read_rows<R: BufRead>(
     Err(Stop::Failed)
 }
 
+/// Reads the table, and answers the number of the line behind its last row, what that line says, and the table.
+fn read_table<R: BufRead>(alloc: Global, reader: &mut R) -> Result<(u64, Mode, Protocol), Stop> {
+    let mut interfaces = Vec::new(alloc);
+    let (number, mode) = read_rows(alloc, reader, &mut interfaces)?;
+    Ok((number, mode, Protocol::new(alloc, interfaces)?))
+}
+
 /// Carries out the lines behind the table.
 fn run_lines<R: BufRead, W: Write>(
     alloc: Global,
@@ -261,11 +268,11 @@ pub fn run<R: BufRead, W: Write>(
     reader: &mut R,
     writer: &mut W,
 ) -> Result<(), Stop> {
-    let mut interfaces = Vec::new(alloc);
-    let (rows, mode) = read_rows(alloc, reader, &mut interfaces)?;
-    let table = Protocol::new(alloc, interfaces)?;
+    let (before, mode, table) = read_table(alloc, reader)?;
     let mut relay = Relay::new(alloc, table, mode)?;
-    run_lines(alloc, &mut relay, mode, rows, reader, writer)
+    let ended = run_lines(alloc, &mut relay, mode, before, reader, writer);
+    drop(relay);
+    ended
 }
 
 /// The exit status of the program.

@@ -25,7 +25,7 @@ use wl_wire::{
 pub type Link = BufferedSocket<Mailbox>;
 
 /// What a look at the first message of a link led to.
-#[derive(Clone, Copy, Debug, PartialEq, Eq)]
+#[derive(Clone, Copy, PartialEq, Eq)]
 pub enum Passed {
     /// It left the link.
     One,
@@ -279,7 +279,6 @@ fn follow(
 }
 
 /// What a receive led to.
-#[derive(Clone, Copy, Debug, PartialEq, Eq)]
 pub enum Received {
     /// Something came.
     Some,

@@ -54,7 +54,7 @@ pub struct Found<'t> {
 }
 
 /// What is done with a message.
-#[derive(Clone, Copy, Debug, PartialEq, Eq)]
+#[derive(Clone, Copy)]
 pub enum Edit {
     /// It is handed on as it is.
     Nothing,

@@ -5,7 +5,7 @@ ghost use Rattle.std.specs.String.{string_bytes};
 ghost use Rattle.wl_link.specs.Exchange.{nothing};
 ghost use Rattle.wl_link.specs.MailboxLink.{still_to_send};
 ghost use Rattle.wl_relay.specs.Flow.{AreOpen, Arrives, Begins, GivesOut, IsOpen, KeepsAll, KeepsOtherWay, KeepsReady, Logged, LogsRead, PutsIn, ReadsAll, TakesLog, TakesOut, not_received, one_send, settings, to_send};
-ghost use Rattle.wl_relay.specs.Inside.Passing.{KeepsSettings};
+ghost use Rattle.wl_relay.specs.Inside.Passing.{IsNew, KeepsSettings};
 ghost use Rattle.wl_relay.specs.declared.relay.ArriveError.TheVariants.{TooManyTokens};
 
 use crate::follow::{Link, receive};
@@ -66,6 +66,22 @@ impl fmt::Debug for Relay {
     fn fmt<W: fmt::Write>(&self, f: &mut fmt::Formatter<W>) -> fmt::Result {
         f.write_str("Relay { .. }")
     }
+}
+
+/// A link over a mailbox, on which nothing has happened.
+fn new_link(alloc: Global) -> Result<Link, OutOfMemory>
+    ensures { IfOk result IsNew }
+{
+    BufferedSocket::new(alloc, Mailbox::new(alloc), None)
+}
+
+/// The links to both sides.
+fn new_links(alloc: Global) -> Result<(Link, Link), OutOfMemory>
+    ensures { IfOk result (λ links. IsNew links.0 × IsNew links.1) }
+{
+    let client = new_link(alloc)?;
+    let server = new_link(alloc)?;
+    Ok((client, server))
 }
 
 /// What came arrives in the mailbox of the link.
@@ -135,8 +151,7 @@ impl Relay {
         ensures made { IfOk result (λ relay. (relay.table ≡ table) × (relay.known.mode ≡ mode)) }
     {
         let notes = Notes::new(alloc, mode)?;
-        let client = BufferedSocket::new(alloc, Mailbox::new(alloc), None)?;
-        let server = BufferedSocket::new(alloc, Mailbox::new(alloc), None)?;
+        let (client, server) = new_links(alloc)?;
         Ok(Relay {
             table,
             notes,

@@ -7,7 +7,8 @@ use Rattle.wl_wire.specs.Table.{InterfaceRow, MessageRow}
 use Rattle.wl_link.specs.declared.object.Object.{Object}
 use Rattle.wl_link.specs.Exchange.{Queue, joined, nothing}
 use Rattle.wl_link.specs.HandOn.{first_of}
-use Rattle.wl_link.specs.Link.{LinkState, after_first, with_incoming}
+use Rattle.wl_link.specs.declared.mailbox.Ending.TheVariants as ending
+use Rattle.wl_link.specs.Link.{IsFresh, LinkState, after_first, with_incoming}
 use Rattle.wl_link.specs.Mailbox.{MailboxState}
 use Rattle.wl_link.specs.MailboxLink.{still_to_read, still_to_send}
 use Rattle.wl_link.specs.Store.{Store}
@@ -28,6 +29,10 @@ use Rattle.wl_relay.specs.declared.side.Mode.TheVariants.{HandOn, Log}
 use Rattle.wl_relay.specs.declared.side.Side.{Side}
 
 -- ---- links
+
+-- Nothing has happened on the link. It has no limit, and its mailbox takes and gives all.
+abbrev pub IsNew : LinkState MailboxState → Type 0
+IsNew l = IsFresh (record { arrived = nothing; ending = ending.Open; waiting = nothing; room = 18446744073709551615; send_fault = None }) None l
 
 -- this is added to what is to be sent
 abbrev pub Sends : LinkState MailboxState → Queue → LinkState MailboxState → Type 0
