@@ -2,7 +2,7 @@
 
 use std::alloc::Global;
 use std::test::Fail;
-use test_kit::log::{row_tells, tells};
+use test_kit::log::row_tells;
 use test_kit::message::{Arg, message};
 use test_kit::quad::{PAIR, QUAD, quad_table};
 use wl_wire::{
@@ -94,39 +94,75 @@ fn push_of(
     }
 }
 
-/// The text of an event of object 6, a `pair`.
-fn pair_log(alloc: Global) -> Result<String, Fail> {
-    let (table, mut log) = (quad_table(alloc)?, String::new(alloc));
-    let args = [
-        Arg::Object(5),
-        Arg::Object(0),
-        Arg::Str(b"hi"),
-        Arg::Array(&[1, 2]),
-        Arg::Fd(3),
-    ];
-    let message = message(alloc, (6, 0), &args)?;
-    push_of(&mut log, &table, PAIR, table.event(PAIR, 0), &message)?;
-    Ok(log)
+/// A row of a table of events: what a failing one is named, its object and opcode, the object's interface, its arguments, and
+/// its text.
+struct Event {
+    name: &'static str,
+    header: (u32, u16),
+    interface: InterfaceId,
+    args: &'static [Arg],
+    told: &'static str,
 }
 
-#[test]
-fn message_has_its_arguments_in_order(rt: HostRuntime) -> Result<(), Fail> {
-    tells(
-        &rt,
-        pair_log(rt.alloc()),
-        "pair@6.joined(quad@5, nil, \"hi\", array[2], fd 3)",
+/// Events of object 6, a `pair`, and of object 5.
+static EVENTS: [Event; 2] = [
+    Event {
+        name: "message has its arguments in order",
+        header: (6, 0),
+        interface: PAIR,
+        args: &[
+            Arg::Object(5),
+            Arg::Object(0),
+            Arg::Str(b"hi"),
+            Arg::Array(&[1, 2]),
+            Arg::Fd(3),
+        ],
+        told: "pair@6.joined(quad@5, nil, \"hi\", array[2], fd 3)",
+    },
+    Event {
+        name: "message without arguments",
+        header: (5, 2),
+        interface: QUAD,
+        args: &[],
+        told: "quad@5.gone()",
+    },
+];
+
+/// Appends the text of the event.
+fn push_event(
+    log: &mut String,
+    table: &Protocol,
+    event: &Event,
+    message: &Message<u32, Token>,
+) -> Result<(), Fail> {
+    let (interface, opcode) = (event.interface, event.header.1);
+    push_of(
+        log,
+        table,
+        interface,
+        table.event(interface, opcode),
+        message,
     )
 }
 
-/// The text of an event without arguments.
-fn quad_log(alloc: Global) -> Result<String, Fail> {
-    let (table, mut log) = (quad_table(alloc)?, String::new(alloc));
-    let message = message(alloc, (5, 2), &[])?;
-    push_of(&mut log, &table, QUAD, table.event(QUAD, 2), &message)?;
+/// Appends the text of the event by the table of `quad` and `pair`.
+fn tell_event(log: &mut String, event: &Event, message: &Message<u32, Token>) -> Result<(), Fail> {
+    let table = quad_table(*log.allocator())?;
+    push_event(log, &table, event, message)
+}
+
+/// The text of the event.
+fn event_log(alloc: Global, event: &Event) -> Result<String, Fail> {
+    let message = message(alloc, event.header, event.args)?;
+    let mut log = String::new(alloc);
+    tell_event(&mut log, event, &message)?;
     Ok(log)
 }
 
 #[test]
-fn message_without_arguments(rt: HostRuntime) -> Result<(), Fail> {
-    tells(&rt, quad_log(rt.alloc()), "quad@5.gone()")
+fn each_event_has_its_text(rt: HostRuntime) -> Result<(), Fail> {
+    for event in &EVENTS {
+        row_tells(&rt, event.name, event_log(rt.alloc(), event), event.told)?;
+    }
+    Ok(())
 }

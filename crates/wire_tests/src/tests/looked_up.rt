@@ -3,6 +3,7 @@
 use super::{STR, queue};
 use smallvec::SmallVec;
 use std::alloc::Global;
+use std::collections::VecDeque;
 use std::test::Fail;
 use test_kit::log::tells;
 use test_kit::message::tell_message;
@@ -45,15 +46,39 @@ fn tell_name(log: &mut String, desc: Option<&MessageDesc>) -> Result<(), Fail> {
     }
 }
 
+/// A message that is looked up, by its interface and its opcode.
+enum Sought {
+    Request(InterfaceId, u16),
+    Event(InterfaceId, u16),
+}
+
+/// The messages that are looked up.
+static SOUGHT: [Sought; 6] = [
+    Sought::Request(QUAD, 1),
+    Sought::Request(QUAD, 5),
+    Sought::Event(QUAD, 2),
+    Sought::Event(QUAD, 3),
+    Sought::Request(InterfaceId(6), 0),
+    Sought::Event(InterfaceId(6), 0),
+];
+
+/// Tells the name of each that the table has.
+fn tell_sought(log: &mut String, table: &Protocol) -> Result<(), Fail> {
+    for sought in &SOUGHT {
+        let desc = match sought {
+            Sought::Request(interface, opcode) => table.request(*interface, *opcode),
+            Sought::Event(interface, opcode) => table.event(*interface, *opcode),
+        };
+        tell_name(log, desc)?;
+    }
+    Ok(())
+}
+
 /// The names of some requests and events.
 fn names_log(alloc: Global) -> Result<String, Fail> {
-    let (table, mut log) = (quad_table(alloc)?, String::new(alloc));
-    tell_name(&mut log, table.request(QUAD, 1))?;
-    tell_name(&mut log, table.request(QUAD, 5))?;
-    tell_name(&mut log, table.event(QUAD, 2))?;
-    tell_name(&mut log, table.event(QUAD, 3))?;
-    tell_name(&mut log, table.request(InterfaceId(6), 0))?;
-    tell_name(&mut log, table.event(InterfaceId(6), 0))?;
+    let table = quad_table(alloc)?;
+    let mut log = String::new(alloc);
+    tell_sought(&mut log, &table)?;
     Ok(log)
 }
 
@@ -74,25 +99,30 @@ const BYTES: [u8; 24] = [
     7, 0, 0, 0, 2, 0, 16, 0, 3, 0, 0, 0, b'h', b'i', 0, 0, 8, 0, 0, 0, 0, 0, 8, 0,
 ];
 
-/// Tells the message, how many descriptors it has, and how many tokens wait after a look at it.
-fn peek_log(alloc: Global) -> Result<String, Fail> {
-    let (mut waiting, mut log) = (
-        queue(alloc, &[Token(4), Token(5), Token(6)])?,
-        String::new(alloc),
-    );
+/// Looks at the message, and tells it.
+fn tell_peeked(log: &mut String, waiting: &mut VecDeque<Token>) -> Result<(), Fail> {
+    let alloc = *log.allocator();
     let mut message = Message {
         sender_id: 0,
         opcode: 0,
         args: SmallVec::new(alloc),
     };
-    peek_into(alloc, &BYTES, &SIGNATURE, &mut waiting, &mut message)?;
-    tell_message(&mut log, &message)?;
-    write!(
-        log,
-        "; {} of {} tokens",
-        fd_places(&SIGNATURE),
-        waiting.len()
-    )?;
+    peek_into(alloc, &BYTES, &SIGNATURE, waiting, &mut message)?;
+    tell_message(log, &message)
+}
+
+/// Tells the message, how many descriptors it has, and how many tokens wait after a look at it.
+fn tell_peek(log: &mut String) -> Result<(), Fail> {
+    let mut waiting = queue(*log.allocator(), &[Token(4), Token(5), Token(6)])?;
+    tell_peeked(log, &mut waiting)?;
+    let (places, left) = (fd_places(&SIGNATURE), waiting.len());
+    Ok(write!(log, "; {places} of {left} tokens")?)
+}
+
+/// What `tell_peek` tells.
+fn peek_log(alloc: Global) -> Result<String, Fail> {
+    let mut log = String::new(alloc);
+    tell_peek(&mut log)?;
     Ok(log)
 }
 
