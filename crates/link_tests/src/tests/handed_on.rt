@@ -212,15 +212,6 @@ fn perform_all(log: &mut String, from: &mut Link, to: &mut Link, row: &Row) -> R
     Ok(to.flush()?)
 }
 
-/// Runs the row over two new links, and answers the transport of the second.
-fn run(log: &mut String, row: &Row, came: Memory) -> Result<Memory, Fail> {
-    let alloc = *log.allocator();
-    let mut from = BufferedSocket::new(alloc, came, None)?;
-    let mut to = BufferedSocket::new(alloc, Memory::new(alloc), row.limit)?;
-    perform_all(log, &mut from, &mut to, row)?;
-    Ok(to.into_transport())
-}
-
 /// Tells what a send took; of many bytes their number alone.
 fn tell_sent(log: &mut String, bytes: &[u8], tokens: &[Token]) -> Result<(), Fail> {
     if bytes.len() <= 64 {
@@ -231,14 +222,52 @@ fn tell_sent(log: &mut String, bytes: &[u8], tokens: &[Token]) -> Result<(), Fai
     Ok(writeln!(log, "")?)
 }
 
+/// Tells what each send took.
+fn tell_sends(log: &mut String, sends: &[(Vec<u8>, Vec<Token>)]) -> Result<(), Fail> {
+    for (bytes, tokens) in sends {
+        tell_sent(log, bytes, tokens)?;
+    }
+    Ok(())
+}
+
+/// Receives, does what is asked, sends what was handed on, and tells what each send took.
+fn perform_and_tell(
+    log: &mut String,
+    from: &mut Link,
+    to: &mut Link,
+    row: &Row,
+) -> Result<(), Fail> {
+    perform_all(log, from, to, row)?;
+    tell_sends(log, to.transport().sent())
+}
+
+/// Runs the row over a link and a new one, and tells what that sent.
+fn run_to(log: &mut String, row: &Row, from: &mut Link) -> Result<(), Fail> {
+    let alloc = *log.allocator();
+    let mut to = BufferedSocket::new(alloc, Memory::new(alloc), row.limit)?;
+    let answer = perform_and_tell(log, from, &mut to, row);
+    drop(to);
+    answer
+}
+
+/// Runs the row over two new links, and tells what the second sent.
+fn run(log: &mut String, row: &Row, came: Memory) -> Result<(), Fail> {
+    let mut from = BufferedSocket::new(*log.allocator(), came, None)?;
+    let answer = run_to(log, row, &mut from);
+    drop(from);
+    answer
+}
+
+/// Tells the run of the row, and then what was sent.
+fn tell_run(log: &mut String, row: &Row) -> Result<(), Fail> {
+    let came = scripted(log, row.cues)?;
+    run(log, row, came)
+}
+
 /// What the run of the row tells, and then what was sent.
 fn row_log(alloc: Global, row: &Row) -> Result<String, Fail> {
     let mut log = String::new(alloc);
-    let came = scripted(&mut log, row.cues)?;
-    let memory = run(&mut log, row, came)?;
-    for (bytes, tokens) in memory.sent() {
-        tell_sent(&mut log, bytes, tokens)?;
-    }
+    tell_run(&mut log, row)?;
     Ok(log)
 }
 

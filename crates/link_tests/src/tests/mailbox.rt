@@ -173,19 +173,26 @@ fn perform(log: &mut String, mailbox: &mut Mailbox, call: Call, again: bool) -> 
     }
 }
 
-/// A mailbox after these calls; those for which memory was refused are made a second time if `again` is set.
-fn called(log: &mut String, calls: &[Call], again: bool) -> Result<Mailbox, Fail> {
-    let mut mailbox = Mailbox::new(*log.allocator());
+/// Makes the calls; those for which memory was refused are made a second time if `again` is set.
+fn perform_all(
+    log: &mut String,
+    mailbox: &mut Mailbox,
+    calls: &[Call],
+    again: bool,
+) -> Result<(), Fail> {
     for call in calls {
-        perform(log, &mut mailbox, *call, again)?;
+        perform(log, mailbox, *call, again)?;
     }
-    Ok(mailbox)
+    Ok(())
 }
 
-/// What the calls of a mailbox tell, as in `called`.
+/// What the calls of a new mailbox tell, as in `perform_all`.
 fn mailbox_log(alloc: Global, calls: &[Call], again: bool) -> Result<String, Fail> {
     let mut log = String::new(alloc);
-    let _mailbox = called(&mut log, calls, again)?;
+    let mut mailbox = Mailbox::new(alloc);
+    let answer = perform_all(&mut log, &mut mailbox, calls, again);
+    drop(mailbox);
+    answer?;
     Ok(log)
 }
 

@@ -199,13 +199,21 @@ fn perform(log: &mut String, map: &mut ObjectMap<u32>, act: Act) -> Result<(), F
     }
 }
 
+/// Makes the calls, and tells their answers.
+fn perform_all(log: &mut String, map: &mut ObjectMap<u32>, acts: &[Act]) -> Result<(), Fail> {
+    for act in acts {
+        perform(log, map, *act)?;
+    }
+    Ok(())
+}
+
 /// What the calls of a new map tell.
 fn map_log(alloc: Global, acts: &[Act]) -> Result<String, Fail> {
     let mut log = String::new(alloc);
     let mut map = ObjectMap::new(alloc);
-    for act in acts {
-        perform(&mut log, &mut map, *act)?;
-    }
+    let answer = perform_all(&mut log, &mut map, acts);
+    drop(map);
+    answer?;
     Ok(log)
 }
 

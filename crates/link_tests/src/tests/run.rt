@@ -348,8 +348,10 @@ fn linked<T: Transport + Record + Drop>(
     acts: &[Act],
 ) -> Result<T, Fail> {
     let mut link = BufferedSocket::new(*log.allocator(), transport, limit)?;
-    perform_all(log, &mut link, acts)?;
-    Ok(link.into_transport())
+    let answer = perform_all(log, &mut link, acts);
+    let transport = link.into_transport();
+    answer?;
+    Ok(transport)
 }
 
 /// Tells the calls of a new link with that limit over the transport, and how many sends are recorded in the end.

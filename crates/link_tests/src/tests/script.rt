@@ -140,12 +140,18 @@ fn perform(log: &mut String, memory: &mut Memory, cue: Cue) -> Result<(), Fail> 
     }
 }
 
+/// Makes the calls.
+fn perform_all(log: &mut String, memory: &mut Memory, cues: &[Cue]) -> Result<(), Fail> {
+    for cue in cues {
+        perform(log, memory, *cue)?;
+    }
+    Ok(())
+}
+
 /// A script after these calls.
 pub fn scripted(log: &mut String, cues: &[Cue]) -> Result<Memory, Fail> {
     let mut memory = Memory::new(*log.allocator());
-    for cue in cues {
-        perform(log, &mut memory, *cue)?;
-    }
+    perform_all(log, &mut memory, cues)?;
     Ok(memory)
 }
 
