@@ -24,7 +24,7 @@ impl<T: Drop> From<AllocFailed<T>> for OutOfMemory {
 
 /// Why a transport could not send or receive, or why a session could not. It stands for the `std::io::Error` of
 /// `wayland-backend`.
-#[derive(Clone, Copy, Debug, PartialEq, Eq)]
+#[derive(Clone, Copy, PartialEq, Eq)]
 pub enum IoFault {
     /// Nothing can be sent or received now. The call may be made again later.
     WouldBlock,
@@ -57,10 +57,17 @@ impl fmt::Display for IoFault {
     }
 }
 
+/// Writes what `Display` writes.
+impl fmt::Debug for IoFault {
+    fn fmt<W: fmt::Write>(&self, f: &mut fmt::Formatter<W>) -> fmt::Result {
+        write!(f, "{self}")
+    }
+}
+
 impl std::error::Error for IoFault {}
 
 /// Why a message was not written.
-#[derive(Clone, Copy, Debug, PartialEq, Eq, Error)]
+#[derive(Clone, Copy, PartialEq, Eq, Error)]
 pub enum MessageWriteError {
     /// The message takes more than 65535 bytes. The length field of its header has 16 bits.
     #[error("The message is longer than 65535 bytes.")]
@@ -73,8 +80,15 @@ pub enum MessageWriteError {
     OutOfMemory,
 }
 
+/// Writes what `Display` writes.
+impl fmt::Debug for MessageWriteError {
+    fn fmt<W: fmt::Write>(&self, f: &mut fmt::Formatter<W>) -> fmt::Result {
+        write!(f, "{self}")
+    }
+}
+
 /// Why no message was read.
-#[derive(Clone, Copy, Debug, PartialEq, Eq, Error)]
+#[derive(Clone, Copy, PartialEq, Eq, Error)]
 pub enum MessageParseError {
     /// The message is not complete: some of its bytes are missing.
     #[error("More data is needed to deserialize the message")]
@@ -88,6 +102,13 @@ pub enum MessageParseError {
     /// There was no memory for the message's arguments.
     #[error("out of memory")]
     OutOfMemory,
+}
+
+/// Writes what `Display` writes.
+impl fmt::Debug for MessageParseError {
+    fn fmt<W: fmt::Write>(&self, f: &mut fmt::Formatter<W>) -> fmt::Result {
+        write!(f, "{self}")
+    }
 }
 
 /// A protocol error. One side told it to the other (`wl_display.error`), or a session found it itself.

@@ -22,7 +22,7 @@ use std::marker::Model;
 /// Why a list of interfaces was refused as a table, or as more of one.
 ///
 /// The number in a variant is the place of the interface in the caller's list, counted from 0.
-#[derive(Clone, Copy, Debug, PartialEq, Eq)]
+#[derive(Clone, Copy, PartialEq, Eq)]
 pub enum TableError {
     /// The name of the interface, or of one of its messages, has a zero byte.
     ZeroInName(usize),
@@ -40,25 +40,41 @@ pub enum TableError {
     OutOfMemory,
 }
 
+impl TableError {
+    /// The place of the interface, and what is wrong with it; `None` if there was no memory.
+    fn fault(self) -> Option<(usize, &'static str)> {
+        match self {
+            TableError::ZeroInName(at) => Some((at, "a name holds a zero byte")),
+            TableError::DuplicateName(at) => Some((at, "the name is taken")),
+            TableError::UnknownInterface(at) => {
+                Some((at, "a message names an interface outside the table"))
+            }
+            TableError::TooManyNewIds(at) => Some((at, "a message has more than one new id")),
+            TableError::MissingChild(at) => {
+                Some((at, "a message with a new id has no child interface"))
+            }
+            TableError::ArgInterfaces(at) => {
+                let text = "a message has not one argument interface for each object";
+                Some((at, text))
+            }
+            TableError::OutOfMemory => None,
+        }
+    }
+}
+
 impl fmt::Display for TableError {
     fn fmt<W: fmt::Write>(&self, f: &mut fmt::Formatter<W>) -> fmt::Result {
-        let (at, text) = match self {
-            TableError::ZeroInName(at) => (at, "a name holds a zero byte"),
-            TableError::DuplicateName(at) => (at, "the name is taken"),
-            TableError::UnknownInterface(at) => {
-                (at, "a message names an interface outside the table")
-            }
-            TableError::TooManyNewIds(at) => (at, "a message has more than one new id"),
-            TableError::MissingChild(at) => (at, "a message with a new id has no child interface"),
-            TableError::ArgInterfaces(at) => {
-                (
-                    at,
-                    "a message has not one argument interface for each object",
-                )
-            }
-            TableError::OutOfMemory => return f.write_str("out of memory"),
-        };
-        write!(f, "interface {at}: {text}")
+        match self.fault() {
+            Some((at, text)) => write!(f, "interface {at}: {text}"),
+            None => f.write_str("out of memory"),
+        }
+    }
+}
+
+/// Writes what `Display` writes.
+impl fmt::Debug for TableError {
+    fn fmt<W: fmt::Write>(&self, f: &mut fmt::Formatter<W>) -> fmt::Result {
+        write!(f, "{self}")
     }
 }
 

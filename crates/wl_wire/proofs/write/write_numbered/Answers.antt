@@ -19,3 +19,54 @@ returns-then-are_words-clause-unchanged g c = on_err_weaker c.write_words.result
 
 pub returns-then-are_words-clause-refused_room : goal.returns-then-are_words-clause-refused_room
 returns-then-are_words-clause-refused_room g c = on_err_weaker c.write_words.result (λ _. refl) c.write_words.ensures.unchanged
+
+pub returns-then-are_words-clause-written : goal.returns-then-are_words-clause-written
+returns-then-are_words-clause-written g c = c.write_words.ensures.written
+
+pub returns-then-are_words-clause-message : goal.returns-then-are_words-clause-message
+returns-then-are_words-clause-message g c = c.write_words.ensures.message
+
+pub returns-then-are_words-clause-too_long : goal.returns-then-are_words-clause-too_long
+returns-then-are_words-clause-too_long g c = c.write_words.ensures.too_long
+
+pub returns-then-are_words-clause-too_small : goal.returns-then-are_words-clause-too_small
+returns-then-are_words-clause-too_small g c = c.write_words.ensures.too_small
+
+pub returns-then-are_words-clause-memory : goal.returns-then-are_words-clause-memory
+returns-then-are_words-clause-memory g c = λ refused. absurd (c.write_words.ensures.memory refused)
+
+pub returns-then-are_words-clause-no_tokens : goal.returns-then-are_words-clause-no_tokens
+returns-then-are_words-clause-no_tokens g c = λ _ refused. c.write_words.ensures.memory refused
+
+pub returns-then-are_words-clause-room : goal.returns-then-are_words-clause-room
+returns-then-are_words-clause-room g c = λ _. refl
+
+pub returns-clause-written : goal.returns-clause-written
+returns-clause-written g c = c.write_mixed.ensures.written
+
+pub returns-clause-tokens : goal.returns-clause-tokens
+returns-clause-tokens g c = c.write_mixed.ensures.tokens
+
+pub returns-clause-message : goal.returns-clause-message
+returns-clause-message g c = c.write_mixed.ensures.message
+
+pub returns-clause-too_long : goal.returns-clause-too_long
+returns-clause-too_long g c = c.write_mixed.ensures.too_long
+
+pub returns-clause-too_small : goal.returns-clause-too_small
+returns-clause-too_small g c = c.write_mixed.ensures.too_small
+
+pub returns-clause-memory : goal.returns-clause-memory
+returns-clause-memory g c = c.write_mixed.ensures.memory
+
+pub returns-clause-no_tokens : goal.returns-clause-no_tokens
+returns-clause-no_tokens g c = c.write_mixed.ensures.no_tokens
+
+pub returns-clause-unchanged : goal.returns-clause-unchanged
+returns-clause-unchanged g c = c.write_mixed.ensures.unchanged
+
+pub returns-clause-refused_room : goal.returns-clause-refused_room
+returns-clause-refused_room g c = c.write_mixed.ensures.refused_room
+
+pub returns-clause-room : goal.returns-clause-room
+returns-clause-room g c = c.write_mixed.ensures.room

@@ -1,4 +1,4 @@
-use Rattle.std.proofs.Common.{◌≡◌, ◌+◌, ◌*◌, ◌++◌, arith}
+use Rattle.std.proofs.Common.{refl, ◌≡◌, ◌+◌, ◌*◌, ◌++◌, arith}
 use Rattle.wl_wire.specs.MapIds.{numbered}
 use Rattle.wl_wire.specs.Message.{word, pieces, size}
 use Rattle.wl_wire.proofs.Pieces.{length-header, overwritten-header-last}
@@ -12,3 +12,27 @@ returns-clause-written g c =
       rw (c.put_header.ensures, c.in_ok-bytes.ensures.bytes, c.number_object.ensures, c.as_slice.ensures, bytes-is)
           (overwritten-header-last c.args.payload.now (word m.sender ++ word (size m * 65536 + m.opcode)) (pieces m.args) (length-header _ _) (omega (arith, bytes-is, c.in_ok-bytes.ensures.next.1, c.min-end.ensures))),
     )
+
+pub returns-then-end-lt8-clause-none : goal.returns-then-end-lt8-clause-none
+returns-then-end-lt8-clause-none g c = λ _ _ _. omega (arith, c.if-end-lt8.true, c.min-end.ensures)
+
+pub returns-in_err-bytes-clause-none : goal.returns-in_err-bytes-clause-none
+returns-in_err-bytes-clause-none g c = λ _ none small.
+    let lacks = rw c.as_slice.ensures at (c.in_err-bytes.ensures.none refl) in
+    omega (arith, lacks none, small, c.min-end.ensures)
+
+pub put_header-requires-clause-size : goal.put_header-requires-clause-size
+put_header-requires-clause-size g c = omega (arith, c.in_ok-bytes.ensures.next.1, c.min-end.ensures)
+
+pub put_header-requires-clause-room : goal.put_header-requires-clause-room
+put_header-requires-clause-room g c = omega (arith, c.put_each_within.auto.payload, c.if-end-lt8.false, c.min-end.ensures)
+
+pub returns-clause-room : goal.returns-clause-room
+returns-clause-room g c = (omega (arith, c.in_ok-bytes.ensures.next.1, c.min-end.ensures), omega (arith, c.in_ok-bytes.ensures.next.1, c.min-end.ensures))
+
+pub returns-clause-tokens : goal.returns-clause-tokens
+returns-clause-tokens g c = rw c.as_slice.ensures at c.in_ok-bytes.ensures.tokens
+
+
+pub returns-clause-none : goal.returns-clause-none
+returns-clause-none g c = λ e. absurd cc

@@ -1,4 +1,4 @@
-use Rattle.std.proofs.Common.{◌≡◌, ◌+◌, ◌*◌, ◌++◌, sym, subst, arith}
+use Rattle.std.proofs.Common.{◌≡◌, ◌<◌, ◌+◌, ◌*◌, ◌++◌, refl, sym, subst, arith}
 use Rattle.std.specs.List.{AllByRecursion}
 use Rattle.wl_wire.specs.Inside.Buffer.{IsWord}
 use Rattle.wl_wire.specs.MapIds.{numbered}
@@ -20,3 +20,42 @@ returns-clause-written g c =
       rw (c.put_words.ensures.bytes, c.put_header.ensures, c.number_object.ensures, c.as_slice-args.ensures, bytes-is)
           (overwritten-header c.args.payload.now (word m.sender ++ word (size m * 65536 + m.opcode)) (pieces m.args) (length-header _ _) (omega (arith, bytes-is, c.if-payload-bytes.false))),
     )
+
+pub returns-in_default-clause-too_long : goal.returns-in_default-clause-too_long
+returns-in_default-clause-too_long g c = (λ _. rw c.as_slice-args.ensures at c.in_default.ensures, λ _. refl)
+
+pub returns-in_default-clause-too_small : goal.returns-in_default-clause-too_small
+returns-in_default-clause-too_small g c =
+    let m = numbered (g.N.Numbering.object_number c.args.numbers.now) (g.N.Numbering.new_number c.args.numbers.now) c.args.message.now in
+    let long : 65535 < size m = rw c.as_slice-args.ensures at c.in_default.ensures in
+    (λ e. absurd cc, λ p. absurd (omega (arith, p.0, long)))
+
+pub returns-then-payload-bytes-clause-too_long : goal.returns-then-payload-bytes-clause-too_long
+returns-then-payload-bytes-clause-too_long g c =
+    let m = numbered (g.N.Numbering.object_number c.args.numbers.now) (g.N.Numbering.new_number c.args.numbers.now) c.args.message.now in
+    let bytes-is : c.in-Some.bytes ≡ size m = rw c.as_slice-args.ensures at c.in-Some.ensures.0 in
+    (λ e. absurd cc, λ long. absurd (omega (arith, long, bytes-is, c.in-Some.ensures.1)))
+
+pub returns-then-payload-bytes-clause-too_small : goal.returns-then-payload-bytes-clause-too_small
+returns-then-payload-bytes-clause-too_small g c =
+    let m = numbered (g.N.Numbering.object_number c.args.numbers.now) (g.N.Numbering.new_number c.args.numbers.now) c.args.message.now in
+    let bytes-is : c.in-Some.bytes ≡ size m = rw c.as_slice-args.ensures at c.in-Some.ensures.0 in
+    (λ _. (omega (arith, bytes-is, c.in-Some.ensures.1), omega (arith, bytes-is, c.if-payload-bytes.true)), λ _. refl)
+
+pub returns-clause-too_long : goal.returns-clause-too_long
+returns-clause-too_long g c =
+    let m = numbered (g.N.Numbering.object_number c.args.numbers.now) (g.N.Numbering.new_number c.args.numbers.now) c.args.message.now in
+    let bytes-is : c.in-Some.bytes ≡ size m = rw c.as_slice-args.ensures at c.in-Some.ensures.0 in
+    (λ e. absurd cc, λ long. absurd (omega (arith, long, bytes-is, c.in-Some.ensures.1)))
+
+pub returns-clause-too_small : goal.returns-clause-too_small
+returns-clause-too_small g c =
+    let m = numbered (g.N.Numbering.object_number c.args.numbers.now) (g.N.Numbering.new_number c.args.numbers.now) c.args.message.now in
+    let bytes-is : c.in-Some.bytes ≡ size m = rw c.as_slice-args.ensures at c.in-Some.ensures.0 in
+    (λ e. absurd cc, λ q. absurd (omega (arith, q.1, bytes-is, c.if-payload-bytes.false)))
+
+pub put_words-requires-clause-words : goal.put_words-requires-clause-words
+put_words-requires-clause-words g c = subst (AllByRecursion IsWord) (sym c.as_slice-args.ensures) c.requires.words
+
+pub size_of_words-requires : goal.size_of_words-requires
+size_of_words-requires g c = subst (AllByRecursion IsWord) (sym c.as_slice-args.ensures) c.requires.words
