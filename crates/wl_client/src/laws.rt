@@ -3,10 +3,11 @@
 //! A *run* is a list of calls over the transport by script, each with its reply. A *history* is a list of calls over any
 //! transport, each with its reply, of changes that the program makes to the transport between them, and of interfaces that it
 //! adds. A history *from `connect` on* begins with a session as `connect` returns it (`IsConnected`); any other may begin
-//! with any session. A law that is about every transport has a clause for the transport by script, whose own calls may be
-//! among the steps. An id *names* an object if its number has that object and its serial is that object's.
+//! with any session. The laws of histories speak of every transport. Over the transport by script a call of that transport is
+//! a change of it (`calls_over_scripts_are_steps`). An id *names* an object if its number has that object and its serial is
+//! that object's.
 
-ghost use Rattle.std.specs.Prelude.{◌≡◌, ◌∷◌, ◌++◌, ◌↔◌, [], Bool, List, Option, None, Result, Ok, Err, IsSome, Vec, false, length, map, ℕ};
+ghost use Rattle.std.specs.Prelude.{◌≡◌, ◌∷◌, ◌++◌, ◌↔◌, ◌⊎◌, [], Bool, List, Option, None, Result, Ok, Err, IsSome, Vec, false, length, map, ℕ};
 ghost use Rattle.std.specs.Global.{Global};
 ghost use Rattle.wl_wire.specs.declared.argument.Token.{Token};
 ghost use Rattle.wl_wire.specs.declared.error.IoFault.{IoFault};
@@ -51,8 +52,6 @@ use wl_link::Transport;
 pub fn each_id_names_its_own_object<T: Transport, U>()
     ensures every { (table : List InterfaceRow) (transport : T) (before after : SessionState T U) (deeds : List (Deed T U)) →
         IsConnected table transport before → History (CallOf T.sends T.receives) before deeds after → HasOwnIds (CallOf T.sends T.receives) before deeds after }
-    ensures script { (table : List InterfaceRow) (transport : Script) (before after : SessionState Script U) (deeds : List (Deed Script U)) →
-        IsConnected table transport before → History StepOf before deeds after → HasOwnIds StepOf before deeds after }
 {}
 
 /// The identity law for any id, no matter where it comes from: also for one that `display_id` or a look-up returned.
@@ -67,12 +66,6 @@ pub fn each_id_that_names_an_object_keeps_it<T: Transport, U>()
         IsConnected table transport begun → History (CallOf T.sends T.receives) begun done point →
         History (CallOf T.sends T.receives) point between mid → History (CallOf T.sends T.receives) mid later after →
         (id : IdParts) → IsSome (named point.store id) → ¬ IsSome (named mid.store id) → ¬ IsSome (named after.store id) }
-    ensures named_by_script { (table : List InterfaceRow) (transport : Script) (begun point after : SessionState Script U) (done later : List (Deed Script U)) →
-        IsConnected table transport begun → History StepOf begun done point → History StepOf point later after →
-        KeepsNaming StepOf begun done point later after }
-    ensures none_by_script { (table : List InterfaceRow) (transport : Script) (begun point mid after : SessionState Script U) (done between later : List (Deed Script U)) →
-        IsConnected table transport begun → History StepOf begun done point → History StepOf point between mid → History StepOf mid later after →
-        (id : IdParts) → IsSome (named point.store id) → ¬ IsSome (named mid.store id) → ¬ IsSome (named after.store id) }
 {}
 
 /// The law of notes: each object that ends with user data is noted once, and no other.
@@ -82,8 +75,6 @@ pub fn each_id_that_names_an_object_keeps_it<T: Transport, U>()
 pub fn each_object_that_ends_is_noted_once<T: Transport, U>()
     ensures every { (table : List InterfaceRow) (transport : T) (before after : SessionState T U) (deeds : List (Deed T U)) →
         IsConnected table transport before → History (CallOf T.sends T.receives) before deeds after → NotesWhatEnded (CallOf T.sends T.receives) before deeds after }
-    ensures script { (table : List InterfaceRow) (transport : Script) (before after : SessionState Script U) (deeds : List (Deed Script U)) →
-        IsConnected table transport before → History StepOf before deeds after → NotesWhatEnded StepOf before deeds after }
 {}
 
 /// The law of errors: a session that has an error keeps one. Over every history that begins with such a session, each reading
@@ -91,8 +82,6 @@ pub fn each_object_that_ends_is_noted_once<T: Transport, U>()
 pub fn a_failed_session_stays_failed<T: Transport, U>()
     ensures every { (before after : SessionState T U) (deeds : List (Deed T U)) →
         IsSome before.error → History (CallOf T.sends T.receives) before deeds after → StaysFailed deeds after }
-    ensures script { (before after : SessionState Script U) (deeds : List (Deed Script U)) →
-        IsSome before.error → History StepOf before deeds after → StaysFailed deeds after }
 {}
 
 /// The laws of identity, of names, of notes and of errors hold of every history from `connect` on, and all of them of the
@@ -100,8 +89,6 @@ pub fn a_failed_session_stays_failed<T: Transport, U>()
 pub fn each_client_is_accounted_for<T: Transport, U>()
     ensures every { (table : List InterfaceRow) (transport : T) (begun after : SessionState T U) (deeds : List (Deed T U)) →
         IsConnected table transport begun → History (CallOf T.sends T.receives) begun deeds after → IsAccountedFor (CallOf T.sends T.receives) begun deeds after }
-    ensures script { (table : List InterfaceRow) (transport : Script) (begun after : SessionState Script U) (deeds : List (Deed Script U)) →
-        IsConnected table transport begun → History StepOf begun deeds after → IsAccountedFor StepOf begun deeds after }
 {}
 
 /// A call that neither sends nor receives is a call over every transport: a step of a history, which stays accounted for
@@ -115,23 +102,24 @@ pub fn local_calls_are_calls<T: Transport, U>()
 {}
 
 /// A call of a session over the transport by script is a step over that transport (`step`). So a history of such calls is one
-/// of steps (`history`). What is said of a run by `Backend::replay` may be joined to it (`histories_are_joined`).
+/// of steps (`history`). Each step is such a call, or a change of the transport (`change`). So what is said of histories over
+/// every transport is said of steps, too.
 pub fn calls_over_scripts_are_steps<U>()
     ensures step { (before : SessionState Script U) (call : Step U) (answer : Reply U) (refused : Bool) (after : SessionState Script U) →
         CallOf ScriptSends ScriptReceives before call answer refused after → StepOf before call answer refused after }
     ensures history { (before after : SessionState Script U) (deeds : List (Deed Script U)) →
         History (CallOf ScriptSends ScriptReceives) before deeds after → History StepOf before deeds after }
+    ensures change { (before : SessionState Script U) (call : Step U) (answer : Reply U) (refused : Bool) (after : SessionState Script U) →
+        StepOf before call answer refused after →
+        CallOf ScriptSends ScriptReceives before call answer refused after ⊎ ((t : Script) × (after ≡ over_transport before t)) }
 {}
 
-/// Histories that follow one another are one history (`every`, and `script` of steps over the transport by script). A run,
-/// as of `Backend::replay`, is a history of its entries (`run`), and so is a part of a history in which only such calls are
-/// made.
+/// Histories that follow one another are one history (`every`). A run, as of `Backend::replay`, is a history of its entries
+/// (`run`), and so is a part of a history in which only such calls are made.
 pub fn histories_are_joined<T: Transport, U>()
     ensures every { (begun mid after : SessionState T U) (deeds others : List (Deed T U)) →
         History (CallOf T.sends T.receives) begun deeds mid → History (CallOf T.sends T.receives) mid others after →
         History (CallOf T.sends T.receives) begun (deeds ++ others) after }
-    ensures script { (begun mid after : SessionState Script U) (deeds others : List (Deed Script U)) →
-        History StepOf begun deeds mid → History StepOf mid others after → History StepOf begun (deeds ++ others) after }
     ensures run { (before after : SessionState Script U) (run : List (Entry U)) →
         Leads before run after ↔ History StepOf before (called run) after }
 {}
@@ -165,9 +153,8 @@ pub fn calls_of_a_script_are_steps<U>()
 /// If memory is not refused, each step over the transport by script has one outcome (`step`), and so has each run (`run`).
 ///
 /// The session before a step, and the step, determine the reply and the session after it. This leaves open only the
-/// addresses of a reply's lists in memory. A history over the transport by script has one outcome, too (`script_history`).
-/// Over another transport the same holds of a call (`call`) and of a history (`history`), if each send and each receive of
-/// the transport has one outcome.
+/// addresses of a reply's lists in memory. Over every transport the same holds of a call (`call`) and of a history
+/// (`history`), if each send and each receive of the transport has one outcome.
 pub fn each_run_has_one_outcome<T: Transport, U>()
     ensures call { IsFunction T.sends → IsReceiveFunction T.receives →
         (before after after' : SessionState T U) (step : Step U) (answer answer' : Reply U) →
@@ -177,8 +164,6 @@ pub fn each_run_has_one_outcome<T: Transport, U>()
         (before after after' : SessionState T U) (deeds others : List (Deed T U)) → SameDeeds deeds others →
         History (CallOf T.sends T.receives) before deeds after → History (CallOf T.sends T.receives) before others after' →
         SameAnswers deeds others × (after ≡ after') }
-    ensures script_history { (before after after' : SessionState Script U) (deeds others : List (Deed Script U)) → SameDeeds deeds others →
-        History StepOf before deeds after → History StepOf before others after' → SameAnswers deeds others × (after ≡ after') }
     ensures step { (before after after' : SessionState Script U) (step : Step U) (answer answer' : Reply U) →
         StepOf before step answer false after → StepOf before step answer' false after' →
         SameReply answer answer' × (after ≡ after') }

@@ -1,9 +1,14 @@
 -- That a public call keeps a history accounted for, and that a run over the transport by script is a part of one.
-use Rattle.std.proofs.Common.{◌≡◌, ℕ, Bool, List, [], ◌∷◌, ◌++◌, Result, refl, subst}
+use Rattle.std.proofs.Common.{◌≡◌, ℕ, Bool, List, [], ◌∷◌, ◌++◌, Result, Ok, Err, refl, subst}
+use Rattle.std.specs.Prelude.{◌⊎◌}
+use mathlib.Core.Logic.{inl, inr}
 use Rattle.wl_wire.specs.declared.error.IoFault.{IoFault}
+use Rattle.wl_wire.specs.declared.error.OutOfMemory.{OutOfMemory}
 use Rattle.wl_wire.specs.declared.protocol.TableError.{TableError}
 use Rattle.wl_wire.specs.Table.{InterfaceRow, refused_growth}
 use Rattle.wl_link.proofs.OverRuns.RunLaws.{stopped_leads}
+use Rattle.wl_link.specs.declared.memory.ArriveError.{ArriveError}
+use Rattle.wl_link.specs.declared.memory.ArriveError.TheVariants as arrive
 use Rattle.wl_link.specs.Exchange.{Queue}
 use Rattle.wl_link.specs.Script.{Script, ScriptSends, ScriptReceives}
 use Rattle.wl_client.specs.declared.step.Reply.{Reply}
@@ -15,7 +20,7 @@ use Rattle.wl_client.proofs.OverRuns.StretchLaws.{parts_cut}
 use Rattle.wl_client.specs.Accounts.{AccountsForStopped, Calls, CallsLocally, IsChange, IsGrowth, StaysAccountedFor}
 use Rattle.wl_client.specs.Histories.{Called, Changed, Deed, Does, Grown, History, called}
 use Rattle.wl_client.specs.Session.{ClientState, IsConnected, SessionState, over_transport}
-use Rattle.wl_client.specs.Steps.{CallOf, Entry, InterfacesAdded, Leads, LocalCall, Making, StepOf, StopsAt, entries}
+use Rattle.wl_client.specs.Steps.{ArrivesWith, CallOf, Entry, InterfacesAdded, Leads, LocalCall, Making, Scripts, StepOf, StopsAt, entries}
 
 module _ {T U : Type 0} (makes : Making T U) where
   -- ---- histories behind one another
@@ -96,16 +101,36 @@ module _ {U : Type 0} where
   -- a call of a session over this transport is a step
   pub call_step : (before : SessionState Script U) (call : Step U) (answer : Reply U) (refused : Bool) (after : SessionState Script U)
       → CallOf ScriptSends ScriptReceives before call answer refused after → StepOf before call answer refused after
-  call_step before (step.SetData id u) answer refused after h = h
-  call_step before (step.DestroyObject id) answer refused after h = h
-  call_step before (step.SendRequest m u spec) answer refused after h = h
-  call_step before step.Flush answer refused after h = h
-  call_step before step.NextEvent answer refused after h = h
-  call_step before (step.FinishEvent u) answer refused after h = h
-  call_step before step.DispatchInnerQueue answer refused after h = h
-  call_step before (step.SetMaxBufferSize limit) answer refused after h = h
-  call_step before step.TakeNotes answer refused after h = h
-  call_step before _ answer refused after h = absurd h
+  call_step before (step.Arrive bytes tokens) answer refused after h = absurd h
+  call_step before (step.ArriveFault f) answer refused after h = absurd h
+  call_step before (step.Accept n) answer refused after h = absurd h
+  call_step before (step.AcceptFault f) answer refused after h = absurd h
+  call_step before step.TakeSent answer refused after h = absurd h
+  call_step before call answer refused after h = h
+
+  -- and a step is such a call, or a change of the transport
+  abbrev IsChanged : SessionState Script U → SessionState Script U → Type 0
+  IsChanged before after = (t : Script) × (after ≡ over_transport before t)
+
+  scripts_change : (before : SessionState Script U) (script : Script) (r : Result (Unit {0}) OutOfMemory) (after : SessionState Script U)
+      → Scripts before script r after → IsChanged before after
+  scripts_change before script (Ok u) after same = (script, same)
+  scripts_change before script (Err e) after same = (before.link.transport, same)
+
+  arrives_change : (before : SessionState Script U) (chunk : Queue) (r : Result (Unit {0}) ArriveError) (after : SessionState Script U)
+      → ArrivesWith before chunk r after → IsChanged before after
+  arrives_change before chunk (Ok u) after h = (_, h.1)
+  arrives_change before chunk (Err arrive.TooManyTokens) after h = (before.link.transport, h.1)
+  arrives_change before chunk (Err arrive.OutOfMemory) after h = (before.link.transport, h.1)
+
+  pub call_or_change : (before : SessionState Script U) (call : Step U) (answer : Reply U) (refused : Bool) (after : SessionState Script U)
+      → StepOf before call answer refused after → CallOf ScriptSends ScriptReceives before call answer refused after ⊎ IsChanged before after
+  call_or_change before (step.Arrive bytes tokens) answer refused after (r, is, lacks, h) = inr (arrives_change before _ r after h)
+  call_or_change before (step.ArriveFault f) answer refused after (r, is, lacks, h) = inr (scripts_change before _ r after h)
+  call_or_change before (step.Accept n) answer refused after (r, is, lacks, h) = inr (scripts_change before _ r after h)
+  call_or_change before (step.AcceptFault f) answer refused after (r, is, lacks, h) = inr (scripts_change before _ r after h)
+  call_or_change before step.TakeSent answer refused after (sent, is, lacks, parcels, same) = inr (_, same)
+  call_or_change before call answer refused after h = inl h
 
   pub call_history : (before after : SessionState Script U) (deeds : List (Deed Script U)) → History (CallOf ScriptSends ScriptReceives) before deeds after
       → History StepOf before deeds after
