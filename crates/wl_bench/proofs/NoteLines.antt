@@ -1,7 +1,7 @@
 -- That no line which a command prints has a line feed, lines of notes included: the interface that an error names is the display.
 use Rattle.std.proofs.Common.{◌≡◌, ◌≢◌, ◌∙◌, ℕ, Bool, true, false, List, [], ◌∷◌, ◌++◌, map, codes, Option, None, Some, Result, Ok, Err, Vec, Global, refl, sym, ap, subst, arith}
 use mathlib.Core.Logic.{inl, inr}
-use Rattle.std.specs.Prelude.{⊤, if◌then◌else◌, Contains, MatchOption}
+use Rattle.std.specs.Prelude.{⊤, ◌⊎◌, if◌then◌else◌, Contains, MatchOption}
 use Rattle.std.specs.Fmt.{decimal}
 use Rattle.std.specs.List.{All}
 use Rattle.std.proofs.lemmas.Bool.{eq-eqb, true≢false}
@@ -28,10 +28,10 @@ use Rattle.wl_server.specs.Globals.{Offer}
 use Rattle.wl_server.specs.Identified.{waiting_of}
 use Rattle.wl_server.specs.Ids.{ClientParts, same_client}
 use Rattle.wl_server.specs.NotedEnds.Errors.{EachCallCausesItsErrors, MayKillFor, TellsError}
-use Rattle.wl_server.specs.PartStep.{Asked, Call, PartStep, World, over}
+use Rattle.wl_server.specs.PartStep.{Asked, Call, Changed, PartStep, World, over}
 use Rattle.wl_server.specs.Runs.{Performs}
 use Rattle.wl_server.specs.Server.{notes_of, seen, told_of}
-use Rattle.wl_server.specs.Steps.{Entry, OneStep, offer_after}
+use Rattle.wl_server.specs.Steps.{Entry, Makes as MakesCall, OneStep, offer_after}
 use Rattle.wl_bench.specs.declared.bench.Open.{Open}
 use Rattle.wl_bench.specs.declared.bench.Open.TheVariants as opened
 use Rattle.wl_bench.specs.declared.bench.Seat.{Seat}
@@ -94,6 +94,19 @@ plain_error table id (step.NextAction target) answer e is safe (mine, (code, tex
 plain_error table id (step.NextActionWithin target reading) answer e is safe (mine, (code, text, same)) =
     of_display table e is (ap (λ (f : ProtocolError). f.object_interface) same)
 plain_error table id s answer e is safe may = absurd may
+
+-- A step over scripts is a call, or a change of a client's script, which kills for no error. So the law of calls is one of steps.
+pub steps_cause : ((before after : BenchServer) (e : BenchEntry) → OneStep bench_world before e after
+    → OneStep dispatch_world before e after ⊎ ((target : ClientParts) × (t : Script) × MakesCall dispatch_world before (Changed target t) false after))
+    → EachCallCausesItsErrors ℕ dispatch_world → EachCallCausesItsErrors ℕ bench_world
+steps_cause change law before after e one id error tell =
+    elim (change before after e one) [
+      | inl call ↦ law before after e call id error tell
+      | inr (target, t, (f, is, calm, changed)) ↦ elim (law before after f changed id error tell) [
+        | inl was ↦ inl was
+        | inr may ↦ absurd (subst (λ (c : BenchCall). MayKillFor before.offer.table id c error) is may)
+      ]
+    ]
 
 module _ (w : World Script ShownToAll (Unit {0})) (law : EachCallCausesItsErrors ℕ w) where
   one_plain : (before after : BenchServer) (entry : BenchEntry) (s : BenchStep) (answer : BenchReply) → entry.call ≡ Asked s answer → IsHarmless s → OneStep w before entry after

@@ -15,7 +15,7 @@ ghost use Rattle.wl_bench.specs.declared.command.Command.TheVariants as command;
 
 use wl_link::Memory;
 use wl_server::ShownToAll;
-use wl_server::laws::each_error_in_a_note_has_a_cause;
+use wl_server::laws::{calls_over_scripts_are_steps, each_error_in_a_note_has_a_cause};
 
 /// A command about one client concerns only that client. No line that it prints says what another client was sent. All that
 /// is held of another client is as before, also what it was sent and what waits for it.
@@ -31,6 +31,7 @@ pub fn a_command_about_one_client_stays_with_it()
 pub fn each_line_that_is_printed_is_one_line()
     ensures { (all : List Recorded) (after : BenchState) → Leads (new_bench bench_rows) all after → All PrintsLines all }
 {
+    calls_over_scripts_are_steps::<u64, ShownToAll, ()>();
     each_error_in_a_note_has_a_cause::<Memory, u64, ShownToAll, ()>();
 }
 

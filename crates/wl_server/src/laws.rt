@@ -13,11 +13,10 @@
 //! - A *token* stands for a file descriptor.
 //! - The *transport by script* is `wl_link::Memory`, whose answers are given beforehand.
 //!
-//! A clause whose name begins with `script` is about runs over the transport by script, among whose calls may be those of
-//! the script. It says of them what the other clauses of its function say of runs over every transport. For seven laws
-//! [`each_client_of_a_script_is_accounted_for`] says so.
+//! The laws of runs speak of every transport. Over the transport by script a call of that transport is a change of it
+//! (clause `change` of [`calls_over_scripts_are_steps`]).
 
-ghost use Rattle.std.specs.Prelude.{◌≡◌, ◌≢◌, ◌<◌, ◌≤◌, ◌∷◌, ◌++◌, [], ℕ, Bool, false, List, None, Option, Some, Result, Err};
+ghost use Rattle.std.specs.Prelude.{◌≡◌, ◌≢◌, ◌<◌, ◌≤◌, ◌⊎◌, ◌∷◌, ◌++◌, [], ℕ, Bool, false, List, None, Option, Some, Result, Err};
 ghost use Rattle.wl_wire.specs.Table.{AnswersGrowth, InterfaceRow};
 ghost use Rattle.wl_wire.specs.declared.protocol.TableError.{TableError};
 ghost use Rattle.wl_wire.specs.declared.protocol.TableError.TheVariants as table_error;
@@ -54,12 +53,12 @@ ghost use Rattle.wl_server.specs.NotedEnds.Errors.{EachCallCausesItsErrors, Each
 ghost use Rattle.wl_server.specs.NotedOnce.{CleanupNotesAll, EachIsNoted, FinishNotesAtOnce};
 ghost use Rattle.wl_server.specs.NoteOrder.Ordered.{EarlierNotesFirst, EarlierWaitFirst};
 ghost use Rattle.wl_server.specs.Part.{Part};
-ghost use Rattle.wl_server.specs.PartStep.{Call, around, over, over_scripts, share_of};
+ghost use Rattle.wl_server.specs.PartStep.{Call, Changed, around, over, over_scripts, share_of};
 ghost use Rattle.wl_server.specs.Reading.{Around, answered, reads_on, server};
 ghost use Rattle.wl_server.specs.ReadingEnds.{ReadingEnds};
 ghost use Rattle.wl_server.specs.Runs.{Alone, IsIsolated, Leads, Own, Performs, history};
 ghost use Rattle.wl_server.specs.Server.{Seen, ServerState, Stored, new_server};
-ghost use Rattle.wl_server.specs.Steps.{RiseBySlot, Entry, InsertsNext, OneStep, StepOf};
+ghost use Rattle.wl_server.specs.Steps.{RiseBySlot, Entry, InsertsNext, Makes, OneStep, StepOf};
 ghost use Rattle.wl_server.specs.Stretches.{StretchIsServed, IsStretch, IsStretchWithin, SameLeft, handed_out, arrived, beside_exchanges, finished};
 ghost use Rattle.wl_server.specs.Telling.{Core, Finish, Told, reader_part};
 ghost use Rattle.wl_server.specs.Outcome.Whole.{AnswersAlike, HoldsSame, PerformancesHaveOneOutcome, RunsHaveOneOutcome};
@@ -93,10 +92,6 @@ pub fn each_client_has_one_outcome<T: Transport, U, G: GlobalHandler<C>, C>()
     ensures alone { IsFunction T.sends → IsReceiveFunction T.receives → OwnRunsHaveOneOutcome U (over T.sends T.receives G.views) }
     ensures client { IsFunction T.sends → IsReceiveFunction T.receives → ClientsHaveOneOutcome U (over T.sends T.receives G.views) }
     ensures offer { OffersHaveOneOutcome U (over T.sends T.receives G.views) }
-    ensures script_call { CallsHaveOneOutcome U (over_scripts G.views) }
-    ensures script_alone { OwnRunsHaveOneOutcome U (over_scripts G.views) }
-    ensures script_client { ClientsHaveOneOutcome U (over_scripts G.views) }
-    ensures script_offer { OffersHaveOneOutcome U (over_scripts G.views) }
 {}
 
 /// A run of a server has one outcome, over every transport whose answers follow from its value.
@@ -114,8 +109,6 @@ pub fn each_client_has_one_outcome<T: Transport, U, G: GlobalHandler<C>, C>()
 pub fn each_run_of_a_server_has_one_outcome<T: Transport, U, G: GlobalHandler<C>, C>()
     ensures run { IsFunction T.sends → IsReceiveFunction T.receives → RunsHaveOneOutcome U (over T.sends T.receives G.views) }
     ensures steps { IsFunction T.sends → IsReceiveFunction T.receives → PerformancesHaveOneOutcome U (over T.sends T.receives G.views) }
-    ensures script_run { RunsHaveOneOutcome U (over_scripts G.views) }
-    ensures script_steps { PerformancesHaveOneOutcome U (over_scripts G.views) }
     ensures answers { (s t : ServerState T U G C) → HoldsSame s t → AnswersAlike s t }
     ensures client { (last : ℕ) (clients : List (Option (Stored T U C))) (a b : Result ClientParts InsertClientError) →
         a ≢ Err insert.OutOfMemory → b ≢ Err insert.OutOfMemory →
@@ -189,12 +182,6 @@ pub fn each_id_that_names_an_object_keeps_it<T: Transport, U, G: GlobalHandler<C
     ensures none { (table : List InterfaceRow) (done between later : List (Entry T U G C)) (point mid after : ServerState T U G C) →
         Leads (over T.sends T.receives G.views) (new_server table) done point → Leads (over T.sends T.receives G.views) point between mid →
         Leads (over T.sends T.receives G.views) mid later after → EachNamesNoneAgain done point mid after }
-    ensures script_named { (table : List InterfaceRow) (done later : List (Entry Script U G C)) (point after : ServerState Script U G C) →
-        Leads (over_scripts G.views) (new_server table) done point → Leads (over_scripts G.views) point later after →
-        EachKeepsNaming (over_scripts G.views) table done point later after }
-    ensures script_none { (table : List InterfaceRow) (done between later : List (Entry Script U G C)) (point mid after : ServerState Script U G C) →
-        Leads (over_scripts G.views) (new_server table) done point → Leads (over_scripts G.views) point between mid →
-        Leads (over_scripts G.views) mid later after → EachNamesNoneAgain done point mid after }
 {}
 
 /// The ids of clients and globals, over every transport: no id is given twice.
@@ -235,11 +222,6 @@ pub fn each_object_that_leaves_is_noted_once<T: Transport, U, G: GlobalHandler<C
     ensures of_ends { (table : List InterfaceRow) (run : List (Entry T U G C)) (after : ServerState T U G C) →
         Leads (over T.sends T.receives G.views) (new_server table) run after → EachNoteIsOfAnEnd run after }
     ensures at_once { EndIsNotedAtOnce U (over {C = C} T.sends T.receives G.views) }
-    ensures script_cleanup { CleanupNotesAll U (over_scripts {C = C} G.views) }
-    ensures script_finish { FinishNotesAtOnce U (over_scripts {C = C} G.views) }
-    ensures script_of_ends { (table : List InterfaceRow) (run : List (Entry Script U G C)) (after : ServerState Script U G C) →
-        Leads (over_scripts G.views) (new_server table) run after → EachNoteIsOfAnEnd run after }
-    ensures script_at_once { EndIsNotedAtOnce U (over_scripts {C = C} G.views) }
 {}
 
 /// The law of errors, over every transport: each error that a note tells of was given by the program, or is about the
@@ -255,9 +237,6 @@ pub fn each_error_in_a_note_has_a_cause<T: Transport, U, G: GlobalHandler<C>, C>
     ensures call { EachCallCausesItsErrors U (over {C = C} T.sends T.receives G.views) }
     ensures run { (table : List InterfaceRow) (run : List (Entry T U G C)) (after : ServerState T U G C) →
         Leads (over T.sends T.receives G.views) (new_server table) run after → EachErrorIsCaused table run after }
-    ensures script_call { EachCallCausesItsErrors U (over_scripts {C = C} G.views) }
-    ensures script { (table : List InterfaceRow) (run : List (Entry Script U G C)) (after : ServerState Script U G C) →
-        Leads (over_scripts G.views) (new_server table) run after → EachErrorIsCaused table run after }
 {}
 
 /// The law of the order of notes, over every transport: what happened earlier is handed out earlier.
@@ -274,8 +253,6 @@ pub fn each_error_in_a_note_has_a_cause<T: Transport, U, G: GlobalHandler<C>, C>
 pub fn notes_come_in_the_order_of_time<T: Transport, U, G: GlobalHandler<C>, C>()
     ensures run { (table : List InterfaceRow) → EarlierNotesFirst U (over {C = C} T.sends T.receives G.views) table }
     ensures waiting { (table : List InterfaceRow) → EarlierWaitFirst U (over {C = C} T.sends T.receives G.views) table }
-    ensures script { (table : List InterfaceRow) → EarlierNotesFirst U (over_scripts {C = C} G.views) table }
-    ensures script_waiting { (table : List InterfaceRow) → EarlierWaitFirst U (over_scripts {C = C} G.views) table }
 {}
 
 /// The law of killed clients, over every transport: a killed client stays killed until a cleanup takes it out.
@@ -305,6 +282,9 @@ pub fn registries_announce_what_is_shown<T: Transport, U, G: GlobalHandler<C>, C
 /// A change of a client's transport may stand among such steps, too (clause `entry`, and `run` for a list of both). So
 /// one history may be made of calls, changes of transports and runs by `replay`. What is said of calls or of steps over
 /// the transport by script holds of the whole.
+///
+/// A step over the transport by script is such a call, or a change of a client's transport (clause `change`). So what is
+/// said of runs over every transport is said of steps, too.
 pub fn calls_over_scripts_are_steps<U, G: GlobalHandler<C>, C>()
     ensures step { (before after : ServerState Script U G C) (call : Step Script U G C) (answer : Reply Script U) (refused : Bool) →
         StepOf (over ScriptSends ScriptReceives G.views) before call answer refused after → StepOf (over_scripts G.views) before call answer refused after }
@@ -312,6 +292,9 @@ pub fn calls_over_scripts_are_steps<U, G: GlobalHandler<C>, C>()
         OneStep (over ScriptSends ScriptReceives G.views) before e after → OneStep (over_scripts G.views) before e after }
     ensures run { (before after : ServerState Script U G C) (run : List (Entry Script U G C)) →
         Leads (over ScriptSends ScriptReceives G.views) before run after → Leads (over_scripts G.views) before run after }
+    ensures change { (before after : ServerState Script U G C) (e : Entry Script U G C) → OneStep (over_scripts G.views) before e after →
+        OneStep (over ScriptSends ScriptReceives G.views) before e after
+        ⊎ ((target : ClientParts) × (t : Script) × Makes (over ScriptSends ScriptReceives G.views) before (Changed target t) false after) }
 {}
 
 /// Seven laws of runs hold of one history of steps over the transport by script (clause `steps`).

@@ -1,22 +1,26 @@
--- A call over a transport whose sends and receives are those of a script, as one over the transport by script.
-use Rattle.std.proofs.Common.{◌≡◌, Bool, true, false, List, [], ◌∷◌, ◌++◌, Option, None, Some, Err}
-use Rattle.std.specs.Prelude.{MatchOption}
+-- A call over a transport whose sends and receives are those of a script, as one over the transport by script; and the other way.
+use Rattle.std.proofs.Common.{◌≡◌, ◌+◌, Bool, true, false, List, [], ◌∷◌, ◌++◌, Option, None, Some, Err, refl, sym, ap, subst, ◌∙◌}
+use mathlib.Core.Logic.{inl, inr}
+use Rattle.std.specs.Prelude.{◌⊎◌, MatchOption}
+use Rattle.std.proofs.lemmas.Bool.{false≢true}
 use Rattle.wl_link.specs.Script.{Script, ScriptReceives, ScriptSends}
 use Rattle.wl_server.specs.declared.error.ScriptError.TheVariants as script
 use Rattle.wl_server.specs.declared.runs.step.Reply.{Reply}
 use Rattle.wl_server.specs.declared.runs.step.Step.{Step}
 use Rattle.wl_server.specs.declared.runs.step.Step.TheVariants as step
+use Rattle.wl_server.proofs.CallSteps.Slots.{same_self}
 use Rattle.wl_server.proofs.OverRuns.Alone.AccountLaws.{calls}
+use Rattle.wl_server.proofs.Plain.Base.{same_is}
 use Rattle.wl_server.specs.Backend.{BackendState, Calls}
 use Rattle.wl_server.specs.Deeds.{Deed, notes_in}
 use Rattle.wl_server.specs.Globals.{Offer}
 use Rattle.wl_server.specs.Ids.{ClientParts, GlobalParts, same_client}
 use Rattle.wl_server.specs.Moves.{Accept, AcceptFault, Arrive, ArriveFault, Move, Moved, TakeSent}
 use Rattle.wl_server.specs.Part.{Part}
-use Rattle.wl_server.specs.PartStep.{Asked, Call, Changed, Grown, MovedFor, OfClient, PartCall, PartStep, Unfelt, WithTransport, World, lacks_move, over, over_scripts}
+use Rattle.wl_server.specs.PartStep.{Asked, Call, Changed, Grown, MovedFor, OfClient, OnPart, PartCall, PartStep, Quietly, Unfelt, WithTransport, World, lacks_move, over, over_scripts}
 use Rattle.wl_server.specs.Runs.{Leads}
-use Rattle.wl_server.specs.Server.{Seen, ServerState}
-use Rattle.wl_server.specs.Steps.{Entry, OneStep, StepOf}
+use Rattle.wl_server.specs.Server.{Seen, ServerState, seen}
+use Rattle.wl_server.specs.Steps.{Entry, Makes, MakesNotes, OneStep, StepOf}
 
 module _ {U G C : Type 0} (w : World Script G C) where
   abbrev Moves : Moved → Move → Bool → List (Deed U) → Part Script U C → Part Script U C → Type 0
@@ -90,3 +94,83 @@ module _ {U G C : Type 0} (views : G → ClientParts → C → GlobalParts → B
   pub over_script : (before : BackendState Script U G C) (s : Step Script U G C) (answer : Reply Script U) (after : BackendState Script U G C)
       → Calls (by_script views) before s answer after → Calls (over_scripts views) before s answer after
   over_script before s answer after call = calls _ _ _ _ _ (step_over_script before.server s answer after.refused after.server call.step)
+
+-- ---- a step over the transport by script as a call, or as a change of a client's transport
+
+abbrev blank : Script
+blank = record { arrivals = []; answers = []; sent = [] }
+
+module _ {U G C : Type 0} (views : G → ClientParts → C → GlobalParts → Bool) (before after : ServerState Script U G C) where
+  abbrev IsSet : ClientParts → Script → Bool → ClientParts → Type 0
+  IsSet target t b id = OfClient b (seen id before) (λ p q. Quietly {U = U} false [] (WithTransport (λ _ t'. t' ≡ t) p q)) (Unit {0}) false [] (seen id after)
+
+  module _ (target : ClientParts) (m : Move) (lacks : ClientParts → Bool) (did : ClientParts → List (Deed U))
+      (moves : (id : ClientParts) → (answer : Moved) × MovedFor (over_scripts views) id before.offer target m answer (seen id before) (lacks id) (did id) (seen id after)) where
+    -- what the move makes of the transport of its client, if there is one
+    becomes : (t : Script) × IsSet target t true target
+    becomes = subst (λ (b : Bool). OfMoved (over_scripts views) b (moves target).0 m (seen target before) (lacks target) (did target) (seen target after) → (t : Script) × IsSet target t true target)
+        (sym (same_self target)) (on (seen target before) (moves target).0) (moves target).1
+      where
+        on : (s : Seen Script U C) (answer : Moved) → OnMoved (over_scripts views) s.part answer m s (lacks target) (did target) (seen target after)
+            → (t : Script) × OnPart s (λ p q. Quietly {U = U} false [] (WithTransport (λ _ t'. t' ≡ t) p q)) (Unit {0}) false [] (seen target after)
+        on s answer = of s.part refl
+          where
+            of : (o : Option (Part Script U C)) → s.part ≡ o → OnMoved (over_scripts views) o answer m s (lacks target) (did target) (seen target after)
+                → (t : Script) × OnPart s (λ p q. Quietly {U = U} false [] (WithTransport (λ _ t'. t' ≡ t) p q)) (Unit {0}) false [] (seen target after)
+            of None is (missing, (lacked, none, same)) = (blank, rw is (tt, (refl, refl, same ∙ ap (λ (x : Option (Part Script U C)). let r : Seen Script U C = record { part = x; made = s.made } in r) is)))
+            of (Some p) is (q, (lacked, none, (t, by, set)), same) =
+                (t, rw is (q, (refl, refl, (t, refl, set)), same ∙ ap (λ (d : List (Deed U)). record { part = Some q; made = s.made ++ notes_in d }) none))
+
+    each_set : (id : ClientParts) → IsSet target becomes.0 (same_client target id) id
+    each_set id = on (same_client target id) refl (moves id).1
+      where
+        on : (b : Bool) → same_client target id ≡ b → OfMoved (over_scripts views) b (moves id).0 m (seen id before) (lacks id) (did id) (seen id after)
+            → IsSet target becomes.0 b id
+        on true same h = subst (λ (i : ClientParts). IsSet target becomes.0 true i) (same_is target id same) becomes.1
+        on false other (lacked, none, same) = (refl, refl, same)
+
+    change : after.offer ≡ before.offer → after.last_client ≡ before.last_client + 0 → MakesNotes before after
+        → (target : ClientParts) × (t : Script) × Makes (by_script views) before (Changed target t) false after
+    change offer last notes = (
+      target,
+      becomes.0,
+      (
+        record { call = Changed target becomes.0; refused = false; lacks = λ id. false; did = λ id. [] },
+        refl,
+        refl,
+        record {
+          offer = offer;
+          last = last;
+          client = tt;
+          global = tt;
+          order = tt;
+          room = tt;
+          refused = (λ is. absurd (false≢true is), λ is. elim is [ inl growth ↦ growth | inr (id, lacked) ↦ lacked ]);
+          notes = notes;
+          each = each_set;
+        },
+      ),
+    )
+
+  pub call_or_change : (e : Entry Script U G C) → OneStep (over_scripts views) before e after
+      → OneStep (by_script views) before e after ⊎ ((target : ClientParts) × (t : Script) × Makes (by_script views) before (Changed target t) false after)
+  call_or_change e one = on e.call one
+    where
+      on : (call : Call Script U G C) → OneStep (over_scripts views) before (record e { call = call }) after
+          → OneStep (by_script views) before (record e { call = call }) after ⊎ ((target : ClientParts) × (t : Script) × Makes (by_script views) before (Changed target t) false after)
+      on (Asked (step.Arrive target bytes tokens) answer) one = inr (change target (Arrive (record { bytes = bytes.items; tokens = tokens.items })) e.lacks e.did (λ id. (_, (one.each id).2)) one.offer one.last one.notes)
+      on (Asked (step.ArriveFault target f) answer) one = inr (change target (ArriveFault f) e.lacks e.did (λ id. (_, (one.each id).2)) one.offer one.last one.notes)
+      on (Asked (step.Accept target n) answer) one = inr (change target (Accept n) e.lacks e.did (λ id. (_, (one.each id).2)) one.offer one.last one.notes)
+      on (Asked (step.AcceptFault target f) answer) one = inr (change target (AcceptFault f) e.lacks e.did (λ id. (_, (one.each id).2)) one.offer one.last one.notes)
+      on (Asked (step.TakeSent target) answer) one = inr (change target TakeSent e.lacks e.did (λ id. (_, (one.each id).2)) one.offer one.last one.notes)
+      on call one = inl (record {
+        offer = one.offer;
+        last = one.last;
+        client = one.client;
+        global = one.global;
+        order = one.order;
+        room = one.room;
+        refused = one.refused;
+        notes = one.notes;
+        each = one.each;
+      })

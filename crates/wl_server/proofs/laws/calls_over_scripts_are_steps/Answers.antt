@@ -1,4 +1,4 @@
-use Rattle.wl_server.proofs.CallSteps.OverScripts.{one_over_script, run_over_script, step_over_script}
+use Rattle.wl_server.proofs.CallSteps.OverScripts.{call_or_change, one_over_script, run_over_script, step_over_script}
 use Rattle.wl_server.proofs.laws.calls_over_scripts_are_steps.Goals as goal
 
 pub returns-clause-step : goal.returns-clause-step
@@ -9,3 +9,6 @@ returns-clause-entry g c = λ before after e. one_over_script g.G.GlobalHandler.
 
 pub returns-clause-run : goal.returns-clause-run
 returns-clause-run g c = λ before after run. run_over_script g.G.GlobalHandler.views before run after
+
+pub returns-clause-change : goal.returns-clause-change
+returns-clause-change g c = λ before after e. call_or_change g.G.GlobalHandler.views before after e

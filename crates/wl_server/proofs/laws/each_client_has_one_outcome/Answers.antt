@@ -1,4 +1,4 @@
-use Rattle.wl_server.proofs.OverRuns.Outcome.MoveLaws.{scripts_determined, transport_determined}
+use Rattle.wl_server.proofs.OverRuns.Outcome.MoveLaws.{transport_determined}
 use Rattle.wl_server.proofs.OverRuns.Outcome.OfferLaws.{offers_one}
 use Rattle.wl_server.proofs.OverRuns.Outcome.OutcomeLaws.{same_call_one}
 use Rattle.wl_server.proofs.OverRuns.Outcome.RunOutcome.{alone_one, client_one}
@@ -16,16 +16,3 @@ returns-clause-client g c = λ function receive_function. client_one _ (transpor
 
 pub returns-clause-offer : goal.returns-clause-offer
 returns-clause-offer g c = offers_one _
-
-pub returns-clause-script_call : goal.returns-clause-script_call
-returns-clause-script_call g c = λ id offer before after after' call call' did did'.
-    same_call_one _ (scripts_determined g.G.GlobalHandler.views) id offer before did did' after after' call call'
-
-pub returns-clause-script_alone : goal.returns-clause-script_alone
-returns-clause-script_alone g c = alone_one _ (scripts_determined g.G.GlobalHandler.views)
-
-pub returns-clause-script_client : goal.returns-clause-script_client
-returns-clause-script_client g c = client_one _ (scripts_determined g.G.GlobalHandler.views)
-
-pub returns-clause-script_offer : goal.returns-clause-script_offer
-returns-clause-script_offer g c = offers_one _

@@ -6,9 +6,3 @@ returns-clause-call g c = λ before after e by id error tell. each_call_causes _
 
 pub returns-clause-run : goal.returns-clause-run
 returns-clause-run g c = λ table run after leads. each_error_is_caused _ table run after leads
-
-pub returns-clause-script_call : goal.returns-clause-script_call
-returns-clause-script_call g c = λ before after e by id error tell. each_call_causes _ before after e by id error tell
-
-pub returns-clause-script : goal.returns-clause-script
-returns-clause-script g c = λ table run after leads. each_error_is_caused _ table run after leads

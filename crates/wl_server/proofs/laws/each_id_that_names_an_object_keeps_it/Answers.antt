@@ -6,9 +6,3 @@ returns-clause-named g c = λ table done later point after leads others. each_ke
 
 pub returns-clause-none : goal.returns-clause-none
 returns-clause-none g c = λ table done between later point mid after leads then others. each_names_none_again _ table done between later point mid after leads then others
-
-pub returns-clause-script_named : goal.returns-clause-script_named
-returns-clause-script_named g c = λ table done later point after leads others. each_keeps_naming _ table done later point after leads others
-
-pub returns-clause-script_none : goal.returns-clause-script_none
-returns-clause-script_none g c = λ table done between later point mid after leads then others. each_names_none_again _ table done between later point mid after leads then others

@@ -12,20 +12,8 @@ returns-clause-cleanup g c = λ before after e out by call id. cleanup_notes_all
 pub returns-clause-finish : goal.returns-clause-finish
 returns-clause-finish g c = λ before after e target u answer by call id. finish_notes_at_once _ before after e target u answer by call id
 
-pub returns-clause-script_cleanup : goal.returns-clause-script_cleanup
-returns-clause-script_cleanup g c = λ before after e out by call id. cleanup_notes_all _ before after e out by call id
-
-pub returns-clause-script_finish : goal.returns-clause-script_finish
-returns-clause-script_finish g c = λ before after e target u answer by call id. finish_notes_at_once _ before after e target u answer by call id
-
 pub returns-clause-of_ends : goal.returns-clause-of_ends
 returns-clause-of_ends g c = λ table run after leads. each_note_is_of_an_end _ table run after leads
 
 pub returns-clause-at_once : goal.returns-clause-at_once
 returns-clause-at_once g c = λ before after e target u answer by call id. end_is_noted_at_once _ before after e target u answer by call id
-
-pub returns-clause-script_of_ends : goal.returns-clause-script_of_ends
-returns-clause-script_of_ends g c = λ table run after leads. each_note_is_of_an_end _ table run after leads
-
-pub returns-clause-script_at_once : goal.returns-clause-script_at_once
-returns-clause-script_at_once g c = λ before after e target u answer by call id. end_is_noted_at_once _ before after e target u answer by call id

@@ -5,11 +5,5 @@ use Rattle.wl_server.proofs.laws.notes_come_in_the_order_of_time.Goals as goal
 pub returns-clause-run : goal.returns-clause-run
 returns-clause-run g c = λ table. earlier_notes_first _ table
 
-pub returns-clause-script : goal.returns-clause-script
-returns-clause-script g c = λ table. earlier_notes_first _ table
-
 pub returns-clause-waiting : goal.returns-clause-waiting
 returns-clause-waiting g c = λ table. earlier_wait_first _ table
-
-pub returns-clause-script_waiting : goal.returns-clause-script_waiting
-returns-clause-script_waiting g c = λ table. earlier_wait_first _ table
