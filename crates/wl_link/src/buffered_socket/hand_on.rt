@@ -15,6 +15,7 @@ ghost use Rattle.wl_link.specs.Inside.WaitingBytes.{beside};
 use crate::buffered_socket::BufferedSocket;
 use std::alloc::Global;
 use std::collections::VecDeque;
+use std::fmt;
 use thiserror::Error;
 use wl_wire::{
     ArgumentType, INLINE_ARGS, Message, MessageParseError, OutOfMemory, Token, fd_places,
@@ -22,7 +23,7 @@ use wl_wire::{
 };
 
 /// Why a message was not handed on.
-#[derive(Clone, Copy, Debug, PartialEq, Eq, Error)]
+#[derive(Clone, Copy, PartialEq, Eq, Error)]
 pub enum HandOnError {
     /// A part of the message is missing.
     #[error("a part of the message is missing")]
@@ -39,6 +40,13 @@ pub enum HandOnError {
     /// There was no memory.
     #[error("out of memory")]
     OutOfMemory,
+}
+
+/// Writes what `Display` writes.
+impl fmt::Debug for HandOnError {
+    fn fmt<W: fmt::Write>(&self, f: &mut fmt::Formatter<W>) -> fmt::Result {
+        write!(f, "{self}")
+    }
 }
 
 impl<T> BufferedSocket<T> {

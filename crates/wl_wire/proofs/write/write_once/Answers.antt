@@ -33,6 +33,5 @@ returns-clause-room g c = (omega (arith, c.in_ok-bytes.ensures.next.1, c.min-end
 pub returns-clause-tokens : goal.returns-clause-tokens
 returns-clause-tokens g c = rw c.as_slice.ensures at c.in_ok-bytes.ensures.tokens
 
-
 pub returns-clause-none : goal.returns-clause-none
 returns-clause-none g c = λ e. absurd cc

@@ -1,5 +1,6 @@
-use Rattle.std.proofs.Common.{arith}
+use Rattle.std.proofs.Common.{ap, drop, arith}
 use Rattle.std.proofs.lemmas.List.{length-drop}
+use Rattle.std.proofs.lemmas.Result.{on_err_weaker}
 use Rattle.wl_link.proofs.Writing.{queued_behind}
 use Rattle.wl_link.proofs.token_queue.TokenQueue.write.Goals as goal
 
@@ -13,3 +14,20 @@ returns-clause-memory g c = λ refused.
     let lacks = c.write_numbered.ensures.memory refused in
     rw (← c.self.view_is)
     (λ none. c.write_numbered.ensures.no_tokens none refused, omega (arith, lacks, c.self.invariant, length-drop c.self.inside.start c.self.inside.tokens.items))
+
+pub returns-clause-written : goal.returns-clause-written
+returns-clause-written g c = c.write_numbered.ensures.written
+
+pub returns-clause-too_long : goal.returns-clause-too_long
+returns-clause-too_long g c = c.write_numbered.ensures.too_long
+
+pub returns-clause-too_small : goal.returns-clause-too_small
+returns-clause-too_small g c = c.write_numbered.ensures.too_small
+
+pub returns-clause-message : goal.returns-clause-message
+returns-clause-message g c = c.write_numbered.ensures.message
+
+pub returns-clause-unchanged : goal.returns-clause-unchanged
+returns-clause-unchanged g c =
+    rw (← c.self.view_is)
+    (on_err_weaker c.write_numbered.result (λ same. (same.0, ap (drop c.self.inside.start) same.1)) c.write_numbered.ensures.unchanged)
