@@ -40,58 +40,75 @@ fn dispatched(log: &mut String, answer: Result<usize, IoFault>) -> Result<(), Fa
     Ok(())
 }
 
-/// Makes the calls, then dispatches the first client with the handler, and then looks at what that left.
-fn dispatch_first<H: Handler<Memory, u32, Shown, bool>>(
+/// Whom a dispatch is of.
+#[derive(Clone, Copy)]
+enum Whom {
+    /// Of the first client.
+    First,
+    /// Of the first two clients.
+    Both,
+}
+
+/// Dispatches the clients with the handler.
+fn dispatch<H: Handler<Memory, u32, Shown, bool>>(
+    server: &mut Server,
+    handler: &mut H,
+    whom: Whom,
+) -> Result<usize, IoFault> {
+    match whom {
+        Whom::First => server.dispatch_single_client(handler, &FIRST.id()),
+        Whom::Both => server.dispatch_all_clients(handler, &[FIRST.id(), SECOND.id()]),
+    }
+}
+
+/// Makes the calls, then dispatches the clients with the handler, and then looks at what that left.
+fn tell_around<H: Handler<Memory, u32, Shown, bool>>(
+    log: &mut String,
+    server: &mut Server,
+    handler: &mut H,
+    whom: Whom,
+    (before, after): (&[Act], &[Act]),
+) -> Result<(), Fail> {
+    let alloc = *log.allocator();
+    perform_all(alloc, server, log, before)?;
+    dispatched(log, dispatch(server, handler, whom))?;
+    perform_all(alloc, server, log, after)
+}
+
+/// The log of that.
+fn log_by<H: Handler<Memory, u32, Shown, bool>>(
     alloc: Global,
     server: &mut Server,
     handler: &mut H,
-    (before, after): (&[Act], &[Act]),
+    whom: Whom,
+    around: (&[Act], &[Act]),
 ) -> Result<String, Fail> {
     let mut log = String::new(alloc);
-    perform_all(alloc, server, &mut log, before)?;
-    dispatched(
-        &mut log,
-        server.dispatch_single_client(handler, &FIRST.id()),
-    )?;
-    perform_all(alloc, server, &mut log, after)?;
+    tell_around(&mut log, server, handler, whom, around)?;
     Ok(log)
 }
 
-/// The same of the first two clients.
-fn dispatch_both<H: Handler<Memory, u32, Shown, bool>>(
+/// The log of a new server, with a dispatch of the clients between what was before it and what comes after it.
+fn log_of<H: Handler<Memory, u32, Shown, bool>>(
     alloc: Global,
-    server: &mut Server,
     handler: &mut H,
-    (before, after): (&[Act], &[Act]),
+    whom: Whom,
+    around: (&[Act], &[Act]),
 ) -> Result<String, Fail> {
-    let mut log = String::new(alloc);
-    perform_all(alloc, server, &mut log, before)?;
-    let both = [FIRST.id(), SECOND.id()];
-    dispatched(&mut log, server.dispatch_all_clients(handler, &both))?;
-    perform_all(alloc, server, &mut log, after)?;
-    Ok(log)
+    let protocol = quad_table(alloc)?;
+    let mut server = Backend::new(alloc, protocol);
+    let answer = log_by(alloc, &mut server, handler, whom, around);
+    drop(server);
+    answer
 }
 
-/// The log of a new server, with a dispatch of the first client between what was before it and what comes after it.
+/// The same, with a dispatch of the first client.
 fn log_of_first<H: Handler<Memory, u32, Shown, bool>>(
     alloc: Global,
     handler: &mut H,
     around: (&[Act], &[Act]),
 ) -> Result<String, Fail> {
-    let protocol = quad_table(alloc)?;
-    let mut server = Backend::new(alloc, protocol);
-    dispatch_first(alloc, &mut server, handler, around)
-}
-
-/// The same of the first two clients.
-fn log_of_both<H: Handler<Memory, u32, Shown, bool>>(
-    alloc: Global,
-    handler: &mut H,
-    around: (&[Act], &[Act]),
-) -> Result<String, Fail> {
-    let protocol = quad_table(alloc)?;
-    let mut server = Backend::new(alloc, protocol);
-    dispatch_both(alloc, &mut server, handler, around)
+    log_of(alloc, handler, Whom::First, around)
 }
 
 /// A handler kills the client that binds: its answer ends the bind, and becomes the object's data, which are noted as the
@@ -368,7 +385,7 @@ fn each_client_has_64_receives(rt: HostRuntime) -> Result<(), Fail> {
     ];
     tells(
         &rt,
-        log_of_both(rt.alloc(), &mut Numbering(4), (&before, &after)),
+        log_of(rt.alloc(), &mut Numbering(4), Whom::Both, (&before, &after)),
         "client 0, 1\nclient 1, 2\ndispatched 0\n36 arrivals\n36 arrivals\n",
     )
 }

@@ -284,7 +284,9 @@ fn run<'a>(
     acts: &[Act],
 ) -> Result<(), Fail> {
     let mut server: Server<'a> = Backend::new(alloc, quad_table(alloc)?);
-    perform_all(drops, &mut server, log, acts)
+    let answer = perform_all(drops, &mut server, log, acts);
+    drop(server);
+    answer
 }
 
 /// What was dropped by each call of a run, and in the end.
@@ -507,7 +509,9 @@ fn replay<'a>(
 fn stopped<'a>(alloc: Global, drops: &'a Cell<u64>, log: &mut String) -> Result<(), Fail> {
     let protocol = quad_table(alloc)?;
     let mut server = Backend::new(alloc, protocol);
-    replay(alloc, drops, &mut server, log)
+    let answer = replay(alloc, drops, &mut server, log);
+    drop(server);
+    answer
 }
 
 /// What was dropped as the run stopped, and in the end.

@@ -658,19 +658,16 @@ fn make_beside(
     log: &mut String,
     call: Beside,
 ) -> Result<(), Fail> {
-    match call {
-        Beside::SendLent(event) => send_lent(alloc, server, log, event)?,
-        Beside::NextInto(who) => next_into(server, log, who)?,
-        Beside::NextTwoInto(who, user_data) => next_two_into(server, log, who, user_data)?,
-        Beside::NextWithinInto(who, turns_left) => {
-            next_within_into(server, log, who, turns_left)?
-        }
-        Beside::FinishReturning(who, given) => finish_returning(server, log, who, given)?,
-        Beside::FinishBindReturning(who, given) => {
-            finish_bind_returning(server, log, who, given)?
-        }
-        Beside::AddToData(of, more) => add_to_data(server, log, of, more)?,
-    }
+    let answer = match call {
+        Beside::SendLent(event) => send_lent(alloc, server, log, event),
+        Beside::NextInto(who) => next_into(server, log, who),
+        Beside::NextTwoInto(who, user_data) => next_two_into(server, log, who, user_data),
+        Beside::NextWithinInto(who, turns_left) => next_within_into(server, log, who, turns_left),
+        Beside::FinishReturning(who, given) => finish_returning(server, log, who, given),
+        Beside::FinishBindReturning(who, given) => finish_bind_returning(server, log, who, given),
+        Beside::AddToData(of, more) => add_to_data(server, log, of, more),
+    };
+    answer?;
     if server.memory_refused() {
         return Err(Fail::new("memory was refused"));
     }
@@ -723,6 +720,21 @@ fn prepare(alloc: Global, server: &mut Server, act: Act) -> Result<(), Fail> {
     }
 }
 
+/// Makes the call, and tells what it answers.
+fn perform_act(alloc: Global, server: &mut Server, log: &mut String, act: Act) -> Result<(), Fail> {
+    match act {
+        Act::Do(call) => perform(alloc, server, log, call),
+        Act::InWant(call) => in_want(alloc, server, log, call),
+        Act::Serve(who) => serve(server, log, who),
+        Act::GlobalInWant => global_in_want(server, log),
+        Act::TakeOut => take_out(server, log),
+        Act::Add(name) => add(alloc, server, log, name),
+        Act::Beside(call) => make_beside(alloc, server, log, call),
+        Act::Look(what) => look_at(alloc, server, log, what),
+        _ => prepare(alloc, server, act),
+    }
+}
+
 /// Makes the calls, and tells what they answer.
 pub fn perform_all(
     alloc: Global,
@@ -731,17 +743,7 @@ pub fn perform_all(
     acts: &[Act],
 ) -> Result<(), Fail> {
     for act in acts {
-        match *act {
-            Act::Do(call) => perform(alloc, server, log, call)?,
-            Act::InWant(call) => in_want(alloc, server, log, call)?,
-            Act::Serve(who) => serve(server, log, who)?,
-            Act::GlobalInWant => global_in_want(server, log)?,
-            Act::TakeOut => take_out(server, log)?,
-            Act::Add(name) => add(alloc, server, log, name)?,
-            Act::Beside(call) => make_beside(alloc, server, log, call)?,
-            Act::Look(what) => look_at(alloc, server, log, what)?,
-            _ => prepare(alloc, server, *act)?,
-        }
+        perform_act(alloc, server, log, *act)?;
     }
     Ok(())
 }
@@ -755,8 +757,11 @@ fn log_by(alloc: Global, server: &mut Server, acts: &[Act]) -> Result<String, Fa
 
 /// The log of a run of a new server.
 pub fn log_of(alloc: Global, acts: &[Act]) -> Result<String, Fail> {
-    let mut server = Backend::new(alloc, quad_table(alloc)?);
-    log_by(alloc, &mut server, acts)
+    let table = quad_table(alloc)?;
+    let mut server = Backend::new(alloc, table);
+    let answer = log_by(alloc, &mut server, acts);
+    drop(server);
+    answer
 }
 
 /// A client with a registry, by `wl_display.get_registry`, and a `quad` of version 3, by `wl_registry.bind`.
