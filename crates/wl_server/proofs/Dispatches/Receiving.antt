@@ -37,7 +37,7 @@ use Rattle.wl_server.specs.Telling.{Core, Told, reader_part}
 use Rattle.wl_server.proofs.Dispatches.Waiting.{at_other, reads_of, spared_unread, stops_left}
 use Rattle.wl_server.proofs.OverRuns.Alone.IsolationLaw.{other_call, same_self}
 use Rattle.wl_server.proofs.OverRuns.Cut.RoomLaws.{no_more, none_sent, received, received_deeds}
-use Rattle.wl_server.proofs.OverRuns.Moves.BaseMoves.{Doings, Goes, Moves, born, cleaned, finished, ended, flushed, followed, found, found_none, handed_out, notes_taken, opens, received as received_move, relinked, remembered, stayed, taken_out, told, unfelt, went, within, wrote}
+use Rattle.wl_server.proofs.OverRuns.Moves.BaseMoves.{Doings, Goes, Moves, any, born, cleaned, finished, ended, flushed, followed, found, found_none, handed_out, notes_taken, opens, received as received_move, relinked, remembered, stayed, taken_out, told, unfelt, went, within, wrote}
 use Rattle.wl_server.proofs.OverRuns.Moves.BaseMovesLaw.{call_goes}
 
 -- ---- over a transport that never receives
@@ -50,7 +50,7 @@ module _ {U : Type 0} where
   came_of d e is nothing' = ap (λ (x : Doings U). x.came) is ∙ nothing'
 
 module _ {T U C : Type 0} (sends : T → Queue → Result ℕ IoFault → T → Type 0) (client : ClientParts) where
-  moves_quiet : (p q : Part T U C) (d : Doings U) → Moves true sends never client p d q → d.came ≡ []
+  moves_quiet : (p q : Part T U C) (d : Doings U) → Moves (any true) sends never client p d q → d.came ≡ []
   moves_quiet p q d (stayed is same) = came_of d _ is refl
   moves_quiet p q d (followed {m = m} {a = a} {b = b} first second is) =
       ap (λ (x : Doings U). x.came) is ∙ no_more a.came b.came (moves_quiet p m a first) (moves_quiet m q b second)
@@ -59,7 +59,7 @@ module _ {T U C : Type 0} (sends : T → Queue → Result ℕ IoFault → T → 
   moves_quiet p q d (received_move r answer link filled is same) = absurd filled.0
   moves_quiet p q d (told messages es put answer link puts is same) = came_of d _ is refl
   moves_quiet p q d (flushed es answer link by is same) = came_of d _ is refl
-  moves_quiet p q d (ended reason is same) = came_of d _ is refl
+  moves_quiet p q d (ended reason may is same) = came_of d _ is refl
   moves_quiet p q d (born n x free ne serial is same) = came_of d _ is refl
   moves_quiet p q d (found n x holds is same) = came_of d _ is refl
   moves_quiet p q d (found_none is same) = came_of d _ is refl
@@ -70,7 +70,7 @@ module _ {T U C : Type 0} (sends : T → Queue → Result ℕ IoFault → T → 
   moves_quiet p q d (finished is same) = came_of d _ is refl
   moves_quiet p q d (cleaned on is same) = came_of d _ is refl
 
-  goes_quiet : (s t : Seen T U C) (d : Doings U) → Goes true sends never client s d t → d.came ≡ []
+  goes_quiet : (s t : Seen T U C) (d : Doings U) → Goes (any true) sends never client s d t → d.came ≡ []
   goes_quiet s t d (unfelt is same) = came_of d _ is refl
   goes_quiet s t d (within p q there moves same) = moves_quiet p q d moves
   goes_quiet s t d (taken_out p q on there killed moves gone no_notes same) = moves_quiet p q d moves

@@ -474,7 +474,7 @@ module _ {T U G C : Type 0} (sends : T → Queue → Result ℕ IoFault → T �
   reads_less : (left : ℕ) (p end : ReaderState T (Core U C)) (turns : List Turn) (out : Gives (Told U)) (h : Handed) → Reads sends reader receives left p turns out end
       → answered out.stopped out.gave ≡ Ok h → Less sends receives reader left p out end
   reads_less left p end [] out h (same, ends) is =
-      absurd (not_answered out.stopped (Io fault.Pipe) out.gave h (ap action_in (gave_none true sends receives a left p out ends)) is)
+      absurd (not_answered out.stopped (Io fault.Pipe) out.gave h (ap action_in (gave_none sends a left p out ends)) is)
   reads_less left p end (Received r ∷ turns) out h (on, lacks, (n, one, (link, filled, finds, more))) is =
       inl (received sends receives reader left n p end link turns out (counted_answer (count_of r)) one more
       (λ next. not_above sends receives reader n (at_link p link) end out (reads_no_more sends receives reader n (at_link p link) end turns out next)))

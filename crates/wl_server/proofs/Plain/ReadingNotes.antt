@@ -81,7 +81,7 @@ module _ {T U G C : Type 0} (sends : T → Queue → Result ℕ IoFault → T �
 
   pub reads_unnoted : (left : ℕ) (before : ReaderState T (Core U C)) (turns : List Turn) (out : Gives (Told U)) (end : ReaderState T (Core U C))
       → Reads sends (server a) receives left before turns out end → NoteLess out.gave
-  reads_unnoted left before [] out end (same, ends) = ap (λ (g : List (Given (Told U))). notes_in (deeds_in g)) (gave_none true sends receives a left before out ends)
+  reads_unnoted left before [] out end (same, ends) = ap (λ (g : List (Given (Told U))). notes_in (deeds_in g)) (gave_none sends a left before out ends)
   reads_unnoted left before (Received r ∷ turns) out end (on, lacks, (n, is, (link, filled, room, h))) =
       elim (either_result (counted_answer (count_of r)) h) [
         | inl (u, more) ↦ reads_unnoted n (with_link before link) turns out end more

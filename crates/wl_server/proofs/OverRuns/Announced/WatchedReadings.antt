@@ -292,7 +292,7 @@ module _ {G C : Type 0} (views : G → ClientParts → C → GlobalParts → Boo
     reads_lives : (left : ℕ) (before : ReaderState T (Core U C)) (turns : List Turn) (out : Gives (Told U)) (after : ReaderState T (Core U C))
         → Reads sends (server (around_of views client offer)) receives left before turns out after → Gave before.core out.gave after.core
     reads_lives left before [] out after (same, ends) =
-        subst (λ (e : ReaderState T (Core U C)). Gave before.core out.gave e.core) (sym same) (none_gave before.core out.gave (gave_none true sends receives (around_of views client offer) left before out ends))
+        subst (λ (e : ReaderState T (Core U C)). Gave before.core out.gave e.core) (sym same) (none_gave before.core out.gave (gave_none sends (around_of views client offer) left before out ends))
     reads_lives left before (Received t ∷ turns) out after (on, lacks, (n, is, (link, filled, room, h))) =
         elim (either_result (counted_answer (count_of t)) h) [
           | inl (u, more) ↦ reads_lives n (with_link before link) turns out after more

@@ -7,7 +7,7 @@ use Rattle.wl_wire.specs.Table.{InterfaceRow}
 use Rattle.wl_link.specs.Exchange.{Queue}
 use Rattle.wl_link.proofs.Readings.HoldingLaws.{puts_hold}
 use Rattle.wl_link.specs.Link.{IsFresh, LinkState}
-use Rattle.wl_server.proofs.OverRuns.Moves.BaseMoves.{Doings, Goes, Moves, born, cleaned, finished, doings_of, ended, flushed, followed, found, found_none, handed_by, handed_out, notes_taken, opens, received, relinked, remembered, stayed, taken_out, told, unfelt, went, within, wrote}
+use Rattle.wl_server.proofs.OverRuns.Moves.BaseMoves.{Doings, Goes, Moves, any, born, cleaned, finished, doings_of, ended, flushed, followed, found, found_none, handed_by, handed_out, notes_taken, opens, received, relinked, remembered, stayed, taken_out, told, unfelt, went, within, wrote}
 use Rattle.wl_server.proofs.OverRuns.Moves.BaseMovesLaw.{call_goes}
 use Rattle.wl_server.specs.Cutting.{EachIsServed}
 use Rattle.wl_server.proofs.OverRuns.Cut.CuttingLaws.{some_served}
@@ -44,7 +44,7 @@ module _ {T U C : Type 0} where
 
 module _ {T U C : Type 0} (sends : T → Queue → Result ℕ IoFault → T → Type 0) (receives : T → ℕ → Result Queue IoFault → T → Type 0)
     (client : ClientParts) where
-  moves_hold : (p q : Part T U C) (d : Doings U) → Moves true sends receives client p d q → Holds p → Holds q
+  moves_hold : (p q : Part T U C) (d : Doings U) → Moves (any true) sends receives client p d q → Holds p → Holds q
   moves_hold p q d (stayed is same) holds = as_before p q same holds
   moves_hold p q d (followed {m = m} {a = a} {b = b} first second is) holds = moves_hold m q b second (moves_hold p m a first holds)
   moves_hold p q d (handed_out {a = a} ids moves among is) holds = moves_hold p q a moves holds
@@ -52,7 +52,7 @@ module _ {T U C : Type 0} (sends : T → Queue → Result ℕ IoFault → T → 
   moves_hold p q d (received r answer link filled is same) holds = over_link p q link same (alike p.link link (ap (λ (l : LinkState T). l.outgoing_capacity) filled.2) holds)
   moves_hold p q d (told messages es put answer link puts is same) holds = over_link p q link same (puts_hold sends messages p.link link es put answer puts holds)
   moves_hold p q d (flushed es answer link by is same) holds = over_link p q link same (alike p.link link (ap (λ (l : LinkState T). l.outgoing_capacity) by.2) holds)
-  moves_hold p q d (ended reason is same) holds = subst Holds (sym same) holds
+  moves_hold p q d (ended reason may is same) holds = subst Holds (sym same) holds
   moves_hold p q d (born n x free ne serial is same) holds = subst Holds (sym same) holds
   moves_hold p q d (found n x kept is same) holds = as_before p q same holds
   moves_hold p q d (found_none is same) holds = as_before p q same holds
@@ -63,7 +63,7 @@ module _ {T U C : Type 0} (sends : T → Queue → Result ℕ IoFault → T → 
   moves_hold p q d (finished is same) holds = subst Holds (sym same) holds
   moves_hold p q d (cleaned on is same) holds = subst Holds (sym same) holds
 
-  goes_hold : (s t : Seen T U C) (d : Doings U) → Goes true sends receives client s d t → SeenHolds s → SeenHolds t
+  goes_hold : (s t : Seen T U C) (d : Doings U) → Goes (any true) sends receives client s d t → SeenHolds s → SeenHolds t
   goes_hold s t d (unfelt none same) holds = subst SeenHolds (sym same) holds
   goes_hold s t d (notes_taken none same) holds = subst SeenHolds (sym same) holds
   goes_hold s t d (within p q there moves same) holds = subst SeenHolds (sym same) (moves_hold p q d moves (holds_at s p there holds))

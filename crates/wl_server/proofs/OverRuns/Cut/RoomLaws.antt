@@ -16,7 +16,7 @@ use Rattle.wl_server.specs.declared.notes.DisconnectReason.{DisconnectReason}
 use Rattle.wl_server.specs.declared.runs.step.Reply.{Reply}
 use Rattle.wl_server.specs.declared.runs.step.Step.TheVariants as step
 use Rattle.wl_server.specs.Deeds.{IsAmong, came_in, Deed, Handed, Put, Sent}
-use Rattle.wl_server.proofs.OverRuns.Moves.BaseMoves.{Doings}
+use Rattle.wl_server.proofs.OverRuns.Moves.BaseMoves.{Doings, any}
 use Rattle.wl_server.proofs.OverRuns.Moves.DoingsLaws.{deeds_both, doings_in_both}
 use Rattle.wl_server.specs.Globals.{Offer}
 use Rattle.wl_server.specs.Ids.{ClientParts, same_client}
@@ -78,16 +78,16 @@ Leaves link = FindsRoom link link.incoming_capacity
 module _ {T U G C : Type 0} (sends : T → Queue → Result ℕ IoFault → T → Type 0) (receives : T → ℕ → Result Queue IoFault → T → Type 0)
     (a : Around G C) where
   abbrev Calm : Core U C → Type 0
-  Calm c = IsCalm true sends receives a.client c
+  Calm c = IsCalm (any true) sends receives a.client c
 
   abbrev Came : Core U C → Verdict (Core U C) (Told U) → Type 0
-  Came c v = Comes true sends receives a.client c v
+  Came c v = Comes (any true) sends receives a.client c v
 
   -- a verdict receives nothing
   none_heard : (p mid : ReaderState T (Core U C)) (v : Verdict (Core U C) (Told U)) (link : LinkState T) (es : List Sending) (first : List (Given (Told U))) (lacked : Bool)
       → Came p.core v → Calm p.core → CarriesOut sends (server a) v link es first lacked mid → (came_in (deeds_in first) ≡ []) × Calm mid.core
   none_heard p mid v link es first lacked comes calm by =
-      let c = carried true sends receives a.client (server a) (λ d f. refl) p.core v comes calm link es first lacked mid by in
+      let c = carried (any true) sends receives a.client (server a) (λ d f. refl) p.core v comes calm link es first lacked mid by in
       (ap came_in c.deeds ∙ none_put c.put c.made ∙ c.quiet.1, c.calm)
 
   none_told : (first : List (Given (Told U))) (lacked : Bool) (rest out : Gives (Told U)) → out ≡ given_first first lacked rest → came_in (deeds_in first) ≡ []
@@ -99,18 +99,18 @@ module _ {T U G C : Type 0} (sends : T → Queue → Result ℕ IoFault → T �
 
   none_given : (left : ℕ) (p after : ReaderState T (Core U C)) (turns : List Turn) (out : Gives (Told U)) → Calm p.core → Reads sends (server a) receives left p turns out after
       → came_in (deeds_in out.gave) ≡ []
-  none_given left p after [] out calm (same, ends) = ap (λ (gave : List (Given (Told U))). came_in (deeds_in gave)) (gave_none true sends receives a left p out ends)
+  none_given left p after [] out calm (same, ends) = ap (λ (gave : List (Given (Told U))). came_in (deeds_in gave)) (gave_none sends a left p out ends)
   none_given left p after (Received r ∷ turns) out calm (on, lacks, (n, is, (link, filled, finds, h))) =
       elim (either_result (counted_answer (count_of r)) h) [
         | inl (u, more) ↦ none_given n (with_link p link) after turns out calm more
         | inr (f, (over, ends, same)) ↦ ap (λ (o : Gives (Told U)). came_in (deeds_in o.gave)) ends
       ]
   none_given left p after (Handled es ∷ turns) out calm (on, (v, link, first, lacked, mid, rest, (m, read, is), by, split, more)) =
-      let comes = subst (Came p.core) (sym is) (handles_comes true sends receives a p.core m calm) in
+      let comes = subst (Came p.core) (sym is) (handles_comes (any true) sends receives a (λ code text. tt) p.core m calm) in
       let heard = none_heard p mid v link es first lacked comes calm by in
       none_told first lacked rest out split heard.0 (none_given left mid after turns rest heard.1 more)
   none_given left p after (Unread es ∷ turns) out calm (on, (v, link, first, lacked, mid, rest, (read, same, is), by, split, more)) =
-      let comes = subst (Came p.core) (sym is) (malformed_comes true sends receives a p.core calm) in
+      let comes = subst (Came p.core) (sym is) (malformed_comes (any true) sends receives a p.core calm) in
       let heard = none_heard p mid v link es first lacked comes calm by in
       none_told first lacked rest out split heard.0 (none_given left mid after turns rest heard.1 more)
 

@@ -16,7 +16,7 @@ use Rattle.wl_server.specs.declared.notes.DisconnectReason.{DisconnectReason}
 use Rattle.wl_server.specs.declared.notes.Happening.{Happening}
 use Rattle.wl_server.specs.declared.notes.Happening.TheVariants.{Destroyed, Disconnected, Initialized}
 use Rattle.wl_server.specs.Deeds.{IsAmong}
-use Rattle.wl_server.proofs.OverRuns.Moves.BaseMoves.{Doings, Goes, Moves, born, cleaned, finished, end_notes, ended, flushed, followed, found, found_none, handed_out, handing, joined, leaving, left_by, left_id, nothing_done, notes_taken, noting, opens, putting, received, receiving, relinked, remembered, sending, stayed, taken_out, told, unfelt, went, within, wrote}
+use Rattle.wl_server.proofs.OverRuns.Moves.BaseMoves.{Doings, Goes, Moves, any, born, cleaned, finished, end_notes, ended, flushed, followed, found, found_none, handed_out, handing, joined, leaving, left_by, left_id, nothing_done, notes_taken, noting, opens, putting, received, receiving, relinked, remembered, sending, stayed, taken_out, told, unfelt, went, within, wrote}
 use Rattle.wl_server.specs.Identified.{AreObjectsOf, IsHandedIn, IsNotedIn, has_data, is_over, waiting_of}
 use Rattle.wl_server.specs.Ids.{ClientParts, IdParts}
 use Rattle.wl_server.proofs.OverRuns.Ids.AmongLaws.{among_both, among_first, among_later}
@@ -259,7 +259,7 @@ module _ {T U C : Type 0} (sends : T → Queue → Result ℕ IoFault → T → 
       later false h among = inl among
 
   -- each move changes the objects so
-  pub moves_change : (p q : Part T U C) (d : Doings U) → held p.store 0 ≡ None → Moves true sends receives client p d q → Changing p d q
+  pub moves_change : (p q : Part T U C) (d : Doings U) → held p.store 0 ≡ None → Moves (any true) sends receives client p d q → Changing p d q
   moves_change p q d empty (stayed is same) = changing_so p p q nothing_done d is same (still p empty)
   moves_change p q d empty (followed {m = m} {a = a} {b = b} first second is) =
       let one = moves_change p m a empty first in
@@ -283,7 +283,7 @@ module _ {T U C : Type 0} (sends : T → Queue → Result ℕ IoFault → T → 
       changing_so p (record p { link = link }) q (putting es put) d is same (quiet p (record p { link = link }) (putting es put) empty refl refl refl refl (λ h among. absurd among))
   moves_change p q d empty (flushed es answer link by is same) =
       changing_so p (record p { link = link }) q (sending es) d is same (quiet p (record p { link = link }) (sending es) empty refl refl refl refl (λ h among. absurd among))
-  moves_change p q d empty (ended reason is same) =
+  moves_change p q d empty (ended reason may is same) =
       changing_so p (record p { is_killed = true }) q (noting (end_notes p.is_killed reason)) d is same
       (quiet p (record p { is_killed = true }) (noting (end_notes p.is_killed reason)) empty refl refl refl refl (λ h among. ended_quiet client p.is_killed reason h among))
   moves_change p q d empty (born n x free ne serial is same) = changing_so p _ q _ d is same (born_changing p n x empty free ne serial)
@@ -312,7 +312,7 @@ module _ {T U C : Type 0} (sends : T → Queue → Result ℕ IoFault → T → 
       })
 
   -- no note is handed out by moves of the part
-  pub moves_take : (p q : Part T U C) (d : Doings U) → Moves true sends receives client p d q → d.taken ≡ []
+  pub moves_take : (p q : Part T U C) (d : Doings U) → Moves (any true) sends receives client p d q → d.taken ≡ []
   moves_take p q d (stayed is same) = ap (λ (x : Doings U). x.taken) is
   moves_take p q d (followed {m = m} {a = a} {b = b} first second is) =
       ap (λ (x : Doings U). x.taken) is ∙ ap (λ l. l ++ b.taken) (moves_take p m a first) ∙ moves_take m q b second
@@ -321,7 +321,7 @@ module _ {T U C : Type 0} (sends : T → Queue → Result ℕ IoFault → T → 
   moves_take p q d (received r answer link filled is same) = ap (λ (x : Doings U). x.taken) is
   moves_take p q d (told messages es put answer link puts is same) = ap (λ (x : Doings U). x.taken) is
   moves_take p q d (flushed es answer link by is same) = ap (λ (x : Doings U). x.taken) is
-  moves_take p q d (ended reason is same) = ap (λ (x : Doings U). x.taken) is
+  moves_take p q d (ended reason may is same) = ap (λ (x : Doings U). x.taken) is
   moves_take p q d (born n x free ne serial is same) = ap (λ (x : Doings U). x.taken) is
   moves_take p q d (found n x holds is same) = ap (λ (x : Doings U). x.taken) is
   moves_take p q d (found_none is same) = ap (λ (x : Doings U). x.taken) is
@@ -373,7 +373,7 @@ module _ {T U C : Type 0} (sends : T → Queue → Result ℕ IoFault → T → 
     new = λ h among. inl among;
   }
 
-  goes_within : (p q : Part T U C) (made : List (Happening U)) (d : Doings U) → d.taken ≡ [] → held p.store 0 ≡ None → Moves true sends receives client p d q
+  goes_within : (p q : Part T U C) (made : List (Happening U)) (d : Doings U) → d.taken ≡ [] → held p.store 0 ≡ None → Moves (any true) sends receives client p d q
       → CallChanging (record { part = Some p; made = made }) (objects_of p) d (record { part = Some q; made = made ++ d.notes })
   goes_within p q made d none_taken empty moves =
       let changing = moves_change p q d empty moves in
@@ -405,7 +405,7 @@ module _ {T U C : Type 0} (sends : T → Queue → Result ℕ IoFault → T → 
       waited h changes (inr new) = inr new
 
   -- a client that is taken out leaves no objects
-  goes_out : (p q : Part T U C) (made : List (Happening U)) (d : Doings U) → d.taken ≡ [] → held p.store 0 ≡ None → Moves true sends receives client p d q
+  goes_out : (p q : Part T U C) (made : List (Happening U)) (d : Doings U) → d.taken ≡ [] → held p.store 0 ≡ None → Moves (any true) sends receives client p d q
       → ((n : ℕ) → held q.store n ≡ None) → CallChanging (record { part = Some p; made = made }) (objects_of p) d (record { part = None; made = made ++ d.notes })
   goes_out p q made d none_taken empty moves none =
       let changing = goes_within p q made d none_taken empty moves in
@@ -437,7 +437,7 @@ module _ {T U C : Type 0} (sends : T → Queue → Result ℕ IoFault → T → 
       subst (λ (x : Objects (Kept U)). CallChanging s x d t) (sym at)
       (subst (λ (x : Option (Part T U C)). CallChanging (record { part = x; made = s.made }) (objects_of p) d t) (sym there) changing)
 
-  pub goes_change : (s t : Seen T U C) (o : Objects (Kept U)) (d : Doings U) → AreObjectsOf s o → held o.store 0 ≡ None → Goes true sends receives client s d t → CallChanging s o d t
+  pub goes_change : (s t : Seen T U C) (o : Objects (Kept U)) (d : Doings U) → AreObjectsOf s o → held o.store 0 ≡ None → Goes (any true) sends receives client s d t → CallChanging s o d t
   goes_change s t o d are empty (unfelt is same) =
       subst (λ (x : Doings U). CallChanging s o x t) (sym is) (subst (λ (x : Seen T U C). CallChanging s o nothing_done x) (sym same) (goes_unfelt s o are empty))
   goes_change s t o d are empty (notes_taken is same) =

@@ -34,7 +34,7 @@ use Rattle.wl_server.specs.Runs.{IsNotInserted, concerns}
 use Rattle.wl_server.specs.Server.{Seen}
 use Rattle.wl_server.proofs.Dispatches.Receiving.{call_quiet}
 use Rattle.wl_server.proofs.OverRuns.Alone.IsolationLaw.{other_call}
-use Rattle.wl_server.proofs.OverRuns.Moves.BaseMoves.{Goes, notes_taken, taken_out, unfelt, within}
+use Rattle.wl_server.proofs.OverRuns.Moves.BaseMoves.{Goes, any, notes_taken, taken_out, unfelt, within}
 use Rattle.wl_server.proofs.OverRuns.Moves.BaseMovesLaw.{call_goes}
 use Rattle.wl_server.proofs.OverRuns.Killed.KilledParts.{Remains, creates_remains, data_remains, destroys_remains, error_remains, event_remains, finish_bind_remains, finish_remains, flushed_remains, flushes_remains, hears_remains, kills_remains, remains, remains_as, transport_remains, when_killed}
 
@@ -273,7 +273,7 @@ module _ {T U G C : Type 0} (w : World T G C) (id : ClientParts) (offer : Offer 
   out_silent (Changed target t) h = call_quiet w id offer before after lacked did (Changed target t) refl h
   out_silent (Grown rows answer) h = call_quiet w id offer before after lacked did (Grown rows answer) refl h
 
-  goes_out : (d : _) → Goes true w.sends w.receives id before d after → after.part ≡ None
+  goes_out : (d : _) → Goes (any true) w.sends w.receives id before d after → after.part ≡ None
   goes_out d (unfelt is same) = ap (λ (s : Seen T U C). s.part) same ∙ gone
   goes_out d (within p q there moves same) = absurd (none_some (sym gone ∙ there))
   goes_out d (taken_out p q on there killed moves empty no_notes same) = ap (λ (s : Seen T U C). s.part) same

@@ -13,7 +13,7 @@ use Rattle.wl_link.proofs.Readings.LogLaws.{kept_still, kept_then, puts_kept}
 use Rattle.wl_link.specs.Puts.{Said, messages_of}
 use Rattle.wl_link.specs.Sides.{spelled_all}
 use Rattle.wl_link.proofs.Streams.StreamLaws.{spelled_all-append}
-use Rattle.wl_server.proofs.OverRuns.Moves.BaseMoves.{Doings, Goes, Moves, born, cleaned, finished, doings_of, ended, flushed, followed, found, found_none, handed_by, handed_out, joined, notes_taken, opens, putting, received, relinked, remembered, sending, stayed, taken_out, told, unfelt, went, within, wrote}
+use Rattle.wl_server.proofs.OverRuns.Moves.BaseMoves.{Doings, Goes, Moves, any, born, cleaned, finished, doings_of, ended, flushed, followed, found, found_none, handed_by, handed_out, joined, notes_taken, opens, putting, received, relinked, remembered, sending, stayed, taken_out, told, unfelt, went, within, wrote}
 use Rattle.wl_server.proofs.OverRuns.Moves.BaseMovesLaw.{call_goes}
 use Rattle.wl_server.specs.Deeds.{log_of, sends_of}
 use Rattle.wl_server.proofs.OverRuns.Moves.DoingsLaws.{doings_in_both}
@@ -66,7 +66,7 @@ module _ {T U C : Type 0} (sends : T → Queue → Result ℕ IoFault → T → 
   quiet_move : (p q r : Part T U C) (d e : Doings U) → d ≡ e → q ≡ r → e.sends ≡ [] → e.put ≡ [] → out r ≡ out p → Keeps (out p) d (out q)
   quiet_move p q r d e is same no_sends no_puts waits = keeps_so (out p) (out r) (out q) e d is (ap out same) (keeps_quiet (out p) (out r) e no_sends no_puts waits)
 
-  moves_keep : (p q : Part T U C) (d : Doings U) → Moves true sends receives client p d q → Keeps (out p) d (out q)
+  moves_keep : (p q : Part T U C) (d : Doings U) → Moves (any true) sends receives client p d q → Keeps (out p) d (out q)
   moves_keep p q d (stayed is same) = quiet_move p q p d _ is same refl refl refl
   moves_keep p q d (followed {m = m} {a = a} {b = b} first second is) =
       keeps_so (out p) (out q) (out q) (joined a b) d is refl (keeps_then (out p) (out m) (out q) a b (moves_keep p m a first) (moves_keep m q b second))
@@ -78,7 +78,7 @@ module _ {T U C : Type 0} (sends : T → Queue → Result ℕ IoFault → T → 
       keeps_so (out p) link.outgoing (out q) (putting es put) d is (ap out same) (puts_kept sends within' messages p.link link es put answer puts)
   moves_keep p q d (flushed es answer link by is same) =
       keeps_so (out p) link.outgoing (out q) (sending es) d is (ap out same) (flush_kept sends within' p.link link es answer by)
-  moves_keep p q d (ended reason is same) = quiet_move p q (record p { is_killed = true }) d _ is same refl refl refl
+  moves_keep p q d (ended reason may is same) = quiet_move p q (record p { is_killed = true }) d _ is same refl refl refl
   moves_keep p q d (born n x free ne serial is same) = quiet_move p q _ d _ is same refl refl refl
   moves_keep p q d (found n x holds is same) = quiet_move p q p d _ is same refl refl refl
   moves_keep p q d (found_none is same) = quiet_move p q p d _ is same refl refl refl
@@ -100,7 +100,7 @@ module _ {T U C : Type 0} (sends : T → Queue → Result ℕ IoFault → T → 
   waits_at s p waits there is =
       subst (λ (x : Option (Part T U C)). MatchOption x (Unit {0}) (λ q. waits ≡ out q)) {x = s.part} {y = Some p} there is
 
-  goes_keep : (s t : Seen T U C) (d : Doings U) (waits : Queue) → WaitsFor s waits → Goes true sends receives client s d t → GoneOn waits d t
+  goes_keep : (s t : Seen T U C) (d : Doings U) (waits : Queue) → WaitsFor s waits → Goes (any true) sends receives client s d t → GoneOn waits d t
   goes_keep s t d waits is (unfelt none same) = record {
     after = waits;
     waiting = subst (λ (x : Seen T U C). WaitsFor x waits) (sym same) is;

@@ -4,7 +4,7 @@
 -- it does beside that, by kind: a chain of moves tells the deeds of a call but for the order of deeds of different kinds.
 use Rattle.std.specs.Prelude.{◌≡◌, ◌≢◌, ℕ, ◌+◌, List, [], ◌∷◌, ◌++◌, Bool, true, false, ◌==◌, if◌then◌else◌, Option, None, Some, Result}
 use Rattle.wl_wire.specs.declared.error.IoFault.{IoFault}
-use Rattle.wl_wire.specs.Table.{registry_id}
+use Rattle.wl_wire.specs.Table.{InterfaceRow, registry_id}
 use Rattle.wl_link.specs.declared.object.Object.{Object}
 use Rattle.wl_link.specs.Exchange.{Queue, Sending}
 use Rattle.wl_link.specs.Identity.{Id, Found, HandedId, New}
@@ -15,14 +15,16 @@ use Rattle.wl_server.specs.declared.reading.action.OpenAction.{OpenAction}
 use Rattle.wl_server.specs.declared.reading.action.OpenAction.TheVariants as opened
 use Rattle.wl_server.specs.declared.objects.Kept.{Kept}
 use Rattle.wl_server.specs.declared.notes.DisconnectReason.{DisconnectReason}
+use Rattle.wl_server.specs.declared.notes.DisconnectReason.TheVariants.{ConnectionClosed, ProtocolError as BrokeProtocol}
 use Rattle.wl_server.specs.declared.notes.Happening.{Happening}
 use Rattle.wl_server.specs.declared.notes.Happening.TheVariants.{Disconnected}
 use Rattle.wl_server.specs.declared.runs.step.Reply.TheVariants as reply
 use Rattle.wl_server.specs.declared.runs.step.Step.TheVariants as step
 use Rattle.wl_server.specs.HandedIds.{action_ids, made_ids}
 use Rattle.wl_server.specs.Deeds.{Acted, Bind, Deed, Handed, IsAmong, Request, came_in, left_in, log_of, notes_in, registries_in, sends_of, taken_in}
+use Rattle.wl_server.specs.Errors.{error_of}
 use Rattle.wl_server.specs.Ids.{ClientParts, IdParts, same_client}
-use Rattle.wl_server.specs.Part.{Part, id_at, id_of, note_of_end, null_id, registries_without, with_link, with_user_data}
+use Rattle.wl_server.specs.Part.{Part, display_of, id_at, id_of, note_of_end, null_id, registries_without, with_link, with_user_data}
 use Rattle.wl_server.specs.PartStep.{Asked, Call}
 use Rattle.wl_server.specs.Server.{Seen}
 
@@ -139,50 +141,65 @@ module _ {T U C : Type 0} (client : ClientParts) where
 
 -- ---- the moves
 
-pub data Moves {T U C : Type 0} (gathers : Bool) (sends : T → Queue → Result ℕ IoFault → T → Type 0) (receives : T → ℕ → Result Queue IoFault → T → Type 0)
+-- Which moves there may be: whether notes that wait are made, and for which reasons the client is killed. It may always be
+-- closed down.
+pub record Kind : Type 1 where
+  pub gathers : Bool
+  pub kills : DisconnectReason → Type 0
+  pub closes : kills ConnectionClosed
+
+-- for any reason
+abbrev pub any : Bool → Kind
+any b = record { gathers = b; kills = λ reason. Unit {0}; closes = tt }
+
+-- an error that is about the display of the client is a reason
+abbrev pub Displays : Kind → List InterfaceRow → ClientParts → Type 0
+Displays kind table client = (code : ℕ) (text : List ℕ) → kind.kills (BrokeProtocol (error_of table (display_of client) code text))
+
+pub data Moves {T U C : Type 0} (kind : Kind) (sends : T → Queue → Result ℕ IoFault → T → Type 0) (receives : T → ℕ → Result Queue IoFault → T → Type 0)
     (client : ClientParts) : Part T U C → Doings U → Part T U C → Type 0 where
   -- nothing, or one move behind others
-  stayed : {p q : Part T U C} {d : Doings U} → d ≡ nothing_done → q ≡ p → Moves gathers sends receives client p d q
-  followed : {p m q : Part T U C} {a b d : Doings U} → Moves gathers sends receives client p a m → Moves gathers sends receives client m b q → d ≡ joined a b
-      → Moves gathers sends receives client p d q
+  stayed : {p q : Part T U C} {d : Doings U} → d ≡ nothing_done → q ≡ p → Moves kind sends receives client p d q
+  followed : {p m q : Part T U C} {a b d : Doings U} → Moves kind sends receives client p a m → Moves kind sends receives client m b q → d ≡ joined a b
+      → Moves kind sends receives client p d q
   -- of the ids that came up on the way these are handed out
-  handed_out : {p q : Part T U C} {a d : Doings U} (ids : List (HandedId IdParts)) → Moves gathers sends receives client p a q
-      → ((id : HandedId IdParts) → IsAmong ids id → IsAmong a.handed id) → d ≡ record a { handed = ids } → Moves gathers sends receives client p d q
+  handed_out : {p q : Part T U C} {a d : Doings U} (ids : List (HandedId IdParts)) → Moves kind sends receives client p a q
+      → ((id : HandedId IdParts) → IsAmong ids id → IsAmong a.handed id) → d ≡ record a { handed = ids } → Moves kind sends receives client p d q
   -- the link: a message was read, or the program changed the transport or a limit; a receive; messages are put, up to the
   -- first that fails; a flush
   relinked : {p q : Part T U C} {d : Doings U} (link : LinkState T) → link.outgoing ≡ p.link.outgoing → link.outgoing_capacity ≡ p.link.outgoing_capacity → d ≡ nothing_done
-      → q ≡ with_link p link → Moves gathers sends receives client p d q
+      → q ≡ with_link p link → Moves kind sends receives client p d q
   received : {p q : Part T U C} {d : Doings U} (r : Result Queue IoFault) (answer : Result (Unit {0}) IoFault) (link : LinkState T)
-      → FilledBy receives p.link r answer link → d ≡ receiving r → q ≡ with_link p link → Moves gathers sends receives client p d q
+      → FilledBy receives p.link r answer link → d ≡ receiving r → q ≡ with_link p link → Moves kind sends receives client p d q
   told : {p q : Part T U C} {d : Doings U} (messages : List Said) (es : List Sending) (put : List Said) (answer : Result (Unit {0}) IoFault)
       (link : LinkState T) → PutsOut sends p.link messages es put answer link → d ≡ putting es put → q ≡ with_link p link
-      → Moves gathers sends receives client p d q
+      → Moves kind sends receives client p d q
   flushed : {p q : Part T U C} {d : Doings U} (es : List Sending) (answer : Result (Unit {0}) IoFault) (link : LinkState T)
-      → FlushedBy sends p.link es answer link → d ≡ sending es → q ≡ with_link p link → Moves gathers sends receives client p d q
+      → FlushedBy sends p.link es answer link → d ≡ sending es → q ≡ with_link p link → Moves kind sends receives client p d q
   -- the client is killed, which is noted if it was not
-  ended : {p q : Part T U C} {d : Doings U} (reason : DisconnectReason) → d ≡ noting (end_notes p.is_killed reason)
-      → q ≡ record p { is_killed = true } → Moves gathers sends receives client p d q
+  ended : {p q : Part T U C} {d : Doings U} (reason : DisconnectReason) → kind.kills reason → d ≡ noting (end_notes p.is_killed reason)
+      → q ≡ record p { is_killed = true } → Moves kind sends receives client p d q
   -- an object takes a free number and the next serial, and its id is made; an id is made of an object, or of none; an
   -- object gets user data; an object leaves
   born : {p q : Part T U C} {d : Doings U} (n : ℕ) (x : Object (Kept U)) → held p.store n ≡ None → n ≢ 0 → x.value.serial ≡ p.last_serial + 1
       → d ≡ handing (New (id_at client n x) ∷ []) → q ≡ record p { store = stored p.store n x; last_serial = p.last_serial + 1 }
-      → Moves gathers sends receives client p d q
+      → Moves kind sends receives client p d q
   found : {p q : Part T U C} {d : Doings U} (n : ℕ) (x : Object (Kept U)) → held p.store n ≡ Some x → d ≡ handing (Found (id_at client n x) ∷ [])
-      → q ≡ p → Moves gathers sends receives client p d q
-  found_none : {p q : Part T U C} {d : Doings U} → d ≡ handing (Found (null_id client) ∷ []) → q ≡ p → Moves gathers sends receives client p d q
+      → q ≡ p → Moves kind sends receives client p d q
+  found_none : {p q : Part T U C} {d : Doings U} → d ≡ handing (Found (null_id client) ∷ []) → q ≡ p → Moves kind sends receives client p d q
   wrote : {p q : Part T U C} {d : Doings U} (n : ℕ) (x : Object (Kept U)) (u : U) → held p.store n ≡ Some x → d ≡ nothing_done
-      → q ≡ record p { store = rewritten p.store n (with_user_data u x) } → Moves gathers sends receives client p d q
+      → q ≡ record p { store = rewritten p.store n (with_user_data u x) } → Moves kind sends receives client p d q
   went : {p q : Part T U C} {d : Doings U} (n : ℕ) (x : Object (Kept U)) (waits : Bool) → held p.store n ≡ Some x
-      → d ≡ leaving client waits n x → q ≡ left_by client waits p n x → Moves gathers sends receives client p d q
+      → d ≡ leaving client waits n x → q ≡ left_by client waits p n x → Moves kind sends receives client p d q
   -- a kept registry is told of globals from now on; an action is handed out, and open; none is open; the notes that waited
   -- are made
   remembered : {p q : Part T U C} {d : Doings U} (n : ℕ) (x : Object (Kept U)) → held p.store n ≡ Some x → (x.interface.0 == registry_id.0) ≡ true
       → d ≡ record nothing_done { registries = id_of (id_at client n x) ∷ [] }
-      → q ≡ record p { registries = p.registries ++ id_of (id_at client n x) ∷ [] } → Moves gathers sends receives client p d q
+      → q ≡ record p { registries = p.registries ++ id_of (id_at client n x) ∷ [] } → Moves kind sends receives client p d q
   opens : {p q : Part T U C} {d : Doings U} (action : OpenAction) (h : Handed) → Opens client p action h
-      → d ≡ record nothing_done { acted = h ∷ [] } → q ≡ record p { action = Some action } → Moves gathers sends receives client p d q
-  finished : {p q : Part T U C} {d : Doings U} → d ≡ nothing_done → q ≡ record p { action = None } → Moves gathers sends receives client p d q
-  cleaned : {p q : Part T U C} {d : Doings U} → gathers ≡ true → d ≡ noting p.waiting → q ≡ record p { waiting = [] } → Moves gathers sends receives client p d q
+      → d ≡ record nothing_done { acted = h ∷ [] } → q ≡ record p { action = Some action } → Moves kind sends receives client p d q
+  finished : {p q : Part T U C} {d : Doings U} → d ≡ nothing_done → q ≡ record p { action = None } → Moves kind sends receives client p d q
+  cleaned : {p q : Part T U C} {d : Doings U} → kind.gathers ≡ true → d ≡ noting p.waiting → q ≡ record p { waiting = [] } → Moves kind sends receives client p d q
 
 -- ---- what is held of a client id
 
@@ -193,12 +210,12 @@ handed_by id _ did = all_action_ids (acted_in did)
 
 -- What a call does to that which does not insert the client: nothing; its part goes over moves, the notes of them behind
 -- those that were made; it is taken out, killed and with no object left; or the notes are handed out.
-pub data Goes {T U C : Type 0} (gathers : Bool) (sends : T → Queue → Result ℕ IoFault → T → Type 0) (receives : T → ℕ → Result Queue IoFault → T → Type 0)
+pub data Goes {T U C : Type 0} (kind : Kind) (sends : T → Queue → Result ℕ IoFault → T → Type 0) (receives : T → ℕ → Result Queue IoFault → T → Type 0)
     (client : ClientParts) : Seen T U C → Doings U → Seen T U C → Type 0 where
-  unfelt : {s t : Seen T U C} {d : Doings U} → d ≡ nothing_done → t ≡ s → Goes gathers sends receives client s d t
-  within : {s t : Seen T U C} {d : Doings U} (p q : Part T U C) → s.part ≡ Some p → Moves gathers sends receives client p d q
-      → t ≡ record { part = Some q; made = s.made ++ d.notes } → Goes gathers sends receives client s d t
-  taken_out : {s t : Seen T U C} {d : Doings U} (p q : Part T U C) → gathers ≡ true → s.part ≡ Some p → p.is_killed ≡ true → Moves gathers sends receives client p d q
-      → ((n : ℕ) → held q.store n ≡ None) → q.waiting ≡ [] → t ≡ record { part = None; made = s.made ++ d.notes } → Goes gathers sends receives client s d t
+  unfelt : {s t : Seen T U C} {d : Doings U} → d ≡ nothing_done → t ≡ s → Goes kind sends receives client s d t
+  within : {s t : Seen T U C} {d : Doings U} (p q : Part T U C) → s.part ≡ Some p → Moves kind sends receives client p d q
+      → t ≡ record { part = Some q; made = s.made ++ d.notes } → Goes kind sends receives client s d t
+  taken_out : {s t : Seen T U C} {d : Doings U} (p q : Part T U C) → kind.gathers ≡ true → s.part ≡ Some p → p.is_killed ≡ true → Moves kind sends receives client p d q
+      → ((n : ℕ) → held q.store n ≡ None) → q.waiting ≡ [] → t ≡ record { part = None; made = s.made ++ d.notes } → Goes kind sends receives client s d t
   notes_taken : {s t : Seen T U C} {d : Doings U} → d ≡ record nothing_done { taken = s.made } → t ≡ record { part = s.part; made = [] }
-      → Goes gathers sends receives client s d t
+      → Goes kind sends receives client s d t

@@ -25,13 +25,17 @@ use Rattle.wl_server.specs.declared.runs.step.Reply.TheVariants as reply
 use Rattle.wl_server.specs.declared.runs.step.Step.{Step}
 use Rattle.wl_server.specs.declared.runs.step.Step.TheVariants as step
 use Rattle.wl_server.specs.HandedIds.{made_ids}
-use Rattle.wl_server.proofs.OverRuns.Moves.BaseMoves.{Doings, Goes, cleaned, doings_of, flushed, followed, handed_by, joined, leaving, left_by, left_id, nothing_done, notes_taken, noting, relinked, stayed, taken_out, unfelt, went, within}
+use Rattle.wl_server.proofs.OverRuns.Moves.BaseMoves.{Displays, Doings, Goes, Kind, cleaned, doings_of, flushed, followed, handed_by, joined, leaving, left_by, left_id, nothing_done, notes_taken, noting, relinked, stayed, taken_out, unfelt, went, within, any}
 use Rattle.wl_server.specs.Deeds.{Deed, Noted, NoteTaken, left_if, notes_in}
 use Rattle.wl_server.proofs.OverRuns.Moves.DoingsLaws.{doings_in, doings_in_both, doings_sends}
 use Rattle.wl_server.specs.Felt.{Cleaned, FlushedTo, FlushesLive, Hears, Stays, objects_leave}
+use Rattle.wl_wire.specs.declared.error.ProtocolError.{ProtocolError}
+use Rattle.wl_server.specs.declared.notes.DisconnectReason.{DisconnectReason}
+use Rattle.wl_server.specs.declared.notes.DisconnectReason.TheVariants.{ConnectionClosed, ProtocolError as BrokeProtocol}
 use Rattle.wl_server.specs.Globals.{Offer}
 use Rattle.wl_server.specs.Ids.{ClientParts, GlobalParts, IdParts, same_client}
 use Rattle.wl_server.specs.Moves.{Move, Moved}
+use Rattle.wl_server.specs.NotedEnds.Errors.{MayKillFor}
 use Rattle.wl_server.proofs.OverRuns.Moves.MovesOfCalls.{creates_moves, data_set_moves, destroys_moves, finishes_bind_moves, finishes_moves, kills_moves, posts_moves, sends_moves, tells_comes}
 use Rattle.wl_server.proofs.OverRuns.Moves.MovesOfReadings.{next_action_moves}
 use Rattle.wl_server.proofs.OverRuns.Moves.MovesOfVerdicts.{Go, same_doings, tells_moves}
@@ -80,10 +84,10 @@ module _ {U : Type 0} where
       go None = refl
       go (Some u) = refl
 
-module _ {T U C : Type 0} (gathers : Bool) (sends : T → Queue → Result ℕ IoFault → T → Type 0) (receives : T → ℕ → Result Queue IoFault → T → Type 0)
+module _ {T U C : Type 0} (kind : Kind) (sends : T → Queue → Result ℕ IoFault → T → Type 0) (receives : T → ℕ → Result Queue IoFault → T → Type 0)
     (client : ClientParts) where
   abbrev Leads : Part T U C → Doings U → Part T U C → Type 0
-  Leads p d q = Go gathers sends receives client p d q
+  Leads p d q = Go kind sends receives client p d q
 
   -- the objects of a client are these, by ascending number
   record IsAll (p : Part T U C) (entries : List (ℕ × Object (Kept U))) : Type 0 where
@@ -145,7 +149,7 @@ module _ {T U C : Type 0} (gathers : Bool) (sends : T → Queue → Result ℕ I
       elim (either_bool p.is_killed h) [
         | inl s ↦ stays_moves p lacked did q s
         | inr tells' ↦
-            tells_moves gathers sends receives client p (tells (core_of p) messages) lacked did q (tells_comes gathers sends receives client (core_of p) messages (λ live. refl)) tells'
+            tells_moves kind sends receives client p (tells (core_of p) messages) lacked did q (tells_comes kind sends receives client (core_of p) messages (λ live. refl)) tells'
       ]
 
   flushed_moves : (p : Part T U C) (answer : Result (Unit {0}) IoFault) (lacked : Bool) (did : List (Deed U)) (q : Part T U C) → FlushedTo sends p answer lacked did q
@@ -165,7 +169,7 @@ module _ {T U C : Type 0} (gathers : Bool) (sends : T → Queue → Result ℕ I
   -- ---- what is held of a client
 
   abbrev Run : Seen T U C → Doings U → Seen T U C → Type 0
-  Run s d t = Goes gathers sends receives client s d t
+  Run s d t = Goes kind sends receives client s d t
 
   -- a step that is about this client, or about another, or that each client feels
   on_part : (s : Seen T U C) (R : Part T U C → Part T U C → Type 0) (missing : Type 0) (lacked : Bool) (did : List (Deed U)) (t : Seen T U C) (d : Doings U)
@@ -182,60 +186,64 @@ module _ {T U C : Type 0} (gathers : Bool) (sends : T → Queue → Result ℕ I
   unfelt_goes s lacked did t (no_memory, none, same) = unfelt (ap doings_in none) same
 
   of_client : (b : Bool) (s : Seen T U C) (R : Part T U C → Part T U C → Type 0) (missing : Type 0) (lacked : Bool) (did : List (Deed U)) (t : Seen T U C)
-      → ((p q : Part T U C) → R p q → Leads p (doings_in did) q) → OfClient b s R missing lacked did t → Run s (doings_in did) t
-  of_client true s R missing lacked did t moves h = on_part s R missing lacked did t (doings_in did) refl (λ none m. ap doings_in none) moves h
+      → (b ≡ true → (p q : Part T U C) → R p q → Leads p (doings_in did) q) → OfClient b s R missing lacked did t → Run s (doings_in did) t
+  of_client true s R missing lacked did t moves h = on_part s R missing lacked did t (doings_in did) refl (λ none m. ap doings_in none) (moves refl) h
   of_client false s R missing lacked did t moves h = unfelt_goes s lacked did t h
+
+for_reason : (kind : Kind) (reason : DisconnectReason) → ((e : ProtocolError) → reason ≡ BrokeProtocol e → kind.kills (BrokeProtocol e)) → kind.kills reason
+for_reason kind ConnectionClosed may = kind.closes
+for_reason kind (BrokeProtocol e) may = may e refl
 
 -- the call is a cleanup that succeeds, so notes that wait are made
 abbrev pub gathers_in : {T U G C : Type 0} → Call T U G C → Bool
 gathers_in (Asked step.Cleanup (reply.Cleanup (Ok out))) = true
 gathers_in _ = false
 
-module _ {T U G C : Type 0} (gathers : Bool) (w : World T G C) (id : ClientParts) (offer : Offer G) where
+module _ {T U G C : Type 0} (kind : Kind) (w : World T G C) (id : ClientParts) (offer : Offer G) where
   abbrev To : Seen T U C → List (Deed U) → Seen T U C → Type 0
-  To s did t = Goes gathers w.sends w.receives id s (doings_in did) t
+  To s did t = Goes kind w.sends w.receives id s (doings_in did) t
 
   creates_goes : (target : ClientParts) (i : InterfaceId) (version : ℕ) (u : U) (r : Result IdParts CreateError) (missing : Type 0) (s : Seen T U C) (lacked l : Bool)
       (did : List (Deed U)) (t : Seen T U C) → (missing → made_ids r ≡ [])
       → OfClient (same_client target id) s (λ p q. (lacked ≡ l) × (did ≡ []) × Creates offer.table id p i version u r q) missing lacked did t
-      → Goes gathers w.sends w.receives id s (doings_of (cond (same_client target id) (made_ids r) []) did) t
+      → Goes kind w.sends w.receives id s (doings_of (cond (same_client target id) (made_ids r) []) did) t
   creates_goes target i version u r missing s lacked l did t none_made h = go (same_client target id) h
     where
       go : (b : Bool) → OfClient b s (λ p q. (lacked ≡ l) × (did ≡ []) × Creates offer.table id p i version u r q) missing lacked did t
-          → Goes gathers w.sends w.receives id s (doings_of (cond b (made_ids r) []) did) t
+          → Goes kind w.sends w.receives id s (doings_of (cond b (made_ids r) []) did) t
       go true h =
-          on_part gathers w.sends w.receives id s _ missing lacked did t (doings_of (made_ids r) did) refl
+          on_part kind w.sends w.receives id s _ missing lacked did t (doings_of (made_ids r) did) refl
           (λ none m. ap (λ (ids : List (HandedId IdParts)). doings_of ids did) (none_made m) ∙ ap (doings_of []) none)
-          (λ p q (no_memory, none, created). subst (λ (ds : List (Deed U)). Go gathers w.sends w.receives id p (doings_of (made_ids r) ds) q) (sym none)
-          (creates_moves gathers w.sends w.receives id offer.table p i version u r q created)) h
+          (λ p q (no_memory, none, created). subst (λ (ds : List (Deed U)). Go kind w.sends w.receives id p (doings_of (made_ids r) ds) q) (sym none)
+          (creates_moves kind w.sends w.receives id offer.table p i version u r q created)) h
       go false (no_memory, none, same) = unfelt (ap (doings_of []) none) same
 
   global_goes : (i : InterfaceId) (version : ℕ) (handler : G) (r : Result GlobalParts GlobalError) (s : Seen T U C) (lacked : Bool) (did : List (Deed U)) (t : Seen T U C)
       → FeelsGlobal w id offer i version handler r s lacked did t → To s did t
   global_goes i version handler (Ok g) s lacked did t h =
-      on_part gathers w.sends w.receives id s _ (Unit {0}) lacked did t (doings_in did) refl (λ none m. ap doings_in none)
-      (λ p q heard. hears_moves gathers w.sends w.receives id p _ lacked did q heard) h
-  global_goes i version handler (Err e) s lacked did t h = unfelt_goes gathers w.sends w.receives id s lacked did t h
+      on_part kind w.sends w.receives id s _ (Unit {0}) lacked did t (doings_in did) refl (λ none m. ap doings_in none)
+      (λ p q heard. hears_moves kind w.sends w.receives id p _ lacked did q heard) h
+  global_goes i version handler (Err e) s lacked did t h = unfelt_goes kind w.sends w.receives id s lacked did t h
 
   loss_goes : (g : GlobalParts) (s : Seen T U C) (lacked : Bool) (did : List (Deed U)) (t : Seen T U C) → FeelsLoss w id offer g s lacked did t → To s did t
   loss_goes g s lacked did t h =
       elim (either_bool _ h) [
         | inl felt ↦
-            on_part gathers w.sends w.receives id s _ (Unit {0}) lacked did t (doings_in did) refl (λ none m. ap doings_in none)
-            (λ p q heard. hears_moves gathers w.sends w.receives id p _ lacked did q heard) felt
-        | inr other ↦ unfelt_goes gathers w.sends w.receives id s lacked did t other
+            on_part kind w.sends w.receives id s _ (Unit {0}) lacked did t (doings_in did) refl (λ none m. ap doings_in none)
+            (λ p q heard. hears_moves kind w.sends w.receives id p _ lacked did q heard) felt
+        | inr other ↦ unfelt_goes kind w.sends w.receives id s lacked did t other
       ]
 
   flushed_goes : (target : Option ClientParts) (answer : Result (Unit {0}) IoFault) (s : Seen T U C) (lacked : Bool) (did : List (Deed U)) (t : Seen T U C)
       → FlushedFor w id offer target answer s lacked did t → To s did t
   flushed_goes None answer s lacked did t (is, h) =
-      on_part gathers w.sends w.receives id s _ (Unit {0}) lacked did t (doings_in did) refl (λ none m. ap doings_in none)
-      (λ p q f. flushes_moves gathers w.sends w.receives id p lacked did q f) h
+      on_part kind w.sends w.receives id s _ (Unit {0}) lacked did t (doings_in did) refl (λ none m. ap doings_in none)
+      (λ p q f. flushes_moves kind w.sends w.receives id p lacked did q f) h
   flushed_goes (Some target) answer s lacked did t h =
-      of_client gathers w.sends w.receives id (same_client target id) s _ _ lacked did t (λ p q f. flushed_moves gathers w.sends w.receives id p answer lacked did q f) h
+      of_client kind w.sends w.receives id (same_client target id) s _ _ lacked did t (λ mine p q f. flushed_moves kind w.sends w.receives id p answer lacked did q f) h
 
   -- a killed client is taken out: its notes are made, its objects leave, and what waits is flushed
-  cleaned_goes : (s : Seen T U C) (p : Part T U C) → gathers ≡ true → s.part ≡ Some p → (lacked : Bool) (did : List (Deed U)) (out : List T) (q : Option (Part T U C)) (t : Seen T U C)
+  cleaned_goes : (s : Seen T U C) (p : Part T U C) → kind.gathers ≡ true → s.part ≡ Some p → (lacked : Bool) (did : List (Deed U)) (out : List T) (q : Option (Part T U C)) (t : Seen T U C)
       → Cleaned w.sends id p lacked did out q → t ≡ record { part = q; made = s.made ++ notes_in did } → To s did t
   cleaned_goes s p on there lacked did out q t h same = go p.is_killed refl h
     where
@@ -251,7 +259,7 @@ module _ {T U G C : Type 0} (gathers : Bool) (w : World T G C) (id : ClientParts
       go true killed (sent, answer, end, (es, link, by, no_memory, sent_so, end_so), did_so, handed, is) =
           let told : Part T U C = record p { waiting = [] } in
           let walk = walk_of_entries p.store in
-          let gone = empties gathers w.sends w.receives id told (finmap.entries p.store.objects) (record {
+          let gone = empties kind w.sends w.receives id told (finmap.entries p.store.objects) (record {
             ascending = walk.ascending;
             there = λ n x among. (walk.each n x).0 among;
             all = λ n x holds. (walk.each n x).1 holds;
@@ -268,77 +276,86 @@ module _ {T U G C : Type 0} (gathers : Bool) (w : World T G C) (id : ClientParts
           (same ∙ ap (λ (o : Option (Part T U C)). record { part = o; made = s.made ++ notes_in did }) is)
 
   cleanup_goes : (answer : Result (Vec (ClientParts × T) Global) OutOfMemory) (s : Seen T U C) (lacked : Bool) (did : List (Deed U)) (t : Seen T U C)
-      → (gathers_in {T = T} {U = U} {G = G} {C = C} (Asked step.Cleanup (reply.Cleanup answer)) ≡ true → gathers ≡ true) → CleanedAs w id offer answer s lacked did t → To s did t
-  cleanup_goes (Err e) s lacked did t on h = unfelt_goes gathers w.sends w.receives id s lacked did t h
+      → (gathers_in {T = T} {U = U} {G = G} {C = C} (Asked step.Cleanup (reply.Cleanup answer)) ≡ true → kind.gathers ≡ true) → CleanedAs w id offer answer s lacked did t → To s did t
+  cleanup_goes (Err e) s lacked did t on h = unfelt_goes kind w.sends w.receives id s lacked did t h
   cleanup_goes (Ok out) s lacked did t on h =
       elim (either_option s.part h) [
-        | inl (none, (nobody, u)) ↦ unfelt_goes gathers w.sends w.receives id s lacked did t u
+        | inl (none, (nobody, u)) ↦ unfelt_goes kind w.sends w.receives id s lacked did t u
         | inr (p, there, (q, c, same)) ↦ cleaned_goes s p (on refl) there lacked did _ q t c same
       ]
 
   taken_goes : (answer : Result (Vec (Note U) Global) OutOfMemory) (s : Seen T U C) (lacked : Bool) (did : List (Deed U)) (t : Seen T U C)
       → NotesTaken w id offer answer s lacked did t → To s did t
-  taken_goes (Err e) s lacked did t h = unfelt_goes gathers w.sends w.receives id s lacked did t h
+  taken_goes (Err e) s lacked did t h = unfelt_goes kind w.sends w.receives id s lacked did t h
   taken_goes (Ok out) s lacked did t (all, no_memory, did_so, same) = notes_taken (ap doings_in did_so ∙ doings_taken s.made) same
 
   moved_goes : (target : ClientParts) (m : Move) (answer : Moved) (s : Seen T U C) (lacked : Bool) (did : List (Deed U)) (t : Seen T U C)
       → MovedFor w id offer target m answer s lacked did t → To s did t
   moved_goes target m answer s lacked did t h =
-      of_client gathers w.sends w.receives id (same_client target id) s _ _ lacked did t
-      (λ p q (no_memory, none, with'). transport_moves gathers w.sends w.receives id (λ x y. w.moves x m answer y) p did q none with') h
+      of_client kind w.sends w.receives id (same_client target id) s _ _ lacked did t
+      (λ mine p q (no_memory, none, with'). transport_moves kind w.sends w.receives id (λ x y. w.moves x m answer y) p did q none with') h
 
-  reads_goes : (target : ClientParts) (r : _) (answer : _) (r' : _) (s : Seen T U C) (lacked : Bool) (did : List (Deed U)) (t : Seen T U C)
+  reads_goes : (target : ClientParts) → (same_client target id ≡ true → Displays kind offer.table id) → (r : _) (answer : _) (r' : _) (s : Seen T U C) (lacked : Bool) (did : List (Deed U)) (t : Seen T U C)
       → ReadsFor w id offer target r answer r' s lacked did t → To s did t
-  reads_goes target r answer r' s lacked did t h =
-      of_client gathers w.sends w.receives id (same_client target id) s _ _ lacked did t
-      (λ p q read. next_action_moves gathers w.sends w.receives (around w id offer) r p answer r' lacked did q read) h
+  reads_goes target displays r answer r' s lacked did t h =
+      of_client kind w.sends w.receives id (same_client target id) s _ _ lacked did t
+      (λ mine p q read. next_action_moves kind w.sends w.receives (around w id offer) (displays mine) r p answer r' lacked did q read) h
+
+  -- the client is killed for what the call gives as a reason
+  abbrev Allows : Call T U G C → Type 0
+  Allows call = (e : ProtocolError) → MayKillFor offer.table id call e → kind.kills (BrokeProtocol e)
 
   abbrev Handed : Call T U G C → Seen T U C → List (Deed U) → Seen T U C → Type 0
-  Handed call s did t = Goes gathers w.sends w.receives id s (doings_of (handed_by id call did) did) t
+  Handed call s did t = Goes kind w.sends w.receives id s (doings_of (handed_by id call did) did) t
 
   step_goes : (call : Step T U G C) (answer : Reply T U) (s : Seen T U C) (lacked : Bool) (did : List (Deed U)) (t : Seen T U C)
-      → is_about id call ≡ true → PartStep w id offer call answer s lacked did t → (gathers_in (Asked call answer) ≡ true → gathers ≡ true)
+      → is_about id call ≡ true → Allows (Asked call answer) → PartStep w id offer call answer s lacked did t → (gathers_in (Asked call answer) ≡ true → kind.gathers ≡ true)
       → Handed (Asked call answer) s did t
-  step_goes (step.InsertClient transport client_data) answer s lacked did t about h on = absurd (true≢false (sym about))
-  step_goes (step.SetObjectData o u) answer s lacked did t about (r, is, h) on =
-      of_client gathers w.sends w.receives id (same_client o.client id) s _ _ lacked did t
-      (λ p q (no_memory, none, set). same_doings gathers w.sends w.receives id p q nothing_done (doings_in did) (ap doings_in none) (data_set_moves gathers w.sends w.receives id p o u r q set)) h
-  step_goes (step.CreateObject target i version u) answer s lacked did t about (r, is, h) on =
+  step_goes (step.InsertClient transport client_data) answer s lacked did t about may h on = absurd (true≢false (sym about))
+  step_goes (step.SetObjectData o u) answer s lacked did t about may (r, is, h) on =
+      of_client kind w.sends w.receives id (same_client o.client id) s _ _ lacked did t
+      (λ mine p q (no_memory, none, set). same_doings kind w.sends w.receives id p q nothing_done (doings_in did) (ap doings_in none) (data_set_moves kind w.sends w.receives id p o u r q set)) h
+  step_goes (step.CreateObject target i version u) answer s lacked did t about may (r, is, h) on =
       subst (λ (a : Reply T U). Handed (Asked (step.CreateObject target i version u) a) s did t) (sym is)
       (creates_goes target i version u r _ s lacked _ did t (λ unknown. ap made_ids unknown) h)
-  step_goes (step.DestroyObject o) answer s lacked did t about (r, is, h) on =
-      of_client gathers w.sends w.receives id (same_client o.client id) s _ _ lacked did t (λ p q d. destroys_moves gathers w.sends w.receives id p o r lacked did q d) h
-  step_goes (step.SendEvent m) answer s lacked did t about (r, is, h) on =
-      of_client gathers w.sends w.receives id (same_client m.sender_id.client id) s _ _ lacked did t (λ p q d. sends_moves gathers w.sends w.receives id offer.table p _ r lacked did q d) h
-  step_goes (step.PostError o code text) answer s lacked did t about (is, h) on =
-      of_client gathers w.sends w.receives id (same_client o.client id) s _ _ lacked did t (λ p q d. posts_moves gathers w.sends w.receives id offer.table p o _ _ lacked did q d) h
-  step_goes (step.KillClient target reason) answer s lacked did t about (is, h) on =
-      of_client gathers w.sends w.receives id (same_client target id) s _ _ lacked did t (λ p q (no_memory, k). kills_moves gathers w.sends w.receives id p reason did q k) h
-  step_goes (step.CreateGlobal i version handler) answer s lacked did t about (r, is, h) on = global_goes i _ handler r s lacked did t h
-  step_goes (step.DisableGlobal g) answer s lacked did t about (is, h) on = loss_goes g s lacked did t h
-  step_goes (step.RemoveGlobal g) answer s lacked did t about (is, h) on = loss_goes g s lacked did t h
-  step_goes (step.Flush target) answer s lacked did t about (r, is, h) on = flushed_goes target r s lacked did t h
-  step_goes (step.SetDefaultMaxBufferSize limit) answer s lacked did t about (is, h) on = unfelt_goes gathers w.sends w.receives id s lacked did t h
-  step_goes (step.SetClientMaxBufferSize target limit) answer s lacked did t about (is, h) on =
-      of_client gathers w.sends w.receives id (same_client target id) s _ _ lacked did t
-      (λ p q (no_memory, none, (link, (l, limits, set), same)). relinked link (ap (λ (k : LinkState T). k.outgoing) set) (ap (λ (k : LinkState T). k.outgoing_capacity) set) (ap doings_in none) same) h
-  step_goes (step.NextAction target) answer s lacked did t about (r, left, is, h) on = reads_goes target _ _ left s lacked did t h
-  step_goes (step.NextActionWithin target reading) answer s lacked did t about (r, left, is, h) on = reads_goes target reading _ left s lacked did t h
-  step_goes (step.FinishRequest target u) answer s lacked did t about (r, is, h) on =
-      of_client gathers w.sends w.receives id (same_client target id) s _ _ lacked did t (λ p q f. finishes_moves gathers w.sends w.receives id p u r lacked did q f) h
-  step_goes (step.FinishBind target u) answer s lacked did t about (r, is, h) on =
-      of_client gathers w.sends w.receives id (same_client target id) s _ _ lacked did t (λ p q f. finishes_bind_moves gathers w.sends w.receives id p u r lacked did q f) h
-  step_goes step.Cleanup answer s lacked did t about (r, is, h) on =
-      cleanup_goes r s lacked did t (subst (λ (a : Reply T U). gathers_in {T = T} {U = U} {G = G} {C = C} (Asked step.Cleanup a) ≡ true → gathers ≡ true) is on) h
-  step_goes step.TakeNotes answer s lacked did t about (r, is, h) on = taken_goes r s lacked did t h
-  step_goes _ answer s lacked did t about h on = moved_goes _ _ _ s lacked did t h.2
+  step_goes (step.DestroyObject o) answer s lacked did t about may (r, is, h) on =
+      of_client kind w.sends w.receives id (same_client o.client id) s _ _ lacked did t (λ mine p q d. destroys_moves kind w.sends w.receives id p o r lacked did q d) h
+  step_goes (step.SendEvent m) answer s lacked did t about may (r, is, h) on =
+      of_client kind w.sends w.receives id (same_client m.sender_id.client id) s _ _ lacked did t (λ mine p q d. sends_moves kind w.sends w.receives id offer.table p _ r lacked did q d) h
+  step_goes (step.PostError o code text) answer s lacked did t about may (is, h) on =
+      of_client kind w.sends w.receives id (same_client o.client id) s _ _ lacked did t (λ mine p q d. posts_moves kind w.sends w.receives id offer.table p o _ _ lacked did q (may _ (mine, refl)) d) h
+  step_goes (step.KillClient target reason) answer s lacked did t about may (is, h) on =
+      of_client kind w.sends w.receives id (same_client target id) s _ _ lacked did t (λ mine p q (no_memory, k). kills_moves kind w.sends w.receives id p reason did q (for_reason kind reason (λ e is. may e (mine, is))) k) h
+  step_goes (step.CreateGlobal i version handler) answer s lacked did t about may (r, is, h) on = global_goes i _ handler r s lacked did t h
+  step_goes (step.DisableGlobal g) answer s lacked did t about may (is, h) on = loss_goes g s lacked did t h
+  step_goes (step.RemoveGlobal g) answer s lacked did t about may (is, h) on = loss_goes g s lacked did t h
+  step_goes (step.Flush target) answer s lacked did t about may (r, is, h) on = flushed_goes target r s lacked did t h
+  step_goes (step.SetDefaultMaxBufferSize limit) answer s lacked did t about may (is, h) on = unfelt_goes kind w.sends w.receives id s lacked did t h
+  step_goes (step.SetClientMaxBufferSize target limit) answer s lacked did t about may (is, h) on =
+      of_client kind w.sends w.receives id (same_client target id) s _ _ lacked did t
+      (λ mine p q (no_memory, none, (link, (l, limits, set), same)). relinked link (ap (λ (k : LinkState T). k.outgoing) set) (ap (λ (k : LinkState T). k.outgoing_capacity) set) (ap doings_in none) same) h
+  step_goes (step.NextAction target) answer s lacked did t about may (r, left, is, h) on = reads_goes target (λ mine code text. may _ (mine, (code, text, refl))) _ _ left s lacked did t h
+  step_goes (step.NextActionWithin target reading) answer s lacked did t about may (r, left, is, h) on = reads_goes target (λ mine code text. may _ (mine, (code, text, refl))) reading _ left s lacked did t h
+  step_goes (step.FinishRequest target u) answer s lacked did t about may (r, is, h) on =
+      of_client kind w.sends w.receives id (same_client target id) s _ _ lacked did t (λ mine p q f. finishes_moves kind w.sends w.receives id p u r lacked did q f) h
+  step_goes (step.FinishBind target u) answer s lacked did t about may (r, is, h) on =
+      of_client kind w.sends w.receives id (same_client target id) s _ _ lacked did t (λ mine p q f. finishes_bind_moves kind w.sends w.receives id p u r lacked did q f) h
+  step_goes step.Cleanup answer s lacked did t about may (r, is, h) on =
+      cleanup_goes r s lacked did t (subst (λ (a : Reply T U). gathers_in {T = T} {U = U} {G = G} {C = C} (Asked step.Cleanup a) ≡ true → kind.gathers ≡ true) is on) h
+  step_goes step.TakeNotes answer s lacked did t about may (r, is, h) on = taken_goes r s lacked did t h
+  step_goes _ answer s lacked did t about may h on = moved_goes _ _ _ s lacked did t h.2
 
   -- Over a call that is about a client, or about none, what is held of the client goes over base moves, which make the
   -- deeds of the call and hand out its ids.
-  pub call_goes : (call : Call T U G C) (s : Seen T U C) (lacked : Bool) (did : List (Deed U)) (t : Seen T U C)
-      → concerns id call ≡ true → PartCall w id offer call s lacked did t → (gathers_in call ≡ true → gathers ≡ true) → Handed call s did t
-  call_goes (Asked call answer) s lacked did t about h on = step_goes call answer s lacked did t about h on
-  call_goes (Changed target t') s lacked did t about h on =
-      of_client gathers w.sends w.receives id (same_client target id) s _ _ lacked did t
-      (λ p q (no_memory, none, with'). transport_moves gathers w.sends w.receives id (λ x y. y ≡ t') p did q none with') h
-  call_goes (Grown rows answer) s lacked did t about h on = unfelt_goes gathers w.sends w.receives id s lacked did t h
+  pub call_moves : (call : Call T U G C) (s : Seen T U C) (lacked : Bool) (did : List (Deed U)) (t : Seen T U C)
+      → concerns id call ≡ true → Allows call → PartCall w id offer call s lacked did t → (gathers_in call ≡ true → kind.gathers ≡ true) → Handed call s did t
+  call_moves (Asked call answer) s lacked did t about may h on = step_goes call answer s lacked did t about may h on
+  call_moves (Changed target t') s lacked did t about may h on =
+      of_client kind w.sends w.receives id (same_client target id) s _ _ lacked did t
+      (λ mine p q (no_memory, none, with'). transport_moves kind w.sends w.receives id (λ x y. y ≡ t') p did q none with') h
+  call_moves (Grown rows answer) s lacked did t about may h on = unfelt_goes kind w.sends w.receives id s lacked did t h
+
+-- the same for whatever reason
+pub call_goes : {T U G C : Type 0} (gathers : Bool) (w : World T G C) (id : ClientParts) (offer : Offer G) (call : Call T U G C) (s : Seen T U C) (lacked : Bool) (did : List (Deed U))
+    (t : Seen T U C) → concerns id call ≡ true → PartCall w id offer call s lacked did t → (gathers_in call ≡ true → gathers ≡ true) → Handed (any gathers) w id offer call s did t
+call_goes gathers w id offer call s lacked did t about h on = call_moves (any gathers) w id offer call s lacked did t about (λ e may. tt) h on

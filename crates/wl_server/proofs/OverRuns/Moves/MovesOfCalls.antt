@@ -31,7 +31,7 @@ use Rattle.wl_server.specs.declared.objects.Kept.{Kept}
 use Rattle.wl_server.specs.declared.notes.DisconnectReason.{DisconnectReason}
 use Rattle.wl_server.specs.declared.notes.DisconnectReason.TheVariants.{ConnectionClosed, ProtocolError as BrokeProtocol}
 use Rattle.wl_server.specs.HandedIds.{made_ids}
-use Rattle.wl_server.proofs.OverRuns.Moves.BaseMoves.{Doings, born, finished, followed, handing, joined, leaving as leaves, left_id, nothing_done, noting, putting, sending, stayed, told, went, wrote}
+use Rattle.wl_server.proofs.OverRuns.Moves.BaseMoves.{Doings, Kind, born, finished, followed, handing, joined, leaving as leaves, left_id, nothing_done, noting, putting, sending, stayed, told, went, wrote}
 use Rattle.wl_server.specs.Deeds.{Deed, Noted, Sent, left_if}
 use Rattle.wl_server.proofs.OverRuns.Moves.DoingsLaws.{IsQuiet, doings_in, doings_in_both, doings_end, doings_sends, joined_none, told_deeds}
 use Rattle.wl_server.specs.Errors.{PostsError, error_of, posts}
@@ -149,19 +149,19 @@ module _ {T : Type 0} (sends : T → Queue → Result ℕ IoFault → T → Type
       → PutsOut sends before (said m ∷ []) es [] (Err f) after
   put_none m before after es f by = (es, Err f, after, inl by, (refl, refl, refl, refl))
 
-module _ {T U C : Type 0} (gathers : Bool) (sends : T → Queue → Result ℕ IoFault → T → Type 0) (receives : T → ℕ → Result Queue IoFault → T → Type 0)
+module _ {T U C : Type 0} (kind : Kind) (sends : T → Queue → Result ℕ IoFault → T → Type 0) (receives : T → ℕ → Result Queue IoFault → T → Type 0)
     (client : ClientParts) where
   abbrev Move : Part T U C → Doings U → Part T U C → Type 0
-  Move p d q = Go gathers sends receives client p d q
+  Move p d q = Go kind sends receives client p d q
 
   abbrev Come : Core U C → Verdict (Core U C) (Told U) → Type 0
-  Come c v = Comes gathers sends receives client c v
+  Come c v = Comes kind sends receives client c v
 
   abbrev Lead : Core U C → List (Deed U) → Core U C → Type 0
-  Lead c made e = Lands gathers sends receives client c made e
+  Lead c made e = Lands kind sends receives client c made e
 
   abbrev Calm : Core U C → Type 0
-  Calm c = IsCalm gathers sends receives client c
+  Calm c = IsCalm kind sends receives client c
 
   calm_core : (p : Part T U C) → Calm (core_of p)
   calm_core p live = refl
@@ -203,7 +203,7 @@ module _ {T U C : Type 0} (gathers : Bool) (sends : T → Queue → Result ℕ I
   without_lead : (c : Core U C) (id : IdParts) (x : Object (Kept U)) → Calm c → named c.store id ≡ Some x
       → Lead c (left_if (id_of id) x.value.user_data) (without_noted client c id.number x)
   without_lead c id x calm is =
-      lands_at gathers sends receives client c (left_if (id_of id) x.value.user_data) (without_noted client c id.number x) calm refl
+      lands_at kind sends receives client c (left_if (id_of id) x.value.user_data) (without_noted client c id.number x) calm refl
       (λ l. went id.number x true (named_held c.store id x is)
       (doings_left (id_of id) x.value.user_data ∙ ap (λ (i : Id). record nothing_done { left = left_id i x.value.user_data }) (sym (named_id client c.store id x is))) refl)
 
@@ -240,7 +240,7 @@ module _ {T U C : Type 0} (gathers : Bool) (sends : T → Queue → Result ℕ I
       elim (either_option (destroyable p id) h) [
         | inl (none, (is, no_memory, nothing, same)) ↦ stays p did q nothing same
         | inr (x, some, (is, tells')) ↦
-            tells_moves gathers sends receives client p (destroys client (core_of p) id x) lacked did q
+            tells_moves kind sends receives client p (destroys client (core_of p) id x) lacked did q
             (destroys_comes (core_of p) id x (calm_core p) (destroyable_named p id x some)) tells'
       ]
 
@@ -249,38 +249,38 @@ module _ {T U C : Type 0} (gathers : Bool) (sends : T → Queue → Result ℕ I
   pub tells_comes : (c : Core U C) (messages : List Said) → Calm c → Come c (tells c messages)
   tells_comes c messages calm = record {
     made = [];
-    lands = lands_not gathers sends receives client c calm;
+    lands = lands_not kind sends receives client c calm;
     events = λ e same. refl;
     quiet = (refl, refl);
     last = inl refl;
     starved = inl refl;
   }
 
-  posts_comes : (table : List InterfaceRow) (c : Core U C) (id : IdParts) (code : ℕ) (text : List ℕ) → Calm c → Come c (posts table c id code text)
-  posts_comes table c id code text calm = record {
+  posts_comes : (table : List InterfaceRow) (c : Core U C) (id : IdParts) (code : ℕ) (text : List ℕ) → kind.kills (BrokeProtocol (error_of table id code text)) → Calm c → Come c (posts table c id code text)
+  posts_comes table c id code text may calm = record {
     made = [];
-    lands = lands_not gathers sends receives client c calm;
+    lands = lands_not kind sends receives client c calm;
     events = λ e same. refl;
     quiet = (refl, refl);
-    last = inr (BrokeProtocol (error_of table id code text), refl);
+    last = inr (BrokeProtocol (error_of table id code text), may, refl);
     starved = inl refl;
   }
 
   pub posts_moves : (table : List InterfaceRow) (p : Part T U C) (id : IdParts) (code : ℕ) (text : List ℕ) (lacked : Bool) (did : List (Deed U)) (q : Part T U C)
-      → PostsError sends table p id code text lacked did q → Move p (doings_in did) q
-  posts_moves table p id code text lacked did q h =
+      → kind.kills (BrokeProtocol (error_of table id code text)) → PostsError sends table p id code text lacked did q → Move p (doings_in did) q
+  posts_moves table p id code text lacked did q may h =
       elim (either_bool (eqb id.number 0) h) [
         | inl (no_memory, none, same) ↦ stays p did q none same
         | inr tells' ↦
-            tells_moves gathers sends receives client p (posts table (core_of p) id code text) lacked did q
-            (posts_comes table (core_of p) id code text (calm_core p)) tells'
+            tells_moves kind sends receives client p (posts table (core_of p) id code text) lacked did q
+            (posts_comes table (core_of p) id code text may (calm_core p)) tells'
       ]
 
-  pub kills_moves : (p : Part T U C) (reason : DisconnectReason) (did : List (Deed U)) (q : Part T U C) → Kills p reason did q → Move p (doings_in did) q
-  kills_moves p reason did q (is, same) =
-      let ends = ends_killed gathers sends receives client (core_of p) reason (calm_core p) in
+  pub kills_moves : (p : Part T U C) (reason : DisconnectReason) (did : List (Deed U)) (q : Part T U C) → kind.kills reason → Kills p reason did q → Move p (doings_in did) q
+  kills_moves p reason did q may (is, same) =
+      let ends = ends_killed kind sends receives client (core_of p) reason may (calm_core p) in
       subst (λ (e : Part T U C). Move p (doings_in did) e) (sym same)
-      (same_doings gathers sends receives client p (record p { is_killed = true }) (noting ends.notes) (doings_in did)
+      (same_doings kind sends receives client p (record p { is_killed = true }) (noting ends.notes) (doings_in did)
       (ap doings_in is ∙ doings_end (killed (core_of p) reason).ended ∙ ap noting ends.so) (ends.moves p.link))
 
   -- ---- an event
@@ -301,7 +301,7 @@ module _ {T U C : Type 0} (gathers : Bool) (sends : T → Queue → Result ℕ I
     ends_closed_comes : (c : Core U C) (b : Bool) → Calm c → named c.store m.sender ≡ Some sender → Come c (ends_closed client c m sender b)
     ends_closed_comes c false calm is = record {
       made = [];
-      lands = lands_then gathers sends receives client c c (closed_down c) [] (lands_not gathers sends receives client c calm) (ends_killed gathers sends receives client c ConnectionClosed calm);
+      lands = lands_then kind sends receives client c c (closed_down c) [] (lands_not kind sends receives client c calm) (ends_killed kind sends receives client c ConnectionClosed kind.closes calm);
       events = λ e same. refl;
       quiet = (refl, refl);
       last = inl refl;
@@ -309,9 +309,9 @@ module _ {T U C : Type 0} (gathers : Bool) (sends : T → Queue → Result ℕ I
     }
     ends_closed_comes c true calm is = record {
       made = left_if (id_of m.sender) sender.value.user_data;
-      lands = lands_then gathers sends receives client c (without_noted client c m.sender.number sender) (closed_down (without_noted client c m.sender.number sender))
+      lands = lands_then kind sends receives client c (without_noted client c m.sender.number sender) (closed_down (without_noted client c m.sender.number sender))
           (left_if (id_of m.sender) sender.value.user_data) (without_lead c m.sender sender calm is)
-          (ends_killed gathers sends receives client (without_noted client c m.sender.number sender) ConnectionClosed calm);
+          (ends_killed kind sends receives client (without_noted client c m.sender.number sender) ConnectionClosed kind.closes calm);
       events = λ e same. leaving_told m.sender sender.value.user_data c.store e same;
       quiet = quiet_left (id_of m.sender) sender.value.user_data;
       last = inl refl;
@@ -327,14 +327,14 @@ module _ {T U C : Type 0} (gathers : Bool) (sends : T → Queue → Result ℕ I
           → Tells sends (ends_closed client (core_of p) m sender b) link lacked rest q → Move p (doings_in did) q
       broken_moves f by tells' =
           followed (told {p = p} {q = with_link p link} (said m ∷ []) es [] (Err f) link (put_none sends m p.link link es f by) refl refl)
-          (tells_moves gathers sends receives client (with_link p link) (ends_closed client (core_of p) m sender b) lacked rest q (ends_closed_comes (core_of p) b (calm_core p) is) tells')
+          (tells_moves kind sends receives client (with_link p link) (ends_closed client (core_of p) m sender b) lacked rest q (ends_closed_comes (core_of p) b (calm_core p) is) tells')
           sent_first
 
       sent_moves : (w : Result (Unit {0}) IoFault) → WroteBy sends p.link (wire_message m) es w link → SentAs sends client p m sender b w link answer lacked rest q
           → Move p (doings_in did) q
       sent_moves (Ok u) by (more, tells', is_ok', rest_so) =
           followed (told {p = p} {q = with_link p link} (said m ∷ []) es (said m ∷ []) (Ok tt) link (put_one sends m p.link link es by) refl refl)
-          (tells_moves gathers sends receives client (with_link p link) (ends_sender client (core_of p) m sender b) lacked more q (ends_sender_comes (core_of p) b (calm_core p) is) tells')
+          (tells_moves kind sends receives client (with_link p link) (ends_sender client (core_of p) m sender b) lacked more q (ends_sender_comes (core_of p) b (calm_core p) is) tells')
           (sent_first ∙ ap (λ (ds : List (Deed U)). joined (sending es) (doings_in ds)) rest_so
           ∙ ap (λ (l : List Sending). joined (putting l (said m ∷ [])) (doings_in more)) refl)
       sent_moves (Err fault.OutOfMemory) by (is_err, no_memory, none, same) =
@@ -385,7 +385,7 @@ module _ {T U C : Type 0} (gathers : Bool) (sends : T → Queue → Result ℕ I
   finish_comes : (c : Core U C) (created : Option IdParts) (u : Option U) → Calm c → Come c (finish_verdict c created u)
   finish_comes c created u calm = record {
     made = [];
-    lands = lands_at gathers sends receives client c [] (core_finished c created u) calm refl (λ l. finish_moves (at gathers sends receives client c l) created u);
+    lands = lands_at kind sends receives client c [] (core_finished c created u) calm refl (λ l. finish_moves (at kind sends receives client c l) created u);
     events = λ e same. refl;
     quiet = (refl, refl);
     last = inl refl;
@@ -431,9 +431,9 @@ module _ {T U C : Type 0} (gathers : Bool) (sends : T → Queue → Result ℕ I
     ends_some_comes : Come c (ends client c id (Some x) created u)
     ends_some_comes = record {
       made = ended_deeds;
-      lands = lands_at gathers sends receives client c ended_deeds (core_finished (without c id.number x) created u) calm refl
-          (λ l. followed (went {q = at gathers sends receives client (without c id.number x) l} id.number x false (named_held c.store id x is) refl refl)
-          (finish_moves (at gathers sends receives client (without c id.number x) l) created u)
+      lands = lands_at kind sends receives client c ended_deeds (core_finished (without c id.number x) created u) calm refl
+          (λ l. followed (went {q = at kind sends receives client (without c id.number x) l} id.number x false (named_held c.store id x is) refl refl)
+          (finish_moves (at kind sends receives client (without c id.number x) l) created u)
           (doings_ended ∙ sym (joined_none (leaves client false id.number x))));
       events = λ e same. ending_told e same;
       quiet = quiet_ended;
@@ -460,7 +460,7 @@ module _ {T U C : Type 0} (gathers : Bool) (sends : T → Queue → Result ℕ I
             elim (either_option (refusal p.is_killed created u) g) [
               | inr (e, why, refuses) ↦ refuses_moves p u e answer lacked did q refuses
               | inl (none, (is', tells')) ↦
-                  tells_moves gathers sends receives client p (ends_request client (core_of p) sender b created u) lacked did q
+                  tells_moves kind sends receives client p (ends_request client (core_of p) sender b created u) lacked did q
                   (ends_comes (core_of p) sender (ended_by p.store sender b) created u (calm_core p) (λ x e. ended_named p.store sender b x e)) tells'
             ]
       ]
@@ -473,6 +473,6 @@ module _ {T U C : Type 0} (gathers : Bool) (sends : T → Queue → Result ℕ I
         | inr (opened.Request sender b created, is, refuses) ↦ refuses_moves p u _ answer lacked did q refuses
         | inr (opened.Bind object, is, (is', no_memory, none, same)) ↦
             subst (λ (e : Part T U C). Move p (doings_in did) e) (sym same)
-            (same_doings gathers sends receives client p (record p { action = None; store = store_with_data p.store (Some object) (Some u) }) nothing_done (doings_in did) (ap doings_in none)
+            (same_doings kind sends receives client p (record p { action = None; store = store_with_data p.store (Some object) (Some u) }) nothing_done (doings_in did) (ap doings_in none)
             (finish_moves p (Some object) (Some u)))
       ]

@@ -19,7 +19,7 @@ use Rattle.wl_server.specs.declared.reading.action.Reading.{Reading}
 use Rattle.wl_server.specs.declared.error.ActionError.{ActionError}
 use Rattle.wl_server.specs.declared.notes.DisconnectReason.TheVariants.{ConnectionClosed}
 use Rattle.wl_server.specs.declared.notes.Happening.{Happening}
-use Rattle.wl_server.proofs.OverRuns.Moves.BaseMoves.{Doings, followed, joined, noting, putting, received, receiving, relinked, sending, stayed}
+use Rattle.wl_server.proofs.OverRuns.Moves.BaseMoves.{Displays, Doings, Kind, followed, joined, noting, putting, received, receiving, relinked, sending, stayed}
 use Rattle.wl_server.specs.Deeds.{Came, Deed, Handed, Put, Sent, notes_in}
 use Rattle.wl_server.proofs.OverRuns.Moves.DoingsLaws.{IsQuiet, deeds_done, doings_in, doings_in_both, doings_puts, doings_sends, end_of, joined_none, turns_done, verdict_done}
 use Rattle.wl_server.proofs.OverRuns.Moves.MovesOfRequests.{handles_comes, malformed_comes}
@@ -69,37 +69,7 @@ module _ {U C : Type 0} where
   live_of : (c : Core U C) → reads_on c ≡ true → c.is_killed ≡ false
   live_of c on = not_true c.is_killed (both (not c.is_killed) (is_none c.action) on).0
 
-module _ {T U G C : Type 0} (gathers : Bool) (sends : T → Queue → Result ℕ IoFault → T → Type 0) (receives : T → ℕ → Result Queue IoFault → T → Type 0)
-    (a : Around G C) where
-  abbrev Step : Part T U C → Doings U → Part T U C → Type 0
-  Step p d q = Go gathers sends receives a.client p d q
-
-  abbrev Calm : Core U C → Type 0
-  Calm c = IsCalm gathers sends receives a.client c
-
-  -- a turn: bytes are read, and a verdict carried out
-  turn_moves : (before : ReaderState T (Core U C)) (link : LinkState T) (v : Verdict (Core U C) (Told U)) → link.outgoing ≡ before.link.outgoing
-      → link.outgoing_capacity ≡ before.link.outgoing_capacity → Comes gathers sends receives a.client before.core v → Calm before.core → (es : List Sending) (first : List (Given (Told U))) (lacked : Bool) (mid : ReaderState T (Core U C))
-      → CarriesOut sends (server a) v link es first lacked mid
-      → before.core.ended ≡ None
-      → Step (part_of before) (doings_in (deeds_of (map Sent es) first mid.core)) (part_of mid) × Calm mid.core × IsQuiet (deeds_in first)
-  turn_moves before link v waits stays comes calm es first lacked mid by none =
-      let c = carried gathers sends receives a.client (server a) (λ d f. refl) before.core v comes calm link es first lacked mid by in
-      let so : notes_at_end gathers sends receives a.client mid.core ≡ c.notes =
-      c.so ∙ ap (λ (o : Option _). notes_in (end_deeds {U = U} o) ++ c.notes) none in (
-        followed (relinked link waits stays refl refl) c.moves
-            (verdict_done es c.put c.made first mid.core c.deeds
-            ∙ ap (λ (n : List (Happening U)). joined (putting es c.put) (joined (doings_in c.made) (noting n))) so),
-        c.calm,
-        quiet_given c.put c.made first c.deeds c.quiet,
-      )
-
-  -- a receive that failed ends the client, or leaves it
-  faulted_ends : (c : Core U C) (f : IoFault) → Calm c → Ends gathers sends receives a.client c (faulted c f)
-  faulted_ends c fault.WouldBlock calm = ends_not gathers sends receives a.client c calm
-  faulted_ends c fault.OutOfMemory calm = ends_not gathers sends receives a.client c calm
-  faulted_ends c _ calm = ends_killed gathers sends receives a.client c ConnectionClosed calm
-
+module _ {T U G C : Type 0} (sends : T → Queue → Result ℕ IoFault → T → Type 0) (a : Around G C) where
   pub gave_none : (left : ℕ) (mid : ReaderState T (Core U C)) (rest : Gives (Told U)) → Stops sends (server a) left mid rest → rest.gave ≡ []
   gave_none left mid rest ends =
       elim (either_bool (reads_on mid.core) ends) [
@@ -109,10 +79,41 @@ module _ {T U G C : Type 0} (gathers : Bool) (sends : T → Queue → Result ℕ
         | inr is ↦ ap (λ (o : Gives (Told U)). o.gave) is
       ]
 
+module _ {T U G C : Type 0} (kind : Kind) (sends : T → Queue → Result ℕ IoFault → T → Type 0) (receives : T → ℕ → Result Queue IoFault → T → Type 0)
+    (a : Around G C) where
+  abbrev Step : Part T U C → Doings U → Part T U C → Type 0
+  Step p d q = Go kind sends receives a.client p d q
+
+  abbrev Calm : Core U C → Type 0
+  Calm c = IsCalm kind sends receives a.client c
+
+  -- a turn: bytes are read, and a verdict carried out
+  turn_moves : (before : ReaderState T (Core U C)) (link : LinkState T) (v : Verdict (Core U C) (Told U)) → link.outgoing ≡ before.link.outgoing
+      → link.outgoing_capacity ≡ before.link.outgoing_capacity → Comes kind sends receives a.client before.core v → Calm before.core → (es : List Sending) (first : List (Given (Told U))) (lacked : Bool) (mid : ReaderState T (Core U C))
+      → CarriesOut sends (server a) v link es first lacked mid
+      → before.core.ended ≡ None
+      → Step (part_of before) (doings_in (deeds_of (map Sent es) first mid.core)) (part_of mid) × Calm mid.core × IsQuiet (deeds_in first)
+  turn_moves before link v waits stays comes calm es first lacked mid by none =
+      let c = carried kind sends receives a.client (server a) (λ d f. refl) before.core v comes calm link es first lacked mid by in
+      let so : notes_at_end kind sends receives a.client mid.core ≡ c.notes =
+      c.so ∙ ap (λ (o : Option _). notes_in (end_deeds {U = U} o) ++ c.notes) none in (
+        followed (relinked link waits stays refl refl) c.moves
+            (verdict_done es c.put c.made first mid.core c.deeds
+            ∙ ap (λ (n : List (Happening U)). joined (putting es c.put) (joined (doings_in c.made) (noting n))) so),
+        c.calm,
+        quiet_given c.put c.made first c.deeds c.quiet,
+      )
+
+  -- a receive that failed ends the client, or leaves it
+  faulted_ends : (c : Core U C) (f : IoFault) → Calm c → Ends kind sends receives a.client c (faulted c f)
+  faulted_ends c fault.WouldBlock calm = ends_not kind sends receives a.client c calm
+  faulted_ends c fault.OutOfMemory calm = ends_not kind sends receives a.client c calm
+  faulted_ends c _ calm = ends_killed kind sends receives a.client c ConnectionClosed kind.closes calm
+
   -- nothing more was read, or the client was read on
   over_or_on : (left : ℕ) (mid after : ReaderState T (Core U C)) (turns : List Turn) (rest : Gives (Told U)) → Reads sends (server a) receives left mid turns rest after
       → ((turns ≡ []) × (after ≡ mid) × (rest.gave ≡ [])) ⊎ (reads_on mid.core ≡ true)
-  over_or_on left mid after [] rest (same, ends) = inl (refl, same, gave_none left mid rest ends)
+  over_or_on left mid after [] rest (same, ends) = inl (refl, same, gave_none sends a left mid rest ends)
   over_or_on left mid after (Received r ∷ turns) rest h = inr h.0
   over_or_on left mid after (Handled es ∷ turns) rest h = inr h.0
   over_or_on left mid after (Unread es ∷ turns) rest h = inr h.0
@@ -139,7 +140,7 @@ module _ {T U G C : Type 0} (gathers : Bool) (sends : T → Queue → Result ℕ
         | inr on ↦
             let none : mid.core.ended ≡ None = calm (live_of mid.core on) in
             followed
-            (same_doings gathers sends receives a.client (part_of before) (part_of mid) (doings_in (deeds_of (map Sent es) first mid.core)) (joined (sending es) (doings_in (deeds_in first)))
+            (same_doings kind sends receives a.client (part_of before) (part_of mid) (doings_in (deeds_of (map Sent es) first mid.core)) (joined (sending es) (doings_in (deeds_in first)))
             (sym (deeds_done (map Sent es) first mid.core
             ∙ ap (λ (d : Doings U). joined d (joined (doings_in (deeds_in first)) (end_of mid.core))) (doings_sends es)
             ∙ ap (λ (o : Option _). joined (sending es) (joined (doings_in (deeds_in first)) (noting (notes_in (end_deeds {U = U} o))))) none
@@ -149,22 +150,22 @@ module _ {T U G C : Type 0} (gathers : Bool) (sends : T → Queue → Result ℕ
             (sym (turns_done es turns first rest.gave after.core quiet))
       ])
 
-  pub reads_moves : (left : ℕ) (before : ReaderState T (Core U C)) (turns : List Turn) (out : Gives (Told U)) (after : ReaderState T (Core U C))
+  pub reads_moves : Displays kind a.table a.client → (left : ℕ) (before : ReaderState T (Core U C)) (turns : List Turn) (out : Gives (Told U)) (after : ReaderState T (Core U C))
       → before.core.ended ≡ None → Calm before.core → Reads sends (server a) receives left before turns out after → Read before turns out after
-  reads_moves left before [] out after none calm (same, ends) =
+  reads_moves displays left before [] out after none calm (same, ends) =
       subst (λ (e : ReaderState T (Core U C)). Step (part_of before) (doings_in (deeds_of [] out.gave e.core)) (part_of e)) (sym same)
       (stayed
-      (ap (λ (g : List (Given (Told U))). doings_in (deeds_of [] g before.core)) (gave_none left before out ends)
+      (ap (λ (g : List (Given (Told U))). doings_in (deeds_of [] g before.core)) (gave_none sends a left before out ends)
       ∙ ap (λ (o : Option _). doings_in (end_deeds {U = U} o)) none) refl)
-  reads_moves left before (Received r ∷ turns) out after none calm (on, lacks, (n, is, (link, filled, room, h))) =
+  reads_moves displays left before (Received r ∷ turns) out after none calm (on, lacks, (n, is, (link, filled, room, h))) =
       elim (either_result (counted_answer (count_of r)) h) [
         | inl (u, more) ↦
             followed (received r (counted_answer (count_of r)) link filled refl refl)
-            (reads_moves n (with_link before link) turns out after none calm more) refl
+            (reads_moves displays n (with_link before link) turns out after none calm more) refl
         | inr (f, (over, stopped, same)) ↦
             let ends = faulted_ends before.core f calm in
             let end : ReaderState T (Core U C) = record { core = faulted before.core f; link = link } in
-            let so : notes_at_end gathers sends receives a.client end.core ≡ ends.notes =
+            let so : notes_at_end kind sends receives a.client end.core ≡ ends.notes =
             ends.so ∙ ap (λ (o : Option _). notes_in (end_deeds {U = U} o) ++ ends.notes) none in
             subst (λ (e : ReaderState T (Core U C)). Step (part_of before) (doings_in (deeds_of (Came r ∷ exchanges_in turns) out.gave e.core)) (part_of e)) (sym same)
             (subst (λ (ts : List Turn). Step (part_of before) (doings_in (deeds_of (Came r ∷ exchanges_in ts) out.gave end.core)) (part_of end)) (sym over)
@@ -172,23 +173,23 @@ module _ {T U G C : Type 0} (gathers : Bool) (sends : T → Queue → Result ℕ
             (followed (received r (counted_answer (count_of r)) link filled refl refl) (ends.moves link)
             (deeds_done (Came r ∷ []) [] end.core ∙ ap (λ (n : List (Happening U)). joined (receiving r) (noting n)) so))))
       ]
-  reads_moves left before (Handled es ∷ turns) out after none calm (on, (v, link, first, lacked, mid, rest, (m, read, is), by, split, more)) =
+  reads_moves displays left before (Handled es ∷ turns) out after none calm (on, (v, link, first, lacked, mid, rest, (m, read, is), by, split, more)) =
       then_moves left before mid after es turns first lacked rest out split
       (turn_moves before link v (read_waits (λ sender opcode found. found ≡ (server a).signature before.core sender opcode) before.link link (Ok m) read)
       (read_stays (λ sender opcode found. found ≡ (server a).signature before.core sender opcode) before.link link m read)
-      (subst (λ (w : Verdict (Core U C) (Told U)). Comes gathers sends receives a.client before.core w) (sym is) (handles_comes gathers sends receives a before.core m calm)) calm es first lacked mid by none)
-      more (λ no_end calm'. reads_moves left mid turns rest after no_end calm' more)
-  reads_moves left before (Unread es ∷ turns) out after none calm (on, (v, link, first, lacked, mid, rest, (read, same, is), by, split, more)) =
+      (subst (λ (w : Verdict (Core U C) (Told U)). Comes kind sends receives a.client before.core w) (sym is) (handles_comes kind sends receives a displays before.core m calm)) calm es first lacked mid by none)
+      more (λ no_end calm'. reads_moves displays left mid turns rest after no_end calm' more)
+  reads_moves displays left before (Unread es ∷ turns) out after none calm (on, (v, link, first, lacked, mid, rest, (read, same, is), by, split, more)) =
       then_moves left before mid after es turns first lacked rest out split
       (turn_moves before link v (ap (λ (l : LinkState T). l.outgoing) same) (ap (λ (l : LinkState T). l.outgoing_capacity) same)
-      (subst (λ (w : Verdict (Core U C) (Told U)). Comes gathers sends receives a.client before.core w) (sym is) (malformed_comes gathers sends receives a before.core calm)) calm es first lacked mid by none)
-      more (λ no_end calm'. reads_moves left mid turns rest after no_end calm' more)
+      (subst (λ (w : Verdict (Core U C) (Told U)). Comes kind sends receives a.client before.core w) (sym is) (malformed_comes kind sends receives a before.core calm)) calm es first lacked mid by none)
+      more (λ no_end calm'. reads_moves displays left mid turns rest after no_end calm' more)
 
   -- ---- a reading
 
-  pub next_action_moves : (r : Reading) (p : Part T U C) (answer : Result Handed ActionError) (r' : Reading) (lacked : Bool) (did : List (Deed U)) (q : Part T U C)
+  pub next_action_moves : Displays kind a.table a.client → (r : Reading) (p : Part T U C) (answer : Result Handed ActionError) (r' : Reading) (lacked : Bool) (did : List (Deed U)) (q : Part T U C)
       → NextAction sends receives a r p answer r' lacked did q → Step p (doings_in did) q
-  next_action_moves r p answer r' lacked did q h =
+  next_action_moves displays r p answer r' lacked did q h =
       elim (either_option p.action h) [
         | inr (action, is_open, (is, same, no_memory, none, stays)) ↦ stayed (ap doings_in none) stays
         | inl (not_open, g) ↦
@@ -197,6 +198,6 @@ module _ {T U G C : Type 0} (gathers : Bool) (sends : T → Queue → Result ℕ
               | inr (turns, out, end, reads, is, same, no_memory, did_so, after) ↦
                   subst (λ (e : Part T U C). Step p (doings_in did) e) (sym after)
                   (subst (λ (ds : List (Deed U)). Step p (doings_in ds) (part_of end)) (sym did_so)
-                  (reads_moves r.turns_left (reader_part p) turns out end refl (λ live. refl) reads))
+                  (reads_moves displays r.turns_left (reader_part p) turns out end refl (λ live. refl) reads))
             ]
       ]

@@ -30,7 +30,7 @@ use Rattle.wl_server.specs.declared.reading.response.RequestFault.TheVariants as
 use Rattle.wl_server.proofs.OverRuns.Ids.AmongLaws.{among_both, among_first, among_later}
 use Rattle.wl_server.specs.HandedIds.{created_ids}
 use Rattle.wl_server.specs.Deeds.{IsAmong, Acted, Deed, Handed, Remembered}
-use Rattle.wl_server.proofs.OverRuns.Moves.BaseMoves.{Doings, all_action_ids, born, followed, found, found_none, handed_out, handing, nothing_done, opens, remembered, stayed, went}
+use Rattle.wl_server.proofs.OverRuns.Moves.BaseMoves.{Displays, Doings, Kind, all_action_ids, born, followed, found, found_none, handed_out, handing, nothing_done, opens, remembered, stayed, went}
 use Rattle.wl_server.specs.Deeds as deeds
 use Rattle.wl_server.proofs.OverRuns.Moves.DoingsLaws.{IsQuiet, doings_in, told_deeds}
 use Rattle.wl_server.specs.Errors.{error_of, fault_text, since_text}
@@ -63,22 +63,22 @@ valid_new o n valid =
       λ zero. true≢false (sym (both (nat_lt 0 n) _ (both (not (is_some (held o.store n))) _ free).1).0 ∙ ap (nat_lt 0) zero),
     )
 
-module _ {T U G C : Type 0} (gathers : Bool) (sends : T → Queue → Result ℕ IoFault → T → Type 0) (receives : T → ℕ → Result Queue IoFault → T → Type 0)
+module _ {T U G C : Type 0} (kind : Kind) (sends : T → Queue → Result ℕ IoFault → T → Type 0) (receives : T → ℕ → Result Queue IoFault → T → Type 0)
     (a : Around G C) where
   abbrev Move : Part T U C → Doings U → Part T U C → Type 0
-  Move p d q = Go gathers sends receives a.client p d q
+  Move p d q = Go kind sends receives a.client p d q
 
   abbrev place : Core U C → LinkState T → Part T U C
-  place c l = at gathers sends receives a.client c l
+  place c l = at kind sends receives a.client c l
 
   abbrev IsQuietCore : Core U C → Type 0
-  IsQuietCore c = IsCalm gathers sends receives a.client c
+  IsQuietCore c = IsCalm kind sends receives a.client c
 
   abbrev pub Lead : Core U C → List (Deed U) → Core U C → Type 0
-  Lead c made e = Lands gathers sends receives a.client c made e
+  Lead c made e = Lands kind sends receives a.client c made e
 
   abbrev pub Come : Core U C → Verdict (Core U C) (Told U) → Type 0
-  Come c v = Comes gathers sends receives a.client c v
+  Come c v = Comes kind sends receives a.client c v
 
   -- the ids that came up are not handed out
   dropped : (p q : Part T U C) (ids : List (HandedId IdParts)) → Move p (handing ids) q → Move p nothing_done q
@@ -190,25 +190,25 @@ module _ {T U G C : Type 0} (gathers : Bool) (sends : T → Queue → Result ℕ
   garbled_comes : (c : Core U C) → IsQuietCore c → Come c (garbled c)
   garbled_comes c calm = record {
     made = [];
-    lands = lands_then gathers sends receives a.client c c (closed_down c) [] (lands_not gathers sends receives a.client c calm) (ends_killed gathers sends receives a.client c ConnectionClosed calm);
+    lands = lands_then kind sends receives a.client c c (closed_down c) [] (lands_not kind sends receives a.client c calm) (ends_killed kind sends receives a.client c ConnectionClosed kind.closes calm);
     events = λ e same. refl;
     quiet = (refl, refl);
     last = inl refl;
     starved = inl refl;
   }
 
-  breaks_comes : (c m : Core U C) (code : ℕ) (text : List ℕ) → Lead c [] m → Come c (breaks a m code text)
-  breaks_comes c m code text lead = record {
+  breaks_comes : Displays kind a.table a.client → (c m : Core U C) (code : ℕ) (text : List ℕ) → Lead c [] m → Come c (breaks a m code text)
+  breaks_comes displays c m code text lead = record {
     made = [];
     lands = lead;
     events = λ e same. refl;
     quiet = (refl, refl);
-    last = inr (BrokeProtocol (error_of a.table (display_of a.client) code text), refl);
+    last = inr (BrokeProtocol (error_of a.table (display_of a.client) code text), displays code text, refl);
     starved = inl refl;
   }
 
-  breaks_here : (c : Core U C) (code : ℕ) (text : List ℕ) → IsQuietCore c → Come c (breaks a c code text)
-  breaks_here c code text calm = breaks_comes c c code text (lands_not gathers sends receives a.client c calm)
+  breaks_here : Displays kind a.table a.client → (c : Core U C) (code : ℕ) (text : List ℕ) → IsQuietCore c → Come c (breaks a c code text)
+  breaks_here displays c code text calm = breaks_comes displays c c code text (lands_not kind sends receives a.client c calm)
 
   replies_comes : (c m : Core U C) (puts : List Said) (did : List (Deed U)) → Lead c did m → IsQuiet did → Come c (replies m puts did)
   replies_comes c m puts did lead quiet = record {
@@ -234,7 +234,7 @@ module _ {T U G C : Type 0} (gathers : Bool) (sends : T → Queue → Result ℕ
 
   syncs_comes : (c : Core U C) (n : ℕ) → IsQuietCore c → is_valid_new (objects_in c) n ≡ true → Come c (syncs a c n)
   syncs_comes c n calm valid =
-      replies_comes c (synced a c n) _ [] (lands_at gathers sends receives a.client c [] (synced a c n) calm refl moves) (refl, refl)
+      replies_comes c (synced a c n) _ [] (lands_at kind sends receives a.client c [] (synced a c n) calm refl moves) (refl, refl)
     where
       made : Core U C
       made = with_objects c (with_made (objects_in c) n callback_id 1)
@@ -254,7 +254,7 @@ module _ {T U G C : Type 0} (gathers : Bool) (sends : T → Queue → Result ℕ
   registers_comes : (c : Core U C) (n : ℕ) → IsQuietCore c → is_valid_new (objects_in c) n ≡ true → Come c (registers a c n)
   registers_comes c n calm valid =
       replies_comes c (with_registry a c n) _ (Remembered (new_at a c n) ∷ [])
-      (lands_at gathers sends receives a.client c (Remembered (new_at a c n) ∷ []) (with_registry a c n) calm refl moves) (refl, refl)
+      (lands_at kind sends receives a.client c (Remembered (new_at a c n) ∷ []) (with_registry a c n) calm refl moves) (refl, refl)
     where
       made : Core U C
       made = with_objects c (with_made (objects_in c) n registry_id 1)
@@ -271,7 +271,7 @@ module _ {T U G C : Type 0} (gathers : Bool) (sends : T → Queue → Result ℕ
   binds_comes : (c : Core U C) (g version n : ℕ) (x : Object (KeptGlobal G)) → IsQuietCore c → is_valid_new (objects_in c) n ≡ true → Come c (binds a c g version n x)
   binds_comes c g version n x calm valid =
       hands_out_comes c made (opened.Bind id) h
-      (lands_at gathers sends receives a.client c (Acted h ∷ []) (record made { action = Some (opened.Bind id) }) calm refl
+      (lands_at kind sends receives a.client c (Acted h ∷ []) (record made { action = Some (opened.Bind id) }) calm refl
       (λ l. followed (makes_object c version (objects_in c) n x.interface valid l) (opens (opened.Bind id) h refl refl refl) refl))
     where
       id : IdParts
@@ -286,14 +286,14 @@ module _ {T U G C : Type 0} (gathers : Bool) (sends : T → Queue → Result ℕ
   -- ---- other requests
 
   module _ (c : Core U C) (m : WireMessage) (receiver : Object (Kept U)) (row : MessageRow) (calm : IsQuietCore c) (holds : held c.store m.sender ≡ Some receiver)
-      (other : eqb receiver.interface.0 registry_id.0 ≡ false) where
+      (other : eqb receiver.interface.0 registry_id.0 ≡ false) (displays : Displays kind a.table a.client) where
     -- the action is opened, its sender's id is made, and then those of its arguments
     hands_out_converted : (d : Converting U) (args : List (Argument IdParts Token))
         → ((e : Core U C) → SoFar e receiver.version (objects_in c) d args)
         → Come c (converted a c m receiver row (Whole d args))
     hands_out_converted d args so =
         hands_out_comes c (with_objects c d.objects) action h
-        (lands_at gathers sends receives a.client c (Acted h ∷ []) (record (with_objects c d.objects) { action = Some action }) calm refl
+        (lands_at kind sends receives a.client c (Acted h ∷ []) (record (with_objects c d.objects) { action = Some action }) calm refl
         (λ l. handed_out (all_action_ids (h ∷ []))
         (followed (opens {p = place c l} {q = place opening l} action h ((receiver, holds, refl, other), refl, refl, refl) refl refl)
         (followed (found {p = place opening l} {q = place opening l} m.sender receiver holds refl refl) ((so opening).0 l) refl) refl)
@@ -322,8 +322,8 @@ module _ {T U G C : Type 0} (gathers : Bool) (sends : T → Queue → Result ℕ
     converted_comes : (outcome : Outcome U) → ((e : Core U C) → Came e receiver.version (objects_in c) outcome)
         → Come c (converted a c m receiver row outcome)
     converted_comes (Wrong w objects) came =
-        breaks_comes c (with_objects c objects) 0 (fault_text a.table receiver.interface row w)
-        (lands_at gathers sends receives a.client c [] (with_objects c objects) calm refl (came c))
+        breaks_comes displays c (with_objects c objects) 0 (fault_text a.table receiver.interface row w)
+        (lands_at kind sends receives a.client c [] (with_objects c objects) calm refl (came c))
     converted_comes (Whole d args) came = hands_out_converted d args came
 
     other_comes : Come c (other_request a c m receiver row)
@@ -332,18 +332,18 @@ module _ {T U G C : Type 0} (gathers : Bool) (sends : T → Queue → Result ℕ
         go : (b : Bool) → Come c (cond b
             (breaks a c 1 (since_text m.opcode receiver.version row.since (name_of a.table receiver.interface.0) m.sender))
             (converted a c m receiver row (convert a.client receiver.version (start (objects_in c) row) [] m.args)))
-        go true = breaks_here c 1 _ calm
+        go true = breaks_here displays c 1 _ calm
         go false =
             converted_comes (convert a.client receiver.version (start (objects_in c) row) [] m.args)
             (λ e. converts e receiver.version (objects_in c) (start (objects_in c) row) [] m.args (still e receiver.version (objects_in c), λ id among. among))
 
   -- ---- a message
 
-  pub handles_comes : (c : Core U C) (m : WireMessage) → IsQuietCore c → Come c ((server a).handles c m)
-  handles_comes c m calm =
-      request_case a c (Come c) (garbled_comes c calm) (λ code text. breaks_here c code text calm) (λ n valid. syncs_comes c n calm valid)
+  pub handles_comes : Displays kind a.table a.client → (c : Core U C) (m : WireMessage) → IsQuietCore c → Come c ((server a).handles c m)
+  handles_comes displays c m calm =
+      request_case a c (Come c) (garbled_comes c calm) (λ code text. breaks_here displays c code text calm) (λ n valid. syncs_comes c n calm valid)
       (λ n valid. registers_comes c n calm valid) (λ g version n x valid. binds_comes c g version n x calm valid) m
-      (λ receiver row holds other. other_comes c m receiver row calm holds other)
+      (λ receiver row holds other. other_comes c m receiver row calm holds other displays)
 
   pub malformed_comes : (c : Core U C) → IsQuietCore c → Come c ((server a).malformed c)
   malformed_comes c calm = garbled_comes c calm

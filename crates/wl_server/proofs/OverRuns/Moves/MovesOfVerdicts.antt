@@ -13,17 +13,17 @@ use Rattle.wl_server.specs.declared.notes.DisconnectReason.{DisconnectReason}
 use Rattle.wl_server.specs.declared.notes.DisconnectReason.TheVariants.{ConnectionClosed}
 use Rattle.wl_server.specs.declared.notes.Happening.{Happening}
 use Rattle.wl_server.specs.declared.notes.Happening.TheVariants.{Disconnected}
-use Rattle.wl_server.proofs.OverRuns.Moves.BaseMoves.{Doings, Moves, ended, end_notes, flushed, followed, joined, nothing_done, noting, putting, sending, stayed, told}
+use Rattle.wl_server.proofs.OverRuns.Moves.BaseMoves.{Doings, Kind, Moves, ended, end_notes, flushed, followed, joined, nothing_done, noting, putting, sending, stayed, told}
 use Rattle.wl_server.specs.Deeds.{Deed, Put, notes_in}
 use Rattle.wl_server.proofs.OverRuns.Moves.DoingsLaws.{IsQuiet, deeds_given, doings_in, joined_assoc, joined_none, told_deeds, verdict_done}
 use Rattle.wl_server.specs.Ids.{ClientParts}
 use Rattle.wl_server.specs.Part.{Part}
 use Rattle.wl_server.specs.Telling.{Core, Finish, Tells, Told, closed_down, core_of, deeds_in, end_deeds, killed, part_of, speaker}
 
-module _ {T U C : Type 0} (gathers : Bool) (sends : T → Queue → Result ℕ IoFault → T → Type 0) (receives : T → ℕ → Result Queue IoFault → T → Type 0)
+module _ {T U C : Type 0} (kind : Kind) (sends : T → Queue → Result ℕ IoFault → T → Type 0) (receives : T → ℕ → Result Queue IoFault → T → Type 0)
     (client : ClientParts) where
   abbrev pub Go : Part T U C → Doings U → Part T U C → Type 0
-  Go p d q = Moves gathers sends receives client p d q
+  Go p d q = Moves kind sends receives client p d q
 
   -- a core over a link
   abbrev pub at : Core U C → LinkState T → Part T U C
@@ -52,10 +52,10 @@ module _ {T U C : Type 0} (gathers : Bool) (sends : T → Queue → Result ℕ I
   pub ends_not : (c : Core U C) → IsCalm c → Ends c c
   ends_not c calm = record { notes = []; moves = λ l. stayed refl refl; so = sym (append-nil (notes_at_end c)); calm = calm; store = refl }
 
-  pub ends_killed : (c : Core U C) (reason : DisconnectReason) → IsCalm c → Ends c (killed c reason)
-  ends_killed c reason calm = record {
+  pub ends_killed : (c : Core U C) (reason : DisconnectReason) → kind.kills reason → IsCalm c → Ends c (killed c reason)
+  ends_killed c reason may calm = record {
     notes = end_notes c.is_killed reason;
-    moves = λ l. ended reason refl refl;
+    moves = λ l. ended reason may refl refl;
     so = go c.is_killed refl;
     calm = λ live. absurd (true≢false live);
     store = refl;
@@ -112,7 +112,7 @@ module _ {T U C : Type 0} (gathers : Bool) (sends : T → Queue → Result ℕ I
     pub lands : Lands c made v.core
     pub events : (e : Core U C) → e.store ≡ v.core.store → told_deeds (v.events e) ≡ made
     pub quiet : IsQuiet made
-    pub last : (v.last ≡ (λ d. d)) ⊎ ((reason : DisconnectReason) × (v.last ≡ (λ d. killed d reason)))
+    pub last : (v.last ≡ (λ d. d)) ⊎ ((reason : DisconnectReason) × kind.kills reason × (v.last ≡ (λ d. killed d reason)))
     pub starved : (v.starved ≡ closed_down v.core) ⊎ ((v.starved ≡ c) × (told_deeds (v.events c) ≡ []))
 
   -- what it landed at, with what it handed out
@@ -135,14 +135,14 @@ module _ {T U C : Type 0} (gathers : Bool) (sends : T → Queue → Result ℕ I
     last_of e ends =
         elim comes.last [
           | inl is ↦ subst (λ (f : Core U C → Core U C). Ends v.core (f e)) (sym is) ends
-          | inr (reason, is) ↦
-              subst (λ (f : Core U C → Core U C). Ends v.core (f e)) (sym is) (ends_then v.core e (killed e reason) ends (ends_killed e reason ends.calm))
+          | inr (reason, may, is) ↦
+              subst (λ (f : Core U C → Core U C). Ends v.core (f e)) (sym is) (ends_then v.core e (killed e reason) ends (ends_killed e reason may ends.calm))
         ]
 
     starved_at : Landed c v v.starved
     starved_at =
         elim comes.starved [
-          | inl is ↦ subst (λ (e : Core U C). Landed c v e) (sym is) (landed_by (closed_down v.core) (ends_killed v.core ConnectionClosed comes.lands.calm))
+          | inl is ↦ subst (λ (e : Core U C). Landed c v e) (sym is) (landed_by (closed_down v.core) (ends_killed v.core ConnectionClosed kind.closes comes.lands.calm))
           | inr (is, none) ↦
               subst (λ (e : Core U C). Landed c v e) (sym is) (record { made = []; lands = lands_not c calm; events = none; quiet = (refl, refl) })
         ]
@@ -152,7 +152,7 @@ module _ {T U C : Type 0} (gathers : Bool) (sends : T → Queue → Result ℕ I
       broken_at f =
           landed_by (v.last (reader.broken v.core f))
           (last_of (reader.broken v.core f)
-          (subst (λ (e : Core U C). Ends v.core e) (sym (breaks v.core f)) (ends_killed v.core ConnectionClosed comes.lands.calm)))
+          (subst (λ (e : Core U C). Ends v.core e) (sym (breaks v.core f)) (ends_killed v.core ConnectionClosed kind.closes comes.lands.calm)))
 
       landed : (wrote : Result (Unit {0}) IoFault) → Landed c v (came_to reader v wrote)
       landed (Ok u) = landed_by (v.last v.core) (last_of v.core (ends_not v.core comes.lands.calm))

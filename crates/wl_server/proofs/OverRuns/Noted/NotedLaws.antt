@@ -12,7 +12,7 @@ use Rattle.wl_server.specs.declared.objects.Kept.{Kept}
 use Rattle.wl_server.specs.declared.notes.DisconnectReason.{DisconnectReason}
 use Rattle.wl_server.specs.declared.notes.Happening.{Happening}
 use Rattle.wl_server.specs.declared.notes.Happening.TheVariants.{Destroyed, Disconnected, Initialized}
-use Rattle.wl_server.proofs.OverRuns.Moves.BaseMoves.{Doings, Goes, Moves, born, cleaned, finished, doings_of, end_notes, ended, flushed, followed, found, found_none, handed_by, handed_out, joined, left_id, notes_taken, opens, received, relinked, remembered, stayed, taken_out, told, unfelt, went, within, wrote}
+use Rattle.wl_server.proofs.OverRuns.Moves.BaseMoves.{Doings, Goes, Moves, any, born, cleaned, finished, doings_of, end_notes, ended, flushed, followed, found, found_none, handed_by, handed_out, joined, left_id, notes_taken, opens, received, relinked, remembered, stayed, taken_out, told, unfelt, went, within, wrote}
 use Rattle.wl_server.proofs.OverRuns.Moves.BaseMovesLaw.{call_goes}
 use Rattle.wl_server.proofs.OverRuns.Ids.ChangeLaws.{moves_take}
 use Rattle.wl_server.specs.Deeds.{left_in, taken_in}
@@ -140,7 +140,7 @@ module _ {T U C : Type 0} (sends : T → Queue → Result ℕ IoFault → T → 
         none = ap ends_in waits ∙ none;
       }
 
-  moves_note : (p q : Part T U C) (d : Doings U) → ends_in p.waiting ≡ 0 → Moves true sends receives client p d q → Noting p d q
+  moves_note : (p q : Part T U C) (d : Doings U) → ends_in p.waiting ≡ 0 → Moves (any true) sends receives client p d q → Noting p d q
   moves_note p q d none (stayed is same) = quiet p q p d _ none is same refl refl refl refl
   moves_note p q d none (followed {m = m} {a = a} {b = b} first second is) =
       let one = moves_note p m a none first in
@@ -152,7 +152,7 @@ module _ {T U C : Type 0} (sends : T → Queue → Result ℕ IoFault → T → 
   moves_note p q d none (received r answer link filled is same) = quiet p q (record p { link = link }) d _ none is same refl refl refl refl
   moves_note p q d none (told messages es put answer link puts is same) = quiet p q (record p { link = link }) d _ none is same refl refl refl refl
   moves_note p q d none (flushed es answer link by is same) = quiet p q (record p { link = link }) d _ none is same refl refl refl refl
-  moves_note p q d none (ended reason is same) =
+  moves_note p q d none (ended reason may is same) =
       subst (λ (x : Part T U C). Noting p d x) (sym same)
       (record {
         objects = same_permuted (destroyed_in p.waiting ++ d.left) (destroyed_in d.notes ++ destroyed_in p.waiting)
@@ -210,7 +210,7 @@ module _ {T U C : Type 0} (sends : T → Queue → Result ℕ IoFault → T → 
       (subst (λ (l : List Id). IsPermutation (destroyed_in made ++ (destroyed_in p.waiting ++ d.left)) l) (sym (append_assoc (destroyed_in made) (destroyed_in d.notes) (destroyed_in q.waiting)))
       (IsPermutation-append_right (destroyed_in made) (destroyed_in p.waiting ++ d.left) (destroyed_in d.notes ++ destroyed_in q.waiting) noting.objects)))
 
-  within_notes : (made : List (Happening U)) (p q : Part T U C) (d : Doings U) → ends_in p.waiting ≡ 0 → d.taken ≡ [] → Moves true sends receives client p d q
+  within_notes : (made : List (Happening U)) (p q : Part T U C) (d : Doings U) → ends_in p.waiting ≡ 0 → d.taken ≡ [] → Moves (any true) sends receives client p d q
       → SeenNoting (record { part = Some p; made = made }) d (record { part = Some q; made = made ++ d.notes })
   within_notes made p q d none no_taken moves =
       let noting = moves_note p q d none moves in record {
@@ -224,7 +224,7 @@ module _ {T U C : Type 0} (sends : T → Queue → Result ℕ IoFault → T → 
       }
 
   out_notes : (made : List (Happening U)) (p q : Part T U C) (d : Doings U) → ends_in p.waiting ≡ 0 → d.taken ≡ [] → p.is_killed ≡ true → q.waiting ≡ []
-      → Moves true sends receives client p d q → SeenNoting (record { part = Some p; made = made }) d (record { part = None; made = made ++ d.notes })
+      → Moves (any true) sends receives client p d q → SeenNoting (record { part = Some p; made = made }) d (record { part = None; made = made ++ d.notes })
   out_notes made p q d none no_taken killed nothing moves =
       let noting = moves_note p q d none moves in record {
         objects = subst (λ (l : List (Happening U)). IsPermutation ((destroyed_in made ++ destroyed_in p.waiting) ++ d.left) (destroyed_in l ++ (destroyed_in (made ++ d.notes) ++ [])))
@@ -243,7 +243,7 @@ module _ {T U C : Type 0} (sends : T → Queue → Result ℕ IoFault → T → 
       at_most true = omega arith
       at_most false = omega arith
 
-  goes_note : (s t : Seen T U C) (d : Doings U) → ends_in (waiting_of s.part) ≡ 0 → Goes true sends receives client s d t → SeenNoting s d t
+  goes_note : (s t : Seen T U C) (d : Doings U) → ends_in (waiting_of s.part) ≡ 0 → Goes (any true) sends receives client s d t → SeenNoting s d t
   goes_note s t d none (unfelt is same) =
       subst (λ (x : Doings U). SeenNoting s x t) (sym is) (subst (λ (x : Seen T U C). SeenNoting s (doings_of [] []) x) (sym same) (unfelt_notes s none))
   goes_note s t d none (notes_taken is same) =

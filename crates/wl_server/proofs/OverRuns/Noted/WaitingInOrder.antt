@@ -35,7 +35,7 @@ use Rattle.wl_server.proofs.CallSteps.Numbering.{GivesWithin, all_waiting, no_nu
 use Rattle.wl_server.proofs.CallSteps.Slots.{slot_of_client}
 use Rattle.wl_server.proofs.CleanupSteps.Gathering.{notes_append}
 use Rattle.wl_server.proofs.OverRuns.Alone.IsolationLaw.{numbered, other_call}
-use Rattle.wl_server.proofs.OverRuns.Moves.BaseMoves.{Doings, Goes, Moves, born, cleaned, ended, finished, flushed, followed, found, found_none, handed_out, left_by, notes_taken, opens, received, relinked, remembered, stayed, taken_out, told as told_so, unfelt, went, within, wrote}
+use Rattle.wl_server.proofs.OverRuns.Moves.BaseMoves.{Doings, Goes, Moves, any, born, cleaned, ended, finished, flushed, followed, found, found_none, handed_out, left_by, notes_taken, opens, received, relinked, remembered, stayed, taken_out, told as told_so, unfelt, went, within, wrote}
 use Rattle.wl_server.proofs.OverRuns.Moves.BaseMovesLaw.{call_goes, gathers_in}
 use Rattle.wl_server.proofs.OverRuns.Noted.NotesInOrder.{Drains, begins_so, cleanup_drains, happening_of, id_of, made_of, one_client, own_first, run_numbers, slot_is, told_slot}
 use Rattle.wl_server.proofs.OverRuns.Noted.PlacesInOrder.{sorted_of}
@@ -82,7 +82,7 @@ module _ {T U C : Type 0} (sends : T → Queue → Result ℕ IoFault → T → 
   still : (p q r : Part T U C) → q ≡ r → r.waiting ≡ p.waiting → Grown p.waiting q.waiting
   still p q r same is = grown_still p.waiting q.waiting (ap (λ (x : Part T U C). x.waiting) same ∙ is)
 
-  moves_grow : (p q : Part T U C) (d : Doings U) → Moves false sends receives client p d q → Grown p.waiting q.waiting
+  moves_grow : (p q : Part T U C) (d : Doings U) → Moves (any false) sends receives client p d q → Grown p.waiting q.waiting
   moves_grow p q d (stayed is same) = still p q p same refl
   moves_grow p q d (followed {m = m} {a = a} {b = b} first second is) = grown_both p.waiting m.waiting q.waiting (moves_grow p m a first) (moves_grow m q b second)
   moves_grow p q d (handed_out {a = a} ids moves among is) = moves_grow p q a moves
@@ -90,7 +90,7 @@ module _ {T U C : Type 0} (sends : T → Queue → Result ℕ IoFault → T → 
   moves_grow p q d (received r answer link filled is same) = still p q _ same refl
   moves_grow p q d (told_so messages es put answer link puts is same) = still p q _ same refl
   moves_grow p q d (flushed es answer link by is same) = still p q _ same refl
-  moves_grow p q d (ended reason is same) = still p q _ same refl
+  moves_grow p q d (ended reason may is same) = still p q _ same refl
   moves_grow p q d (born n x free ne serial is same) = still p q _ same refl
   moves_grow p q d (found n x holds is same) = still p q p same refl
   moves_grow p q d (found_none is same) = still p q p same refl
@@ -105,7 +105,7 @@ module _ {T U C : Type 0} (sends : T → Queue → Result ℕ IoFault → T → 
   moves_grow p q d (finished is same) = still p q _ same refl
   moves_grow p q d (cleaned on is same) = absurd (false≢true on)
 
-  goes_grow : (s t : Seen T U C) (d : Doings U) → Goes false sends receives client s d t → Grown (waiting_of s.part) (waiting_of t.part)
+  goes_grow : (s t : Seen T U C) (d : Doings U) → Goes (any false) sends receives client s d t → Grown (waiting_of s.part) (waiting_of t.part)
   goes_grow s t d (unfelt none same) = grown_still (waiting_of s.part) (waiting_of t.part) (ap (λ (x : Seen T U C). waiting_of x.part) same)
   goes_grow s t d (within p q there moves same) =
       subst (λ (o : Option (Part T U C)). Grown (waiting_of o) (waiting_of t.part)) (sym there)
