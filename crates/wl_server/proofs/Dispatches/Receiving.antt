@@ -66,7 +66,7 @@ module _ {T U C : Type 0} (sends : T → Queue → Result ℕ IoFault → T → 
   moves_quiet p q d (wrote n x u holds is same) = came_of d _ is refl
   moves_quiet p q d (went n x waits holds is same) = came_of d _ is refl
   moves_quiet p q d (remembered n x holds registry is same) = came_of d _ is refl
-  moves_quiet p q d (opens action h so is same) = came_of d _ is refl
+  moves_quiet p q d (opens action h acts so is same) = came_of d _ is refl
   moves_quiet p q d (finished is same) = came_of d _ is refl
   moves_quiet p q d (cleaned on is same) = came_of d _ is refl
 
@@ -74,7 +74,7 @@ module _ {T U C : Type 0} (sends : T → Queue → Result ℕ IoFault → T → 
   goes_quiet s t d (unfelt is same) = came_of d _ is refl
   goes_quiet s t d (within p q there moves same) = moves_quiet p q d moves
   goes_quiet s t d (taken_out p q on there killed moves gone no_notes same) = moves_quiet p q d moves
-  goes_quiet s t d (notes_taken is same) = came_of d _ is refl
+  goes_quiet s t d (notes_taken on is same) = came_of d _ is refl
 
 -- ---- a call that does not read the client
 

@@ -59,13 +59,13 @@ module _ {T U C : Type 0} (sends : T → Queue → Result ℕ IoFault → T → 
   moves_hold p q d (wrote n x u kept is same) holds = subst Holds (sym same) holds
   moves_hold p q d (went n x waits kept is same) holds = subst Holds (sym same) holds
   moves_hold p q d (remembered n x kept registry is same) holds = subst Holds (sym same) holds
-  moves_hold p q d (opens action h so is same) holds = subst Holds (sym same) holds
+  moves_hold p q d (opens action h acts so is same) holds = subst Holds (sym same) holds
   moves_hold p q d (finished is same) holds = subst Holds (sym same) holds
   moves_hold p q d (cleaned on is same) holds = subst Holds (sym same) holds
 
   goes_hold : (s t : Seen T U C) (d : Doings U) → Goes (any true) sends receives client s d t → SeenHolds s → SeenHolds t
   goes_hold s t d (unfelt none same) holds = subst SeenHolds (sym same) holds
-  goes_hold s t d (notes_taken none same) holds = subst SeenHolds (sym same) holds
+  goes_hold s t d (notes_taken on none same) holds = subst SeenHolds (sym same) holds
   goes_hold s t d (within p q there moves same) holds = subst SeenHolds (sym same) (moves_hold p q d moves (holds_at s p there holds))
   goes_hold s t d (taken_out p q on there killed moves none noted same) holds = subst SeenHolds (sym same) tt
 

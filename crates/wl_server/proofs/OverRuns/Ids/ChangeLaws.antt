@@ -295,7 +295,7 @@ module _ {T U C : Type 0} (sends : T → Queue → Result ℕ IoFault → T → 
       changing_so p (record p { registries = p.registries ++ id_of (id_at client n x) ∷ [] }) q (record nothing_done { registries = id_of (id_at client n x) ∷ [] }) d is same
       (quiet p (record p { registries = p.registries ++ id_of (id_at client n x) ∷ [] }) (record nothing_done { registries = id_of (id_at client n x) ∷ [] }) empty
       refl refl refl refl (λ h among. absurd among))
-  moves_change p q d empty (opens action h so is same) =
+  moves_change p q d empty (opens action h acts so is same) =
       changing_so p (record p { action = Some action }) q (record nothing_done { acted = h ∷ [] }) d is same
       (quiet p (record p { action = Some action }) (record nothing_done { acted = h ∷ [] }) empty refl refl refl refl (λ h among. absurd among))
   moves_change p q d empty (finished is same) =
@@ -328,7 +328,7 @@ module _ {T U C : Type 0} (sends : T → Queue → Result ℕ IoFault → T → 
   moves_take p q d (wrote n x u holds is same) = ap (λ (x : Doings U). x.taken) is
   moves_take p q d (went n x waits holds is same) = ap (λ (x : Doings U). x.taken) is
   moves_take p q d (remembered n x holds registry is same) = ap (λ (x : Doings U). x.taken) is
-  moves_take p q d (opens action h so is same) = ap (λ (x : Doings U). x.taken) is
+  moves_take p q d (opens action h acts so is same) = ap (λ (x : Doings U). x.taken) is
   moves_take p q d (finished is same) = ap (λ (x : Doings U). x.taken) is
   moves_take p q d (cleaned on is same) = ap (λ (x : Doings U). x.taken) is
 
@@ -440,7 +440,7 @@ module _ {T U C : Type 0} (sends : T → Queue → Result ℕ IoFault → T → 
   pub goes_change : (s t : Seen T U C) (o : Objects (Kept U)) (d : Doings U) → AreObjectsOf s o → held o.store 0 ≡ None → Goes (any true) sends receives client s d t → CallChanging s o d t
   goes_change s t o d are empty (unfelt is same) =
       subst (λ (x : Doings U). CallChanging s o x t) (sym is) (subst (λ (x : Seen T U C). CallChanging s o nothing_done x) (sym same) (goes_unfelt s o are empty))
-  goes_change s t o d are empty (notes_taken is same) =
+  goes_change s t o d are empty (notes_taken on is same) =
       subst (λ (x : Doings U). CallChanging s o x t) (sym is)
       (subst (λ (x : Seen T U C). CallChanging s o (record nothing_done { taken = s.made }) x) (sym same) (goes_taken s o are empty))
   goes_change s t o d are empty (within p q there moves same) =

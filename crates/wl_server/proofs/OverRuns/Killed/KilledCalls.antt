@@ -2,6 +2,7 @@
 use Rattle.std.proofs.Common.{◌≡◌, ◌⊎◌, ℕ, Bool, true, false, List, [], Option, None, Some, is_some, Result, Ok, Err, refl, sym, ap, subst, ◌∙◌, true≢false}
 use Rattle.std.specs.Prelude.{Vec, is_ok}
 use Rattle.std.specs.Global.{Global}
+use Rattle.std.proofs.lemmas.Bool.{false≢true}
 use Rattle.std.proofs.lemmas.Option.{same_Some}
 use mathlib.Core.Logic.{inl, inr}
 use Rattle.wl_wire.specs.declared.error.IoFault.{IoFault}
@@ -34,9 +35,9 @@ use Rattle.wl_server.specs.Runs.{IsNotInserted, concerns}
 use Rattle.wl_server.specs.Server.{Seen}
 use Rattle.wl_server.proofs.Dispatches.Receiving.{call_quiet}
 use Rattle.wl_server.proofs.OverRuns.Alone.IsolationLaw.{other_call}
-use Rattle.wl_server.proofs.OverRuns.Moves.BaseMoves.{Goes, any, notes_taken, taken_out, unfelt, within}
-use Rattle.wl_server.proofs.OverRuns.Moves.BaseMovesLaw.{call_goes}
-use Rattle.wl_server.proofs.OverRuns.Killed.KilledParts.{Remains, creates_remains, data_remains, destroys_remains, error_remains, event_remains, finish_bind_remains, finish_remains, flushed_remains, flushes_remains, hears_remains, kills_remains, remains, remains_as, transport_remains, when_killed}
+use Rattle.wl_server.proofs.OverRuns.Moves.BaseMoves.{Doings, Goes, any, notes_taken, taken_out, unfelt, within}
+use Rattle.wl_server.proofs.OverRuns.Moves.BaseMovesLaw.{call_goes, call_moves}
+use Rattle.wl_server.proofs.OverRuns.Killed.KilledParts.{Remains, fading, moves_remain, remains, when_killed}
 
 none_some : {A : Type 0} {x : A} → None ≡ Some x → ⊥
 none_some e = true≢false (sym (ap is_some e))
@@ -137,36 +138,16 @@ module _ {T U G C : Type 0} (w : World T G C) (id : ClientParts) (offer : Offer 
   unfelt_dead : Unfelt before lacked did after → StillDead
   unfelt_dead (calm, none, same) = (p, ap (λ (s : Seen T U C). s.part) same ∙ there, remains p killed p refl)
 
-  on_dead : (R : Part T U C → Part T U C → Type 0) (missing : Type 0) → OnPart before R missing lacked did after → ((q : Part T U C) → R p q → Remains p q) → StillDead
-  on_dead R missing h keeps =
-      elim (either_option before.part h) [
-        | inl (none, nothing) ↦ absurd (none_some (sym none ∙ there))
-        | inr (p', there', (q, by, same)) ↦ (q, ap (λ (s : Seen T U C). s.part) same, keeps q (subst (λ (x : Part T U C). R x q) (found_part p' there') by))
-      ]
-
-  of_dead : (b : Bool) (R : Part T U C → Part T U C → Type 0) (missing : Type 0) → OfClient b before R missing lacked did after → ((q : Part T U C) → R p q → Remains p q)
-      → StillDead
-  of_dead b R missing h keeps =
-      elim (either_bool b h) [
-        | inl on ↦ on_dead R missing on keeps
-        | inr unfelt' ↦ unfelt_dead unfelt'
-      ]
-
-  global_dead : (i : InterfaceId) (version : ℕ) (handler : G) (r : Result GlobalParts GlobalError) → FeelsGlobal w id offer i version handler r before lacked did after → StillDead
-  global_dead i version handler (Ok g) h =
-      on_dead _ _ h (λ q by. hears_remains p killed w.sends q (news offer.table p (w.views handler id p.client_data g) (record { name = g.name; interface = i; version = version })) lacked did by)
-  global_dead i version handler (Err e) h = unfelt_dead h
-
-  loss_dead : (g : GlobalParts) → FeelsLoss w id offer g before lacked did after → StillDead
-  loss_dead g h =
-      elim (either_bool (is_enabled (global_of offer.globals g)) h) [
-        | inl felt ↦ on_dead _ _ felt (λ q by. hears_remains p killed w.sends q (removals p g.name) lacked did by)
-        | inr other ↦ unfelt_dead other
-      ]
-
-  flushed_dead : (target : Option ClientParts) (r : Result (Unit {0}) IoFault) → FlushedFor w id offer target r before lacked did after → StillDead
-  flushed_dead None r (is, h) = on_dead _ _ h (λ q by. flushes_remains p killed w.sends q lacked did by)
-  flushed_dead (Some target) r h = of_dead (same_client target id) _ _ h (λ q by. flushed_remains p killed w.sends q r lacked did by)
+  goes_dead : (d : Doings U) → Goes fading w.sends w.receives id before d after → StillDead
+  goes_dead d (unfelt is same) = (p, ap (λ (s : Seen T U C). s.part) same ∙ there, remains p killed p refl)
+  goes_dead d (within p' q there' moves same) =
+      let found = found_part p' there' in (
+        q,
+        ap (λ (s : Seen T U C). s.part) same,
+        subst (λ (x : Part T U C). Remains x q) found (moves_remain w.sends w.receives id p' q d moves (ap (λ (x : Part T U C). x.is_killed) found ∙ killed)),
+      )
+  goes_dead d (taken_out p' q on there' killed' moves empty no_notes same) = absurd (false≢true on)
+  goes_dead d (notes_taken on is same) = (p, ap (λ (s : Seen T U C). s.part) same ∙ there, remains p killed p refl)
 
   cleanup_dead : (answer : Reply T U) (r : Result (Vec (ClientParts × T) Global) OutOfMemory) → answer ≡ reply.Cleanup r → CleanedAs w id offer r before lacked did after
       → DeadOrOut (Asked step.Cleanup answer)
@@ -180,16 +161,20 @@ module _ {T U G C : Type 0} (w : World T G C) (id : ClientParts) (offer : Offer 
             inr ((out, end.link.transport, ap (λ (a : Reply T U). Asked step.Cleanup a) is, handed), ap (λ (s : Seen T U C). s.part) same ∙ gone)
       ]
 
-  taken_dead : (r : Result (Vec (Note U) Global) OutOfMemory) → NotesTaken w id offer r before lacked did after → StillDead
-  taken_dead (Ok out) (all, calm, did_so, same) = (p, ap (λ (s : Seen T U C). s.part) same ∙ there, remains p killed p refl)
-  taken_dead (Err e) h = unfelt_dead h
-
-  moved_dead : (target : ClientParts) (m : Move) (answer : Moved) → MovedFor w id offer target m answer before lacked did after → StillDead
-  moved_dead target m answer h =
-      of_dead (same_client target id) _ _ h (λ q (lacks, none, becomes). transport_remains p killed (λ t t'. w.moves t m answer t') q becomes)
-
   reads_dead : (target : ClientParts) (r r' : Reading) (answer : Result Handed ActionError) → ReadsFor w id offer target r answer r' before lacked did after → StillDead
-  reads_dead target r r' answer h = of_dead (same_client target id) _ _ h (λ q next. stays q next)
+  reads_dead target r r' answer h =
+      elim (either_bool (same_client target id) h) [
+        | inl on ↦
+            elim (either_option before.part on) [
+              | inl (none, nothing) ↦ absurd (none_some (sym none ∙ there))
+              | inr (p', there', (q, next, same)) ↦ (
+                q,
+                ap (λ (s : Seen T U C). s.part) same,
+                stays q (subst (λ (x : Part T U C). NextAction w.sends w.receives (around w id offer) r x answer r' lacked did q) (found_part p' there') next),
+              )
+            ]
+        | inr unfelt' ↦ unfelt_dead unfelt'
+      ]
     where
       stays : (q : Part T U C) → NextAction w.sends w.receives (around w id offer) r p answer r' lacked did q → Remains p q
       stays q next =
@@ -198,44 +183,18 @@ module _ {T U G C : Type 0} (w : World T G C) (id : ClientParts) (offer : Offer 
             | inr (a, open', (is, same, calm, nothing, still)) ↦ remains p killed q still
           ]
 
-  step_dead : (call : Step T U G C) (answer : Reply T U) → IsNotInserted id (Asked call answer) → PartStep w id offer call answer before lacked did after → DeadOrOut (Asked call answer)
-  step_dead (step.InsertClient transport client_data) answer other h =
-      inl (unfelt_dead (other_call w id offer (Asked (step.InsertClient transport client_data) answer) before lacked did after other refl h))
-  step_dead (step.SetObjectData o u) answer other (r, is, h) =
-      inl (of_dead (same_client o.client id) _ _ h (λ q (calm, none, set). data_remains p killed q o u r set))
-  step_dead (step.CreateObject target i version u) answer other (r, is, h) =
-      inl (of_dead (same_client target id) _ _ h (λ q (lacks, none, by). creates_remains p killed offer.table id q i version u r by))
-  step_dead (step.DestroyObject o) answer other (r, is, h) =
-      inl (of_dead (same_client o.client id) _ _ h (λ q by. destroys_remains p killed w.sends id q o r lacked did by))
-  step_dead (step.SendEvent m) answer other (r, is, h) =
-      inl (of_dead (same_client m.sender_id.client id) _ _ h (λ q by. event_remains p killed w.sends id offer.table q (session_content m) r lacked did by))
-  step_dead (step.PostError o code text) answer other (is, h) =
-      inl (of_dead (same_client o.client id) _ _ h (λ q by. error_remains p killed w.sends offer.table q o _ _ lacked did by))
-  step_dead (step.KillClient target reason) answer other (is, h) =
-      inl (of_dead (same_client target id) _ _ h (λ q (calm, by). kills_remains p killed q reason did by))
-  step_dead (step.CreateGlobal i version handler) answer other (r, is, h) = inl (global_dead i _ handler r h)
-  step_dead (step.DisableGlobal g) answer other (is, h) = inl (loss_dead g h)
-  step_dead (step.RemoveGlobal g) answer other (is, h) = inl (loss_dead g h)
-  step_dead (step.Flush target) answer other (r, is, h) = inl (flushed_dead target r h)
-  step_dead (step.SetDefaultMaxBufferSize limit) answer other (is, h) = inl (unfelt_dead h)
-  step_dead (step.SetClientMaxBufferSize target limit) answer other (is, h) =
-      inl (of_dead (same_client target id) _ _ h (λ q (calm, none, (link, set, same)). remains_as p killed q _ same refl refl))
-  step_dead (step.NextAction target) answer other (r, left, is, h) = inl (reads_dead target new_reading left (action_content r) h)
-  step_dead (step.NextActionWithin target reading) answer other (r, left, is, h) = inl (reads_dead target reading left (action_content r) h)
-  step_dead (step.FinishRequest target u) answer other (r, is, h) =
-      inl (of_dead (same_client target id) _ _ h (λ q by. finish_remains p killed w.sends id q u r lacked did by))
-  step_dead (step.FinishBind target u) answer other (r, is, h) =
-      inl (of_dead (same_client target id) _ _ h (λ q by. finish_bind_remains p killed q u r lacked did by))
-  step_dead step.Cleanup answer other (r, is, h) = cleanup_dead answer r is h
-  step_dead step.TakeNotes answer other (r, is, h) = inl (taken_dead r h)
-  step_dead _ answer other h = inl (moved_dead _ _ _ h.2)
-
   -- a killed client stays killed, or the call is the cleanup that takes it out
   pub dead_or_out : (call : Call T U G C) → IsNotInserted id call → PartCall w id offer call before lacked did after → DeadOrOut call
-  dead_or_out (Asked call answer) other h = step_dead call answer other h
-  dead_or_out (Changed target t) other h =
-      inl (of_dead (same_client target id) _ _ h (λ q (calm, none, becomes). transport_remains p killed (λ _ t'. t' ≡ t) q becomes))
-  dead_or_out (Grown rows answer) other h = inl (unfelt_dead h)
+  dead_or_out (Asked (step.NextAction target) answer) other (r, left, is, h) = inl (reads_dead target new_reading left (action_content r) h)
+  dead_or_out (Asked (step.NextActionWithin target reading) answer) other (r, left, is, h) = inl (reads_dead target reading left (action_content r) h)
+  dead_or_out (Asked step.Cleanup answer) other (r, is, h) = cleanup_dead answer r is h
+  dead_or_out call other h = inl (go (concerns id call) refl)
+    where
+      go : (b : Bool) → concerns id call ≡ b → StillDead
+      go true about =
+          goes_dead _ (call_moves fading w id offer call before lacked did after about
+          (record { kills = λ e may. tt; gathers = λ is. is; hands = λ is. refl; acts = λ is. is }) h)
+      go false far = unfelt_dead (other_call w id offer call before lacked did after other far h)
 
 -- ---- a client that is not stored
 
@@ -277,7 +236,7 @@ module _ {T U G C : Type 0} (w : World T G C) (id : ClientParts) (offer : Offer 
   goes_out d (unfelt is same) = ap (λ (s : Seen T U C). s.part) same ∙ gone
   goes_out d (within p q there moves same) = absurd (none_some (sym gone ∙ there))
   goes_out d (taken_out p q on there killed moves empty no_notes same) = ap (λ (s : Seen T U C). s.part) same
-  goes_out d (notes_taken is same) = ap (λ (s : Seen T U C). s.part) same ∙ gone
+  goes_out d (notes_taken on is same) = ap (λ (s : Seen T U C). s.part) same ∙ gone
 
   -- it is not stored again, if it is not inserted again
   pub out_stays : (call : Call T U G C) → IsNotInserted id call → PartCall w id offer call before lacked did after → after.part ≡ None

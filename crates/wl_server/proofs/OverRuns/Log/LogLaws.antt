@@ -85,7 +85,7 @@ module _ {T U C : Type 0} (sends : T → Queue → Result ℕ IoFault → T → 
   moves_keep p q d (wrote n x u holds is same) = quiet_move p q _ d _ is same refl refl refl
   moves_keep p q d (went n x waits holds is same) = quiet_move p q _ d _ is same refl refl refl
   moves_keep p q d (remembered n x holds registry is same) = quiet_move p q _ d _ is same refl refl refl
-  moves_keep p q d (opens action h so is same) = quiet_move p q _ d _ is same refl refl refl
+  moves_keep p q d (opens action h acts so is same) = quiet_move p q _ d _ is same refl refl refl
   moves_keep p q d (finished is same) = quiet_move p q _ d _ is same refl refl refl
   moves_keep p q d (cleaned on is same) = quiet_move p q _ d _ is same refl refl refl
 
@@ -106,7 +106,7 @@ module _ {T U C : Type 0} (sends : T → Queue → Result ℕ IoFault → T → 
     waiting = subst (λ (x : Seen T U C). WaitsFor x waits) (sym same) is;
     keeps = keeps_quiet waits waits d (ap (λ (e : Doings U). e.sends) none) (ap (λ (e : Doings U). e.put) none) refl;
   }
-  goes_keep s t d waits is (notes_taken none same) = record {
+  goes_keep s t d waits is (notes_taken on none same) = record {
     after = waits;
     waiting = subst (λ (x : Seen T U C). WaitsFor x waits) (sym same) is;
     keeps = keeps_quiet waits waits d (ap (λ (e : Doings U). e.sends) none) (ap (λ (e : Doings U). e.put) none) refl;

@@ -141,20 +141,23 @@ module _ {T U C : Type 0} (client : ClientParts) where
 
 -- ---- the moves
 
--- Which moves there may be: whether notes that wait are made, and for which reasons the client is killed. It may always be
--- closed down.
+-- Which moves there may be: whether notes that wait are made, whether notes are handed out, whether an action is opened, and
+-- for which reasons the client is killed. It may always be closed down.
 pub record Kind : Type 1 where
   pub gathers : Bool
+  pub hands : Bool
+  pub acts : Bool
   pub kills : DisconnectReason → Type 0
   pub closes : kills ConnectionClosed
 
 -- for any reason
 abbrev pub any : Bool → Kind
-any b = record { gathers = b; kills = λ reason. Unit {0}; closes = tt }
+any b = record { gathers = b; hands = true; acts = true; kills = λ reason. Unit {0}; closes = tt }
 
--- an error that is about the display of the client is a reason
-abbrev pub Displays : Kind → List InterfaceRow → ClientParts → Type 0
-Displays kind table client = (code : ℕ) (text : List ℕ) → kind.kills (BrokeProtocol (error_of table (display_of client) code text))
+-- a reading may be among them: an error that is about the display of the client is a reason, and an action is opened
+pub record MayRead (kind : Kind) (table : List InterfaceRow) (client : ClientParts) : Type 0 where
+  pub displays : (code : ℕ) (text : List ℕ) → kind.kills (BrokeProtocol (error_of table (display_of client) code text))
+  pub acts : kind.acts ≡ true
 
 pub data Moves {T U C : Type 0} (kind : Kind) (sends : T → Queue → Result ℕ IoFault → T → Type 0) (receives : T → ℕ → Result Queue IoFault → T → Type 0)
     (client : ClientParts) : Part T U C → Doings U → Part T U C → Type 0 where
@@ -196,7 +199,7 @@ pub data Moves {T U C : Type 0} (kind : Kind) (sends : T → Queue → Result �
   remembered : {p q : Part T U C} {d : Doings U} (n : ℕ) (x : Object (Kept U)) → held p.store n ≡ Some x → (x.interface.0 == registry_id.0) ≡ true
       → d ≡ record nothing_done { registries = id_of (id_at client n x) ∷ [] }
       → q ≡ record p { registries = p.registries ++ id_of (id_at client n x) ∷ [] } → Moves kind sends receives client p d q
-  opens : {p q : Part T U C} {d : Doings U} (action : OpenAction) (h : Handed) → Opens client p action h
+  opens : {p q : Part T U C} {d : Doings U} (action : OpenAction) (h : Handed) → kind.acts ≡ true → Opens client p action h
       → d ≡ record nothing_done { acted = h ∷ [] } → q ≡ record p { action = Some action } → Moves kind sends receives client p d q
   finished : {p q : Part T U C} {d : Doings U} → d ≡ nothing_done → q ≡ record p { action = None } → Moves kind sends receives client p d q
   cleaned : {p q : Part T U C} {d : Doings U} → kind.gathers ≡ true → d ≡ noting p.waiting → q ≡ record p { waiting = [] } → Moves kind sends receives client p d q
@@ -217,5 +220,5 @@ pub data Goes {T U C : Type 0} (kind : Kind) (sends : T → Queue → Result ℕ
       → t ≡ record { part = Some q; made = s.made ++ d.notes } → Goes kind sends receives client s d t
   taken_out : {s t : Seen T U C} {d : Doings U} (p q : Part T U C) → kind.gathers ≡ true → s.part ≡ Some p → p.is_killed ≡ true → Moves kind sends receives client p d q
       → ((n : ℕ) → held q.store n ≡ None) → q.waiting ≡ [] → t ≡ record { part = None; made = s.made ++ d.notes } → Goes kind sends receives client s d t
-  notes_taken : {s t : Seen T U C} {d : Doings U} → d ≡ record nothing_done { taken = s.made } → t ≡ record { part = s.part; made = [] }
+  notes_taken : {s t : Seen T U C} {d : Doings U} → kind.hands ≡ true → d ≡ record nothing_done { taken = s.made } → t ≡ record { part = s.part; made = [] }
       → Goes kind sends receives client s d t

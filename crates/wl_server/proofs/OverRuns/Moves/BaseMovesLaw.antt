@@ -17,16 +17,19 @@ use Rattle.wl_link.specs.Store.{held}
 use Rattle.wl_link.proofs.Ids.StoreLaws.{removed_here, removed_other, walk_of_entries}
 use Rattle.wl_server.specs.declared.error.CreateError.{CreateError}
 use Rattle.wl_server.specs.declared.error.GlobalError.{GlobalError}
+use Rattle.wl_server.specs.declared.error.InsertClientError.{InsertClientError}
 use Rattle.wl_server.specs.declared.objects.Kept.{Kept}
 use Rattle.wl_server.specs.declared.notes.Happening.{Happening}
+use Rattle.wl_server.specs.declared.notes.Happening.TheVariants.{Initialized}
 use Rattle.wl_server.specs.declared.notes.Note.{Note}
 use Rattle.wl_server.specs.declared.runs.step.Reply.{Reply}
 use Rattle.wl_server.specs.declared.runs.step.Reply.TheVariants as reply
 use Rattle.wl_server.specs.declared.runs.step.Step.{Step}
 use Rattle.wl_server.specs.declared.runs.step.Step.TheVariants as step
 use Rattle.wl_server.specs.HandedIds.{made_ids}
-use Rattle.wl_server.proofs.OverRuns.Moves.BaseMoves.{Displays, Doings, Goes, Kind, cleaned, doings_of, flushed, followed, handed_by, joined, leaving, left_by, left_id, nothing_done, notes_taken, noting, relinked, stayed, taken_out, unfelt, went, within, any}
+use Rattle.wl_server.proofs.OverRuns.Moves.BaseMoves.{Doings, Goes, Kind, MayRead, cleaned, doings_of, flushed, followed, handed_by, joined, leaving, left_by, left_id, nothing_done, notes_taken, noting, relinked, stayed, taken_out, unfelt, went, within, any}
 use Rattle.wl_server.specs.Deeds.{Deed, Noted, NoteTaken, left_if, notes_in}
+use Rattle.wl_server.proofs.OverRuns.Alone.IsolationLaw.{other_call}
 use Rattle.wl_server.proofs.OverRuns.Moves.DoingsLaws.{doings_in, doings_in_both, doings_sends}
 use Rattle.wl_server.specs.Felt.{Cleaned, FlushedTo, FlushesLive, Hears, Stays, objects_leave}
 use Rattle.wl_wire.specs.declared.error.ProtocolError.{ProtocolError}
@@ -39,9 +42,9 @@ use Rattle.wl_server.specs.NotedEnds.Errors.{MayKillFor}
 use Rattle.wl_server.proofs.OverRuns.Moves.MovesOfCalls.{creates_moves, data_set_moves, destroys_moves, finishes_bind_moves, finishes_moves, kills_moves, posts_moves, sends_moves, tells_comes}
 use Rattle.wl_server.proofs.OverRuns.Moves.MovesOfReadings.{next_action_moves}
 use Rattle.wl_server.proofs.OverRuns.Moves.MovesOfVerdicts.{Go, same_doings, tells_moves}
-use Rattle.wl_server.specs.Part.{Part, end_note, id_at, id_of, note_of_end, with_link}
+use Rattle.wl_server.specs.Part.{Part, end_note, fresh_part, id_at, id_of, note_of_end, with_link}
 use Rattle.wl_server.specs.Objects.{Creates}
-use Rattle.wl_server.specs.PartStep.{Asked, Call, Changed, CleanedAs, FeelsGlobal, FeelsLoss, FlushedFor, Grown, MovedFor, NotesTaken, OfClient, OnPart, PartCall, PartStep, ReadsFor, Unfelt, WithTransport, World, around}
+use Rattle.wl_server.specs.PartStep.{Asked, Call, Changed, CleanedAs, FeelsGlobal, FeelsLoss, FlushedFor, Grown, InsertedAs, MovedFor, NotesTaken, OfClient, OnPart, PartCall, PartStep, ReadsFor, Unfelt, WithTransport, World, around}
 use Rattle.wl_server.specs.Runs.{concerns, is_about}
 use Rattle.wl_server.specs.Server.{Seen}
 use Rattle.wl_server.specs.Telling.{core_of, tells}
@@ -199,6 +202,17 @@ abbrev pub gathers_in : {T U G C : Type 0} → Call T U G C → Bool
 gathers_in (Asked step.Cleanup (reply.Cleanup (Ok out))) = true
 gathers_in _ = false
 
+-- the call hands out notes
+abbrev pub hands_in : {T U G C : Type 0} → Call T U G C → Bool
+hands_in (Asked step.TakeNotes (reply.TakeNotes (Ok out))) = true
+hands_in _ = false
+
+-- the call may open an action
+abbrev pub acts_in : {T U G C : Type 0} → Call T U G C → Bool
+acts_in (Asked (step.NextAction target) answer) = true
+acts_in (Asked (step.NextActionWithin target reading) answer) = true
+acts_in _ = false
+
 module _ {T U G C : Type 0} (kind : Kind) (w : World T G C) (id : ClientParts) (offer : Offer G) where
   abbrev To : Seen T U C → List (Deed U) → Seen T U C → Type 0
   To s did t = Goes kind w.sends w.receives id s (doings_in did) t
@@ -285,9 +299,9 @@ module _ {T U G C : Type 0} (kind : Kind) (w : World T G C) (id : ClientParts) (
       ]
 
   taken_goes : (answer : Result (Vec (Note U) Global) OutOfMemory) (s : Seen T U C) (lacked : Bool) (did : List (Deed U)) (t : Seen T U C)
-      → NotesTaken w id offer answer s lacked did t → To s did t
-  taken_goes (Err e) s lacked did t h = unfelt_goes kind w.sends w.receives id s lacked did t h
-  taken_goes (Ok out) s lacked did t (all, no_memory, did_so, same) = notes_taken (ap doings_in did_so ∙ doings_taken s.made) same
+      → (hands_in {T = T} {U = U} {G = G} {C = C} (Asked step.TakeNotes (reply.TakeNotes answer)) ≡ true → kind.hands ≡ true) → NotesTaken w id offer answer s lacked did t → To s did t
+  taken_goes (Err e) s lacked did t on h = unfelt_goes kind w.sends w.receives id s lacked did t h
+  taken_goes (Ok out) s lacked did t on (all, no_memory, did_so, same) = notes_taken (on refl) (ap doings_in did_so ∙ doings_taken s.made) same
 
   moved_goes : (target : ClientParts) (m : Move) (answer : Moved) (s : Seen T U C) (lacked : Bool) (did : List (Deed U)) (t : Seen T U C)
       → MovedFor w id offer target m answer s lacked did t → To s did t
@@ -295,67 +309,95 @@ module _ {T U G C : Type 0} (kind : Kind) (w : World T G C) (id : ClientParts) (
       of_client kind w.sends w.receives id (same_client target id) s _ _ lacked did t
       (λ mine p q (no_memory, none, with'). transport_moves kind w.sends w.receives id (λ x y. w.moves x m answer y) p did q none with') h
 
-  reads_goes : (target : ClientParts) → (same_client target id ≡ true → Displays kind offer.table id) → (r : _) (answer : _) (r' : _) (s : Seen T U C) (lacked : Bool) (did : List (Deed U)) (t : Seen T U C)
+  reads_goes : (target : ClientParts) → (same_client target id ≡ true → MayRead kind offer.table id) → (r : _) (answer : _) (r' : _) (s : Seen T U C) (lacked : Bool) (did : List (Deed U)) (t : Seen T U C)
       → ReadsFor w id offer target r answer r' s lacked did t → To s did t
-  reads_goes target displays r answer r' s lacked did t h =
+  reads_goes target may r answer r' s lacked did t h =
       of_client kind w.sends w.receives id (same_client target id) s _ _ lacked did t
-      (λ mine p q read. next_action_moves kind w.sends w.receives (around w id offer) (displays mine) r p answer r' lacked did q read) h
+      (λ mine p q read. next_action_moves kind w.sends w.receives (around w id offer) (may mine) r p answer r' lacked did q read) h
 
-  -- the client is killed for what the call gives as a reason
-  abbrev Allows : Call T U G C → Type 0
-  Allows call = (e : ProtocolError) → MayKillFor offer.table id call e → kind.kills (BrokeProtocol e)
+  -- the moves that the call makes are among these
+  pub record Permits (call : Call T U G C) : Type 0 where
+    pub kills : (e : ProtocolError) → MayKillFor offer.table id call e → kind.kills (BrokeProtocol e)
+    pub gathers : gathers_in call ≡ true → kind.gathers ≡ true
+    pub hands : hands_in call ≡ true → kind.hands ≡ true
+    pub acts : acts_in call ≡ true → kind.acts ≡ true
 
   abbrev Handed : Call T U G C → Seen T U C → List (Deed U) → Seen T U C → Type 0
   Handed call s did t = Goes kind w.sends w.receives id s (doings_of (handed_by id call did) did) t
 
   step_goes : (call : Step T U G C) (answer : Reply T U) (s : Seen T U C) (lacked : Bool) (did : List (Deed U)) (t : Seen T U C)
-      → is_about id call ≡ true → Allows (Asked call answer) → PartStep w id offer call answer s lacked did t → (gathers_in (Asked call answer) ≡ true → kind.gathers ≡ true)
+      → is_about id call ≡ true → Permits (Asked call answer) → PartStep w id offer call answer s lacked did t
       → Handed (Asked call answer) s did t
-  step_goes (step.InsertClient transport client_data) answer s lacked did t about may h on = absurd (true≢false (sym about))
-  step_goes (step.SetObjectData o u) answer s lacked did t about may (r, is, h) on =
+  step_goes (step.InsertClient transport client_data) answer s lacked did t about may h = absurd (true≢false (sym about))
+  step_goes (step.SetObjectData o u) answer s lacked did t about may (r, is, h) =
       of_client kind w.sends w.receives id (same_client o.client id) s _ _ lacked did t
       (λ mine p q (no_memory, none, set). same_doings kind w.sends w.receives id p q nothing_done (doings_in did) (ap doings_in none) (data_set_moves kind w.sends w.receives id p o u r q set)) h
-  step_goes (step.CreateObject target i version u) answer s lacked did t about may (r, is, h) on =
+  step_goes (step.CreateObject target i version u) answer s lacked did t about may (r, is, h) =
       subst (λ (a : Reply T U). Handed (Asked (step.CreateObject target i version u) a) s did t) (sym is)
       (creates_goes target i version u r _ s lacked _ did t (λ unknown. ap made_ids unknown) h)
-  step_goes (step.DestroyObject o) answer s lacked did t about may (r, is, h) on =
+  step_goes (step.DestroyObject o) answer s lacked did t about may (r, is, h) =
       of_client kind w.sends w.receives id (same_client o.client id) s _ _ lacked did t (λ mine p q d. destroys_moves kind w.sends w.receives id p o r lacked did q d) h
-  step_goes (step.SendEvent m) answer s lacked did t about may (r, is, h) on =
+  step_goes (step.SendEvent m) answer s lacked did t about may (r, is, h) =
       of_client kind w.sends w.receives id (same_client m.sender_id.client id) s _ _ lacked did t (λ mine p q d. sends_moves kind w.sends w.receives id offer.table p _ r lacked did q d) h
-  step_goes (step.PostError o code text) answer s lacked did t about may (is, h) on =
-      of_client kind w.sends w.receives id (same_client o.client id) s _ _ lacked did t (λ mine p q d. posts_moves kind w.sends w.receives id offer.table p o _ _ lacked did q (may _ (mine, refl)) d) h
-  step_goes (step.KillClient target reason) answer s lacked did t about may (is, h) on =
-      of_client kind w.sends w.receives id (same_client target id) s _ _ lacked did t (λ mine p q (no_memory, k). kills_moves kind w.sends w.receives id p reason did q (for_reason kind reason (λ e is. may e (mine, is))) k) h
-  step_goes (step.CreateGlobal i version handler) answer s lacked did t about may (r, is, h) on = global_goes i _ handler r s lacked did t h
-  step_goes (step.DisableGlobal g) answer s lacked did t about may (is, h) on = loss_goes g s lacked did t h
-  step_goes (step.RemoveGlobal g) answer s lacked did t about may (is, h) on = loss_goes g s lacked did t h
-  step_goes (step.Flush target) answer s lacked did t about may (r, is, h) on = flushed_goes target r s lacked did t h
-  step_goes (step.SetDefaultMaxBufferSize limit) answer s lacked did t about may (is, h) on = unfelt_goes kind w.sends w.receives id s lacked did t h
-  step_goes (step.SetClientMaxBufferSize target limit) answer s lacked did t about may (is, h) on =
+  step_goes (step.PostError o code text) answer s lacked did t about may (is, h) =
+      of_client kind w.sends w.receives id (same_client o.client id) s _ _ lacked did t (λ mine p q d. posts_moves kind w.sends w.receives id offer.table p o _ _ lacked did q (may.kills _ (mine, refl)) d) h
+  step_goes (step.KillClient target reason) answer s lacked did t about may (is, h) =
+      of_client kind w.sends w.receives id (same_client target id) s _ _ lacked did t (λ mine p q (no_memory, k). kills_moves kind w.sends w.receives id p reason did q (for_reason kind reason (λ e is. may.kills e (mine, is))) k) h
+  step_goes (step.CreateGlobal i version handler) answer s lacked did t about may (r, is, h) = global_goes i _ handler r s lacked did t h
+  step_goes (step.DisableGlobal g) answer s lacked did t about may (is, h) = loss_goes g s lacked did t h
+  step_goes (step.RemoveGlobal g) answer s lacked did t about may (is, h) = loss_goes g s lacked did t h
+  step_goes (step.Flush target) answer s lacked did t about may (r, is, h) = flushed_goes target r s lacked did t h
+  step_goes (step.SetDefaultMaxBufferSize limit) answer s lacked did t about may (is, h) = unfelt_goes kind w.sends w.receives id s lacked did t h
+  step_goes (step.SetClientMaxBufferSize target limit) answer s lacked did t about may (is, h) =
       of_client kind w.sends w.receives id (same_client target id) s _ _ lacked did t
       (λ mine p q (no_memory, none, (link, (l, limits, set), same)). relinked link (ap (λ (k : LinkState T). k.outgoing) set) (ap (λ (k : LinkState T). k.outgoing_capacity) set) (ap doings_in none) same) h
-  step_goes (step.NextAction target) answer s lacked did t about may (r, left, is, h) on = reads_goes target (λ mine code text. may _ (mine, (code, text, refl))) _ _ left s lacked did t h
-  step_goes (step.NextActionWithin target reading) answer s lacked did t about may (r, left, is, h) on = reads_goes target (λ mine code text. may _ (mine, (code, text, refl))) reading _ left s lacked did t h
-  step_goes (step.FinishRequest target u) answer s lacked did t about may (r, is, h) on =
+  step_goes (step.NextAction target) answer s lacked did t about may (r, left, is, h) = reads_goes target (λ mine. record { displays = λ code text. may.kills _ (mine, (code, text, refl)); acts = may.acts refl }) _ _ left s lacked did t h
+  step_goes (step.NextActionWithin target reading) answer s lacked did t about may (r, left, is, h) = reads_goes target (λ mine. record { displays = λ code text. may.kills _ (mine, (code, text, refl)); acts = may.acts refl }) reading _ left s lacked did t h
+  step_goes (step.FinishRequest target u) answer s lacked did t about may (r, is, h) =
       of_client kind w.sends w.receives id (same_client target id) s _ _ lacked did t (λ mine p q f. finishes_moves kind w.sends w.receives id p u r lacked did q f) h
-  step_goes (step.FinishBind target u) answer s lacked did t about may (r, is, h) on =
+  step_goes (step.FinishBind target u) answer s lacked did t about may (r, is, h) =
       of_client kind w.sends w.receives id (same_client target id) s _ _ lacked did t (λ mine p q f. finishes_bind_moves kind w.sends w.receives id p u r lacked did q f) h
-  step_goes step.Cleanup answer s lacked did t about may (r, is, h) on =
-      cleanup_goes r s lacked did t (subst (λ (a : Reply T U). gathers_in {T = T} {U = U} {G = G} {C = C} (Asked step.Cleanup a) ≡ true → kind.gathers ≡ true) is on) h
-  step_goes step.TakeNotes answer s lacked did t about may (r, is, h) on = taken_goes r s lacked did t h
-  step_goes _ answer s lacked did t about may h on = moved_goes _ _ _ s lacked did t h.2
+  step_goes step.Cleanup answer s lacked did t about may (r, is, h) =
+      cleanup_goes r s lacked did t (subst (λ (a : Reply T U). gathers_in {T = T} {U = U} {G = G} {C = C} (Asked step.Cleanup a) ≡ true → kind.gathers ≡ true) is may.gathers) h
+  step_goes step.TakeNotes answer s lacked did t about may (r, is, h) =
+      taken_goes r s lacked did t (subst (λ (a : Reply T U). hands_in {T = T} {U = U} {G = G} {C = C} (Asked step.TakeNotes a) ≡ true → kind.hands ≡ true) is may.hands) h
+  step_goes _ answer s lacked did t about may h = moved_goes _ _ _ s lacked did t h.2
 
   -- Over a call that is about a client, or about none, what is held of the client goes over base moves, which make the
   -- deeds of the call and hand out its ids.
   pub call_moves : (call : Call T U G C) (s : Seen T U C) (lacked : Bool) (did : List (Deed U)) (t : Seen T U C)
-      → concerns id call ≡ true → Allows call → PartCall w id offer call s lacked did t → (gathers_in call ≡ true → kind.gathers ≡ true) → Handed call s did t
-  call_moves (Asked call answer) s lacked did t about may h on = step_goes call answer s lacked did t about may h on
-  call_moves (Changed target t') s lacked did t about may h on =
+      → concerns id call ≡ true → Permits call → PartCall w id offer call s lacked did t
+      → Handed call s did t
+  call_moves (Asked call answer) s lacked did t about may h = step_goes call answer s lacked did t about may h
+  call_moves (Changed target t') s lacked did t about may h =
       of_client kind w.sends w.receives id (same_client target id) s _ _ lacked did t
       (λ mine p q (no_memory, none, with'). transport_moves kind w.sends w.receives id (λ x y. y ≡ t') p did q none with') h
-  call_moves (Grown rows answer) s lacked did t about may h on = unfelt_goes kind w.sends w.receives id s lacked did t h
+  call_moves (Grown rows answer) s lacked did t about may h = unfelt_goes kind w.sends w.receives id s lacked did t h
+
+  -- so does any call: else it does nothing to the client, or inserts it
+  pub any_moves : (call : Call T U G C) (s : Seen T U C) (lacked : Bool) (did : List (Deed U)) (t : Seen T U C)
+      → Permits call → PartCall w id offer call s lacked did t
+      → ((d : Doings U) × Goes kind w.sends w.receives id s d t) ⊎ ((p : Part T U C) × (p.waiting ≡ []) × (t ≡ record { part = Some p; made = s.made ++ Initialized ∷ [] }))
+  any_moves (Asked (step.InsertClient transport client_data) answer) s lacked did t may (r, is, h) = inserts r h
+    where
+      inserts : (r : Result ClientParts InsertClientError) → InsertedAs w id offer transport client_data r s lacked did t
+          → ((d : Doings U) × Goes kind w.sends w.receives id s d t) ⊎ ((p : Part T U C) × (p.waiting ≡ []) × (t ≡ record { part = Some p; made = s.made ++ Initialized ∷ [] }))
+      inserts (Err e) (no_memory, none, same) = inl (nothing_done, unfelt refl same)
+      inserts (Ok new) h =
+          elim (either_bool (same_client new id) h) [
+            | inl (link, fresh, no_memory, did_so, same) ↦ inr (fresh_part link client_data, refl, same)
+            | inr (no_memory, none, same) ↦ inl (nothing_done, unfelt refl same)
+          ]
+  any_moves call s lacked did t may h = go (concerns id call) refl
+    where
+      go : (b : Bool) → concerns id call ≡ b
+          → ((d : Doings U) × Goes kind w.sends w.receives id s d t) ⊎ ((p : Part T U C) × (p.waiting ≡ []) × (t ≡ record { part = Some p; made = s.made ++ Initialized ∷ [] }))
+      go true about = inl (doings_of (handed_by id call did) did, call_moves call s lacked did t about may h)
+      go false far = inl (nothing_done, unfelt refl (other_call w id offer call s lacked did t (λ new inserts. absurd cc) far h).2)
 
 -- the same for whatever reason
 pub call_goes : {T U G C : Type 0} (gathers : Bool) (w : World T G C) (id : ClientParts) (offer : Offer G) (call : Call T U G C) (s : Seen T U C) (lacked : Bool) (did : List (Deed U))
     (t : Seen T U C) → concerns id call ≡ true → PartCall w id offer call s lacked did t → (gathers_in call ≡ true → gathers ≡ true) → Handed (any gathers) w id offer call s did t
-call_goes gathers w id offer call s lacked did t about h on = call_moves (any gathers) w id offer call s lacked did t about (λ e may. tt) h on
+call_goes gathers w id offer call s lacked did t about h on =
+    call_moves (any gathers) w id offer call s lacked did t about
+    (record { kills = λ e may. tt; gathers = on; hands = λ is. refl; acts = λ is. refl }) h

@@ -19,7 +19,7 @@ use Rattle.wl_server.specs.declared.reading.action.Reading.{Reading}
 use Rattle.wl_server.specs.declared.error.ActionError.{ActionError}
 use Rattle.wl_server.specs.declared.notes.DisconnectReason.TheVariants.{ConnectionClosed}
 use Rattle.wl_server.specs.declared.notes.Happening.{Happening}
-use Rattle.wl_server.proofs.OverRuns.Moves.BaseMoves.{Displays, Doings, Kind, followed, joined, noting, putting, received, receiving, relinked, sending, stayed}
+use Rattle.wl_server.proofs.OverRuns.Moves.BaseMoves.{Doings, Kind, MayRead, followed, joined, noting, putting, received, receiving, relinked, sending, stayed}
 use Rattle.wl_server.specs.Deeds.{Came, Deed, Handed, Put, Sent, notes_in}
 use Rattle.wl_server.proofs.OverRuns.Moves.DoingsLaws.{IsQuiet, deeds_done, doings_in, doings_in_both, doings_puts, doings_sends, end_of, joined_none, turns_done, verdict_done}
 use Rattle.wl_server.proofs.OverRuns.Moves.MovesOfRequests.{handles_comes, malformed_comes}
@@ -150,18 +150,18 @@ module _ {T U G C : Type 0} (kind : Kind) (sends : T → Queue → Result ℕ Io
             (sym (turns_done es turns first rest.gave after.core quiet))
       ])
 
-  pub reads_moves : Displays kind a.table a.client → (left : ℕ) (before : ReaderState T (Core U C)) (turns : List Turn) (out : Gives (Told U)) (after : ReaderState T (Core U C))
+  pub reads_moves : MayRead kind a.table a.client → (left : ℕ) (before : ReaderState T (Core U C)) (turns : List Turn) (out : Gives (Told U)) (after : ReaderState T (Core U C))
       → before.core.ended ≡ None → Calm before.core → Reads sends (server a) receives left before turns out after → Read before turns out after
-  reads_moves displays left before [] out after none calm (same, ends) =
+  reads_moves may left before [] out after none calm (same, ends) =
       subst (λ (e : ReaderState T (Core U C)). Step (part_of before) (doings_in (deeds_of [] out.gave e.core)) (part_of e)) (sym same)
       (stayed
       (ap (λ (g : List (Given (Told U))). doings_in (deeds_of [] g before.core)) (gave_none sends a left before out ends)
       ∙ ap (λ (o : Option _). doings_in (end_deeds {U = U} o)) none) refl)
-  reads_moves displays left before (Received r ∷ turns) out after none calm (on, lacks, (n, is, (link, filled, room, h))) =
+  reads_moves may left before (Received r ∷ turns) out after none calm (on, lacks, (n, is, (link, filled, room, h))) =
       elim (either_result (counted_answer (count_of r)) h) [
         | inl (u, more) ↦
             followed (received r (counted_answer (count_of r)) link filled refl refl)
-            (reads_moves displays n (with_link before link) turns out after none calm more) refl
+            (reads_moves may n (with_link before link) turns out after none calm more) refl
         | inr (f, (over, stopped, same)) ↦
             let ends = faulted_ends before.core f calm in
             let end : ReaderState T (Core U C) = record { core = faulted before.core f; link = link } in
@@ -173,23 +173,23 @@ module _ {T U G C : Type 0} (kind : Kind) (sends : T → Queue → Result ℕ Io
             (followed (received r (counted_answer (count_of r)) link filled refl refl) (ends.moves link)
             (deeds_done (Came r ∷ []) [] end.core ∙ ap (λ (n : List (Happening U)). joined (receiving r) (noting n)) so))))
       ]
-  reads_moves displays left before (Handled es ∷ turns) out after none calm (on, (v, link, first, lacked, mid, rest, (m, read, is), by, split, more)) =
+  reads_moves may left before (Handled es ∷ turns) out after none calm (on, (v, link, first, lacked, mid, rest, (m, read, is), by, split, more)) =
       then_moves left before mid after es turns first lacked rest out split
       (turn_moves before link v (read_waits (λ sender opcode found. found ≡ (server a).signature before.core sender opcode) before.link link (Ok m) read)
       (read_stays (λ sender opcode found. found ≡ (server a).signature before.core sender opcode) before.link link m read)
-      (subst (λ (w : Verdict (Core U C) (Told U)). Comes kind sends receives a.client before.core w) (sym is) (handles_comes kind sends receives a displays before.core m calm)) calm es first lacked mid by none)
-      more (λ no_end calm'. reads_moves displays left mid turns rest after no_end calm' more)
-  reads_moves displays left before (Unread es ∷ turns) out after none calm (on, (v, link, first, lacked, mid, rest, (read, same, is), by, split, more)) =
+      (subst (λ (w : Verdict (Core U C) (Told U)). Comes kind sends receives a.client before.core w) (sym is) (handles_comes kind sends receives a may before.core m calm)) calm es first lacked mid by none)
+      more (λ no_end calm'. reads_moves may left mid turns rest after no_end calm' more)
+  reads_moves may left before (Unread es ∷ turns) out after none calm (on, (v, link, first, lacked, mid, rest, (read, same, is), by, split, more)) =
       then_moves left before mid after es turns first lacked rest out split
       (turn_moves before link v (ap (λ (l : LinkState T). l.outgoing) same) (ap (λ (l : LinkState T). l.outgoing_capacity) same)
       (subst (λ (w : Verdict (Core U C) (Told U)). Comes kind sends receives a.client before.core w) (sym is) (malformed_comes kind sends receives a before.core calm)) calm es first lacked mid by none)
-      more (λ no_end calm'. reads_moves displays left mid turns rest after no_end calm' more)
+      more (λ no_end calm'. reads_moves may left mid turns rest after no_end calm' more)
 
   -- ---- a reading
 
-  pub next_action_moves : Displays kind a.table a.client → (r : Reading) (p : Part T U C) (answer : Result Handed ActionError) (r' : Reading) (lacked : Bool) (did : List (Deed U)) (q : Part T U C)
+  pub next_action_moves : MayRead kind a.table a.client → (r : Reading) (p : Part T U C) (answer : Result Handed ActionError) (r' : Reading) (lacked : Bool) (did : List (Deed U)) (q : Part T U C)
       → NextAction sends receives a r p answer r' lacked did q → Step p (doings_in did) q
-  next_action_moves displays r p answer r' lacked did q h =
+  next_action_moves may r p answer r' lacked did q h =
       elim (either_option p.action h) [
         | inr (action, is_open, (is, same, no_memory, none, stays)) ↦ stayed (ap doings_in none) stays
         | inl (not_open, g) ↦
@@ -198,6 +198,6 @@ module _ {T U G C : Type 0} (kind : Kind) (sends : T → Queue → Result ℕ Io
               | inr (turns, out, end, reads, is, same, no_memory, did_so, after) ↦
                   subst (λ (e : Part T U C). Step p (doings_in did) e) (sym after)
                   (subst (λ (ds : List (Deed U)). Step p (doings_in ds) (part_of end)) (sym did_so)
-                  (reads_moves displays r.turns_left (reader_part p) turns out end refl (λ live. refl) reads))
+                  (reads_moves may r.turns_left (reader_part p) turns out end refl (λ live. refl) reads))
             ]
       ]

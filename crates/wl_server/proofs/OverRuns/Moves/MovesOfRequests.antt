@@ -30,7 +30,7 @@ use Rattle.wl_server.specs.declared.reading.response.RequestFault.TheVariants as
 use Rattle.wl_server.proofs.OverRuns.Ids.AmongLaws.{among_both, among_first, among_later}
 use Rattle.wl_server.specs.HandedIds.{created_ids}
 use Rattle.wl_server.specs.Deeds.{IsAmong, Acted, Deed, Handed, Remembered}
-use Rattle.wl_server.proofs.OverRuns.Moves.BaseMoves.{Displays, Doings, Kind, all_action_ids, born, followed, found, found_none, handed_out, handing, nothing_done, opens, remembered, stayed, went}
+use Rattle.wl_server.proofs.OverRuns.Moves.BaseMoves.{Doings, Kind, MayRead, all_action_ids, born, followed, found, found_none, handed_out, handing, nothing_done, opens, remembered, stayed, went}
 use Rattle.wl_server.specs.Deeds as deeds
 use Rattle.wl_server.proofs.OverRuns.Moves.DoingsLaws.{IsQuiet, doings_in, told_deeds}
 use Rattle.wl_server.specs.Errors.{error_of, fault_text, since_text}
@@ -197,18 +197,18 @@ module _ {T U G C : Type 0} (kind : Kind) (sends : T → Queue → Result ℕ Io
     starved = inl refl;
   }
 
-  breaks_comes : Displays kind a.table a.client → (c m : Core U C) (code : ℕ) (text : List ℕ) → Lead c [] m → Come c (breaks a m code text)
-  breaks_comes displays c m code text lead = record {
+  breaks_comes : MayRead kind a.table a.client → (c m : Core U C) (code : ℕ) (text : List ℕ) → Lead c [] m → Come c (breaks a m code text)
+  breaks_comes may c m code text lead = record {
     made = [];
     lands = lead;
     events = λ e same. refl;
     quiet = (refl, refl);
-    last = inr (BrokeProtocol (error_of a.table (display_of a.client) code text), displays code text, refl);
+    last = inr (BrokeProtocol (error_of a.table (display_of a.client) code text), may.displays code text, refl);
     starved = inl refl;
   }
 
-  breaks_here : Displays kind a.table a.client → (c : Core U C) (code : ℕ) (text : List ℕ) → IsQuietCore c → Come c (breaks a c code text)
-  breaks_here displays c code text calm = breaks_comes displays c c code text (lands_not kind sends receives a.client c calm)
+  breaks_here : MayRead kind a.table a.client → (c : Core U C) (code : ℕ) (text : List ℕ) → IsQuietCore c → Come c (breaks a c code text)
+  breaks_here may c code text calm = breaks_comes may c c code text (lands_not kind sends receives a.client c calm)
 
   replies_comes : (c m : Core U C) (puts : List Said) (did : List (Deed U)) → Lead c did m → IsQuiet did → Come c (replies m puts did)
   replies_comes c m puts did lead quiet = record {
@@ -268,11 +268,11 @@ module _ {T U G C : Type 0} (kind : Kind) (sends : T → Queue → Result ℕ Io
           (dropped (place c l) (place made l) (New (made_id a.client (objects_in c) n registry_id) ∷ []) (makes_object c 1 (objects_in c) n registry_id valid l))
           (remembered n x (stored_here c.store n x n refl) refl refl refl) refl
 
-  binds_comes : (c : Core U C) (g version n : ℕ) (x : Object (KeptGlobal G)) → IsQuietCore c → is_valid_new (objects_in c) n ≡ true → Come c (binds a c g version n x)
-  binds_comes c g version n x calm valid =
+  binds_comes : MayRead kind a.table a.client → (c : Core U C) (g version n : ℕ) (x : Object (KeptGlobal G)) → IsQuietCore c → is_valid_new (objects_in c) n ≡ true → Come c (binds a c g version n x)
+  binds_comes may c g version n x calm valid =
       hands_out_comes c made (opened.Bind id) h
       (lands_at kind sends receives a.client c (Acted h ∷ []) (record made { action = Some (opened.Bind id) }) calm refl
-      (λ l. followed (makes_object c version (objects_in c) n x.interface valid l) (opens (opened.Bind id) h refl refl refl) refl))
+      (λ l. followed (makes_object c version (objects_in c) n x.interface valid l) (opens (opened.Bind id) h may.acts refl refl refl) refl))
     where
       id : IdParts
       id = made_id a.client (objects_in c) n x.interface
@@ -286,7 +286,7 @@ module _ {T U G C : Type 0} (kind : Kind) (sends : T → Queue → Result ℕ Io
   -- ---- other requests
 
   module _ (c : Core U C) (m : WireMessage) (receiver : Object (Kept U)) (row : MessageRow) (calm : IsQuietCore c) (holds : held c.store m.sender ≡ Some receiver)
-      (other : eqb receiver.interface.0 registry_id.0 ≡ false) (displays : Displays kind a.table a.client) where
+      (other : eqb receiver.interface.0 registry_id.0 ≡ false) (may : MayRead kind a.table a.client) where
     -- the action is opened, its sender's id is made, and then those of its arguments
     hands_out_converted : (d : Converting U) (args : List (Argument IdParts Token))
         → ((e : Core U C) → SoFar e receiver.version (objects_in c) d args)
@@ -295,7 +295,7 @@ module _ {T U G C : Type 0} (kind : Kind) (sends : T → Queue → Result ℕ Io
         hands_out_comes c (with_objects c d.objects) action h
         (lands_at kind sends receives a.client c (Acted h ∷ []) (record (with_objects c d.objects) { action = Some action }) calm refl
         (λ l. handed_out (all_action_ids (h ∷ []))
-        (followed (opens {p = place c l} {q = place opening l} action h ((receiver, holds, refl, other), refl, refl, refl) refl refl)
+        (followed (opens {p = place c l} {q = place opening l} action h may.acts ((receiver, holds, refl, other), refl, refl, refl) refl refl)
         (followed (found {p = place opening l} {q = place opening l} m.sender receiver holds refl refl) ((so opening).0 l) refl) refl)
         all_among refl))
       where
@@ -322,7 +322,7 @@ module _ {T U G C : Type 0} (kind : Kind) (sends : T → Queue → Result ℕ Io
     converted_comes : (outcome : Outcome U) → ((e : Core U C) → Came e receiver.version (objects_in c) outcome)
         → Come c (converted a c m receiver row outcome)
     converted_comes (Wrong w objects) came =
-        breaks_comes displays c (with_objects c objects) 0 (fault_text a.table receiver.interface row w)
+        breaks_comes may c (with_objects c objects) 0 (fault_text a.table receiver.interface row w)
         (lands_at kind sends receives a.client c [] (with_objects c objects) calm refl (came c))
     converted_comes (Whole d args) came = hands_out_converted d args came
 
@@ -332,18 +332,18 @@ module _ {T U G C : Type 0} (kind : Kind) (sends : T → Queue → Result ℕ Io
         go : (b : Bool) → Come c (cond b
             (breaks a c 1 (since_text m.opcode receiver.version row.since (name_of a.table receiver.interface.0) m.sender))
             (converted a c m receiver row (convert a.client receiver.version (start (objects_in c) row) [] m.args)))
-        go true = breaks_here displays c 1 _ calm
+        go true = breaks_here may c 1 _ calm
         go false =
             converted_comes (convert a.client receiver.version (start (objects_in c) row) [] m.args)
             (λ e. converts e receiver.version (objects_in c) (start (objects_in c) row) [] m.args (still e receiver.version (objects_in c), λ id among. among))
 
   -- ---- a message
 
-  pub handles_comes : Displays kind a.table a.client → (c : Core U C) (m : WireMessage) → IsQuietCore c → Come c ((server a).handles c m)
-  handles_comes displays c m calm =
-      request_case a c (Come c) (garbled_comes c calm) (λ code text. breaks_here displays c code text calm) (λ n valid. syncs_comes c n calm valid)
-      (λ n valid. registers_comes c n calm valid) (λ g version n x valid. binds_comes c g version n x calm valid) m
-      (λ receiver row holds other. other_comes c m receiver row calm holds other displays)
+  pub handles_comes : MayRead kind a.table a.client → (c : Core U C) (m : WireMessage) → IsQuietCore c → Come c ((server a).handles c m)
+  handles_comes may c m calm =
+      request_case a c (Come c) (garbled_comes c calm) (λ code text. breaks_here may c code text calm) (λ n valid. syncs_comes c n calm valid)
+      (λ n valid. registers_comes c n calm valid) (λ g version n x valid. binds_comes may c g version n x calm valid) m
+      (λ receiver row holds other. other_comes c m receiver row calm holds other may)
 
   pub malformed_comes : (c : Core U C) → IsQuietCore c → Come c ((server a).malformed c)
   malformed_comes c calm = garbled_comes c calm

@@ -28,7 +28,7 @@ use Rattle.wl_server.specs.Server.{Seen, ServerState, new_server, seen}
 use Rattle.wl_server.specs.Steps.{Entry, OneStep}
 use Rattle.wl_server.proofs.OverRuns.Alone.IsolationLaw.{other_call}
 use Rattle.wl_server.proofs.OverRuns.Moves.BaseMoves.{Doings, Goes, Kind, Moves, born, cleaned, end_notes, ended, finished, flushed, followed, found, found_none, handed_out, left_by, notes_taken, opens, received, relinked, remembered, stayed, taken_out, told, unfelt, went, within, wrote}
-use Rattle.wl_server.proofs.OverRuns.Moves.BaseMovesLaw.{call_moves}
+use Rattle.wl_server.proofs.OverRuns.Moves.BaseMovesLaw.{any_moves}
 
 -- ---- what notes tell
 
@@ -77,7 +77,7 @@ killed_for P e f is holds = subst P same holds
 
 -- a client is killed for errors of which it holds
 abbrev killing : (ProtocolError → Type 0) → Kind
-killing P = record { gathers = true; kills = λ reason. (e : ProtocolError) → reason ≡ BrokeProtocol e → P e; closes = closed_for_none P }
+killing P = record { gathers = true; hands = true; acts = true; kills = λ reason. (e : ProtocolError) → reason ≡ BrokeProtocol e → P e; closes = closed_for_none P }
 
 module _ {T U C : Type 0} (P : ProtocolError → Type 0) (sends : T → Queue → Result ℕ IoFault → T → Type 0) (receives : T → ℕ → Result Queue IoFault → T → Type 0) (client : ClientParts) where
   -- no other error is noted, or waits
@@ -115,7 +115,7 @@ module _ {T U C : Type 0} (P : ProtocolError → Type 0) (sends : T → Queue �
   moves_keep p q d (wrote n x u holds is same) = quiet p q _ d (notes_of P d _ is) same refl
   moves_keep p q d (went n x waits holds is same) = leaves waits p q d n x (notes_of P d _ is) same
   moves_keep p q d (remembered n x holds registry is same) = quiet p q _ d (notes_of P d _ is) same refl
-  moves_keep p q d (opens action h so is same) = quiet p q _ d (notes_of P d _ is) same refl
+  moves_keep p q d (opens action h acts so is same) = quiet p q _ d (notes_of P d _ is) same refl
   moves_keep p q d (finished is same) = quiet p q _ d (notes_of P d _ is) same refl
   moves_keep p q d (cleaned on is same) = λ tell.
       (subst (Tell P) (sym (notes_of P d _ is)) tell, subst (λ (y : Part T U C). Tell P y.waiting) (sym same) (tell_none P))
@@ -139,33 +139,27 @@ module _ {T U C : Type 0} (P : ProtocolError → Type 0) (sends : T → Queue �
   goes_held s t d held (within p q there moves same) = after_part s t p (Some q) d.notes held there same (moves_keep p q d moves)
   goes_held s t d held (taken_out p q on there killed moves none noted same) =
       after_part s t p None d.notes held there same (λ tell. ((moves_keep p q d moves tell).0, tell_none P))
-  goes_held s t d held (notes_taken is same) = subst Held (sym same) (tell_rest P s.made (waiting_of s.part) held)
-
-  inserted_held : {G : Type 0} (w : World T G C) (offer : Offer G) (transport : T) (client_data : C) (r : Result ClientParts InsertClientError) (s : Seen T U C) (lacked : Bool) (did : List (Deed U))
-      (t : Seen T U C) → Held s → InsertedAs w client offer transport client_data r s lacked did t → Held t
-  inserted_held w offer transport client_data (Err e) s lacked did t held (calm, none, same) = subst Held (sym same) held
-  inserted_held w offer transport client_data (Ok new) s lacked did t held h =
-      elim (either_bool (same_client new client) h) [
-        | inl (link, fresh, calm, did_so, same) ↦
-            subst Held (sym same)
-            (tell_both P (s.made ++ Initialized ∷ []) [] (tell_both P s.made (Initialized ∷ []) (tell_first P s.made (waiting_of s.part) held) (tell_one P Initialized (λ e is. absurd cc))) (tell_none P))
-        | inr (calm, none, same) ↦ subst Held (sym same) held
-      ]
+  goes_held s t d held (notes_taken on is same) = subst Held (sym same) (tell_rest P s.made (waiting_of s.part) held)
 
 -- ---- calls and runs
 
 module _ {T U G C : Type 0} (w : World T G C) where
   call_held : (id : ClientParts) (offer : Offer G) (P : ProtocolError → Type 0) (call : Call T U G C) (s : Seen T U C) (lacked : Bool) (did : List (Deed U)) (t : Seen T U C)
       → ((e : ProtocolError) → MayKillFor offer.table id call e → P e) → PartCall w id offer call s lacked did t → Held P w.sends w.receives id s → Held P w.sends w.receives id t
-  call_held id offer P (Asked (step.InsertClient transport client_data) answer) s lacked did t may (r, is, h) held =
-      inserted_held P w.sends w.receives id w offer transport client_data r s lacked did t held h
-  call_held id offer P call s lacked did t may h held = go (concerns id call) refl
-    where
-      go : (b : Bool) → concerns id call ≡ b → Held P w.sends w.receives id t
-      go true about =
-          goes_held P w.sends w.receives id s t _ held
-          (call_moves (killing P) w id offer call s lacked did t about (λ e for f is. killed_for P e f is (may e for)) h (λ cleans. refl))
-      go false far = subst (Held P w.sends w.receives id) (sym (other_call w id offer call s lacked did t (λ new inserts. absurd cc) far h).2) held
+  call_held id offer P call s lacked did t may h held =
+      elim (any_moves (killing P) w id offer call s lacked did t (record {
+        kills = λ e for f is. killed_for P e f is (may e for);
+        gathers = λ is. refl;
+        hands = λ is. refl;
+        acts = λ is. refl;
+      }) h) [
+        | inl (d, goes) ↦ goes_held P w.sends w.receives id s t d held goes
+        | inr (p, none, same) ↦
+            subst (Held P w.sends w.receives id) (sym same)
+            (tell_both P (s.made ++ Initialized ∷ []) p.waiting
+            (tell_both P s.made (Initialized ∷ []) (tell_first P s.made (waiting_of s.part) held) (tell_one P Initialized (λ e is. absurd cc)))
+            (subst (Tell P) (sym none) (tell_none P)))
+      ]
 
   pub each_call_causes : (before after : ServerState T U G C) (e : Entry T U G C) → OneStep w before e after → (id : ClientParts) (error : ProtocolError)
       → TellsError (seen id after) error → TellsError (seen id before) error ⊎ MayKillFor before.offer.table id e.call error

@@ -170,7 +170,7 @@ module _ {T U C : Type 0} (sends : T → Queue → Result ℕ IoFault → T → 
       went_noting p q d n x waits none (ap (λ (y : Doings U). y.left) is) (ap (λ (y : Doings U). y.notes) is) (ap (λ (y : Part T U C). y.waiting) same)
       (ap (λ (y : Part T U C). y.is_killed) same)
   moves_note p q d none (remembered n x holds registry is same) = quiet p q _ d _ none is same refl refl refl refl
-  moves_note p q d none (opens action h so is same) = quiet p q _ d _ none is same refl refl refl refl
+  moves_note p q d none (opens action h acts so is same) = quiet p q _ d _ none is same refl refl refl refl
   moves_note p q d none (finished is same) = quiet p q _ d _ none is same refl refl refl refl
   moves_note p q d none (cleaned on is same) =
       subst (λ (y : Doings U). Noting p y q) (sym is)
@@ -246,7 +246,7 @@ module _ {T U C : Type 0} (sends : T → Queue → Result ℕ IoFault → T → 
   goes_note : (s t : Seen T U C) (d : Doings U) → ends_in (waiting_of s.part) ≡ 0 → Goes (any true) sends receives client s d t → SeenNoting s d t
   goes_note s t d none (unfelt is same) =
       subst (λ (x : Doings U). SeenNoting s x t) (sym is) (subst (λ (x : Seen T U C). SeenNoting s (doings_of [] []) x) (sym same) (unfelt_notes s none))
-  goes_note s t d none (notes_taken is same) =
+  goes_note s t d none (notes_taken on is same) =
       subst (λ (x : Doings U). SeenNoting s x t) (sym is)
       (subst (λ (x : Seen T U C). SeenNoting s (record (doings_of [] []) { taken = s.made }) x) (sym same) (taken_notes s none))
   goes_note s t d none (within p q there moves same) =

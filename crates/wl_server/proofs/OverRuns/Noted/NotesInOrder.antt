@@ -34,6 +34,8 @@ use Rattle.wl_server.specs.Steps.{Entry, GathersNotes, HandsOutNotes, MakesNotes
 use Rattle.wl_server.proofs.CallSteps.Numbering.{GivesWithin, all_each, no_numbers, numbers_left, rise_up, waiting_anew, within_both, within_none}
 use Rattle.wl_server.proofs.CallSteps.Slots.{same_parts, same_self, same_slots}
 use Rattle.wl_server.proofs.CleanupSteps.Gathering.{notes_append, told_other, told_same}
+use Rattle.wl_server.proofs.OverRuns.Moves.BaseMoves.{Doings, Goes, Kind, notes_taken, taken_out, unfelt, within}
+use Rattle.wl_server.proofs.OverRuns.Moves.BaseMovesLaw.{any_moves, hands_in}
 use Rattle.wl_server.proofs.OverRuns.Noted.PlacesInOrder.{earlier_first}
 
 -- ---- notes by their slots and their clients
@@ -141,91 +143,36 @@ module _ {U : Type 0} where
 
 -- ---- what a call does to the notes that were made of a client
 
-module _ {T U C : Type 0} where
+-- no notes are handed out
+abbrev keeping : Kind
+keeping = record { gathers = true; hands = false; acts = true; kills = λ reason. Unit {0}; closes = tt }
+
+module _ {T U G C : Type 0} (w : World T G C) (id : ClientParts) (offer : Offer G) where
   abbrev Grows : Seen T U C → Seen T U C → Type 0
   Grows s t = (more : List (Happening U)) × (t.made ≡ s.made ++ more)
 
-  unfelt_grows : (s : Seen T U C) (lacked : Bool) (did : List (Deed U)) (t : Seen T U C) → Unfelt s lacked did t → Grows s t
-  unfelt_grows s lacked did t (unlacked, none, same) = ([], ap (λ (x : Seen T U C). x.made) same ∙ sym (append-nil s.made))
+  goes_grows : (s t : Seen T U C) (d : Doings U) → Goes keeping w.sends w.receives id s d t → Grows s t
+  goes_grows s t d (unfelt none same) = ([], ap (λ (x : Seen T U C). x.made) same ∙ sym (append-nil s.made))
+  goes_grows s t d (within p q there moves same) = (d.notes, ap (λ (x : Seen T U C). x.made) same)
+  goes_grows s t d (taken_out p q on there killed moves none noted same) = (d.notes, ap (λ (x : Seen T U C). x.made) same)
+  goes_grows s t d (notes_taken on is same) = absurd (false≢true on)
 
-  on_part_grows : (s : Seen T U C) (R : Part T U C → Part T U C → Type 0) (missing : Type 0) (lacked : Bool) (did : List (Deed U)) (t : Seen T U C)
-      → OnPart s R missing lacked did t → Grows s t
-  on_part_grows s R missing lacked did t h =
-      elim (either_option s.part h) [
-        | inl (none, (out, u)) ↦ unfelt_grows s lacked did t u
-        | inr (p, there, (q, does, same)) ↦ (notes_in did, ap (λ (x : Seen T U C). x.made) same)
+  none_handed : (call : Call T U G C) → HandsOutNone call → hands_in call ≡ false
+  none_handed (Asked step.TakeNotes (reply.TakeNotes (Ok out))) none = absurd (none out refl)
+  none_handed call none = refl
+
+  call_grows : (call : Call T U G C) (s : Seen T U C) (lacked : Bool) (did : List (Deed U)) (t : Seen T U C)
+      → HandsOutNone call → PartCall w id offer call s lacked did t → Grows s t
+  call_grows call s lacked did t none h =
+      elim (any_moves keeping w id offer call s lacked did t (record {
+        kills = λ e may. tt;
+        gathers = λ is. refl;
+        hands = λ is. absurd (false≢true (sym (none_handed call none) ∙ is));
+        acts = λ is. refl;
+      }) h) [
+        | inl (d, goes) ↦ goes_grows s t d goes
+        | inr (p, waits, same) ↦ (happened.Initialized ∷ [], ap (λ (x : Seen T U C). x.made) same)
       ]
-
-  of_client_grows : (about : Bool) (s : Seen T U C) (R : Part T U C → Part T U C → Type 0) (missing : Type 0) (lacked : Bool) (did : List (Deed U)) (t : Seen T U C)
-      → OfClient about s R missing lacked did t → Grows s t
-  of_client_grows about s R missing lacked did t h =
-      elim (either_bool about h) [
-        | inl on ↦ on_part_grows s R missing lacked did t on
-        | inr u ↦ unfelt_grows s lacked did t u
-      ]
-
-module _ {T U G C : Type 0} (w : World T G C) (id : ClientParts) (offer : Offer G) where
-  inserted_grows : (transport : T) (client_data : C) (r : Result ClientParts InsertClientError) (s : Seen T U C) (lacked : Bool) (did : List (Deed U)) (t : Seen T U C)
-      → InsertedAs w id offer transport client_data r s lacked did t → Grows s t
-  inserted_grows transport client_data (Ok new) s lacked did t h =
-      elim (either_bool (same_client new id) h) [
-        | inl (link, fresh, unlacked, did_so, same) ↦ (happened.Initialized ∷ [], ap (λ (x : Seen T U C). x.made) same)
-        | inr u ↦ unfelt_grows s lacked did t u
-      ]
-  inserted_grows transport client_data (Err e) s lacked did t h = unfelt_grows s lacked did t h
-
-  global_grows : (i : _) (version : ℕ) (handler : G) (r : Result GlobalParts GlobalError) (s : Seen T U C) (lacked : Bool) (did : List (Deed U)) (t : Seen T U C)
-      → FeelsGlobal w id offer i version handler r s lacked did t → Grows s t
-  global_grows i version handler (Ok g) s lacked did t h = on_part_grows s _ _ lacked did t h
-  global_grows i version handler (Err e) s lacked did t h = unfelt_grows s lacked did t h
-
-  loss_grows : (g : GlobalParts) (s : Seen T U C) (lacked : Bool) (did : List (Deed U)) (t : Seen T U C) → FeelsLoss w id offer g s lacked did t → Grows s t
-  loss_grows g s lacked did t h =
-      elim (either_bool _ h) [
-        | inl on ↦ on_part_grows s _ _ lacked did t on
-        | inr u ↦ unfelt_grows s lacked did t u
-      ]
-
-  flushed_grows : (target : Option ClientParts) (answer : _) (s : Seen T U C) (lacked : Bool) (did : List (Deed U)) (t : Seen T U C)
-      → FlushedFor w id offer target answer s lacked did t → Grows s t
-  flushed_grows None answer s lacked did t (is, h) = on_part_grows s _ _ lacked did t h
-  flushed_grows (Some target) answer s lacked did t h = of_client_grows _ s _ _ lacked did t h
-
-  cleaned_grows : (r : Result (Vec (ClientParts × T) Global) OutOfMemory) (s : Seen T U C) (lacked : Bool) (did : List (Deed U)) (t : Seen T U C)
-      → CleanedAs w id offer r s lacked did t → Grows s t
-  cleaned_grows (Ok out) s lacked did t h =
-      elim (either_option s.part h) [
-        | inl (none, (nobody, u)) ↦ unfelt_grows s lacked did t u
-        | inr (p, there, (q, c, same)) ↦ (notes_in did, ap (λ (x : Seen T U C). x.made) same)
-      ]
-  cleaned_grows (Err e) s lacked did t h = unfelt_grows s lacked did t h
-
-  step_grows : (s : Step T U G C) (answer : Reply T U) (before : Seen T U C) (lacked : Bool) (did : List (Deed U)) (after : Seen T U C)
-      → HandsOutNone (Asked s answer) → PartStep w id offer s answer before lacked did after → Grows before after
-  step_grows (step.InsertClient transport client_data) answer s lacked did t none (r, is, h) = inserted_grows transport client_data r s lacked did t h
-  step_grows (step.CreateGlobal i version handler) answer s lacked did t none (r, is, h) = global_grows i version handler r s lacked did t h
-  step_grows (step.DisableGlobal g) answer s lacked did t none (is, h) = loss_grows g s lacked did t h
-  step_grows (step.RemoveGlobal g) answer s lacked did t none (is, h) = loss_grows g s lacked did t h
-  step_grows (step.Flush target) answer s lacked did t none (r, is, h) = flushed_grows target r s lacked did t h
-  step_grows (step.SetDefaultMaxBufferSize limit) answer s lacked did t none (is, h) = unfelt_grows s lacked did t h
-  step_grows step.Cleanup answer s lacked did t none (r, is, h) = cleaned_grows r s lacked did t h
-  step_grows step.TakeNotes answer s lacked did t none (r, is, h) = at r is h
-    where
-      at : (r : Result (Vec (Note U) Global) OutOfMemory) → answer ≡ reply.TakeNotes r → NotesTaken w id offer r s lacked did t → Grows s t
-      at (Ok out) is h = absurd (none out (ap (Asked step.TakeNotes) is))
-      at (Err e) is h = unfelt_grows s lacked did t h
-  step_grows (step.PostError o code text) answer s lacked did t none h = of_client_grows _ s _ _ lacked did t h.1
-  step_grows (step.KillClient target reason) answer s lacked did t none h = of_client_grows _ s _ _ lacked did t h.1
-  step_grows (step.SetClientMaxBufferSize target limit) answer s lacked did t none h = of_client_grows _ s _ _ lacked did t h.1
-  step_grows (step.NextAction target) answer s lacked did t none h = of_client_grows _ s _ _ lacked did t h.3
-  step_grows (step.NextActionWithin target reading) answer s lacked did t none h = of_client_grows _ s _ _ lacked did t h.3
-  step_grows call answer s lacked did t none h = of_client_grows _ s _ _ lacked did t h.2
-
-  call_grows : (call : Call T U G C) (before : Seen T U C) (lacked : Bool) (did : List (Deed U)) (after : Seen T U C)
-      → HandsOutNone call → PartCall w id offer call before lacked did after → Grows before after
-  call_grows (Asked s answer) before lacked did after none h = step_grows s answer before lacked did after none h
-  call_grows (Changed target t) before lacked did after none h = of_client_grows _ before _ _ lacked did after h
-  call_grows (Grown rows answer) before lacked did after none h = unfelt_grows before lacked did after h
 
 -- ---- numbers over a run
 
@@ -451,7 +398,7 @@ module _ {T U G C : Type 0} (w : World T G C) where
             places = ordered.numbers;
             along = map-append slot_of more h.ends ∙ ap (λ (l : List ℕ). l ++ map slot_of h.ends) along;
             each = λ id. (
-                let (new, grown) = cleaned_grows w id s.offer (Ok out) (seen id s) (e.lacks id) (e.did id) (seen id after) (cleaned id) in (
+                let (new, grown) = call_grows w id s.offer (Asked step.Cleanup (reply.Cleanup (Ok out))) (seen id s) (e.lacks id) (e.did id) (seen id after) (λ notes is. absurd cc) (each_of id) in (
                   new,
                   behind_gathered id s.notes (more ++ h.ends) (made_of id s.clients ++ new)
                       (ap (notes_of id) (sym all) ∙ (now id h ∙ (grown ∙ append_assoc (notes_of id s.notes) (made_of id s.clients) new))),

@@ -101,7 +101,7 @@ module _ {T U C : Type 0} (sends : T → Queue → Result ℕ IoFault → T → 
       at true same = (note_of_end client n x, ap (λ (y : Part T U C). y.waiting) same)
       at false same = still p q _ same refl
   moves_grow p q d (remembered n x holds registry is same) = still p q _ same refl
-  moves_grow p q d (opens action h so is same) = still p q _ same refl
+  moves_grow p q d (opens action h acts so is same) = still p q _ same refl
   moves_grow p q d (finished is same) = still p q _ same refl
   moves_grow p q d (cleaned on is same) = absurd (false≢true on)
 
@@ -111,7 +111,7 @@ module _ {T U C : Type 0} (sends : T → Queue → Result ℕ IoFault → T → 
       subst (λ (o : Option (Part T U C)). Grown (waiting_of o) (waiting_of t.part)) (sym there)
       (subst (λ (x : Seen T U C). Grown p.waiting (waiting_of x.part)) (sym same) (moves_grow p q d moves))
   goes_grow s t d (taken_out p q on there killed moves none noted same) = absurd (false≢true on)
-  goes_grow s t d (notes_taken is same) = grown_still (waiting_of s.part) (waiting_of t.part) (ap (λ (x : Seen T U C). waiting_of x.part) same)
+  goes_grow s t d (notes_taken on is same) = grown_still (waiting_of s.part) (waiting_of t.part) (ap (λ (x : Seen T U C). waiting_of x.part) same)
 
 none_some : {A : Type 0} {x : A} → None ≡ Some x → ⊥
 none_some e = true≢false (sym (ap is_some e))
