@@ -23,11 +23,18 @@ fn event(
 }
 
 /// The events: of a number, of a number with a child interface, and of a new id.
+static EVENTS: [(&str, ArgumentType, Option<InterfaceId>); 3] = [
+    ("moved", ArgumentType::Int, None),
+    ("hinted", ArgumentType::Int, Some(QUAD)),
+    ("made", ArgumentType::NewId, Some(QUAD)),
+];
+
+/// Their descriptions.
 fn events(alloc: Global) -> Result<Vec<MessageDesc>, Fail> {
     let mut events = Vec::new(alloc);
-    events.push(event(alloc, "moved", ArgumentType::Int, None)?)?;
-    events.push(event(alloc, "hinted", ArgumentType::Int, Some(QUAD))?)?;
-    events.push(event(alloc, "made", ArgumentType::NewId, Some(QUAD))?)?;
+    for (name, kind, child) in &EVENTS {
+        events.push(event(alloc, name, *kind, *child)?)?;
+    }
     Ok(events)
 }
 
