@@ -129,8 +129,11 @@ fn judge_answer(
 fn play(rt: &(impl Eprint + AllocGlobal), client: &mut Client, run: &Run) -> Result<bool, Fail> {
     let steps = steps_of(rt.alloc(), run.entries)?;
     let answer = client.replay(steps);
-    judge_answer(rt, client, run, &answer)?;
-    Ok(answer.is_err())
+    let judged = judge_answer(rt, client, run, &answer);
+    let was_refused = answer.is_err();
+    drop(answer);
+    judged?;
+    Ok(was_refused)
 }
 
 /// What the session's error tells.
@@ -160,20 +163,14 @@ fn made(alloc: Global) -> Result<Option<Client>, Fail> {
     Ok(Backend::connect(alloc, table, Memory::new(alloc)).ok())
 }
 
-/// A new client, for which there is memory now.
-fn made_again(alloc: Global) -> Result<Client, Fail> {
-    match made(alloc)? {
-        Some(client) => Ok(client),
-        None => Err(Fail::new("memory was refused again")),
-    }
-}
-
 /// A new client; if memory was refused it is made once more.
 fn connected(alloc: Global) -> Result<Client, Fail> {
-    match made(alloc)? {
-        Some(client) => Ok(client),
-        None => made_again(alloc),
+    for _ in 0..2 {
+        if let Some(client) = made(alloc)? {
+            return Ok(client);
+        }
     }
+    Err(Fail::new("memory was refused again"))
 }
 
 /// Adds an interface to the client's table, and answers what the client does.

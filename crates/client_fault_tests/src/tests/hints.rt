@@ -5,6 +5,7 @@
 use client_test_kit::counted::{Counted, Line};
 use client_test_kit::table::hinting_table;
 use client_test_kit::values::{Request, message};
+use std::alloc::Global;
 use std::cell::Cell;
 use std::test::Fail;
 use test_kit::log::holds;
@@ -34,18 +35,23 @@ fn send<'a>(
     holds(rt, "request", is_sent)
 }
 
-/// A client with four objects: the display, a registry, a `quad` and a callback.
-fn connected<'a>(
+/// A new client.
+fn connected<'a>(alloc: Global, drops: &'a Cell<u64>) -> Result<Client<'a>, Fail> {
+    let table = hinting_table(alloc)?;
+    let line = Line::new(&EVENTS, Counted::new(drops, 1));
+    Ok(Backend::connect(alloc, table, line)?)
+}
+
+/// Sends requests, after which the client has four objects: the display, a registry, a `quad` and a callback.
+fn send_all<'a>(
     rt: &(impl Eprint + AllocGlobal),
     drops: &'a Cell<u64>,
-) -> Result<Client<'a>, Fail> {
-    let alloc = rt.alloc();
-    let line = Line::new(&EVENTS, Counted::new(drops, 1));
-    let mut client = Backend::connect(alloc, hinting_table(alloc)?, line)?;
-    send(rt, drops, &mut client, Request::GetRegistry)?;
-    send(rt, drops, &mut client, Request::Bind)?;
-    send(rt, drops, &mut client, Request::Sync)?;
-    Ok(client)
+    client: &mut Client<'a>,
+) -> Result<(), Fail> {
+    for request in &[Request::GetRegistry, Request::Bind, Request::Sync] {
+        send(rt, drops, client, *request)?;
+    }
+    Ok(())
 }
 
 /// Reads the next event, and fails if it has another opcode.
@@ -76,17 +82,34 @@ fn finish(rt: &(impl Eprint + AllocGlobal), client: &mut Client) -> Result<(), F
 }
 
 /// Reads the events. Before the first, memory may be needed for what the reading itself keeps.
-fn read_all<'a>(rt: &(impl Eprint + AllocGlobal), drops: &'a Cell<u64>) -> Result<(), Fail> {
-    let mut client = connected(rt, drops)?;
-    read(rt, &mut client, 0)?;
-    finish(rt, &mut client)?;
-    read_counted(rt, &mut client, "next_event, a child interface alone", 1)?;
-    finish(rt, &mut client)?;
-    read_counted(rt, &mut client, "control: next_event, a new id", 2)
+fn read_all(rt: &(impl Eprint + AllocGlobal), client: &mut Client) -> Result<(), Fail> {
+    read(rt, client, 0)?;
+    finish(rt, client)?;
+    read_counted(rt, client, "next_event, a child interface alone", 1)?;
+    finish(rt, client)?;
+    read_counted(rt, client, "control: next_event, a new id", 2)
+}
+
+/// Sends the requests, and reads the events.
+fn send_and_read<'a>(
+    rt: &(impl Eprint + AllocGlobal),
+    drops: &'a Cell<u64>,
+    client: &mut Client<'a>,
+) -> Result<(), Fail> {
+    send_all(rt, drops, client)?;
+    read_all(rt, client)
+}
+
+/// The same by a new client.
+fn read_anew<'a>(rt: &(impl Eprint + AllocGlobal), drops: &'a Cell<u64>) -> Result<(), Fail> {
+    let mut client = connected(rt.alloc(), drops)?;
+    let answer = send_and_read(rt, drops, &mut client);
+    drop(client);
+    answer
 }
 
 #[test]
 fn takes_no_memory(rt: HostRuntime) -> Result<(), Fail> {
     let drops = Cell::new(0);
-    read_all(&rt, &drops)
+    read_anew(&rt, &drops)
 }

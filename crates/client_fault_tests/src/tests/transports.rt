@@ -79,14 +79,19 @@ fn text_of(alloc: Global, told: &Reply<u32>) -> Result<String, Fail> {
     Ok(log)
 }
 
+/// What the first of the replies tells.
+fn first_of(alloc: Global, replies: &[Reply<u32>]) -> Result<Option<String>, Fail> {
+    match replies.first() {
+        Some(told) => Ok(Some(text_of(alloc, told)?)),
+        None => Err(Fail::new("there is a reply")),
+    }
+}
+
 /// Makes the call; what its reply tells, or none if memory was refused.
 fn answer(alloc: Global, client: &mut Client, call: Call) -> Result<Option<String>, Fail> {
     let made = steps(alloc, &[call])?;
     match client.replay(made) {
-        Ok(replies) => match replies.first() {
-            Some(told) => Ok(Some(text_of(alloc, told)?)),
-            None => Err(Fail::new("there is a reply")),
-        },
+        Ok(replies) => first_of(alloc, replies.as_slice()),
         Err(_) => Ok(None),
     }
 }
