@@ -29,7 +29,7 @@ pub enum InsertClientError {
 }
 
 /// Why an object was not created.
-#[derive(Clone, Copy, Debug, PartialEq, Eq, Error)]
+#[derive(Clone, Copy, PartialEq, Eq, Error)]
 pub enum CreateError {
     /// The client is not stored.
     #[error("Invalid Id")]
@@ -48,6 +48,13 @@ pub enum CreateError {
     OutOfMemory,
 }
 
+/// Writes what `Display` writes.
+impl fmt::Debug for CreateError {
+    fn fmt<W: fmt::Write>(&self, f: &mut fmt::Formatter<W>) -> fmt::Result {
+        write!(f, "{self}")
+    }
+}
+
 /// Why an object was not destroyed.
 #[derive(Clone, Copy, Debug, PartialEq, Eq, Error)]
 pub enum DestroyError {
@@ -64,7 +71,7 @@ pub enum DestroyError {
 /// The sender is checked first, then the opcode, then the signature, then the arguments from left to right. Of each
 /// argument it is checked whether it is null, then to which client it belongs, then whether the object is there, then its
 /// interface.
-#[derive(Clone, Copy, Debug, PartialEq, Eq)]
+#[derive(Clone, Copy, PartialEq, Eq)]
 pub enum EventError {
     /// The sender's client is not stored, or the id of the sender or of an argument names no object.
     InvalidId,
@@ -86,7 +93,7 @@ pub enum EventError {
 
 impl fmt::Display for EventError {
     fn fmt<W: fmt::Write>(&self, f: &mut fmt::Formatter<W>) -> fmt::Result {
-        let text = match self {
+        f.write_str(match self {
             EventError::InvalidId => "Invalid Id",
             EventError::UnknownOpcode => "the interface has no event of that opcode",
             EventError::BadSignature => "the arguments do not fit the event's signature",
@@ -95,15 +102,21 @@ impl fmt::Display for EventError {
             EventError::ForeignObject => "an argument is an object of another client",
             EventError::WrongInterface => "an argument has another interface",
             EventError::OutOfMemory => "out of memory",
-        };
-        f.write_str(text)
+        })
+    }
+}
+
+/// Writes what `Display` writes.
+impl fmt::Debug for EventError {
+    fn fmt<W: fmt::Write>(&self, f: &mut fmt::Formatter<W>) -> fmt::Result {
+        write!(f, "{self}")
     }
 }
 
 impl std::error::Error for EventError {}
 
 /// Why a global was not created.
-#[derive(Clone, Copy, Debug, PartialEq, Eq, Error)]
+#[derive(Clone, Copy, PartialEq, Eq, Error)]
 pub enum GlobalError {
     /// The interface is not in the table.
     #[error("the interface is not in the table")]
@@ -117,6 +130,13 @@ pub enum GlobalError {
     /// There was no memory.
     #[error("out of memory")]
     OutOfMemory,
+}
+
+/// Writes what `Display` writes.
+impl fmt::Debug for GlobalError {
+    fn fmt<W: fmt::Write>(&self, f: &mut fmt::Formatter<W>) -> fmt::Result {
+        write!(f, "{self}")
+    }
 }
 
 /// Why no action was handed out.
@@ -138,7 +158,7 @@ pub enum ActionError {
 }
 
 /// Why an action was not finished.
-#[derive(Clone, Copy, Debug, PartialEq, Eq, Error)]
+#[derive(Clone, Copy, PartialEq, Eq, Error)]
 pub enum FinishError {
     /// The client is not stored.
     #[error("Invalid Id")]
@@ -160,6 +180,13 @@ pub enum FinishError {
     OutOfMemory,
 }
 
+/// Writes what `Display` writes.
+impl fmt::Debug for FinishError {
+    fn fmt<W: fmt::Write>(&self, f: &mut fmt::Formatter<W>) -> fmt::Result {
+        write!(f, "{self}")
+    }
+}
+
 /// A refusal to finish an action: the reason, and the user data that were given. The action is still open.
 #[derive(Debug, Drop)]
 pub struct FinishRefused<D> {
@@ -170,7 +197,7 @@ pub struct FinishRefused<D> {
 }
 
 /// Why a call of a client's transport by script (`wl_link::Memory`) was refused.
-#[derive(Clone, Copy, Debug, PartialEq, Eq, Error)]
+#[derive(Clone, Copy, PartialEq, Eq, Error)]
 pub enum ScriptError {
     /// The client is not stored.
     #[error("Invalid Id")]
@@ -181,4 +208,11 @@ pub enum ScriptError {
     /// There was no memory.
     #[error("out of memory")]
     OutOfMemory,
+}
+
+/// Writes what `Display` writes.
+impl fmt::Debug for ScriptError {
+    fn fmt<W: fmt::Write>(&self, f: &mut fmt::Formatter<W>) -> fmt::Result {
+        write!(f, "{self}")
+    }
 }

@@ -23,7 +23,7 @@ use crate::reading::Surroundings;
 use crate::reading::action::{Action, Found, Reading};
 use smallvec::SmallVec;
 use wl_link::{MessagePlace, Transport};
-use wl_wire::{INLINE_ARGS, IoFault};
+use wl_wire::IoFault;
 
 impl<T: Transport + Drop, U: Drop, C: Drop> Client<T, U, C> {
     /// The header of the message at the front, if the client may be read: no action is open, and it was not killed.
@@ -60,21 +60,16 @@ impl<T: Transport + Drop, U: Drop, C: Drop> Client<T, U, C> {
                 args,
                 is_destructor,
                 created,
-            } => {
-                // There is always room for so many.
-                let room = args.capacity();
-                prove!(INLINE_ARGS <= room);
-                match self.take_words(around, reading, header, args) {
-                    Some(request) => {
-                        *sender = request.0;
-                        *opcode = header.1;
-                        *is_destructor = request.1;
-                        *created = None;
-                        true
-                    }
-                    None => false,
+            } => match self.take_words(around, reading, header, args) {
+                Some(request) => {
+                    *sender = request.0;
+                    *opcode = header.1;
+                    *is_destructor = request.1;
+                    *created = None;
+                    true
                 }
-            }
+                None => false,
+            },
             Action::Bind { .. } => false,
         }
     }

@@ -157,7 +157,7 @@ fn empty(args: &mut SmallVec<Argument<ObjectId, Token>, INLINE_ARGS>)
     }
 }
 
-/// Puts the arguments of the request, which are words, into `args`, which is emptied first. It has room for them.
+/// Puts the arguments of the request, which are at most four words, into `args`, which is emptied first.
 fn put_words<U: Drop>(
     client: ClientId,
     objects: &ObjectMap<Kept<U>>,
@@ -165,11 +165,14 @@ fn put_words<U: Drop>(
     payload: &[u8],
     args: &mut SmallVec<Argument<ObjectId, Token>, INLINE_ARGS>,
 )
-    requires room { length desc.now.signature.items ≤ args.old.capacity }
+    requires few { length desc.now.signature.items ≤ INLINE_ARGS }
     requires words { 4 * length desc.now.signature.items ≤ length payload.now }
     ensures put { args.new.items ≡ handed_words client objects.now.store desc.now.signature.items payload.now }
     ensures capacity { args.new.capacity ≡ args.old.capacity }
 {
+    // There is always room for so many.
+    let room = args.capacity();
+    prove!(INLINE_ARGS <= room);
     empty(args);
     let mut kinds = desc.signature.as_slice();
     let mut bytes = payload;
@@ -229,12 +232,11 @@ impl<T: Transport + Drop, U: Drop, C: Drop> Client<T, U, C> {
     ) -> Option<(ObjectId, bool)>
         requires live { Live self.old.part }
         requires header { IsHeader self.old.part.link header }
-        requires inline { INLINE_ARGS ≤ args.old.capacity }
         ensures handles { MatchOption result
             ((self.new ≡ self.old) × (reading.new ≡ reading.old) × (args.new ≡ args.old))
             (λ w. HandlesMessage T.sends T.receives (around_of G.views around.now) self.old reading.old
             (Acts (Request w.0 header.1 args.new.items w.1 None)) self.new reading.new) }
-        ensures inline { INLINE_ARGS ≤ args.new.capacity }
+        ensures capacity { args.new.capacity ≡ args.old.capacity }
         ensures times { self.new.times ≡ self.old.times }
         ensures numbered { IsNumbered (Some self.old) → IsNumbered (Some self.new) }
     {

@@ -1,11 +1,11 @@
-use Rattle.std.proofs.Common.{arith, refl}
+use Rattle.std.proofs.Common.{refl}
 use Rattle.wl_wire.specs.Table.{message_row}
 use Rattle.wl_server.specs.Inside.ReadingLoop.{around_of}
 use Rattle.wl_server.proofs.Readings.Words.{long_enough, words_handed}
 use Rattle.wl_server.proofs.client.Client.take_words.Goals as goal
 
-pub put_words-requires-clause-room : goal.put_words-requires-clause-room
-put_words-requires-clause-room g c = omega (arith, c.in-Some.ensures.stands.few, c.requires.inline)
+pub put_words-requires-clause-few : goal.put_words-requires-clause-few
+put_words-requires-clause-few g c = c.in-Some.ensures.stands.few
 
 pub put_words-requires-clause-words : goal.put_words-requires-clause-words
 put_words-requires-clause-words g c =

@@ -38,3 +38,9 @@ returns-clause-felt g c =
 
 pub returns-clause-in_time : goal.returns-clause-in_time
 returns-clause-in_time g c = (c.loop-slot.slot, c.loop-slot.invariant.in_time)
+
+pub loop-slot-smaller : goal.loop-slot-smaller
+loop-slot-smaller g c = omega (arith, c.loop-slot-test.true)
+
+pub returns-clause-numbered : goal.returns-clause-numbered
+returns-clause-numbered g c = c.loop-slot.invariant.numbered

@@ -1,3 +1,4 @@
+use Rattle.std.proofs.lemmas.Result.{err_from_is_err_and}
 use Rattle.std.proofs.Common.{length, true, map}
 use Rattle.std.specs.Vec.{vec_capacity, vec_len}
 use Rattle.wl_server.specs.Inside.Gathering.{count_leaving}
@@ -46,3 +47,111 @@ returns-then-count-eq0-clause-order g c =
     let notes = none_of c.count_work-work.result.gathered (count_leaving true c.args.clients.now) none.0 c.count_work-work.ensures.gathered in
     let places = none_of c.count_work-work.result.gathered (count_places true (map times_of c.args.clients.now)) none.0 c.count_work-work.ensures.places in
     none_order true c.args.clients.now c.new.result.items c.new.ensures.items (none_leaving true c.args.clients.now notes) places
+
+pub memory_for_notes-requires-clause-ends : goal.memory_for_notes-requires-clause-ends
+memory_for_notes-requires-clause-ends g c = c.count_work-work.ensures.ends
+
+pub memory_for_notes-requires-clause-gathered : goal.memory_for_notes-requires-clause-gathered
+memory_for_notes-requires-clause-gathered g c = c.count_work-work.ensures.gathered
+
+pub order_of-requires-clause-quiet : goal.order_of-requires-clause-quiet
+order_of-requires-clause-quiet g c = c.count_work-work.ensures.quiet
+
+pub order_of-requires-clause-slots : goal.order_of-requires-clause-slots
+order_of-requires-clause-slots g c = c.requires.slots
+
+pub returns-clause-items : goal.returns-clause-items
+returns-clause-items g c = c.memory_for_notes.ensures.items
+
+pub returns-clause-none : goal.returns-clause-none
+returns-clause-none g c = c.in_ok-given.ensures.items
+
+pub returns-clause-notes : goal.returns-clause-notes
+returns-clause-notes g c = c.in_ok-memory_for_notes.ensures.room
+
+pub returns-clause-order : goal.returns-clause-order
+returns-clause-order g c = c.in_ok-order.ensures
+
+pub returns-clause-quiet : goal.returns-clause-quiet
+returns-clause-quiet g c = c.count_work-work.ensures.quiet
+
+pub returns-in_err-given-clause-given : goal.returns-in_err-given-clause-given
+returns-in_err-given-clause-given g c =
+    let p = err_from_is_err_and c.from_residual-in_err-given.result c.from_residual-in_err-given.ensures.1 in
+    rw p.1 tt
+
+pub returns-in_err-given-clause-items : goal.returns-in_err-given-clause-items
+returns-in_err-given-clause-items g c = c.memory_for_notes.ensures.items
+
+pub returns-in_err-given-clause-none : goal.returns-in_err-given-clause-none
+returns-in_err-given-clause-none g c =
+    let p = err_from_is_err_and c.from_residual-in_err-given.result c.from_residual-in_err-given.ensures.1 in
+    rw p.1 tt
+
+pub returns-in_err-given-clause-notes : goal.returns-in_err-given-clause-notes
+returns-in_err-given-clause-notes g c =
+    let p = err_from_is_err_and c.from_residual-in_err-given.result c.from_residual-in_err-given.ensures.1 in
+    rw p.1 tt
+
+pub returns-in_err-given-clause-order : goal.returns-in_err-given-clause-order
+returns-in_err-given-clause-order g c =
+    let p = err_from_is_err_and c.from_residual-in_err-given.result c.from_residual-in_err-given.ensures.1 in
+    rw p.1 tt
+
+pub returns-in_err-given-clause-quiet : goal.returns-in_err-given-clause-quiet
+returns-in_err-given-clause-quiet g c = c.count_work-work.ensures.quiet
+
+pub returns-in_err-memory_for_notes-clause-given : goal.returns-in_err-memory_for_notes-clause-given
+returns-in_err-memory_for_notes-clause-given g c =
+    let p = err_from_is_err_and c.from_residual.result c.from_residual.ensures.1 in
+    rw p.1 tt
+
+pub returns-in_err-memory_for_notes-clause-items : goal.returns-in_err-memory_for_notes-clause-items
+returns-in_err-memory_for_notes-clause-items g c = c.memory_for_notes.ensures.items
+
+pub returns-in_err-memory_for_notes-clause-none : goal.returns-in_err-memory_for_notes-clause-none
+returns-in_err-memory_for_notes-clause-none g c =
+    let p = err_from_is_err_and c.from_residual.result c.from_residual.ensures.1 in
+    rw p.1 tt
+
+pub returns-in_err-memory_for_notes-clause-notes : goal.returns-in_err-memory_for_notes-clause-notes
+returns-in_err-memory_for_notes-clause-notes g c =
+    let p = err_from_is_err_and c.from_residual.result c.from_residual.ensures.1 in
+    rw p.1 tt
+
+pub returns-in_err-memory_for_notes-clause-order : goal.returns-in_err-memory_for_notes-clause-order
+returns-in_err-memory_for_notes-clause-order g c =
+    let p = err_from_is_err_and c.from_residual.result c.from_residual.ensures.1 in
+    rw p.1 tt
+
+pub returns-in_err-memory_for_notes-clause-quiet : goal.returns-in_err-memory_for_notes-clause-quiet
+returns-in_err-memory_for_notes-clause-quiet g c = c.count_work-work.ensures.quiet
+
+pub returns-in_err-order-clause-given : goal.returns-in_err-order-clause-given
+returns-in_err-order-clause-given g c =
+    let p = err_from_is_err_and c.from_residual-in_err-order.result c.from_residual-in_err-order.ensures.1 in
+    rw p.1 tt
+
+pub returns-in_err-order-clause-items : goal.returns-in_err-order-clause-items
+returns-in_err-order-clause-items g c = c.memory_for_notes.ensures.items
+
+pub returns-in_err-order-clause-none : goal.returns-in_err-order-clause-none
+returns-in_err-order-clause-none g c =
+    let p = err_from_is_err_and c.from_residual-in_err-order.result c.from_residual-in_err-order.ensures.1 in
+    rw p.1 tt
+
+pub returns-in_err-order-clause-notes : goal.returns-in_err-order-clause-notes
+returns-in_err-order-clause-notes g c =
+    let p = err_from_is_err_and c.from_residual-in_err-order.result c.from_residual-in_err-order.ensures.1 in
+    rw p.1 tt
+
+pub returns-in_err-order-clause-order : goal.returns-in_err-order-clause-order
+returns-in_err-order-clause-order g c =
+    let p = err_from_is_err_and c.from_residual-in_err-order.result c.from_residual-in_err-order.ensures.1 in
+    rw p.1 tt
+
+pub returns-in_err-order-clause-quiet : goal.returns-in_err-order-clause-quiet
+returns-in_err-order-clause-quiet g c = c.count_work-work.ensures.quiet
+
+pub returns-then-count-eq0-clause-quiet : goal.returns-then-count-eq0-clause-quiet
+returns-then-count-eq0-clause-quiet g c = c.count_work-work.ensures.quiet

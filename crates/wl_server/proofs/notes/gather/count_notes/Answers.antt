@@ -53,3 +53,9 @@ loop-slot-preserved g c =
 
 pub returns-clause-no_more : goal.returns-clause-no_more
 returns-clause-no_more g c = let fewer = c.loop-slot.invariant.no_more in omega (arith, fewer)
+
+pub loop-slot-smaller : goal.loop-slot-smaller
+loop-slot-smaller g c = omega (arith, c.loop-slot-test.true, c.next_from-slot-in-loop-slot.ensures.from)
+
+pub returns-clause-quiet : goal.returns-clause-quiet
+returns-clause-quiet g c = c.loop-slot.invariant.quiet
