@@ -39,7 +39,7 @@ pub enum DestroyError {
 /// The reasons are looked for in the order of the variants, with two exceptions. A sender that the client has destroyed is
 /// refused after the opcode was looked at. The object arguments are looked at after `NotPlaceholder`, one after the other:
 /// the first one with a reason decides.
-#[derive(Clone, Copy, Debug, PartialEq, Eq)]
+#[derive(Clone, Copy, PartialEq, Eq)]
 pub enum RequestError {
     /// The sender, or an object argument, names no object, or one that the client has destroyed.
     InvalidId,
@@ -73,7 +73,7 @@ pub enum RequestError {
 
 impl fmt::Display for RequestError {
     fn fmt<W: fmt::Write>(&self, f: &mut fmt::Formatter<W>) -> fmt::Result {
-        let text = match self {
+        f.write_str(match self {
             RequestError::InvalidId => "Invalid ObjectId",
             RequestError::UnknownOpcode => "the interface has no request of that opcode",
             RequestError::BadSignature => "the arguments do not fit the request's signature",
@@ -88,15 +88,21 @@ impl fmt::Display for RequestError {
             RequestError::IdsExhausted => "no number is left",
             RequestError::SerialsExhausted => "no serial is left",
             RequestError::OutOfMemory => "out of memory",
-        };
-        f.write_str(text)
+        })
+    }
+}
+
+/// Writes what `Display` writes.
+impl fmt::Debug for RequestError {
+    fn fmt<W: fmt::Write>(&self, f: &mut fmt::Formatter<W>) -> fmt::Result {
+        write!(f, "{self}")
     }
 }
 
 impl std::error::Error for RequestError {}
 
 /// Why what waits was not sent, or not all of it.
-#[derive(Clone, Copy, Debug, PartialEq, Eq, Error)]
+#[derive(Clone, Copy, PartialEq, Eq, Error)]
 pub enum FlushError {
     /// The session has an error, which `last_error` returns.
     #[error("the session failed")]
@@ -109,8 +115,15 @@ pub enum FlushError {
     OutOfMemory,
 }
 
+/// Writes what `Display` writes.
+impl fmt::Debug for FlushError {
+    fn fmt<W: fmt::Write>(&self, f: &mut fmt::Formatter<W>) -> fmt::Result {
+        write!(f, "{self}")
+    }
+}
+
 /// Why no event was handed out.
-#[derive(Clone, Copy, Debug, PartialEq, Eq, Error)]
+#[derive(Clone, Copy, PartialEq, Eq, Error)]
 pub enum EventError {
     /// The session has an error, which `last_error` returns.
     #[error("the session failed")]
@@ -126,8 +139,15 @@ pub enum EventError {
     OutOfMemory,
 }
 
+/// Writes what `Display` writes.
+impl fmt::Debug for EventError {
+    fn fmt<W: fmt::Write>(&self, f: &mut fmt::Formatter<W>) -> fmt::Result {
+        write!(f, "{self}")
+    }
+}
+
 /// Why an event was not finished.
-#[derive(Clone, Copy, Debug, PartialEq, Eq, Error)]
+#[derive(Clone, Copy, PartialEq, Eq, Error)]
 pub enum FinishError {
     /// No event is open.
     #[error("no event is open")]
@@ -141,6 +161,13 @@ pub enum FinishError {
     /// There was no memory for the note of the object that the event ends.
     #[error("out of memory")]
     OutOfMemory,
+}
+
+/// Writes what `Display` writes.
+impl fmt::Debug for FinishError {
+    fn fmt<W: fmt::Write>(&self, f: &mut fmt::Formatter<W>) -> fmt::Result {
+        write!(f, "{self}")
+    }
 }
 
 /// Why an event was not finished, and the user data that were given for it. The event is still open.
