@@ -34,29 +34,26 @@ use Rattle.wl_server.specs.Runs.{IsNotInserted, Leads, concerns}
 use Rattle.wl_server.specs.Server.{Seen, ServerState, seen}
 use Rattle.wl_server.specs.Steps.{Entry, OneStep}
 use Rattle.wl_server.specs.Telling.{Core, Told, reader_part}
-use Rattle.wl_server.proofs.Dispatches.Waiting.{at_other, reads_of, spared_unread, stops_left}
+use Rattle.wl_server.proofs.Dispatches.Waiting.{at_other, spared_unread, stops_left, unread_goes, unread_moves}
 use Rattle.wl_server.proofs.OverRuns.Alone.IsolationLaw.{other_call, same_self}
 use Rattle.wl_server.proofs.OverRuns.Cut.RoomLaws.{no_more, none_sent, received, received_deeds}
 use Rattle.wl_server.proofs.OverRuns.Moves.BaseMoves.{Doings, Goes, Moves, any, born, cleaned, finished, ended, flushed, followed, found, found_none, handed_out, notes_taken, opens, received as received_move, relinked, remembered, stayed, taken_out, told, unfelt, went, within, wrote}
-use Rattle.wl_server.proofs.OverRuns.Moves.BaseMovesLaw.{call_goes}
+use Rattle.wl_server.proofs.OverRuns.Moves.BaseMovesLaw.{reads_of}
 
--- ---- over a transport that never receives
-
-abbrev never : {T : Type 0} → T → ℕ → Result Queue IoFault → T → Type 0
-never t n r t' = ⊥
+-- ---- a call that does not read the client
 
 module _ {U : Type 0} where
   came_of : (d e : Doings U) → d ≡ e → e.came ≡ [] → d.came ≡ []
   came_of d e is nothing' = ap (λ (x : Doings U). x.came) is ∙ nothing'
 
-module _ {T U C : Type 0} (sends : T → Queue → Result ℕ IoFault → T → Type 0) (client : ClientParts) where
-  moves_quiet : (p q : Part T U C) (d : Doings U) → Moves (any true) sends never client p d q → d.came ≡ []
+module _ {T U C : Type 0} (sends : T → Queue → Result ℕ IoFault → T → Type 0) (receives : T → ℕ → Result Queue IoFault → T → Type 0) (client : ClientParts) where
+  moves_quiet : (p q : Part T U C) (d : Doings U) → Moves unread_moves sends receives client p d q → d.came ≡ []
   moves_quiet p q d (stayed is same) = came_of d _ is refl
   moves_quiet p q d (followed {m = m} {a = a} {b = b} first second is) =
       ap (λ (x : Doings U). x.came) is ∙ no_more a.came b.came (moves_quiet p m a first) (moves_quiet m q b second)
   moves_quiet p q d (handed_out {a = a} ids moves among is) = ap (λ (x : Doings U). x.came) is ∙ moves_quiet p q a moves
-  moves_quiet p q d (relinked link waits stays is same) = came_of d _ is refl
-  moves_quiet p q d (received_move r answer link filled is same) = absurd filled.0
+  moves_quiet p q d (relinked link waits stays unread is same) = came_of d _ is refl
+  moves_quiet p q d (received_move r answer link reads filled is same) = absurd (true≢false (sym reads))
   moves_quiet p q d (told messages es put answer link puts is same) = came_of d _ is refl
   moves_quiet p q d (flushed es answer link by is same) = came_of d _ is refl
   moves_quiet p q d (ended reason may is same) = came_of d _ is refl
@@ -66,56 +63,23 @@ module _ {T U C : Type 0} (sends : T → Queue → Result ℕ IoFault → T → 
   moves_quiet p q d (wrote n x u holds is same) = came_of d _ is refl
   moves_quiet p q d (went n x waits holds is same) = came_of d _ is refl
   moves_quiet p q d (remembered n x holds registry is same) = came_of d _ is refl
-  moves_quiet p q d (opens action h acts so is same) = came_of d _ is refl
+  moves_quiet p q d (opens action h reads so is same) = came_of d _ is refl
   moves_quiet p q d (finished is same) = came_of d _ is refl
   moves_quiet p q d (cleaned on is same) = came_of d _ is refl
 
-  goes_quiet : (s t : Seen T U C) (d : Doings U) → Goes (any true) sends never client s d t → d.came ≡ []
+  goes_quiet : (s t : Seen T U C) (d : Doings U) → Goes unread_moves sends receives client s d t → d.came ≡ []
   goes_quiet s t d (unfelt is same) = came_of d _ is refl
   goes_quiet s t d (within p q there moves same) = moves_quiet p q d moves
   goes_quiet s t d (taken_out p q on there killed moves gone no_notes same) = moves_quiet p q d moves
   goes_quiet s t d (notes_taken on is same) = came_of d _ is refl
 
--- ---- a call that does not read the client
-
-abbrev is_insertion : {T U G C : Type 0} → Call T U G C → Bool
-is_insertion (Asked (step.InsertClient transport client_data) answer) = true
-is_insertion _ = false
-
-module _ {T U G C : Type 0} (w : World T G C) (id : ClientParts) (offer : Offer G) (before after : Seen T U C) (lacked : Bool) (did : List (Deed U)) where
-  abbrev Quiet : Type 0
-  Quiet = came_in did ≡ []
-
-  unfelt_quiet : Unfelt before lacked did after → Quiet
-  unfelt_quiet (unlacked, none', same) = ap came_in none'
-
-  abbrev unheard : World T G C
-  unheard = record w { receives = never }
-
-  -- one that is the same over a transport that never receives
-  felt : (call : Call T U G C) → is_insertion call ≡ false → PartCall w id offer call before lacked did after → PartCall unheard id offer call before lacked did after → Quiet
-  felt call old h h' = go (concerns id call) refl
-    where
-      not_inserted : IsNotInserted id call
-      not_inserted new (transport, client_data, is) = absurd (true≢false (sym (ap is_insertion is) ∙ old))
-
-      go : (b : Bool) → concerns id call ≡ b → Quiet
-      go true about = goes_quiet w.sends id before after _ (call_goes true unheard id offer call before lacked did after about h' (λ cleans. refl))
-      go false far = unfelt_quiet (other_call w id offer call before lacked did after not_inserted far h)
-
-  inserted_quiet : (transport : T) (client_data : C) (r : Result ClientParts InsertClientError) → InsertedAs w id offer transport client_data r before lacked did after → Quiet
-  inserted_quiet transport client_data (Ok new) h =
-      elim (either_bool (same_client new id) h) [
-        | inl (link, fresh, unlacked, did_so, same) ↦ ap came_in did_so
-        | inr other ↦ unfelt_quiet other
-      ]
-  inserted_quiet transport client_data (Err e) other = unfelt_quiet other
-
-  pub call_quiet : (call : Call T U G C) → reads_of id call ≡ false → PartCall w id offer call before lacked did after → Quiet
-  call_quiet (Asked (step.InsertClient transport client_data) answer) other (r, is, h) = inserted_quiet transport client_data r h
-  call_quiet (Asked (step.NextAction target) answer) other (r, left, is, h) = unfelt_quiet (at_other _ _ (same_client target id) other h)
-  call_quiet (Asked (step.NextActionWithin target reading) answer) other (r, left, is, h) = unfelt_quiet (at_other _ _ (same_client target id) other h)
-  call_quiet call other h = felt call refl h h
+pub call_quiet : {T U G C : Type 0} (w : World T G C) (id : ClientParts) (offer : Offer G) (before after : Seen T U C) (lacked : Bool) (did : List (Deed U)) (call : Call T U G C)
+    → reads_of id call ≡ false → PartCall w id offer call before lacked did after → came_in did ≡ []
+call_quiet w id offer before after lacked did call other h =
+    elim (unread_goes w id offer before after lacked did call other h) [
+      | inl (ids, goes) ↦ goes_quiet w.sends w.receives id before after _ goes
+      | inr (p, none_waits, empty, did_so, same) ↦ ap came_in did_so
+    ]
 
 -- ---- a reading
 

@@ -20,7 +20,7 @@ use Rattle.wl_link.proofs.Calls.Branches.{either_bool, either_option, either_res
 use Rattle.wl_link.specs.Exchange.{Queue, Sending, nothing}
 use Rattle.wl_link.proofs.Streams.LengthLaws.{carries_stays}
 use Rattle.wl_link.specs.Link.{LinkState, ReadOne, WroteBy, count_of, counted_answer}
-use Rattle.wl_link.specs.Puts.{Said, lacks_memory}
+use Rattle.wl_link.specs.Puts.{PutsOut, Said, lacks_memory}
 use Rattle.wl_link.specs.Reader.{CarriesOut, Given, Gives, Handled, Reader, Reads, Received, Stops as StopsReading, Turn, Unread, Verdict, came_to, put_and_gave, stops, with_link as at_link, ReaderState}
 use Rattle.wl_link.proofs.Streams.StreamLaws.{read_left}
 use Rattle.wl_server.specs.declared.error.ActionError.{ActionError}
@@ -66,6 +66,8 @@ use Rattle.wl_server.specs.Steps.{Entry, OneStep}
 use Rattle.wl_server.specs.Telling.{Core, Finish, Stops, Tells, Told, core_of, part_of, reader_part, speaker, tells}
 use Rattle.wl_server.proofs.OverRuns.Alone.IsolationLaw.{same_self}
 use Rattle.wl_server.proofs.OverRuns.Ids.ReplyLaws.{own_step}
+use Rattle.wl_server.proofs.OverRuns.Moves.BaseMoves.{Doings, Goes, Kind, Moves, born, cleaned, ended, finished, flushed, followed, found as found_one, found_none, handed_out, notes_taken, opens, received as received_move, relinked, remembered, stayed, taken_out, told, unfelt, went, within, wrote as wrote_data}
+use Rattle.wl_server.proofs.OverRuns.Moves.BaseMovesLaw.{AnyGoes, any_moves, reads_of}
 use Rattle.wl_server.proofs.OverRuns.Moves.MovesOfReadings.{gave_none}
 
 not_true : (b : Bool) → not b ≡ true → b ≡ false
@@ -86,140 +88,38 @@ module _ {T U C : Type 0} where
   same_keeps : (p q : Part T U C) → q ≡ p → Keeps p q
   same_keeps p q same = ap (λ (x : Part T U C). x.link.incoming) same
 
-  module _ (sends : T → Queue → Result ℕ IoFault → T → Type 0) where
-    tells_keep : (v : Verdict (Core U C) (Told U)) (link : LinkState T) (lacked : Bool) (did : List (Deed U)) (q : Part T U C) → Tells sends v link lacked did q
-        → q.link.incoming ≡ link.incoming
-    tells_keep v link lacked did q (es, gave, end, carried, did_so, is) =
-        ap (λ (x : Part T U C). x.link.incoming) is ∙ (carries_stays sends speaker v link end es gave lacked carried).incoming
+-- the client is not read
+abbrev pub unread_moves : Kind
+unread_moves = record { gathers = true; hands = true; reads = false; kills = λ reason. Unit {0}; closes = tt }
 
-    hears_keep : (p q : Part T U C) (messages : List Said) (lacked : Bool) (did : List (Deed U)) → Hears sends p messages lacked did q → Keeps p q
-    hears_keep p q messages lacked did h =
-        elim (either_bool p.is_killed h) [
-          | inl (unlacked, none, same) ↦ same_keeps p q same
-          | inr told ↦ tells_keep (tells (core_of p) messages) p.link lacked did q told
-        ]
+module _ {T U C : Type 0} (sends : T → Queue → Result ℕ IoFault → T → Type 0) (receives : T → ℕ → Result Queue IoFault → T → Type 0) (client : ClientParts) where
+  -- messages that are put leave what waits to be read, as a verdict does that puts them
+  told_keeps : (c : Core U C) (ms : List Said) (before after : LinkState T) (es : List Sending) (put : List Said) (answer : Result (Unit {0}) IoFault)
+      → PutsOut sends before ms es put answer after → after.incoming ≡ before.incoming
+  told_keeps c ms before after es put answer puts =
+      (carries_stays sends speaker (tells c ms) before (record { core = came_to speaker (tells c ms) answer; link = after }) (es ++ [])
+      (put_and_gave put ((tells c ms).events (came_to speaker (tells c ms) answer))) (lacks_memory answer || false)
+      (inl (es, [], put, answer, after, false, puts, (refl, refl, refl), refl, refl, refl, refl))).incoming
 
-    flushed_keep : (p q : Part T U C) (answer : Result (Unit {0}) IoFault) (lacked : Bool) (did : List (Deed U)) → FlushedTo sends p answer lacked did q → Keeps p q
-    flushed_keep p q answer lacked did (es, link, flushed, lacks, did_so, same) =
-        ap (λ (x : Part T U C). x.link.incoming) same ∙ ap (λ (l : LinkState T). l.incoming) flushed.2
-
-    flushes_keep : (p q : Part T U C) (lacked : Bool) (did : List (Deed U)) → FlushesLive sends p lacked did q → Keeps p q
-    flushes_keep p q lacked did h =
-        elim (either_bool p.is_killed h) [
-          | inl (unlacked, none, same) ↦ same_keeps p q same
-          | inr (answer, flushed) ↦ flushed_keep p q answer lacked did flushed
-        ]
-
-    -- ---- calls on objects
-
-    data_keeps : (p q : Part T U C) (o : IdParts) (u : U) (answer : Result (Unit {0}) InvalidId) → DataSet p o u answer q → Keeps p q
-    data_keeps p q o u answer h =
-        elim (either_option (named p.store o) h) [
-          | inl (none, (is, same)) ↦ same_keeps p q same
-          | inr (x, there, (is, same)) ↦ ap (λ (x : Part T U C). x.link.incoming) same
-        ]
-
-    created_keeps : (client : ClientParts) (p q : Part T U C) (n : ℕ) (x : Object (Kept U)) (answer : Result IdParts CreateError) → CreatesAt client p n x answer q → Keeps p q
-    created_keeps client p q n x answer (inl (is, same)) = ap (λ (x : Part T U C). x.link.incoming) same
-    created_keeps client p q n x answer (inr (is, unused, same)) = same_keeps p q same
-
-    creates_keep : (table : List InterfaceRow) (client : ClientParts) (p q : Part T U C) (i : InterfaceId) (version : ℕ) (u : U) (answer : Result IdParts CreateError)
-        → Creates table client p i version u answer q → Keeps p q
-    creates_keep table client p q i version u answer h =
-        elim (either_option (slice_get table i.0) h) [
-          | inl (none, (is, same)) ↦ same_keeps p q same
-          | inr (row, there, inl (full, is, same)) ↦ same_keeps p q same
-          | inr (row, there, inr (n, least, h')) ↦
-              elim (either_bool (p.last_serial == last_possible_serial) h') [
-                | inl (is, same) ↦ same_keeps p q same
-                | inr created ↦ created_keeps client p q n _ answer created
-              ]
-        ]
-
-    destroys_keep : (client : ClientParts) (p q : Part T U C) (o : IdParts) (answer : Result (Unit {0}) DestroyError) (lacked : Bool) (did : List (Deed U))
-        → Destroys sends client p o answer lacked did q → Keeps p q
-    destroys_keep client p q o answer lacked did h =
-        elim (either_option (destroyable p o) h) [
-          | inl (none, (is, unlacked, nothing', same)) ↦ same_keeps p q same
-          | inr (x, there, (is, told)) ↦ tells_keep (destroys client (core_of p) o x) p.link lacked did q told
-        ]
-
-    -- ---- events and errors
-
-    -- a write leaves what waits to be read, as a verdict does that puts its message
-    write_keeps : (c : Core U C) (before link : LinkState T) (m : Said) (es : List Sending) (wrote : Result (Unit {0}) IoFault) → WroteBy sends before m.message es wrote link
-        → link.incoming ≡ before.incoming
-    write_keeps c before link m es (Ok u) write =
-        (carries_stays sends speaker (tells c (m ∷ [])) before (record { core = c; link = link }) (es ++ []) (put_and_gave (m ∷ []) []) false
-        (inl (es, [], m ∷ [], Ok tt, link, false, (es, Ok u, link, inl write, ([], [], sym (append-nil es), refl, (refl, refl, refl, refl))), (refl, refl, refl), refl, refl, refl, refl))).incoming
-    write_keeps c before link m es (Err f) write =
-        (carries_stays sends speaker (tells c (m ∷ [])) before (record { core = came_to speaker (tells c (m ∷ [])) (Err f); link = link }) (es ++ []) [] (lacks_memory (Err f) || false)
-        (inl (es, [], [], Err f, link, false, (es, Err f, link, inl write, (refl, refl, refl, refl)), (refl, refl, refl), refl, refl, refl, refl))).incoming
-
-    sent_keeps : (client : ClientParts) (p q : Part T U C) (m : SessionMessage) (x : Object (Kept U)) (ends : Bool) (wrote : Result (Unit {0}) IoFault) (link : LinkState T)
-        (answer : Result (Unit {0}) EventError) (lacked : Bool) (did : List (Deed U)) → SentAs sends client p m x ends wrote link answer lacked did q
-        → q.link.incoming ≡ link.incoming
-    sent_keeps client p q m x ends (Ok u) link answer lacked did (rest, told, is, did_so) = tells_keep (ends_sender client (core_of p) m x ends) link lacked rest q told
-    sent_keeps client p q m x ends (Err fault.OutOfMemory) link answer lacked did (is, lacks, none, same) = ap (λ (x : Part T U C). x.link.incoming) same
-    sent_keeps client p q m x ends _ link answer lacked did h = tells_keep (ends_closed client (core_of p) m x ends) link lacked did q h.0
-
-    granted_keeps : (client : ClientParts) (p q : Part T U C) (m : SessionMessage) (x : Object (Kept U)) (ends : Bool) (answer : Result (Unit {0}) EventError) (lacked : Bool)
-        (did : List (Deed U)) → SendsGranted sends client p m x ends answer lacked did q → Keeps p q
-    granted_keeps client p q m x ends answer lacked did (inl (asks, is, lacks, none, same)) = same_keeps p q same
-    granted_keeps client p q m x ends answer lacked did (inr (es, rest, wrote, link, write, sent, did_so)) =
-        sent_keeps client p q m x ends wrote link answer lacked rest sent ∙ write_keeps (core_of p) p.link link (said m) es wrote write
-
-    event_keeps : (client : ClientParts) (table : List InterfaceRow) (p q : Part T U C) (m : SessionMessage) (answer : Result (Unit {0}) EventError) (lacked : Bool) (did : List (Deed U))
-        → SendsEvent sends client table p m answer lacked did q → Keeps p q
-    event_keeps client table p q m answer lacked did h =
-        elim (either_bool p.is_killed h) [
-          | inl (is, unlacked, none, same) ↦ same_keeps p q same
-          | inr h' ↦
-              elim (either_result (event_check client p.store table m) h') [
-                | inl (g, granted) ↦ granted_keeps client p q m g.0 g.1 answer lacked did granted
-                | inr (e, (is, unlacked, none, same)) ↦ same_keeps p q same
-              ]
-        ]
-
-    error_keeps : (table : List InterfaceRow) (p q : Part T U C) (o : IdParts) (code : ℕ) (text : List ℕ) (lacked : Bool) (did : List (Deed U))
-        → PostsError sends table p o code text lacked did q → Keeps p q
-    error_keeps table p q o code text lacked did h =
-        elim (either_bool (o.number == 0) h) [
-          | inl (unlacked, none, same) ↦ same_keeps p q same
-          | inr told ↦ tells_keep (posts table (core_of p) o code text) p.link lacked did q told
-        ]
-
-    -- ---- the ends of actions
-
-    open_keeps : (client : ClientParts) (p q : Part T U C) (a : OpenAction) (u : Option U) (answer : Result (Unit {0}) (FinishRefused (Option U))) (lacked : Bool) (did : List (Deed U))
-        → FinishesOpen sends client p a u answer lacked did q → Keeps p q
-    open_keeps client p q (opened.Bind o) u answer lacked did (is, unlacked, none, same) = same_keeps p q same
-    open_keeps client p q (opened.Request sender is_destructor created) u answer lacked did h =
-        elim (either_option (refusal p.is_killed created u) h) [
-          | inl (none, (is, told)) ↦ tells_keep (ends_request client (core_of p) sender is_destructor created u) p.link lacked did q told
-          | inr (e, refused, (is, unlacked, none, same)) ↦ same_keeps p q same
-        ]
-
-    finish_keeps : (client : ClientParts) (p q : Part T U C) (u : Option U) (answer : Result (Unit {0}) (FinishRefused (Option U))) (lacked : Bool) (did : List (Deed U))
-        → FinishesRequest sends client p u answer lacked did q → Keeps p q
-    finish_keeps client p q u answer lacked did h =
-        elim (either_option p.action h) [
-          | inl (none, (is, unlacked, nothing', same)) ↦ same_keeps p q same
-          | inr (a, there, open') ↦ open_keeps client p q a u answer lacked did open'
-        ]
-
-  open_bind_keeps : (p q : Part T U C) (a : OpenAction) (u : U) (answer : Result (Unit {0}) (FinishRefused U)) (lacked : Bool) (did : List (Deed U))
-      → FinishesOpenBind p a u answer lacked did q → Keeps p q
-  open_bind_keeps p q (opened.Request sender is_destructor created) u answer lacked did (is, unlacked, none, same) = same_keeps p q same
-  open_bind_keeps p q (opened.Bind o) u answer lacked did (is, unlacked, none, same) = ap (λ (x : Part T U C). x.link.incoming) same
-
-  finish_bind_keeps : (p q : Part T U C) (u : U) (answer : Result (Unit {0}) (FinishRefused U)) (lacked : Bool) (did : List (Deed U))
-      → FinishesBind p u answer lacked did q → Keeps p q
-  finish_bind_keeps p q u answer lacked did h =
-      elim (either_option p.action h) [
-        | inl (none, (is, unlacked, nothing', same)) ↦ same_keeps p q same
-        | inr (a, there, open') ↦ open_bind_keeps p q a u answer lacked did open'
-      ]
+  moves_keep : (p q : Part T U C) (d : Doings U) → Moves unread_moves sends receives client p d q → Keeps p q
+  moves_keep p q d (stayed is same) = same_keeps p q same
+  moves_keep p q d (followed {m = m} {a = a} {b = b} first second is) = moves_keep m q b second ∙ moves_keep p m a first
+  moves_keep p q d (handed_out {a = a} ids moves among is) = moves_keep p q a moves
+  moves_keep p q d (relinked link waits stays unread is same) = ap (λ (x : Part T U C). x.link.incoming) same ∙ unread refl
+  moves_keep p q d (received_move r answer link reads filled is same) = absurd (true≢false (sym reads))
+  moves_keep p q d (told messages es put answer link puts is same) =
+      ap (λ (x : Part T U C). x.link.incoming) same ∙ told_keeps (core_of p) messages p.link link es put answer puts
+  moves_keep p q d (flushed es answer link by is same) = ap (λ (x : Part T U C). x.link.incoming) same ∙ ap (λ (l : LinkState T). l.incoming) by.2
+  moves_keep p q d (ended reason may is same) = ap (λ (x : Part T U C). x.link.incoming) same
+  moves_keep p q d (born n x free ne serial is same) = ap (λ (x : Part T U C). x.link.incoming) same
+  moves_keep p q d (found_one n x holds is same) = same_keeps p q same
+  moves_keep p q d (found_none is same) = same_keeps p q same
+  moves_keep p q d (wrote_data n x u holds is same) = ap (λ (x : Part T U C). x.link.incoming) same
+  moves_keep p q d (went n x waits holds is same) = ap (λ (x : Part T U C). x.link.incoming) same
+  moves_keep p q d (remembered n x holds registry is same) = ap (λ (x : Part T U C). x.link.incoming) same
+  moves_keep p q d (opens action h reads so is same) = absurd (true≢false (sym reads))
+  moves_keep p q d (finished is same) = ap (λ (x : Part T U C). x.link.incoming) same
+  moves_keep p q d (cleaned on is same) = ap (λ (x : Part T U C). x.link.incoming) same
 
 -- ---- what waits of a client
 
@@ -227,133 +127,39 @@ module _ {T U C : Type 0} where
   abbrev waits_in : Option (Part T U C) → ℕ
   waits_in o = option_map_or (λ p. length p.link.incoming.bytes) o 0
 
-module _ {T U C : Type 0} (before after : Seen T U C) (lacked : Bool) (did : List (Deed U)) where
-  abbrev NoMore : Type 0
-  NoMore = waits after ≤ waits before
+  goes_no_more : (sends : T → Queue → Result ℕ IoFault → T → Type 0) (receives : T → ℕ → Result Queue IoFault → T → Type 0) (client : ClientParts) (before after : Seen T U C) (d : Doings U)
+      → Goes unread_moves sends receives client before d after → waits after ≤ waits before
+  goes_no_more sends receives client before after d (unfelt none same) = let e = ap (λ (s : Seen T U C). waits s) same in omega (arith, e)
+  goes_no_more sends receives client before after d (within p q there moves same) =
+      let now : waits after ≡ length q.link.incoming.bytes = ap (λ (s : Seen T U C). waits s) same in
+      let was : waits before ≡ length p.link.incoming.bytes = ap waits_in there in
+      let kept : length q.link.incoming.bytes ≡ length p.link.incoming.bytes = ap (λ (x : Queue). length x.bytes) (moves_keep sends receives client p q d moves) in
+      omega (arith, now, was, kept)
+  goes_no_more sends receives client before after d (taken_out p q on there killed moves none noted same) =
+      let now : waits after ≡ 0 = ap (λ (s : Seen T U C). waits s) same in omega (arith, now)
+  goes_no_more sends receives client before after d (notes_taken on is same) = let e = ap (λ (s : Seen T U C). waits s) same in omega (arith, e)
 
-  unfelt_no_more : Unfelt before lacked did after → NoMore
-  unfelt_no_more (unlacked, none, same) = let e = ap (λ (s : Seen T U C). waits s) same in omega (arith, e)
-
-  on_part : (R : Part T U C → Part T U C → Type 0) (missing : Type 0) → ((p q : Part T U C) → R p q → Keeps p q) → OnPart before R missing lacked did after → NoMore
-  on_part R missing keeps h =
-      elim (either_option before.part h) [
-        | inl (none, (here, unfelt)) ↦ unfelt_no_more unfelt
-        | inr (p, there, (q, by, same)) ↦
-            let now : waits after ≡ length q.link.incoming.bytes = ap (λ (s : Seen T U C). waits s) same in
-            let was : waits before ≡ length p.link.incoming.bytes = ap waits_in there in
-            let kept : length q.link.incoming.bytes ≡ length p.link.incoming.bytes = ap (λ (x : Queue). length x.bytes) (keeps p q by) in
-            omega (arith, now, was, kept)
-      ]
-
-  of_client : (b : Bool) (R : Part T U C → Part T U C → Type 0) (missing : Type 0) → ((p q : Part T U C) → R p q → Keeps p q) → OfClient b before R missing lacked did after → NoMore
-  of_client b R missing keeps h =
-      elim (either_bool b h) [
-        | inl on ↦ on_part R missing keeps on
-        | inr unfelt ↦ unfelt_no_more unfelt
-      ]
-
-  of_other : (b : Bool) (R : Part T U C → Part T U C → Type 0) (missing : Type 0) → b ≡ false → OfClient b before R missing lacked did after → NoMore
-  of_other b R missing other h = unfelt_no_more (at_other _ _ b other h)
-
-module _ {T U G C : Type 0} where
-  -- whether a call reads of this client
-  abbrev pub reads_of : ClientParts → Call T U G C → Bool
-  reads_of id (Asked (step.NextAction target) answer) = same_client target id
-  reads_of id (Asked (step.NextActionWithin target r) answer) = same_client target id
-  reads_of id _ = false
-
-  pub spared_unread : (id : ClientParts) (call : Call T U G C) → spares id call ≡ true → reads_of id call ≡ false
-  spared_unread id (Asked (step.NextAction target) answer) spared = not_true (same_client target id) spared
-  spared_unread id (Asked (step.NextActionWithin target r) answer) spared = not_true (same_client target id) spared
-  spared_unread id _ spared = refl
+pub spared_unread : {T U G C : Type 0} (id : ClientParts) (call : Call T U G C) → spares id call ≡ true → reads_of id call ≡ false
+spared_unread id (Asked (step.NextAction target) answer) spared = not_true (same_client target id) spared
+spared_unread id (Asked (step.NextActionWithin target r) answer) spared = not_true (same_client target id) spared
+spared_unread id _ spared = refl
 
 module _ {T U G C : Type 0} (w : World T G C) (id : ClientParts) (offer : Offer G) (before after : Seen T U C) (lacked : Bool) (did : List (Deed U)) where
-  inserted : (transport : T) (client_data : C) (r : Result ClientParts InsertClientError) → InsertedAs w id offer transport client_data r before lacked did after → NoMore before after lacked did
-  inserted transport client_data (Ok new) h =
-      elim (either_bool (same_client new id) h) [
-        | inl (link, (limit, limits, is), unlacked, did_so, same) ↦
-            let now : waits after ≡ length link.incoming.bytes = ap (λ (s : Seen T U C). waits s) same in
-            let none : length link.incoming.bytes ≡ 0 = ap (λ (l : LinkState T). length l.incoming.bytes) is in
-            omega (arith, now, none)
-        | inr unfelt ↦ unfelt_no_more before after lacked did unfelt
-      ]
-  inserted transport client_data (Err e) unfelt = unfelt_no_more before after lacked did unfelt
-
-  feels_global : (i : InterfaceId) (version : ℕ) (handler : G) (r : Result GlobalParts GlobalError) → FeelsGlobal w id offer i version handler r before lacked did after
-      → NoMore before after lacked did
-  feels_global i version handler (Ok g) h = on_part before after lacked did _ _
-      (λ p q by. hears_keep w.sends p q (news offer.table p (w.views handler id p.client_data g) (record { name = g.name; interface = i; version = version })) lacked did by) h
-  feels_global i version handler (Err e) unfelt = unfelt_no_more before after lacked did unfelt
-
-  feels_loss : (g : GlobalParts) → FeelsLoss w id offer g before lacked did after → NoMore before after lacked did
-  feels_loss g h =
-      elim (either_bool (is_enabled (global_of offer.globals g)) h) [
-        | inl felt ↦ on_part before after lacked did _ _ (λ p q by. hears_keep w.sends p q (removals p g.name) lacked did by) felt
-        | inr unfelt ↦ unfelt_no_more before after lacked did unfelt
-      ]
-
-  flushed : (target : Option ClientParts) (r : Result (Unit {0}) IoFault) → FlushedFor w id offer target r before lacked did after → NoMore before after lacked did
-  flushed None r (is, felt) = on_part before after lacked did _ _ (λ p q by. flushes_keep w.sends p q lacked did by) felt
-  flushed (Some target) r h = of_client before after lacked did _ _ _ (λ p q by. flushed_keep w.sends p q r lacked did by) h
-
-  cleaned : (r : Result (Vec (ClientParts × T) Global) OutOfMemory) → CleanedAs w id offer r before lacked did after → NoMore before after lacked did
-  cleaned (Err e) unfelt = unfelt_no_more before after lacked did unfelt
-  cleaned (Ok out) h =
-      elim (either_option before.part h) [
-        | inl (none, (here, unfelt)) ↦ unfelt_no_more before after lacked did unfelt
-        | inr (p, there, (q, cleans, same)) ↦
-            let now : waits after ≡ waits_in q = ap (λ (s : Seen T U C). waits s) same in
-            let was : waits before ≡ length p.link.incoming.bytes = ap waits_in there in
-            elim (either_bool p.is_killed cleans) [
-              | inl (sent, answer, end, flushes, did_so, out_is, none) ↦ let left : waits_in q ≡ 0 = ap waits_in none in omega (arith, now, left)
-              | inr (unlacked, did_so, out_is, some) ↦
-                  let left : waits_in q ≡ length p.link.incoming.bytes = ap waits_in some in omega (arith, now, was, left)
-            ]
-      ]
-
-  notes_taken : (r : Result (Vec (Note U) Global) OutOfMemory) → NotesTaken w id offer r before lacked did after → NoMore before after lacked did
-  notes_taken (Err e) unfelt = unfelt_no_more before after lacked did unfelt
-  notes_taken (Ok out) (notes, unlacked, did_so, same) = let now : waits after ≡ waits before = ap (λ (s : Seen T U C). waits s) same in omega (arith, now)
-
-  moved : (target : ClientParts) (m : Move) (answer : Moved) → MovedFor w id offer target m answer before lacked did after → NoMore before after lacked did
-  moved target m answer h =
-      of_client before after lacked did _ _ _ (λ p q (lacks, none, (t, becomes, same)). ap (λ (x : Part T U C). x.link.incoming) same) h
+  pub unread_goes : (call : Call T U G C) → reads_of id call ≡ false → PartCall w id offer call before lacked did after → AnyGoes unread_moves w id offer before did after
+  unread_goes call other h =
+      any_moves unread_moves w id offer call before lacked did after
+      (record { kills = λ e may. tt; gathers = λ is. refl; hands = λ is. refl; reads = λ is. absurd (true≢false (sym is ∙ other)) }) h
 
   -- a call that is no reading of the client adds nothing to what waits of it
-  pub adds_nothing : (call : Call T U G C) → reads_of id call ≡ false → PartCall w id offer call before lacked did after → NoMore before after lacked did
-  adds_nothing (Asked (step.InsertClient transport client_data) answer) other (r, is, h) = inserted transport client_data r h
-  adds_nothing (Asked (step.SetObjectData o u) answer) other (r, is, h) =
-      of_client before after lacked did _ _ _ (λ p q (unlacked, none, by). data_keeps w.sends p q o u r by) h
-  adds_nothing (Asked (step.CreateObject target i version u) answer) other (r, is, h) =
-      of_client before after lacked did _ _ _ (λ p q (lacks, none, by). creates_keep w.sends offer.table id p q i version u r by) h
-  adds_nothing (Asked (step.DestroyObject o) answer) other (r, is, h) =
-      of_client before after lacked did _ _ _ (λ p q by. destroys_keep w.sends id p q o r lacked did by) h
-  adds_nothing (Asked (step.SendEvent m) answer) other (r, is, h) =
-      of_client before after lacked did _ _ _ (λ p q by. event_keeps w.sends id offer.table p q (session_content m) r lacked did by) h
-  adds_nothing (Asked (step.PostError o code text) answer) other (is, h) =
-      of_client before after lacked did _ _ _ (λ p q by. error_keeps w.sends offer.table p q o code text lacked did by) h
-  adds_nothing (Asked (step.KillClient target reason) answer) other (is, h) =
-      of_client before after lacked did _ _ _ (λ p q (unlacked, (did_so, same)). ap (λ (x : Part T U C). x.link.incoming) same) h
-  adds_nothing (Asked (step.CreateGlobal i version handler) answer) other (r, is, h) = feels_global i version handler r h
-  adds_nothing (Asked (step.DisableGlobal g) answer) other (is, h) = feels_loss g h
-  adds_nothing (Asked (step.RemoveGlobal g) answer) other (is, h) = feels_loss g h
-  adds_nothing (Asked (step.Flush target) answer) other (r, is, h) = flushed target r h
-  adds_nothing (Asked (step.SetDefaultMaxBufferSize limit) answer) other (is, h) = unfelt_no_more before after lacked did h
-  adds_nothing (Asked (step.SetClientMaxBufferSize target limit) answer) other (is, h) =
-      of_client before after lacked did _ _ _
-      (λ p q (unlacked, none, (link, (most, limits, set), same)). ap (λ (x : Part T U C). x.link.incoming) same ∙ ap (λ (l : LinkState T). l.incoming) set) h
-  adds_nothing (Asked (step.NextAction target) answer) other (r, left, is, h) = of_other before after lacked did (same_client target id) _ _ other h
-  adds_nothing (Asked (step.NextActionWithin target reading) answer) other (r, left, is, h) = of_other before after lacked did (same_client target id) _ _ other h
-  adds_nothing (Asked (step.FinishRequest target u) answer) other (r, is, h) =
-      of_client before after lacked did _ _ _ (λ p q by. finish_keeps w.sends id p q u r lacked did by) h
-  adds_nothing (Asked (step.FinishBind target u) answer) other (r, is, h) =
-      of_client before after lacked did _ _ _ (λ p q by. finish_bind_keeps p q u r lacked did by) h
-  adds_nothing (Asked step.Cleanup answer) other (r, is, h) = cleaned r h
-  adds_nothing (Asked step.TakeNotes answer) other (r, is, h) = notes_taken r h
-  adds_nothing (Changed target t) other h =
-      of_client before after lacked did _ _ _ (λ p q (unlacked, none, (t', becomes, same)). ap (λ (x : Part T U C). x.link.incoming) same) h
-  adds_nothing (Grown rows answer) other h = unfelt_no_more before after lacked did h
-  adds_nothing (Asked _ answer) other h = moved _ _ _ h.2
+  pub adds_nothing : (call : Call T U G C) → reads_of id call ≡ false → PartCall w id offer call before lacked did after → waits after ≤ waits before
+  adds_nothing call other h =
+      elim (unread_goes call other h) [
+        | inl (ids, goes) ↦ goes_no_more w.sends w.receives id before after _ goes
+        | inr (p, none, empty, did_so, same) ↦
+            let now : waits after ≡ length p.link.incoming.bytes = ap (λ (s : Seen T U C). waits s) same in
+            let nothing' : length p.link.incoming.bytes ≡ 0 = ap (λ (bytes : List ℕ). length bytes) empty in
+            omega (arith, now, nothing')
+      ]
 
 module _ {T U G C : Type 0} (w : World T G C) (id : ClientParts) where
   one_adds_nothing : (before after : ServerState T U G C) (e : Entry T U G C) → reads_of id e.call ≡ false → OneStep w before e after
@@ -538,7 +344,7 @@ module _ {T U G C : Type 0} (w : World T G C) (id : ClientParts) where
               → Fewer id r before.server r' found.server
           at lacked did reads =
               elim (either_option (seen id before.server).part (own_step (same_client id id) (seen id before.server) _ _ lacked did (seen id found.server) (same_self id) reads)) [
-                | inl (none, ((is, same), unfelt)) ↦ absurd cc
+                | inl (none, ((is, same), nothing_felt)) ↦ absurd cc
                 | inr (p, there, (q, next, same)) ↦ of_part p q there (ap (λ (s : Seen T U C). waits s) same) (part_less before.server.offer r r' p q (handed a) lacked did next)
               ]
             where

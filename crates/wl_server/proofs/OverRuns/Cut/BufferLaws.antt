@@ -48,8 +48,8 @@ module _ {T U C : Type 0} (sends : T → Queue → Result ℕ IoFault → T → 
   moves_hold p q d (stayed is same) holds = as_before p q same holds
   moves_hold p q d (followed {m = m} {a = a} {b = b} first second is) holds = moves_hold m q b second (moves_hold p m a first holds)
   moves_hold p q d (handed_out {a = a} ids moves among is) holds = moves_hold p q a moves holds
-  moves_hold p q d (relinked link waits stays is same) holds = over_link p q link same (alike p.link link stays holds)
-  moves_hold p q d (received r answer link filled is same) holds = over_link p q link same (alike p.link link (ap (λ (l : LinkState T). l.outgoing_capacity) filled.2) holds)
+  moves_hold p q d (relinked link waits stays unread is same) holds = over_link p q link same (alike p.link link stays holds)
+  moves_hold p q d (received r answer link reads filled is same) holds = over_link p q link same (alike p.link link (ap (λ (l : LinkState T). l.outgoing_capacity) filled.2) holds)
   moves_hold p q d (told messages es put answer link puts is same) holds = over_link p q link same (puts_hold sends messages p.link link es put answer puts holds)
   moves_hold p q d (flushed es answer link by is same) holds = over_link p q link same (alike p.link link (ap (λ (l : LinkState T). l.outgoing_capacity) by.2) holds)
   moves_hold p q d (ended reason may is same) holds = subst Holds (sym same) holds

@@ -106,7 +106,7 @@ module _ {T U G C : Type 0} (sends : T → Queue → Result ℕ IoFault → T �
         | inr (f, (over, ends, same)) ↦ ap (λ (o : Gives (Told U)). came_in (deeds_in o.gave)) ends
       ]
   none_given left p after (Handled es ∷ turns) out calm (on, (v, link, first, lacked, mid, rest, (m, read, is), by, split, more)) =
-      let comes = subst (Came p.core) (sym is) (handles_comes (any true) sends receives a (record { displays = λ code text. tt; acts = refl }) p.core m calm) in
+      let comes = subst (Came p.core) (sym is) (handles_comes (any true) sends receives a (record { displays = λ code text. tt; reads = refl }) p.core m calm) in
       let heard = none_heard p mid v link es first lacked comes calm by in
       none_told first lacked rest out split heard.0 (none_given left mid after turns rest heard.1 more)
   none_given left p after (Unread es ∷ turns) out calm (on, (v, link, first, lacked, mid, rest, (read, same, is), by, split, more)) =

@@ -275,9 +275,9 @@ module _ {T U C : Type 0} (sends : T → Queue → Result ℕ IoFault → T → 
         waits = changing.waits;
         empty = changing.empty;
       })
-  moves_change p q d empty (relinked link waits stays is same) =
+  moves_change p q d empty (relinked link waits stays unread is same) =
       changing_so p (record p { link = link }) q nothing_done d is same (quiet p (record p { link = link }) nothing_done empty refl refl refl refl (λ h among. absurd among))
-  moves_change p q d empty (received r answer link filled is same) =
+  moves_change p q d empty (received r answer link reads filled is same) =
       changing_so p (record p { link = link }) q (receiving r) d is same (quiet p (record p { link = link }) (receiving r) empty refl refl refl refl (λ h among. absurd among))
   moves_change p q d empty (told messages es put answer link puts is same) =
       changing_so p (record p { link = link }) q (putting es put) d is same (quiet p (record p { link = link }) (putting es put) empty refl refl refl refl (λ h among. absurd among))
@@ -317,8 +317,8 @@ module _ {T U C : Type 0} (sends : T → Queue → Result ℕ IoFault → T → 
   moves_take p q d (followed {m = m} {a = a} {b = b} first second is) =
       ap (λ (x : Doings U). x.taken) is ∙ ap (λ l. l ++ b.taken) (moves_take p m a first) ∙ moves_take m q b second
   moves_take p q d (handed_out {a = a} ids moves among is) = ap (λ (x : Doings U). x.taken) is ∙ moves_take p q a moves
-  moves_take p q d (relinked link waits stays is same) = ap (λ (x : Doings U). x.taken) is
-  moves_take p q d (received r answer link filled is same) = ap (λ (x : Doings U). x.taken) is
+  moves_take p q d (relinked link waits stays unread is same) = ap (λ (x : Doings U). x.taken) is
+  moves_take p q d (received r answer link reads filled is same) = ap (λ (x : Doings U). x.taken) is
   moves_take p q d (told messages es put answer link puts is same) = ap (λ (x : Doings U). x.taken) is
   moves_take p q d (flushed es answer link by is same) = ap (λ (x : Doings U). x.taken) is
   moves_take p q d (ended reason may is same) = ap (λ (x : Doings U). x.taken) is

@@ -28,7 +28,7 @@ module _ {T U C : Type 0} (p : Part T U C) (killed : p.is_killed ≡ true) where
 
 -- no action is opened, and no client is taken out
 abbrev pub fading : Kind
-fading = record { gathers = false; hands = true; acts = false; kills = λ reason. Unit {0}; closes = tt }
+fading = record { gathers = false; hands = true; reads = false; kills = λ reason. Unit {0}; closes = tt }
 
 module _ {T U C : Type 0} (sends : T → Queue → Result ℕ IoFault → T → Type 0) (receives : T → ℕ → Result Queue IoFault → T → Type 0) (client : ClientParts) where
   pub moves_remain : (p q : Part T U C) (d : Doings U) → Moves fading sends receives client p d q → p.is_killed ≡ true → Remains p q
@@ -38,8 +38,8 @@ module _ {T U C : Type 0} (sends : T → Queue → Result ℕ IoFault → T → 
       let two = moves_remain m q b second one.killed in
       record { killed = two.killed; closed = λ none. two.closed (one.closed none) }
   moves_remain p q d (handed_out {a = a} ids moves among is) killed = moves_remain p q a moves killed
-  moves_remain p q d (relinked link waits stays is same) killed = remains_as p killed q _ same refl refl
-  moves_remain p q d (received r answer link filled is same) killed = remains_as p killed q _ same refl refl
+  moves_remain p q d (relinked link waits stays unread is same) killed = remains_as p killed q _ same refl refl
+  moves_remain p q d (received r answer link reads filled is same) killed = remains_as p killed q _ same refl refl
   moves_remain p q d (told messages es put answer link puts is same) killed = remains_as p killed q _ same refl refl
   moves_remain p q d (flushed es answer link by is same) killed = remains_as p killed q _ same refl refl
   moves_remain p q d (ended reason may is same) killed =

@@ -71,8 +71,8 @@ module _ {T U C : Type 0} (sends : T → Queue → Result ℕ IoFault → T → 
   moves_keep p q d (followed {m = m} {a = a} {b = b} first second is) =
       keeps_so (out p) (out q) (out q) (joined a b) d is refl (keeps_then (out p) (out m) (out q) a b (moves_keep p m a first) (moves_keep m q b second))
   moves_keep p q d (handed_out {a = a} ids moves among is) = keeps_so (out p) (out q) (out q) (record a { handed = ids }) d is refl (moves_keep p q a moves)
-  moves_keep p q d (relinked link waits stays is same) = quiet_move p q (record p { link = link }) d _ is same refl refl waits
-  moves_keep p q d (received r answer link filled is same) =
+  moves_keep p q d (relinked link waits stays unread is same) = quiet_move p q (record p { link = link }) d _ is same refl refl waits
+  moves_keep p q d (received r answer link reads filled is same) =
       quiet_move p q (record p { link = link }) d _ is same refl refl (ap (λ (l : LinkState T). l.outgoing) filled.2)
   moves_keep p q d (told messages es put answer link puts is same) =
       keeps_so (out p) link.outgoing (out q) (putting es put) d is (ap out same) (puts_kept sends within' messages p.link link es put answer puts)

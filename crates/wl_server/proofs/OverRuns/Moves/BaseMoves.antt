@@ -141,23 +141,23 @@ module _ {T U C : Type 0} (client : ClientParts) where
 
 -- ---- the moves
 
--- Which moves there may be: whether notes that wait are made, whether notes are handed out, whether an action is opened, and
--- for which reasons the client is killed. It may always be closed down.
+-- Which moves there may be: whether notes that wait are made, whether notes are handed out, whether the client is read, and
+-- for which reasons it is killed. It may always be closed down.
 pub record Kind : Type 1 where
   pub gathers : Bool
   pub hands : Bool
-  pub acts : Bool
+  pub reads : Bool
   pub kills : DisconnectReason → Type 0
   pub closes : kills ConnectionClosed
 
 -- for any reason
 abbrev pub any : Bool → Kind
-any b = record { gathers = b; hands = true; acts = true; kills = λ reason. Unit {0}; closes = tt }
+any b = record { gathers = b; hands = true; reads = true; kills = λ reason. Unit {0}; closes = tt }
 
--- a reading may be among them: an error that is about the display of the client is a reason, and an action is opened
+-- a reading may be among them: the client is read, and an error that is about its display is a reason
 pub record MayRead (kind : Kind) (table : List InterfaceRow) (client : ClientParts) : Type 0 where
   pub displays : (code : ℕ) (text : List ℕ) → kind.kills (BrokeProtocol (error_of table (display_of client) code text))
-  pub acts : kind.acts ≡ true
+  pub reads : kind.reads ≡ true
 
 pub data Moves {T U C : Type 0} (kind : Kind) (sends : T → Queue → Result ℕ IoFault → T → Type 0) (receives : T → ℕ → Result Queue IoFault → T → Type 0)
     (client : ClientParts) : Part T U C → Doings U → Part T U C → Type 0 where
@@ -170,10 +170,11 @@ pub data Moves {T U C : Type 0} (kind : Kind) (sends : T → Queue → Result �
       → ((id : HandedId IdParts) → IsAmong ids id → IsAmong a.handed id) → d ≡ record a { handed = ids } → Moves kind sends receives client p d q
   -- the link: a message was read, or the program changed the transport or a limit; a receive; messages are put, up to the
   -- first that fails; a flush
-  relinked : {p q : Part T U C} {d : Doings U} (link : LinkState T) → link.outgoing ≡ p.link.outgoing → link.outgoing_capacity ≡ p.link.outgoing_capacity → d ≡ nothing_done
+  relinked : {p q : Part T U C} {d : Doings U} (link : LinkState T) → link.outgoing ≡ p.link.outgoing → link.outgoing_capacity ≡ p.link.outgoing_capacity
+      → (kind.reads ≡ false → link.incoming ≡ p.link.incoming) → d ≡ nothing_done
       → q ≡ with_link p link → Moves kind sends receives client p d q
   received : {p q : Part T U C} {d : Doings U} (r : Result Queue IoFault) (answer : Result (Unit {0}) IoFault) (link : LinkState T)
-      → FilledBy receives p.link r answer link → d ≡ receiving r → q ≡ with_link p link → Moves kind sends receives client p d q
+      → kind.reads ≡ true → FilledBy receives p.link r answer link → d ≡ receiving r → q ≡ with_link p link → Moves kind sends receives client p d q
   told : {p q : Part T U C} {d : Doings U} (messages : List Said) (es : List Sending) (put : List Said) (answer : Result (Unit {0}) IoFault)
       (link : LinkState T) → PutsOut sends p.link messages es put answer link → d ≡ putting es put → q ≡ with_link p link
       → Moves kind sends receives client p d q
@@ -199,7 +200,7 @@ pub data Moves {T U C : Type 0} (kind : Kind) (sends : T → Queue → Result �
   remembered : {p q : Part T U C} {d : Doings U} (n : ℕ) (x : Object (Kept U)) → held p.store n ≡ Some x → (x.interface.0 == registry_id.0) ≡ true
       → d ≡ record nothing_done { registries = id_of (id_at client n x) ∷ [] }
       → q ≡ record p { registries = p.registries ++ id_of (id_at client n x) ∷ [] } → Moves kind sends receives client p d q
-  opens : {p q : Part T U C} {d : Doings U} (action : OpenAction) (h : Handed) → kind.acts ≡ true → Opens client p action h
+  opens : {p q : Part T U C} {d : Doings U} (action : OpenAction) (h : Handed) → kind.reads ≡ true → Opens client p action h
       → d ≡ record nothing_done { acted = h ∷ [] } → q ≡ record p { action = Some action } → Moves kind sends receives client p d q
   finished : {p q : Part T U C} {d : Doings U} → d ≡ nothing_done → q ≡ record p { action = None } → Moves kind sends receives client p d q
   cleaned : {p q : Part T U C} {d : Doings U} → kind.gathers ≡ true → d ≡ noting p.waiting → q ≡ record p { waiting = [] } → Moves kind sends receives client p d q

@@ -167,7 +167,7 @@ module _ {T U C : Type 0} (kind : Kind) (sends : T → Queue → Result ℕ IoFa
       ]
 
   transport_moves : (becomes : T → T → Type 0) (p : Part T U C) (did : List (Deed U)) (q : Part T U C) → did ≡ [] → WithTransport becomes p q → Leads p (doings_in did) q
-  transport_moves becomes p did q none (t, b, same) = relinked (with_transport p.link t) refl refl (ap doings_in none) same
+  transport_moves becomes p did q none (t, b, same) = relinked (with_transport p.link t) refl refl (λ unread. refl) (ap doings_in none) same
 
   -- ---- what is held of a client
 
@@ -207,11 +207,11 @@ abbrev pub hands_in : {T U G C : Type 0} → Call T U G C → Bool
 hands_in (Asked step.TakeNotes (reply.TakeNotes (Ok out))) = true
 hands_in _ = false
 
--- the call may open an action
-abbrev pub acts_in : {T U G C : Type 0} → Call T U G C → Bool
-acts_in (Asked (step.NextAction target) answer) = true
-acts_in (Asked (step.NextActionWithin target reading) answer) = true
-acts_in _ = false
+-- the call reads this client
+abbrev pub reads_of : {T U G C : Type 0} → ClientParts → Call T U G C → Bool
+reads_of id (Asked (step.NextAction target) answer) = same_client target id
+reads_of id (Asked (step.NextActionWithin target r) answer) = same_client target id
+reads_of id _ = false
 
 module _ {T U G C : Type 0} (kind : Kind) (w : World T G C) (id : ClientParts) (offer : Offer G) where
   abbrev To : Seen T U C → List (Deed U) → Seen T U C → Type 0
@@ -320,7 +320,7 @@ module _ {T U G C : Type 0} (kind : Kind) (w : World T G C) (id : ClientParts) (
     pub kills : (e : ProtocolError) → MayKillFor offer.table id call e → kind.kills (BrokeProtocol e)
     pub gathers : gathers_in call ≡ true → kind.gathers ≡ true
     pub hands : hands_in call ≡ true → kind.hands ≡ true
-    pub acts : acts_in call ≡ true → kind.acts ≡ true
+    pub reads : reads_of id call ≡ true → kind.reads ≡ true
 
   abbrev Handed : Call T U G C → Seen T U C → List (Deed U) → Seen T U C → Type 0
   Handed call s did t = Goes kind w.sends w.receives id s (doings_of (handed_by id call did) did) t
@@ -350,9 +350,10 @@ module _ {T U G C : Type 0} (kind : Kind) (w : World T G C) (id : ClientParts) (
   step_goes (step.SetDefaultMaxBufferSize limit) answer s lacked did t about may (is, h) = unfelt_goes kind w.sends w.receives id s lacked did t h
   step_goes (step.SetClientMaxBufferSize target limit) answer s lacked did t about may (is, h) =
       of_client kind w.sends w.receives id (same_client target id) s _ _ lacked did t
-      (λ mine p q (no_memory, none, (link, (l, limits, set), same)). relinked link (ap (λ (k : LinkState T). k.outgoing) set) (ap (λ (k : LinkState T). k.outgoing_capacity) set) (ap doings_in none) same) h
-  step_goes (step.NextAction target) answer s lacked did t about may (r, left, is, h) = reads_goes target (λ mine. record { displays = λ code text. may.kills _ (mine, (code, text, refl)); acts = may.acts refl }) _ _ left s lacked did t h
-  step_goes (step.NextActionWithin target reading) answer s lacked did t about may (r, left, is, h) = reads_goes target (λ mine. record { displays = λ code text. may.kills _ (mine, (code, text, refl)); acts = may.acts refl }) reading _ left s lacked did t h
+      (λ mine p q (no_memory, none, (link, (l, limits, set), same)). relinked link (ap (λ (k : LinkState T). k.outgoing) set) (ap (λ (k : LinkState T). k.outgoing_capacity) set)
+      (λ unread. ap (λ (k : LinkState T). k.incoming) set) (ap doings_in none) same) h
+  step_goes (step.NextAction target) answer s lacked did t about may (r, left, is, h) = reads_goes target (λ mine. record { displays = λ code text. may.kills _ (mine, (code, text, refl)); reads = may.reads mine }) _ _ left s lacked did t h
+  step_goes (step.NextActionWithin target reading) answer s lacked did t about may (r, left, is, h) = reads_goes target (λ mine. record { displays = λ code text. may.kills _ (mine, (code, text, refl)); reads = may.reads mine }) reading _ left s lacked did t h
   step_goes (step.FinishRequest target u) answer s lacked did t about may (r, is, h) =
       of_client kind w.sends w.receives id (same_client target id) s _ _ lacked did t (λ mine p q f. finishes_moves kind w.sends w.receives id p u r lacked did q f) h
   step_goes (step.FinishBind target u) answer s lacked did t about may (r, is, h) =
@@ -374,30 +375,36 @@ module _ {T U G C : Type 0} (kind : Kind) (w : World T G C) (id : ClientParts) (
       (λ mine p q (no_memory, none, with'). transport_moves kind w.sends w.receives id (λ x y. y ≡ t') p did q none with') h
   call_moves (Grown rows answer) s lacked did t about may h = unfelt_goes kind w.sends w.receives id s lacked did t h
 
-  -- so does any call: else it does nothing to the client, or inserts it
+  -- what any call does: it inserts the client, of which nothing waits then, or what is held of the client goes over base moves
+  abbrev pub AnyGoes : Seen T U C → List (Deed U) → Seen T U C → Type 0
+  AnyGoes s did t =
+      ((ids : List (HandedId IdParts)) × Goes kind w.sends w.receives id s (doings_of ids did) t)
+      ⊎ ((p : Part T U C) × (p.waiting ≡ []) × (p.link.incoming.bytes ≡ []) × (did ≡ Noted Initialized ∷ []) × (t ≡ record { part = Some p; made = s.made ++ Initialized ∷ [] }))
+
+  unfelt_any : (s : Seen T U C) (lacked : Bool) (did : List (Deed U)) (t : Seen T U C) → Unfelt s lacked did t → AnyGoes s did t
+  unfelt_any s lacked did t (no_memory, none, same) = inl ([], unfelt (ap (doings_of []) none) same)
+
   pub any_moves : (call : Call T U G C) (s : Seen T U C) (lacked : Bool) (did : List (Deed U)) (t : Seen T U C)
-      → Permits call → PartCall w id offer call s lacked did t
-      → ((d : Doings U) × Goes kind w.sends w.receives id s d t) ⊎ ((p : Part T U C) × (p.waiting ≡ []) × (t ≡ record { part = Some p; made = s.made ++ Initialized ∷ [] }))
+      → Permits call → PartCall w id offer call s lacked did t → AnyGoes s did t
   any_moves (Asked (step.InsertClient transport client_data) answer) s lacked did t may (r, is, h) = inserts r h
     where
-      inserts : (r : Result ClientParts InsertClientError) → InsertedAs w id offer transport client_data r s lacked did t
-          → ((d : Doings U) × Goes kind w.sends w.receives id s d t) ⊎ ((p : Part T U C) × (p.waiting ≡ []) × (t ≡ record { part = Some p; made = s.made ++ Initialized ∷ [] }))
-      inserts (Err e) (no_memory, none, same) = inl (nothing_done, unfelt refl same)
+      inserts : (r : Result ClientParts InsertClientError) → InsertedAs w id offer transport client_data r s lacked did t → AnyGoes s did t
+      inserts (Err e) h = unfelt_any s lacked did t h
       inserts (Ok new) h =
           elim (either_bool (same_client new id) h) [
-            | inl (link, fresh, no_memory, did_so, same) ↦ inr (fresh_part link client_data, refl, same)
-            | inr (no_memory, none, same) ↦ inl (nothing_done, unfelt refl same)
+            | inl (link, (limit, limits, fresh), no_memory, did_so, same) ↦
+                inr (fresh_part link client_data, refl, ap (λ (l : LinkState T). l.incoming.bytes) fresh, did_so, same)
+            | inr other ↦ unfelt_any s lacked did t other
           ]
   any_moves call s lacked did t may h = go (concerns id call) refl
     where
-      go : (b : Bool) → concerns id call ≡ b
-          → ((d : Doings U) × Goes kind w.sends w.receives id s d t) ⊎ ((p : Part T U C) × (p.waiting ≡ []) × (t ≡ record { part = Some p; made = s.made ++ Initialized ∷ [] }))
-      go true about = inl (doings_of (handed_by id call did) did, call_moves call s lacked did t about may h)
-      go false far = inl (nothing_done, unfelt refl (other_call w id offer call s lacked did t (λ new inserts. absurd cc) far h).2)
+      go : (b : Bool) → concerns id call ≡ b → AnyGoes s did t
+      go true about = inl (handed_by id call did, call_moves call s lacked did t about may h)
+      go false far = unfelt_any s lacked did t (other_call w id offer call s lacked did t (λ new inserts. absurd cc) far h)
 
 -- the same for whatever reason
 pub call_goes : {T U G C : Type 0} (gathers : Bool) (w : World T G C) (id : ClientParts) (offer : Offer G) (call : Call T U G C) (s : Seen T U C) (lacked : Bool) (did : List (Deed U))
     (t : Seen T U C) → concerns id call ≡ true → PartCall w id offer call s lacked did t → (gathers_in call ≡ true → gathers ≡ true) → Handed (any gathers) w id offer call s did t
 call_goes gathers w id offer call s lacked did t about h on =
     call_moves (any gathers) w id offer call s lacked did t about
-    (record { kills = λ e may. tt; gathers = on; hands = λ is. refl; acts = λ is. refl }) h
+    (record { kills = λ e may. tt; gathers = on; hands = λ is. refl; reads = λ is. refl }) h

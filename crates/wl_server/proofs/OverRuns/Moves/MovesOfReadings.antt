@@ -88,16 +88,16 @@ module _ {T U G C : Type 0} (kind : Kind) (sends : T → Queue → Result ℕ Io
   Calm c = IsCalm kind sends receives a.client c
 
   -- a turn: bytes are read, and a verdict carried out
-  turn_moves : (before : ReaderState T (Core U C)) (link : LinkState T) (v : Verdict (Core U C) (Told U)) → link.outgoing ≡ before.link.outgoing
+  turn_moves : MayRead kind a.table a.client → (before : ReaderState T (Core U C)) (link : LinkState T) (v : Verdict (Core U C) (Told U)) → link.outgoing ≡ before.link.outgoing
       → link.outgoing_capacity ≡ before.link.outgoing_capacity → Comes kind sends receives a.client before.core v → Calm before.core → (es : List Sending) (first : List (Given (Told U))) (lacked : Bool) (mid : ReaderState T (Core U C))
       → CarriesOut sends (server a) v link es first lacked mid
       → before.core.ended ≡ None
       → Step (part_of before) (doings_in (deeds_of (map Sent es) first mid.core)) (part_of mid) × Calm mid.core × IsQuiet (deeds_in first)
-  turn_moves before link v waits stays comes calm es first lacked mid by none =
+  turn_moves may before link v waits stays comes calm es first lacked mid by none =
       let c = carried kind sends receives a.client (server a) (λ d f. refl) before.core v comes calm link es first lacked mid by in
       let so : notes_at_end kind sends receives a.client mid.core ≡ c.notes =
       c.so ∙ ap (λ (o : Option _). notes_in (end_deeds {U = U} o) ++ c.notes) none in (
-        followed (relinked link waits stays refl refl) c.moves
+        followed (relinked link waits stays (λ unread. absurd (true≢false (sym may.reads ∙ unread))) refl refl) c.moves
             (verdict_done es c.put c.made first mid.core c.deeds
             ∙ ap (λ (n : List (Happening U)). joined (putting es c.put) (joined (doings_in c.made) (noting n))) so),
         c.calm,
@@ -160,7 +160,7 @@ module _ {T U G C : Type 0} (kind : Kind) (sends : T → Queue → Result ℕ Io
   reads_moves may left before (Received r ∷ turns) out after none calm (on, lacks, (n, is, (link, filled, room, h))) =
       elim (either_result (counted_answer (count_of r)) h) [
         | inl (u, more) ↦
-            followed (received r (counted_answer (count_of r)) link filled refl refl)
+            followed (received r (counted_answer (count_of r)) link may.reads filled refl refl)
             (reads_moves may n (with_link before link) turns out after none calm more) refl
         | inr (f, (over, stopped, same)) ↦
             let ends = faulted_ends before.core f calm in
@@ -170,18 +170,18 @@ module _ {T U G C : Type 0} (kind : Kind) (sends : T → Queue → Result ℕ Io
             subst (λ (e : ReaderState T (Core U C)). Step (part_of before) (doings_in (deeds_of (Came r ∷ exchanges_in turns) out.gave e.core)) (part_of e)) (sym same)
             (subst (λ (ts : List Turn). Step (part_of before) (doings_in (deeds_of (Came r ∷ exchanges_in ts) out.gave end.core)) (part_of end)) (sym over)
             (subst (λ (o : Gives (Told U)). Step (part_of before) (doings_in (deeds_of (Came r ∷ []) o.gave end.core)) (part_of end)) (sym stopped)
-            (followed (received r (counted_answer (count_of r)) link filled refl refl) (ends.moves link)
+            (followed (received r (counted_answer (count_of r)) link may.reads filled refl refl) (ends.moves link)
             (deeds_done (Came r ∷ []) [] end.core ∙ ap (λ (n : List (Happening U)). joined (receiving r) (noting n)) so))))
       ]
   reads_moves may left before (Handled es ∷ turns) out after none calm (on, (v, link, first, lacked, mid, rest, (m, read, is), by, split, more)) =
       then_moves left before mid after es turns first lacked rest out split
-      (turn_moves before link v (read_waits (λ sender opcode found. found ≡ (server a).signature before.core sender opcode) before.link link (Ok m) read)
+      (turn_moves may before link v (read_waits (λ sender opcode found. found ≡ (server a).signature before.core sender opcode) before.link link (Ok m) read)
       (read_stays (λ sender opcode found. found ≡ (server a).signature before.core sender opcode) before.link link m read)
       (subst (λ (w : Verdict (Core U C) (Told U)). Comes kind sends receives a.client before.core w) (sym is) (handles_comes kind sends receives a may before.core m calm)) calm es first lacked mid by none)
       more (λ no_end calm'. reads_moves may left mid turns rest after no_end calm' more)
   reads_moves may left before (Unread es ∷ turns) out after none calm (on, (v, link, first, lacked, mid, rest, (read, same, is), by, split, more)) =
       then_moves left before mid after es turns first lacked rest out split
-      (turn_moves before link v (ap (λ (l : LinkState T). l.outgoing) same) (ap (λ (l : LinkState T). l.outgoing_capacity) same)
+      (turn_moves may before link v (ap (λ (l : LinkState T). l.outgoing) same) (ap (λ (l : LinkState T). l.outgoing_capacity) same)
       (subst (λ (w : Verdict (Core U C) (Told U)). Comes kind sends receives a.client before.core w) (sym is) (malformed_comes kind sends receives a before.core calm)) calm es first lacked mid by none)
       more (λ no_end calm'. reads_moves may left mid turns rest after no_end calm' more)
 

@@ -272,7 +272,7 @@ module _ {T U G C : Type 0} (kind : Kind) (sends : T → Queue → Result ℕ Io
   binds_comes may c g version n x calm valid =
       hands_out_comes c made (opened.Bind id) h
       (lands_at kind sends receives a.client c (Acted h ∷ []) (record made { action = Some (opened.Bind id) }) calm refl
-      (λ l. followed (makes_object c version (objects_in c) n x.interface valid l) (opens (opened.Bind id) h may.acts refl refl refl) refl))
+      (λ l. followed (makes_object c version (objects_in c) n x.interface valid l) (opens (opened.Bind id) h may.reads refl refl refl) refl))
     where
       id : IdParts
       id = made_id a.client (objects_in c) n x.interface
@@ -295,7 +295,7 @@ module _ {T U G C : Type 0} (kind : Kind) (sends : T → Queue → Result ℕ Io
         hands_out_comes c (with_objects c d.objects) action h
         (lands_at kind sends receives a.client c (Acted h ∷ []) (record (with_objects c d.objects) { action = Some action }) calm refl
         (λ l. handed_out (all_action_ids (h ∷ []))
-        (followed (opens {p = place c l} {q = place opening l} action h may.acts ((receiver, holds, refl, other), refl, refl, refl) refl refl)
+        (followed (opens {p = place c l} {q = place opening l} action h may.reads ((receiver, holds, refl, other), refl, refl, refl) refl refl)
         (followed (found {p = place opening l} {q = place opening l} m.sender receiver holds refl refl) ((so opening).0 l) refl) refl)
         all_among refl))
       where

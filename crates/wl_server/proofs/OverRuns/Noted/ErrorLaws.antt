@@ -77,7 +77,7 @@ killed_for P e f is holds = subst P same holds
 
 -- a client is killed for errors of which it holds
 abbrev killing : (ProtocolError → Type 0) → Kind
-killing P = record { gathers = true; hands = true; acts = true; kills = λ reason. (e : ProtocolError) → reason ≡ BrokeProtocol e → P e; closes = closed_for_none P }
+killing P = record { gathers = true; hands = true; reads = true; kills = λ reason. (e : ProtocolError) → reason ≡ BrokeProtocol e → P e; closes = closed_for_none P }
 
 module _ {T U C : Type 0} (P : ProtocolError → Type 0) (sends : T → Queue → Result ℕ IoFault → T → Type 0) (receives : T → ℕ → Result Queue IoFault → T → Type 0) (client : ClientParts) where
   -- no other error is noted, or waits
@@ -103,8 +103,8 @@ module _ {T U C : Type 0} (P : ProtocolError → Type 0) (sends : T → Queue �
       (subst (Tell P) (sym (notes_of P d _ is)) (tell_both P a.notes b.notes noted noted'), waits')
   moves_keep p q d (handed_out {a = a} ids moves among is) = λ tell.
       let (noted, waits) = moves_keep p q a moves tell in (subst (Tell P) (sym (notes_of P d _ is)) noted, waits)
-  moves_keep p q d (relinked link waits stays is same) = quiet p q _ d (notes_of P d _ is) same refl
-  moves_keep p q d (received r answer link filled is same) = quiet p q _ d (notes_of P d _ is) same refl
+  moves_keep p q d (relinked link waits stays unread is same) = quiet p q _ d (notes_of P d _ is) same refl
+  moves_keep p q d (received r answer link reads filled is same) = quiet p q _ d (notes_of P d _ is) same refl
   moves_keep p q d (told messages es put answer link puts is same) = quiet p q _ d (notes_of P d _ is) same refl
   moves_keep p q d (flushed es answer link by is same) = quiet p q _ d (notes_of P d _ is) same refl
   moves_keep p q d (ended reason may is same) = λ tell.
@@ -151,10 +151,10 @@ module _ {T U G C : Type 0} (w : World T G C) where
         kills = λ e for f is. killed_for P e f is (may e for);
         gathers = λ is. refl;
         hands = λ is. refl;
-        acts = λ is. refl;
+        reads = λ is. refl;
       }) h) [
-        | inl (d, goes) ↦ goes_held P w.sends w.receives id s t d held goes
-        | inr (p, none, same) ↦
+        | inl (ids, goes) ↦ goes_held P w.sends w.receives id s t _ held goes
+        | inr (p, none, empty, did_so, same) ↦
             subst (Held P w.sends w.receives id) (sym same)
             (tell_both P (s.made ++ Initialized ∷ []) p.waiting
             (tell_both P s.made (Initialized ∷ []) (tell_first P s.made (waiting_of s.part) held) (tell_one P Initialized (λ e is. absurd cc)))

@@ -148,8 +148,8 @@ module _ {T U C : Type 0} (sends : T → Queue → Result ℕ IoFault → T → 
   moves_note p q d none (handed_out {a = a} ids moves among is) =
       let one = moves_note p q a none moves in
       subst (λ (x : Doings U). Noting p x q) (sym is) (record { objects = one.objects; ends = one.ends; none = one.none })
-  moves_note p q d none (relinked link waits stays is same) = quiet p q (record p { link = link }) d _ none is same refl refl refl refl
-  moves_note p q d none (received r answer link filled is same) = quiet p q (record p { link = link }) d _ none is same refl refl refl refl
+  moves_note p q d none (relinked link waits stays unread is same) = quiet p q (record p { link = link }) d _ none is same refl refl refl refl
+  moves_note p q d none (received r answer link reads filled is same) = quiet p q (record p { link = link }) d _ none is same refl refl refl refl
   moves_note p q d none (told messages es put answer link puts is same) = quiet p q (record p { link = link }) d _ none is same refl refl refl refl
   moves_note p q d none (flushed es answer link by is same) = quiet p q (record p { link = link }) d _ none is same refl refl refl refl
   moves_note p q d none (ended reason may is same) =

@@ -145,7 +145,7 @@ module _ {U : Type 0} where
 
 -- no notes are handed out
 abbrev keeping : Kind
-keeping = record { gathers = true; hands = false; acts = true; kills = λ reason. Unit {0}; closes = tt }
+keeping = record { gathers = true; hands = false; reads = true; kills = λ reason. Unit {0}; closes = tt }
 
 module _ {T U G C : Type 0} (w : World T G C) (id : ClientParts) (offer : Offer G) where
   abbrev Grows : Seen T U C → Seen T U C → Type 0
@@ -168,10 +168,10 @@ module _ {T U G C : Type 0} (w : World T G C) (id : ClientParts) (offer : Offer 
         kills = λ e may. tt;
         gathers = λ is. refl;
         hands = λ is. absurd (false≢true (sym (none_handed call none) ∙ is));
-        acts = λ is. refl;
+        reads = λ is. refl;
       }) h) [
-        | inl (d, goes) ↦ goes_grows s t d goes
-        | inr (p, waits, same) ↦ (happened.Initialized ∷ [], ap (λ (x : Seen T U C). x.made) same)
+        | inl (ids, goes) ↦ goes_grows s t _ goes
+        | inr (p, none_waits, empty, did_so, same) ↦ (happened.Initialized ∷ [], ap (λ (x : Seen T U C). x.made) same)
       ]
 
 -- ---- numbers over a run

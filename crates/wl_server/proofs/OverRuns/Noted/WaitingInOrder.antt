@@ -86,8 +86,8 @@ module _ {T U C : Type 0} (sends : T → Queue → Result ℕ IoFault → T → 
   moves_grow p q d (stayed is same) = still p q p same refl
   moves_grow p q d (followed {m = m} {a = a} {b = b} first second is) = grown_both p.waiting m.waiting q.waiting (moves_grow p m a first) (moves_grow m q b second)
   moves_grow p q d (handed_out {a = a} ids moves among is) = moves_grow p q a moves
-  moves_grow p q d (relinked link waits stays is same) = still p q _ same refl
-  moves_grow p q d (received r answer link filled is same) = still p q _ same refl
+  moves_grow p q d (relinked link waits stays unread is same) = still p q _ same refl
+  moves_grow p q d (received r answer link reads filled is same) = still p q _ same refl
   moves_grow p q d (told_so messages es put answer link puts is same) = still p q _ same refl
   moves_grow p q d (flushed es answer link by is same) = still p q _ same refl
   moves_grow p q d (ended reason may is same) = still p q _ same refl
