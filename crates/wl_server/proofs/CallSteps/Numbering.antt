@@ -49,9 +49,6 @@ among low (m ∷ ns) next n (first, rest) (suc k, below, at) =
 pub gives_none : (ns : List ℕ) (next : ℕ) → GivesNumbers ns next ns next
 gives_none ns next = record { more = []; behind = sym (append-nil ns); given = refl; past = refl }
 
-pub gives_one : (ns ns' : List ℕ) (next next' : ℕ) → ns' ≡ ns ++ next ∷ [] → next' ≡ number_after next → GivesNumbers ns next ns' next'
-gives_one ns ns' next next' is after = record { more = next ∷ []; behind = is; given = refl; past = after }
-
 numbers_more : (next k m : ℕ) → numbers_from next (k + m) ≡ numbers_from next k ++ numbers_from (number_past next k) m
 numbers_more next zero m = let none : zero + m ≡ m = omega arith in ap (numbers_from next) none
 numbers_more next (suc k) m =
@@ -503,10 +500,6 @@ takes_none t = record { made = []; waiting = []; of_made = refl; of_waiting = re
 pub took : (ms ms' ws ws' : List ℕ) → (ns : List ℕ) × (ms ≡ ns ++ ms') → (ns : List ℕ) × (ws ≡ ns ++ ws')
     → TakesFirst (record { made = ms; waiting = ws }) (record { made = ms'; waiting = ws' })
 took ms ms' ws ws' (ns, made) (ns', waiting) = record { made = ns; waiting = ns'; of_made = made; of_waiting = waiting }
-
--- none were taken
-pub took_none : (ms : List ℕ) → (ns : List ℕ) × (ms ≡ ns ++ ms)
-took_none ms = ([], refl)
 
 pub takes_all : (t : NoteTimes) → TakesFirst t no_times
 takes_all t = record { made = t.made; waiting = t.waiting; of_made = sym (append-nil t.made); of_waiting = sym (append-nil t.waiting) }

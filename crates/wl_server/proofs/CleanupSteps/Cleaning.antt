@@ -151,10 +151,6 @@ module _ {T U G C : Type 0} (w : World T G C) (id : ClientParts) (offer : Offer 
   given_untimed None = refl
   given_untimed (Some s) = refl
 
-  none_is : (x : Option (Stored T U C)) → option_map (λ s. s.part) x ≡ None → x ≡ None
-  none_is None is = refl
-  none_is (Some s) is = absurd (none-some s.part (sym is))
-
   -- it felt the flush, its notes were gathered, and it left if it was killed
   pub cleaned_one : (x0 x1 x2 : Option (Stored T U C)) (lacked : Bool) (sent : List (Deed U)) (n n2 n3 : List (Happening U))
       → Feels (seen_as [] x0) (λ p q. FlushesKilled w.sends p lacked sent q) lacked sent (seen_as [] x1)

@@ -46,10 +46,3 @@ module _ {U : Type 0} where
       let all = length-append (note_of_end client e.0 e.1) (ends_of client rest) in
       let fits = here.fits in
       omega (arith, all, fits, is)
-
-  -- when none is left, all was noted
-  pub ending_ends : (client : ClientParts) (notes : List (Note U)) (objects : List (ℕ × Object (Kept U))) (total : List (Note U)) (room : ℕ) → objects ≡ []
-      → Ending client notes objects total room → notes ≡ total
-  ending_ends client notes objects total room none before =
-      let here : Ending client notes [] total room = subst (λ (l : List (ℕ × Object (Kept U))). Ending client notes l total room) none before in
-      sym (append-nil notes) ∙ here.noted

@@ -373,15 +373,6 @@ module _ {T U C : Type 0} (waits : Bool) where
           in
           omega (arith, count, same)
 
-  pub none_left : (clients : List (Option (Stored T U C))) (order : List NotePlace) → order ≡ [] → Left clients order → AllLeft waits clients
-  none_left clients order none left slot x here =
-      let count = left slot in
-      let no : places_at slot order ≡ 0 = ap (places_at slot) none in
-      let there : length (to_gather waits (stored_at slot clients)) ≡ length (to_gather waits x) =
-      ap (λ (o : Option (Stored T U C)). length (to_gather waits o)) (stored_is clients slot x here)
-      in
-      nil_from_length (to_gather waits x) (omega (arith, count, no, there))
-
   -- ---- the numbers that are left
 
   times_stored : (clients : List (Option (Stored T U C))) (k : ℕ) → times_at k (map times_of clients) ≡ times_of (stored_at k clients)

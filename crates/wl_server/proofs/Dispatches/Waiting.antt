@@ -223,10 +223,6 @@ module _ {T Core Event Finish : Type 0} (sends : T → Queue → Result ℕ IoFa
   as_much_behind left p mid end out rest is no_longer (inl fewer) = inl (omega (arith, is, fewer))
   as_much_behind left p mid end out rest is no_longer (inr (same, no_more)) = inr (is ∙ same, omega (arith, no_longer, no_more))
 
-  weaker : (left : ℕ) (p end : ReaderState T Core) (out : Gives Event) → Less left p out end → NotMore left p out end
-  weaker left p end out (inl fewer) = inl fewer
-  weaker left p end out (inr (same, less)) = inr (same, omega (arith, less))
-
   received : (left n : ℕ) (p end : ReaderState T Core) (link : LinkState T) (turns : List Turn) (out : Gives Event) (c : Result (Unit {0}) IoFault) → left ≡ suc n
       → MatchResult c (λ _. Reads sends reader receives n (at_link p link) turns out end)
       (λ f. (turns ≡ []) × (out ≡ stops (Some f) (lacks_memory (Err f)) n) × (end ≡ record { core = reader.faulted p.core f; link = link }))

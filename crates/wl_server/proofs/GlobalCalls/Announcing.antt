@@ -40,20 +40,8 @@ module _ {T G C : Type 0} (sends : T → Queue → Result ℕ IoFault → T → 
       → told_of_all a client_data id room (e ∷ left) ≡ told_of room e ∷ told_of_all a client_data id (long e) left
   shows room e left is = rw is refl
 
-  hides : (room : ℕ) (e : Entry) (left : List Entry) → is_shown a.views a.client client_data e ≡ false
-      → told_of_all a client_data id room (e ∷ left) ≡ told_of_all a client_data id room left
-  hides room e left is = rw is refl
-
   pub told_begins : (start : LinkState T) (room : ℕ) → room ≡ 0 → (entries : List Entry) → ToldTo start (told_of_all a client_data id 0 entries) start room entries
   told_begins start room none entries = ([], puts_none sends start, ap (λ (n : ℕ). told_of_all a client_data id n entries) (sym none))
-
-  pub told_ends : (start now : LinkState T) (all : List Said) (room : ℕ) → ToldTo start all now room [] → Puts sends start all (Ok tt) now
-  told_ends start now all room (first, puts, is) = subst (λ (l : List Said). Puts sends start l (Ok tt) now) (sym (is ∙ append-nil first)) puts
-
-  pub told_hidden : (start now : LinkState T) (all : List Said) (room : ℕ) (e : Entry) (old left : List Entry) → old ≡ e ∷ left
-      → is_shown a.views a.client client_data e ≡ false → ToldTo start all now room old → ToldTo start all now room left
-  told_hidden start now all room e old left step hidden (first, puts, is) =
-      (first, puts, is ∙ ap (λ (l : List Entry). first ++ told_of_all a client_data id room l) step ∙ ap (λ (l : List Said). first ++ l) (hides room e left hidden))
 
   told_is : (first all : List Said) (room : ℕ) (e : Entry) (old left : List Entry) → old ≡ e ∷ left
       → is_shown a.views a.client client_data e ≡ true → all ≡ first ++ told_of_all a client_data id room old

@@ -1,5 +1,6 @@
 -- The arguments of a request that is handed out: those of its message, with the ids of kept objects.
 use Rattle.std.proofs.Common.{◌≡◌, ◌⊎◌, ℕ, Bool, true, false, cond, eqb, eqb-true, List, [], ◌∷◌, ◌++◌, map, Option, None, Some, is_some, Result, Ok, Err, MatchOption, refl, sym, ap, ap₂, subst, ◌∙◌, append-nil, append_assoc, true≢false}
+use Rattle.std.proofs.lemmas.Option.{none-some}
 use mathlib.Core.Logic.{inl, inr}
 use Rattle.std.specs.List.{list_any}
 use Rattle.std.specs.Prelude.{◌||◌, length, nat_le, option_map}
@@ -35,9 +36,6 @@ use Rattle.wl_server.specs.ReadingEnds.{HasMade, MakesItsObject, ObjectsFit, new
 use Rattle.wl_server.specs.Requests.{Converted, Converting, Outcome, Whole, Wrong, allows_null, convert, convert_one, going_on, is_valid_new, kinds_after, made_id, made_object, object_found, start, with_made, with_new_argument, with_object_argument}
 use Rattle.wl_server.specs.Telling.{Core}
 use Rattle.wl_server.proofs.OverRuns.Moves.MovesOfRequests.{valid_new}
-
-none_some : {A : Type 0} {x : A} → None ≡ Some x → ⊥
-none_some e = true≢false (sym (ap is_some e))
 
 no_error : {A E : Type 0} {x : A} {e : E} → ◌≡◌ {A = Result A E} (Ok x) (Err e) → ⊥
 no_error is = true≢false (ap is_fine is)
@@ -119,7 +117,7 @@ module _ {U : Type 0} where
     where
       at : (b : Bool) → eqb k n ≡ b → cond b (Some (made_object o i version)) (held o.store k) ≡ Some x
       at false is = there
-      at true is = absurd (none_some (sym (valid_new o n valid).0 ∙ ap (held o.store) (sym (eqb-true k n is)) ∙ there))
+      at true is = absurd (none-some _ (sym (valid_new o n valid).0 ∙ ap (held o.store) (sym (eqb-true k n is)) ∙ there))
 
 module _ {U : Type 0} (client : ClientParts) (version : ℕ) where
   -- The object of this id is new, and of this version.
@@ -192,7 +190,7 @@ module _ {U : Type 0} (client : ClientParts) (version : ℕ) where
                   grown n (made_object d.objects i version) (stored_here d.objects.store n (made_object d.objects i version) n refl),
                 ),
               )
-          | inr (id, none, new, created, is) ↦ absurd (none_some none)
+          | inr (id, none, new, created, is) ↦ absurd (none-some _ none)
         ],
       )
       go false valid = tt

@@ -41,18 +41,6 @@ use Rattle.wl_server.proofs.OverRuns.Moves.MovesOfRequests.{valid_new}
 use Rattle.wl_server.proofs.Plain.Arguments.{Came, converts, made_by_all, makes_new, read_signed}
 use Rattle.wl_server.proofs.Plain.Base.{none_and_some, when_false, when_true}
 
-not_true : (b : Bool) → not b ≡ true → b ≡ false
-not_true false e = refl
-not_true true e = absurd (true≢false (sym e))
-
-nothing_there : {A : Type 0} (o : Option A) → is_none o ≡ true → o ≡ None
-nothing_there None e = refl
-nothing_there (Some x) e = absurd (true≢false (sym e))
-
-both : (a b : Bool) → (a && b) ≡ true → (a ≡ true) × (b ≡ true)
-both true b e = (refl, e)
-both false b e = absurd (true≢false (sym e))
-
 reason_if : (b : Bool) (o : Option DisconnectReason) (reason : DisconnectReason) → b ≡ false → cond b o (Some reason) ≡ Some reason
 reason_if false o reason is = refl
 reason_if true o reason is = absurd (true≢false is)
@@ -100,10 +88,6 @@ module _ {U C : Type 0} where
     pub live : c.is_killed ≡ false
     pub idle : c.action ≡ None
     pub fresh : c.ended ≡ None
-
-  read_of : (c : Core U C) → reads_on c ≡ true → c.ended ≡ None → IsRead c
-  read_of c on fresh =
-      let (live, idle) = both (not c.is_killed) (is_none c.action) on in record { live = not_true c.is_killed live; idle = nothing_there c.action idle; fresh = fresh }
 
   reads_of : (c : Core U C) → IsRead c → reads_on c ≡ true
   reads_of c r = ap (λ (b : Bool). not b && is_none c.action) r.live ∙ ap (λ (o : Option OpenAction). is_none o) r.idle

@@ -1,5 +1,6 @@
 -- How the end of an action is a verdict that was carried out.
 use Rattle.std.proofs.Common.{◌||◌, append-nil, append_assoc, ◌&&◌, not, is_none, is_some, map, MatchResult, inl, inr, ◌≡◌, ◌∙◌, ℕ, Bool, true, false, eqb, cond, List, [], ◌∷◌, ◌++◌, Option, None, Some, Result, Ok, Err, MatchOption, refl, sym, ap, subst}
+use Rattle.std.proofs.lemmas.Option.{none-some}
 use Rattle.std.proofs.lemmas.Bool.{false≢true}
 use Rattle.wl_wire.specs.declared.error.IoFault.{IoFault}
 use Rattle.wl_wire.specs.declared.error.IoFault.TheVariants as fault
@@ -42,9 +43,6 @@ chosen : {X : Type 0} (b : Bool) (y x : X) → cond b (Some y) None ≡ Some x �
 chosen true y x e = cc
 chosen false y x e = absurd cc
 
-none_some : {X : Type 0} {x : X} → ◌≡◌ {A = Option X} None (Some x) → ⊥
-none_some h = cc
-
 same_some : {X : Type 0} {x y : X} → Some x ≡ Some y → x ≡ y
 same_some h = cc
 
@@ -68,7 +66,7 @@ module _ {U : Type 0} where
   pub ended_named : (store : Store (Kept U)) (sender : IdParts) (x : Object (Kept U)) (is_destructor : Bool) → ended_by store sender is_destructor ≡ Some x
       → named store sender ≡ Some x
   ended_named store sender x true is = is
-  ended_named store sender x false is = absurd (none_some is)
+  ended_named store sender x false is = absurd (none-some _ is)
 
 module _ {T U C : Type 0} (sends : T → Queue → Result ℕ IoFault → T → Type 0) (client : ClientParts) (s : Stored T U C) (sender : IdParts) (is_destructor : Bool) where
   abbrev changed : NoteTimes → LinkState T → Store (Kept U) → List Id → List (Happening U) → Stored T U C
@@ -110,7 +108,7 @@ module _ {U : Type 0} where
       at : (b : Bool) (h : Option (Object (Kept U))) → h ≡ None → cond b None (named_in serial_of (id_of id) h) ≡ None
       at true h is = refl
       at false None is = refl
-      at false (Some x) is = absurd (none_some (sym is))
+      at false (Some x) is = absurd (none-some _ (sym is))
 
   -- data that an object is given make none at a number that holds none
   still_gone : (store : Store (Kept U)) (n : ℕ) (created : Option IdParts) (u : Option U) → held store n ≡ None → held (store_with_data store created u) n ≡ None
@@ -121,7 +119,7 @@ module _ {U : Type 0} where
       at : (o : Option (Object (Kept U))) → named store id ≡ o → held (data_given store id.number o u) n ≡ None
       at None is = gone
       at (Some y) is = rewritten_other store id.number (with_user_data u y) n
-          (λ same. none_some (sym gone ∙ ap (held store) same ∙ named_held store id y is)) ∙ gone
+          (λ same. none-some _ (sym gone ∙ ap (held store) same ∙ named_held store id y is)) ∙ gone
 
   -- an object that left is named no more, whatever data the new one was given
   pub not_named : (store : Store (Kept U)) (sender : IdParts) (created : Option IdParts) (u : Option U)
@@ -175,7 +173,7 @@ store_unless_written {T} {U} {C} s after (Err f) kills = ap (λ (x : Stored T U 
 
 pub where_none : {X : Type 0} (o : Option X) → None ≡ o → (A : Type 0) (B : X → Type 0) → A → MatchOption o A B
 where_none None is A B h = h
-where_none (Some x) is A B h = absurd (none_some is)
+where_none (Some x) is A B h = absurd (none-some _ is)
 
 pub where_some : {X : Type 0} (o : Option X) (x : X) → Some x ≡ o → (A : Type 0) (B : X → Type 0) → B x → MatchOption o A B
 where_some {X} o x is A B h = subst (λ (o : Option X). MatchOption o A B) is h
@@ -184,7 +182,7 @@ where_some {X} o x is A B h = subst (λ (o : Option X). MatchOption o A B) is h
 no_memory : (a b : Bool) (e : FinishError) → first_refusal (when a finish.MissingObjectData ∷ when b finish.UnexpectedData ∷ []) ≡ Some e → is_out_of_memory e ≡ false
 no_memory true b e is = sym (ap is_out_of_memory (same_some is))
 no_memory false true e is = sym (ap is_out_of_memory (same_some is))
-no_memory false false e is = absurd (none_some is)
+no_memory false false e is = absurd (none-some _ is)
 
 ok_ok : (f : OutOfMemory) → ◌≡◌ {A = Result (Result (Unit {0}) IoFault) OutOfMemory} (Err f) (Ok (Ok tt)) → ⊥
 ok_ok f same = cc

@@ -13,19 +13,6 @@ pub new_of_kind : (k : ArgumentType) → is_new_id (kind_of k) ≡ is_new_id k
 new_of_kind kind.NewId = refl
 new_of_kind _ = refl
 
--- the type of a new id that is next is that of a new id
-pub new_is_there : (kinds : List ArgumentType) (n : ℕ) → IsNextKind kinds (arg.NewId n) → list_any is_new_id kinds ≡ true
-new_is_there [] n next = absurd next
-new_is_there (k ∷ kinds) n next = ap (λ (b : Bool). b || list_any is_new_id kinds) (sym (new_of_kind k) ∙ ap is_new_id next)
-
-or_true : (b : Bool) → b || true ≡ true
-or_true true = refl
-or_true false = refl
-
-pub new_later : (kinds : List ArgumentType) → list_any is_new_id (kinds_after kinds) ≡ true → list_any is_new_id kinds ≡ true
-new_later [] is = is
-new_later (k ∷ kinds) is = ap (λ (b : Bool). is_new_id k || b) is ∙ or_true (is_new_id k)
-
 -- the first argument is of the first type, and the others match the others
 pub next_kind : (kinds : List ArgumentType) (a : WireArgument) (args : List WireArgument) → Matches kinds (a ∷ args) → IsNextKind kinds a
 next_kind [] a args same = cc

@@ -1,5 +1,6 @@
 -- The texts of errors hold no zero byte, so that they can go on the wire.
 use Rattle.std.proofs.Common.{◌≡◌, ◌∙◌, ℕ, zero, suc, ◌+◌, ◌/◌, ◌%◌, Bool, true, false, ◌||◌, List, [], ◌∷◌, ◌++◌, length, take, drop, Option, None, Some, refl, sym, ap, append_assoc, arith, cond, nat_lt}
+use Rattle.std.proofs.lemmas.Option.{none-some}
 use Rattle.std.specs.Prelude.{◌==◌, slice_get, codes}
 use Rattle.std.specs.Fmt.{decimal, digit_glyph, digits, digits_onto}
 use Rattle.std.specs.List.{list_any}
@@ -102,15 +103,12 @@ has_zero row = holds_zero row.name || list_any (λ m. holds_zero m.name) (messag
 same_some : {X : Type 0} {x y : X} → Some x ≡ Some y → x ≡ y
 same_some h = cc
 
-none_some : {X : Type 0} {x : X} → ◌≡◌ {A = Option X} None (Some x) → ⊥
-none_some h = cc
-
 add_four : (k : ℕ) → 4 + k ≡ suc (suc (suc (suc k)))
 add_four k = omega arith
 
 -- an element of a list of which none passes
 free_of : (n : ℕ) (rows : List MessageRow) (row : MessageRow) → slice_get rows n ≡ Some row → list_any (λ m. holds_zero m.name) rows ≡ false → IsFree row.name
-free_of n [] row here h = absurd (none_some here)
+free_of n [] row here h = absurd (none-some _ here)
 free_of zero (m ∷ rows) row here h = ap (λ (m : MessageRow). holds_zero m.name) (sym (same_some here)) ∙ not_first (holds_zero m.name) _ h
 free_of (suc n) (m ∷ rows) row here h = free_of n rows row here (not_second (holds_zero m.name) _ h)
 
@@ -150,7 +148,7 @@ module _ (table : List InterfaceRow) (accepted : IsAcceptedTable table) where
   free_request i opcode row = at (slice_get table i.0) refl
     where
       at : (o : Option InterfaceRow) → slice_get table i.0 ≡ o → request_in o opcode ≡ Some row → IsFree row.name
-      at None is none = absurd (none_some none)
+      at None is none = absurd (none-some _ none)
       at (Some interface) is there =
           free_of opcode interface.requests row there
           (not_first (list_any (λ m. holds_zero m.name) interface.requests) (list_any (λ m. holds_zero m.name) interface.events)
@@ -227,5 +225,5 @@ free_found table i name accepted is = ap holds_zero is ∙ free_name table accep
 -- the name of a request that was looked up for an object
 pub free_looked_up : {U : Type 0} (table : List InterfaceRow) (accepted : IsAcceptedTable table) (x : Option (Object (Kept U))) (opcode : ℕ) (row : MessageRow)
     → Some row ≡ row_in table x opcode → IsFree row.name
-free_looked_up table accepted None opcode row is = absurd (none_some (sym is))
+free_looked_up table accepted None opcode row is = absurd (none-some _ (sym is))
 free_looked_up table accepted (Some x) opcode row is = free_request table accepted x.interface opcode row (sym is)

@@ -55,25 +55,6 @@ long_enough store (k ∷ kinds) asked bytes fit =
     let rest = long_enough store kinds (asked_after k asked) (drop 4 bytes) q.1 in
     omega (arith, long, rest, length-drop 4 bytes)
 
--- ---- one word after another
-
-module _ {U : Type 0} (store : Store (Kept U)) (kinds others : List ArgumentType) (k : ArgumentType) (asked : List InterfaceId) (bytes : List ℕ) (kinds_are : kinds ≡ k ∷ others) where
-  pub fit_short : length bytes < 4 → false ≡ words_fit store kinds asked bytes
-  fit_short short = rw (kinds_are, lt-leb 4 (length bytes) short) refl
-
-  module _ (word : ℕ) (word_is : word ≡ first_word bytes) (long : 4 ≤ length bytes) where
-    pub fit_not : word_fits store k (next_interface asked) word ≡ false → false ≡ words_fit store kinds asked bytes
-    fit_not fits = rw (kinds_are, le-leb 4 (length bytes) long, ← word_is, fits) refl
-
-    pub fit_on : word_fits store k (next_interface asked) word ≡ true → words_fit store others (asked_after k asked) (drop 4 bytes) ≡ words_fit store kinds asked bytes
-    fit_on fits = rw (kinds_are, le-leb 4 (length bytes) long, ← word_is, fits) refl
-
-    pub handed_on : (client : ClientParts) (done all : List (Argument IdParts Token)) → done ++ handed_words client store kinds bytes ≡ all
-        → (done ++ handed_word client store k word ∷ []) ++ handed_words client store others (drop 4 bytes) ≡ all
-    handed_on client done all is =
-        append_assoc done (handed_word client store k word ∷ []) (handed_words client store others (drop 4 bytes))
-        ∙ rw (word_is, ← is, kinds_are) refl
-
 -- ---- the words are converted to what is handed out
 
 module _ {U : Type 0} (client : ClientParts) (version : ℕ) (objects : Objects (Kept U)) (child : Option InterfaceId) where

@@ -102,19 +102,6 @@ all_set words set k out = at (slice_get words (k / 64)) refl
         clash (bit_at 0xFFFFFFFFFFFFFFFF (k % 64)) (subst (λ (n : ℕ). bit_at n (k % 64) ≡ 0) (ap or_all (set (k / 64) (slice_get_within words (k / 64) w some))) out)
         (bit_at_ones 64 (k % 64) (omega arith))
 
-pub one_more_set : (words : List ℕ) (row w : ℕ) → w ≡ get_or words row w → row < length words
-    → ((r : ℕ) → r < row → slice_get words r ≡ Some 0xFFFFFFFFFFFFFFFF) → (r : ℕ) → r < row + 1
-    → slice_get (slice_set words row 0xFFFFFFFFFFFFFFFF) r ≡ Some 0xFFFFFFFFFFFFFFFF
-one_more_set words row w is within set r below = at (r == row) refl
-  where
-    at : (b : Bool) → (r == row) ≡ b → slice_get (slice_set words row 0xFFFFFFFFFFFFFFFF) r ≡ Some 0xFFFFFFFFFFFFFFFF
-    at true same =
-        subst (λ (n : ℕ). slice_get (slice_set words row 0xFFFFFFFFFFFFFFFF) n ≡ Some 0xFFFFFFFFFFFFFFFF) (sym (eqb-true r row same))
-        (get_set_same words row w 0xFFFFFFFFFFFFFFFF (slice_get_read words (length words) row w refl within is))
-    at false other =
-        let differ : r ≢ row = other_of r row other in
-        get_set_other words row r 0xFFFFFFFFFFFFFFFF (λ e. differ (sym e)) ∙ set r (omega (arith, below, differ))
-
 -- ---- a word more
 
 word_more : (words : List ℕ) (row : ℕ) → word_in (words ++ 0xFFFFFFFFFFFFFFFF ∷ []) row ≡ word_in words row

@@ -4,7 +4,7 @@ use mathlib.Core.Logic.{inl, inr}
 use Rattle.std.specs.Prelude.{◌+◌, Contains, Vec, if◌then◌else◌, is_ok, nat_le, slice_get}
 use Rattle.std.specs.Global.{Global}
 use Rattle.std.proofs.lemmas.Bool.{cases_eq}
-use Rattle.std.proofs.lemmas.Option.{same_Some}
+use Rattle.std.proofs.lemmas.Option.{same_Some, none-some}
 use Rattle.wl_wire.specs.declared.error.IoFault.{IoFault}
 use Rattle.wl_wire.specs.declared.error.OutOfMemory.{OutOfMemory}
 use Rattle.wl_wire.specs.declared.interface.InterfaceId.{InterfaceId}
@@ -46,9 +46,6 @@ use Rattle.wl_server.proofs.OverRuns.Announced.WatchedGlobals.{global_watch, gro
 use Rattle.wl_server.proofs.OverRuns.Announced.WatchedReadings.{next_action_lives}
 use Rattle.wl_server.proofs.OverRuns.Announced.WatchedVerdicts.{PartLives, log_both, registries_both}
 use Rattle.wl_server.proofs.OverRuns.Announced.Watching.{Scene, Watch, part_scene}
-
-none_some : {A : Type 0} {x : A} → None ≡ Some x → ⊥
-none_some e = true≢false (sym (ap is_some e))
 
 -- ---- notes put nothing
 
@@ -378,8 +375,8 @@ module _ {T U G C : Type 0} (w : World T G C) (id : ClientParts) (r : Id) where
   begun_watched offer link client_data on = record {
     bounded = λ n x holds. most n x holds;
     listed = λ y among. absurd among;
-    open_bounded = λ sender b created is. absurd (none_some is);
-    open_other = λ sender b created is. absurd (none_some is);
+    open_bounded = λ sender b created is. absurd (none-some _ is);
+    open_other = λ sender b created is. absurd (none-some _ is);
     silent = λ later. record { same = λ told. refl };
     unborn = λ later among. absurd among;
     known = λ among. absurd among;
@@ -392,7 +389,7 @@ module _ {T U G C : Type 0} (w : World T G C) (id : ClientParts) (r : Id) where
             | inl same ↦
                 let this : display_object ≡ x = same_Some display_object x (sym (stored_here empty_store 1 display_object n same) ∙ holds) in
                 let zero : x.value.serial ≡ 0 = ap (λ (y : Object (Kept U)). y.value.serial) (sym this) in omega (arith, zero)
-            | inr other ↦ absurd (none_some (sym (stored_other empty_store 1 display_object n other ∙ held_empty n) ∙ holds))
+            | inr other ↦ absurd (none-some _ (sym (stored_other empty_store 1 display_object n other ∙ held_empty n) ∙ holds))
           ]
 
   own_announced : (offer : Offer G) → HasInterfaces offer → (link : LinkState T) (client_data : C) (run : List (Own T U G C)) (t : Seen T U C) → AreMine id run → AreNumbered offer run

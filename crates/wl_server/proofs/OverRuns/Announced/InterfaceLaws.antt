@@ -3,7 +3,7 @@ use Rattle.std.proofs.Common.{◌≡◌, ◌<◌, ◌+◌, ◌++◌, ◌∙◌, 
 use Rattle.std.specs.Prelude.{MatchBool, MatchOption, nat_le, slice_get}
 use Rattle.std.specs.Option.{option_map_or}
 use Rattle.std.proofs.lemmas.Bool.{cases_eq}
-use Rattle.std.proofs.lemmas.Option.{same_Some, slice_get_within}
+use Rattle.std.proofs.lemmas.Option.{same_Some, slice_get_within, none-some}
 use mathlib.Core.Logic.{inl, inr}
 use Rattle.wl_wire.specs.declared.interface.InterfaceId.{InterfaceId}
 use Rattle.wl_wire.specs.declared.protocol.TableError.{TableError}
@@ -24,7 +24,7 @@ use Rattle.wl_server.specs.Ids.{GlobalParts}
 use Rattle.wl_server.specs.PartStep.{Asked, Call, Changed, Grown}
 use Rattle.wl_server.specs.Runs.{SharedAlone}
 use Rattle.wl_server.specs.Steps.{Entry, AnswersShared, inserted_by, offer_after}
-use Rattle.wl_server.proofs.OverRuns.Announced.ShownLaws.{global_held, none_some}
+use Rattle.wl_server.proofs.OverRuns.Announced.ShownLaws.{global_held}
 
 -- a row is there for the interface of each global that is kept
 pub record HasInterfaces {G : Type 0} (offer : Offer G) : Type 0 where
@@ -32,7 +32,7 @@ pub record HasInterfaces {G : Type 0} (offer : Offer G) : Type 0 where
 
 module _ {G : Type 0} where
   pub at_first : (table : List InterfaceRow) → HasInterfaces {G = G} (new_offer table)
-  at_first table = record { row = λ name x there. absurd (none_some (sym (held_empty name) ∙ there)) }
+  at_first table = record { row = λ name x there. absurd (none-some _ (sym (held_empty name) ∙ there)) }
 
   module _ (offer : Offer G) (known : HasInterfaces offer) where
     -- a longer table has the same name for it
@@ -70,7 +70,7 @@ module _ {G : Type 0} where
         by : (found : Option (Object (KeptGlobal G))) → HasInterfaces (with_globals offer (freed_at offer.globals g.name found))
         by None = stays _ (λ name x there. (x, there, refl))
         by (Some y) = stays _ (λ name x there. elim (cases_eq name g.name) [
-          | inl same ↦ absurd (none_some (sym (removed_here offer.globals.store g.name name same) ∙ there))
+          | inl same ↦ absurd (none-some _ (sym (removed_here offer.globals.store g.name name same) ∙ there))
           | inr other ↦ (x, sym (removed_other offer.globals.store g.name name other) ∙ there, refl)
         ])
 

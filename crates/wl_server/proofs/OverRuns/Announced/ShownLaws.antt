@@ -4,7 +4,7 @@ use mathlib.Core.Logic.{inl, inr}
 use Rattle.std.specs.List.{filter}
 use Rattle.std.specs.FinMap as finmap
 use Rattle.std.proofs.lemmas.Bool.{cases_eq}
-use Rattle.std.proofs.lemmas.Option.{same_Some}
+use Rattle.std.proofs.lemmas.Option.{same_Some, none-some}
 use Rattle.wl_link.specs.declared.object.Object.{Object}
 use Rattle.wl_link.specs.Identity.{named_in}
 use Rattle.wl_link.specs.Store.{held, removed, rewritten, stored}
@@ -16,9 +16,6 @@ use Rattle.wl_server.specs.Deeds.{IsAmong}
 use Rattle.wl_server.specs.Globals.{Globals, Offer, as_disabled, disabled, disabled_at, freed, freed_at, global_of, global_serial, is_enabled, is_shown, shown, shown_as, with_globals}
 use Rattle.wl_server.specs.Ids.{ClientParts, GlobalParts}
 
-pub none_some : {A : Type 0} {x : A} → None ≡ Some x → ⊥
-none_some e = true≢false (sym (ap is_some e))
-
 module _ {G : Type 0} where
   -- the global that an id names has its name
   pub global_held : (globals : Globals G) (g : GlobalParts) (x : Object (KeptGlobal G)) → global_of globals g ≡ Some x → held globals.store g.name ≡ Some x
@@ -26,11 +23,11 @@ module _ {G : Type 0} where
     where
       one : (c : Bool) (y : Object (KeptGlobal G)) → cond c (Some y) None ≡ Some x → Some y ≡ Some x
       one true y e = e
-      one false y e = absurd (none_some e)
+      one false y e = absurd (none-some _ e)
 
       go : (b : Bool) (o : Option (Object (KeptGlobal G))) → cond b None (named_in global_serial (record { number = g.name; serial = g.serial }) o) ≡ Some x → o ≡ Some x
-      go true o e = absurd (none_some e)
-      go false None e = absurd (none_some e)
+      go true o e = absurd (none-some _ e)
+      go false None e = absurd (none-some _ e)
       go false (Some y) e = one (eqb y.value.serial g.serial) y e
 
 module _ {G C : Type 0} (views : G → ClientParts → C → GlobalParts → Bool) (client : ClientParts) (client_data : C) where
@@ -82,7 +79,7 @@ module _ {G C : Type 0} (views : G → ClientParts → C → GlobalParts → Boo
 
       pub created_old : (g : Announced) → IsShown offer g → IsShown (with_globals offer (record { store = stored offer.globals.store name x; last_serial = last })) g
       created_old g h =
-          moved created g (stored_other offer.globals.store name x g.name (λ same. none_some (sym free ∙ ap (held offer.globals.store) (sym same) ∙ h.at))) h
+          moved created g (stored_other offer.globals.store name x g.name (λ same. none-some _ (sym free ∙ ap (held offer.globals.store) (sym same) ∙ h.at))) h
 
       pub created_new : is_shown views client client_data (name, x) ≡ true
           → IsShown (with_globals offer (record { store = stored offer.globals.store name x; last_serial = last })) (announced_as offer.table (shown_as (name, x)))
@@ -131,7 +128,7 @@ module _ {G C : Type 0} (views : G → ClientParts → C → GlobalParts → Boo
     removed_hides : Hides (record offer.globals { store = removed offer.globals.store name })
     removed_hides = record {
       beside = λ m other. removed_other offer.globals.store name m other;
-      hidden = λ y at passes. none_some (sym (removed_here offer.globals.store name name refl) ∙ at);
+      hidden = λ y at passes. none-some _ (sym (removed_here offer.globals.store name name refl) ∙ at);
     }
 
   module _ (offer : Offer G) (g : GlobalParts) (x : Object (KeptGlobal G)) (is : global_of offer.globals g ≡ Some x) where

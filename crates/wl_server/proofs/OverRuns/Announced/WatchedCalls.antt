@@ -106,9 +106,6 @@ module _ {G C : Type 0} (views : G → ClientParts → C → GlobalParts → Boo
   none_done p q did none same =
       quietly p q p did (ap log_of none, ap registries_in none) same refl (steady_same views client r offer (part_scene p))
 
-  same_still : {T : Type 0} (p e : Part T U C) → part_scene e ≡ part_scene p → Still (part_scene p) (part_scene e)
-  same_still p e is = subst (λ (s : Scene U C). Still (part_scene p) s) (sym is) (steady_same views client r offer (part_scene p))
-
   -- the display tells that a number is free
   deletes_goes : (s : Scene U C) (n : ℕ) → Change s (deletions n) [] s
   deletes_goes s n =

@@ -3,7 +3,7 @@ use Rattle.std.proofs.Common.{◌≡◌, ◌≢◌, ◌⊎◌, ℕ, ◌+◌, ◌
 use mathlib.Core.Logic.{inl, inr}
 use Rattle.std.specs.List.{filter}
 use Rattle.std.proofs.lemmas.Bool.{cases_eq}
-use Rattle.std.proofs.lemmas.Option.{same_Some}
+use Rattle.std.proofs.lemmas.Option.{same_Some, none-some}
 use Rattle.wl_wire.specs.Table.{registry_id}
 use Rattle.wl_link.specs.declared.object.Object.{Object}
 use Rattle.wl_link.specs.Identity.{Id}
@@ -22,9 +22,6 @@ use Rattle.wl_server.specs.Ids.{ClientParts, GlobalParts, IdParts}
 use Rattle.wl_server.specs.Part.{Part, id_of, registries_without, same_id, with_user_data}
 use Rattle.wl_server.proofs.OverRuns.Announced.ShownLaws.{IsShown, among_shown, shown_among}
 use Rattle.wl_server.specs.Telling.{Core, introductions}
-
-none_some : {A : Type 0} {x : A} → None ≡ Some x → ⊥
-none_some e = true≢false (sym (ap is_some e))
 
 -- what of a client its registries depend on
 pub record Scene (U C : Type 0) : Type 0 where
@@ -178,7 +175,7 @@ module _ {G C : Type 0} (views : G → ClientParts → C → GlobalParts → Boo
         keeps known = record {
           listed = known.listed;
           object = known.object;
-          holds = stored_other s.store n x r.number (λ same. none_some (sym free ∙ ap (held s.store) (sym same) ∙ known.holds)) ∙ known.holds;
+          holds = stored_other s.store n x r.number (λ same. none-some _ (sym free ∙ ap (held s.store) (sym same) ∙ known.holds)) ∙ known.holds;
           serial = known.serial;
           interface = known.interface;
           positive = known.positive;
@@ -254,7 +251,7 @@ module _ {G C : Type 0} (views : G → ClientParts → C → GlobalParts → Boo
         before : (m : ℕ) (y : Object (Kept U)) → held (removed s.store n) m ≡ Some y → held s.store m ≡ Some y
         before m y holds =
             elim (cases_eq m n) [
-              | inl same ↦ absurd (none_some (sym (removed_here s.store n m same) ∙ holds))
+              | inl same ↦ absurd (none-some _ (sym (removed_here s.store n m same) ∙ holds))
               | inr else' ↦ sym (removed_other s.store n m else') ∙ holds
             ]
 

@@ -2,7 +2,7 @@
 -- more may be received later.
 use Rattle.std.proofs.Common.{◌≡◌, ◌≢◌, ◌⊎◌, ℕ, Bool, true, false, not, ◌&&◌, eqb, cond, List, [], ◌∷◌, ◌++◌, append-nil, map, Option, None, Some, is_none, is_some, Result, Ok, Err, is_ok, MatchResult, refl, sym, ap, ap₂, subst, ◌∙◌, true≢false}
 use mathlib.Core.Logic.{inl, inr}
-use Rattle.std.proofs.lemmas.Option.{same_Some}
+use Rattle.std.proofs.lemmas.Option.{same_Some, none-some}
 use Rattle.std.specs.Prelude.{if◌then◌else◌, nat_lt, MatchBool}
 use Rattle.std.specs.Option.{option_map_or}
 use Rattle.wl_wire.specs.declared.argument.Argument.TheVariants as arg
@@ -56,9 +56,6 @@ proto_not same = cc
 
 not_ok : (f : IoFault) → ◌≡◌ {A = Result (Unit {0}) IoFault} (Err f) (Ok tt) → ⊥
 not_ok f same = true≢false (sym (ap is_ok same))
-
-none_some : {A : Type 0} {x : A} → None ≡ Some x → ⊥
-none_some e = true≢false (ap is_none e)
 
 module _ {U : Type 0} where
   pub answers_both : (gave others : List (Given (Told U))) → answers_in (gave ++ others) ≡ answers_in gave ++ answers_in others
@@ -530,13 +527,13 @@ module _ {U G C : Type 0} (a : Around G C) where
           → unless_some e (ends_request a.client c sender b created o) ≡ Some v → IsFinishVerdict v
       request live sender b created o None same =
           finish_by (ends_request a.client c sender b created o) (ending_is_finish c sender (ended_by c.store sender b) created o live unended) same
-      request live sender b created o (Some e) same = absurd (none_some same)
+      request live sender b created o (Some e) same = absurd (none-some _ same)
 
       at : (b : Bool) → c.is_killed ≡ b → (action : Option OpenAction) (u : Finish U) → (if b then None else finishing a.client c action u) ≡ Some v → IsFinishVerdict v
-      at true dead action u same = absurd (none_some same)
+      at true dead action u same = absurd (none-some _ same)
       at false live (Some (opened.Request sender d created)) (OfRequest o) same = request live sender d created o (refusal c.is_killed created o) same
       at false live (Some (opened.Bind object)) (OfBind d) same = finish_by (finish_verdict c (Some object) (Some d)) (bound_is_finish c (Some object) (Some d) live unended) same
-      at false live action u same = absurd (none_some same)
+      at false live action u same = absurd (none-some _ same)
 
   module _ {T : Type 0} (sends : T → Queue → Result ℕ IoFault → T → Type 0) where
     pub ends_so : (p after : ReaderState T (Core U C)) (u : Finish U) (es : List Sending) (gave : List (Given (Told U))) → p.core.ended ≡ None

@@ -2,7 +2,7 @@
 -- cut, reading by reading and finish by finish.
 use Rattle.std.proofs.Common.{◌≡◌, ℕ, ◌<◌, Bool, true, false, List, ◌∷◌, ◌++◌, Option, None, Some, is_none, Result, Ok, Err, refl, sym, ap, subst, ◌∙◌, true≢false}
 use mathlib.Core.Logic.{inl, inr}
-use Rattle.std.proofs.lemmas.Option.{same_Some}
+use Rattle.std.proofs.lemmas.Option.{same_Some, none-some}
 use Rattle.std.specs.Prelude.{if◌then◌else◌, not, ◌&&◌, is_ok, map, MatchBool}
 use Rattle.wl_wire.specs.declared.error.IoFault.{IoFault}
 use Rattle.wl_wire.specs.declared.error.IoFault.TheVariants as fault
@@ -40,9 +40,6 @@ use Rattle.wl_server.specs.Server.{Seen, ServerState, seen}
 use Rattle.wl_server.specs.Steps.{Entry, IsRefused, OneStep}
 use Rattle.wl_server.specs.Telling.{Core, Finish, OfBind, OfRequest, Told, core_of, deeds_of, part_of, reader_part}
 
-none_some : {A : Type 0} {x : A} → None ≡ Some x → ⊥
-none_some e = true≢false (ap is_none e)
-
 -- ---- a reading, and the end of an action
 
 module _ {T U G C : Type 0} (sends : T → Queue → Result ℕ IoFault → T → Type 0) (receives : T → ℕ → Result Queue IoFault → T → Type 0)
@@ -65,7 +62,7 @@ module _ {T U G C : Type 0} (sends : T → Queue → Result ℕ IoFault → T �
       → p.is_killed ≡ false → p.action ≡ None → NextAction sends receives a r p answer r' refused did q → ReadsTo sends receives a r p answer r' refused did q
   reads_to r p answer r' refused did q live unopened h =
       elim (either_option p.action h) [
-        | inr (action, is_open, g) ↦ absurd (none_some (sym unopened ∙ is_open))
+        | inr (action, is_open, g) ↦ absurd (none-some _ (sym unopened ∙ is_open))
         | inl (not_open, g) ↦ of_live p.is_killed live g
       ]
     where
@@ -83,7 +80,7 @@ module _ {U C : Type 0} where
     where
       at : (b : Bool) (o : Option OpenAction) → (if b then None else finishing client c o u) ≡ Some v → (not b && is_none o) ≡ false
       at true o taken = refl
-      at false None taken = absurd (none_some taken)
+      at false None taken = absurd (none-some _ taken)
       at false (Some x) taken = refl
 
 module _ {T U C : Type 0} where
@@ -126,7 +123,7 @@ module _ {T U G C : Type 0} (w : World T G C) (id : ClientParts) (offer : Offer 
       → OnPart before R missing lacked did after → (q : Part T U C) × R p q × (after ≡ record { part = Some q; made = before.made ++ notes_in did })
   of_part R missing lacked did p there h =
       elim (either_option before.part h) [
-        | inl (none, g) ↦ absurd (none_some (sym none ∙ there))
+        | inl (none, g) ↦ absurd (none-some _ (sym none ∙ there))
         | inr (other, there', (q, by, same)) ↦ (q, subst (λ (x : Part T U C). R x q) (same_Some other p (sym there' ∙ there)) by, same)
       ]
 

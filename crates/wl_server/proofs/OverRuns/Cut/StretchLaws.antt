@@ -3,7 +3,7 @@
 -- Its entries are acts of the client as a reader: those that are refused change nothing, and are none.
 use Rattle.std.proofs.Common.{◌≡◌, ◌≢◌, ◌⊎◌, ℕ, Bool, true, false, List, [], ◌∷◌, ◌++◌, append_assoc, append-nil, Option, None, Some, is_none, Result, Ok, Err, is_ok, map, refl, sym, ap, ap₂, subst, ◌∙◌, true≢false}
 use mathlib.Core.Logic.{inl, inr}
-use Rattle.std.proofs.lemmas.Option.{same_Some}
+use Rattle.std.proofs.lemmas.Option.{same_Some, none-some}
 use Rattle.std.specs.Prelude.{MatchBool, if◌then◌else◌, option_map}
 use Rattle.wl_wire.specs.declared.error.IoFault.{IoFault}
 use Rattle.wl_wire.specs.declared.error.IoFault.TheVariants as fault
@@ -56,9 +56,6 @@ use Rattle.wl_server.specs.Steps.{offer_after, Entry}
 use Rattle.wl_server.specs.Stretches.{AllHeard, EachIsCut, EachPartIsCut, EndsWaiting, IsHeard, StretchIsServed, IsStretch, IsStretchWithin, SameLeft, handed_out, answers_in, arrived, arrived_by, beside_exchanges, finished, finished_by, left_in, reading_by, told_by, was_killed}
 use Rattle.wl_server.specs.Telling.{Core, Finish, OfBind, OfRequest, Told, core_of, deeds_in, deeds_of, end_deeds, part_of, reader_part}
 
-none_some : {A : Type 0} {x : A} → None ≡ Some x → ⊥
-none_some e = true≢false (ap is_none e)
-
 accepted_not : {D : Type 0} (e : FinishRefused D) → ◌≡◌ {A = Result (Unit {0}) (FinishRefused D)} (Ok tt) (Err e) → ⊥
 accepted_not e is = true≢false (ap is_ok is)
 
@@ -70,7 +67,7 @@ fault_of (Err (Io f)) = Some f
 fault_of _ = None
 
 open_not : ◌≡◌ {A = Result Handed ActionError} (Err ActionOpen) (Err (Io fault.WouldBlock)) → ⊥
-open_not same = none_some (ap fault_of same)
+open_not same = none-some _ (ap fault_of same)
 
 pipe_not : ◌≡◌ {A = Result Handed ActionError} (Err (Io fault.Pipe)) (Err (Io fault.WouldBlock)) → ⊥
 pipe_not same = cc
@@ -116,7 +113,7 @@ module _ {U C : Type 0} (c e : Core U C) (out : Gives (Told U)) (on : reads_on c
       go : IsAnswered c out e → out.stopped ≡ Some fault.WouldBlock
       go (inl (f, stopped, none)) = stopped ∙ ap fault_of (sym (stopped_is f stopped) ∙ waits)
       go (inr (stopped, inl (off, none))) = absurd (true≢false (sym on ∙ off))
-      go (inr (stopped, inr (off, inl (h, one)))) = absurd (none_some (ap fault_of (sym (over_is stopped (Ok h) one) ∙ waits)))
+      go (inr (stopped, inr (off, inl (h, one)))) = absurd (none-some _ (ap fault_of (sym (over_is stopped (Ok h) one) ∙ waits)))
       go (inr (stopped, inr (off, inr (f, one, not, dead)))) =
           absurd (not (same_Some f fault.WouldBlock (ap fault_of (sym (over_is stopped (Err f) one) ∙ waits))))
 
@@ -150,14 +147,14 @@ module _ {T U C : Type 0} where
   request_open sends client p u did q unopened h =
       elim (either_option p.action h) [
         | inl (none, (is, no_memory, nothing', same)) ↦ accepted_not _ is
-        | inr (action, is_open, g) ↦ none_some (sym unopened ∙ is_open)
+        | inr (action, is_open, g) ↦ none-some _ (sym unopened ∙ is_open)
       ]
 
   bind_open : (p : Part T U C) (u : U) (did : List (Deed U)) (q : Part T U C) → p.action ≡ None → FinishesBind p u (Ok tt) false did q → ⊥
   bind_open p u did q unopened h =
       elim (either_option p.action h) [
         | inl (none, (is, no_memory, nothing', same)) ↦ accepted_not _ is
-        | inr (action, is_open, g) ↦ none_some (sym unopened ∙ is_open)
+        | inr (action, is_open, g) ↦ none-some _ (sym unopened ∙ is_open)
       ]
 
 -- a move that only memory refuses was made
@@ -223,7 +220,7 @@ module _ {G C : Type 0} (views : G → ClientParts → C → GlobalParts → Boo
         deeds = ap (λ (d : List (Deed U)). end_deeds s.core.ended ++ beside_exchanges d) none ∙ append-nil (end_deeds s.core.ended);
         sound = sound;
         answers = λ all roomy. ap (λ (o : Option (Result Handed ActionError)). told_by o did) unread;
-        waits = λ is before. absurd (none_some (sym unread ∙ is));
+        waits = λ is before. absurd (none-some _ (sym unread ∙ is));
       }
 
       -- a reading of a client that is read on
@@ -271,7 +268,7 @@ module _ {G C : Type 0} (views : G → ClientParts → C → GlobalParts → Boo
                 ∙ ap (λ (g : List (Given (Told U))). deeds_in g ++ end_deeds end.core.ended) (sym (append-nil gave));
             sound = so.sound;
             answers = λ all roomy. ap (λ (o : Option (Result Handed ActionError)). told_by o did) unread ∙ sym so.none ∙ ap answers_in (sym (append-nil gave));
-            waits = λ is before. absurd (none_some (sym unread ∙ is));
+            waits = λ is before. absurd (none-some _ (sym unread ∙ is));
           }
 
     -- a client that has no end is the part that its core goes on from
@@ -321,7 +318,7 @@ module _ {G C : Type 0} (views : G → ClientParts → C → GlobalParts → Boo
       -- a finish that is refused
       refused_acts : (did ≡ []) × (q ≡ part_of s) → finished_by call ≡ [] → reading_by call ≡ None → Acts s call did q
       refused_acts (none, same) ended unread =
-          acts_none s call did q same none sound came ended (ap (λ (o : Option (Result Handed ActionError)). told_by {U = U} o []) unread) (λ w. none_some (sym unread ∙ w))
+          acts_none s call did q same none sound came ended (ap (λ (o : Option (Result Handed ActionError)). told_by {U = U} o []) unread) (λ w. none-some _ (sym unread ∙ w))
 
       request_acts : (u : Option U) → finished_by call ≡ OfRequest u ∷ [] → reading_by call ≡ None → FinishesRequest ScriptSends id (part_of s) u (Ok tt) false did q → Acts s call did q
       request_acts u ended unread h = by_standing sound

@@ -1,5 +1,6 @@
 -- The changes of a client's objects in each call: an induction over base moves, over which the laws of ids stand.
 use Rattle.std.proofs.Common.{◌≡◌, ◌≢◌, ◌⊎◌, ℕ, ◌+◌, Bool, true, false, cond, List, [], ◌∷◌, ◌++◌, Option, None, Some, is_some, IsSome, Result, refl, sym, ap, subst, ◌∙◌, true≢false, append-nil, append_assoc}
+use Rattle.std.proofs.lemmas.Option.{none-some}
 use mathlib.Core.Logic.{inl, inr}
 use Rattle.std.specs.Prelude.{MatchOption, if◌then◌else◌}
 use Rattle.std.proofs.lemmas.Bool.{eq-eqb, ne_eqb}
@@ -22,9 +23,6 @@ use Rattle.wl_server.specs.Ids.{ClientParts, IdParts}
 use Rattle.wl_server.proofs.OverRuns.Ids.AmongLaws.{among_both, among_first, among_later}
 use Rattle.wl_server.specs.Part.{Part, end_note, id_at, id_of, note_of_end, null_id, objects_of, serial_of, with_user_data}
 use Rattle.wl_server.specs.Server.{Seen}
-
-none_some : {A : Type 0} {x : A} → None ≡ Some x → ⊥
-none_some e = true≢false (sym (ap is_some e))
 
 -- ---- ids
 
@@ -159,7 +157,7 @@ module _ {T U C : Type 0} (sends : T → Queue → Result ℕ IoFault → T → 
 
   -- a number that holds an object is not 0
   not_zero : (p : Part T U C) (n : ℕ) (x : Object (Kept U)) → held p.store 0 ≡ None → held p.store n ≡ Some x → n ≢ 0
-  not_zero p n x empty holds same = none_some (sym empty ∙ ap (held p.store) (sym same) ∙ holds)
+  not_zero p n x empty holds same = none-some _ (sym empty ∙ ap (held p.store) (sym same) ∙ holds)
 
   born_changing : (p : Part T U C) (n : ℕ) (x : Object (Kept U)) → held p.store 0 ≡ None → held p.store n ≡ None → n ≢ 0 → x.value.serial ≡ p.last_serial + 1
       → Changing p (handing (New (id_at client n x) ∷ [])) (record p { store = stored p.store n x; last_serial = p.last_serial + 1 })

@@ -3,7 +3,7 @@ use Rattle.std.proofs.Common.{◌≡◌, ◌≢◌, ◌⊎◌, ℕ, ◌+◌, ◌
 use mathlib.Core.Logic.{inl, inr}
 use Rattle.std.specs.Prelude.{◌&&◌, IsSome, is_ok, nat_le, option_map, slice_get}
 use Rattle.std.proofs.lemmas.Bool.{cases_eq, eqb-true, eq-eqb, ne_eqb}
-use Rattle.std.proofs.lemmas.Option.{same_Some}
+use Rattle.std.proofs.lemmas.Option.{same_Some, none-some}
 use Rattle.wl_wire.specs.declared.interface.InterfaceId.{InterfaceId}
 use Rattle.wl_wire.specs.Table.{InterfaceRow}
 use Rattle.wl_link.specs.declared.object.Object.{Object}
@@ -25,9 +25,6 @@ use Rattle.wl_server.proofs.OverRuns.Alone.IsolationLaw.{one_more, shared_run, s
 use Rattle.wl_server.proofs.OverRuns.Announced.ShownLaws.{global_held}
 use Rattle.wl_server.proofs.OverRuns.Killed.KilledLaws.{out_next, out_run}
 use Rattle.wl_server.proofs.OverRuns.Outcome.NumberLaws.{client_is, global_is}
-
-none_some : {A : Type 0} {x : A} → None ≡ Some x → ⊥
-none_some e = true≢false (sym (ap is_some e))
 
 some_none : {A : Type 0} {o : Option A} → IsSome o → o ≡ None → ⊥
 some_none some none = true≢false (sym some ∙ ap is_some none)
@@ -60,11 +57,11 @@ module _ {G : Type 0} where
     where
       one : (y : Object (KeptGlobal G)) (b : Bool) → eqb y.value.serial g.serial ≡ b → cond b (Some y) None ≡ Some x → x.value.serial ≡ g.serial
       one y true same is = ap (λ (o : Object (KeptGlobal G)). o.value.serial) (sym (same_Some y x is)) ∙ eqb-true y.value.serial g.serial same
-      one y false same is = absurd (none_some is)
+      one y false same is = absurd (none-some _ is)
 
       go : (z : Bool) (o : Option (Object (KeptGlobal G))) → cond z None (named_in global_serial (record { number = g.name; serial = g.serial }) o) ≡ Some x → x.value.serial ≡ g.serial
-      go true o is = absurd (none_some is)
-      go false None is = absurd (none_some is)
+      go true o is = absurd (none-some _ is)
+      go false None is = absurd (none-some _ is)
       go false (Some y) is = one y (eqb y.value.serial g.serial) refl is
 
 -- ---- two ids
@@ -398,15 +395,15 @@ module _ {T U G C : Type 0} where
   inserts_in : (call : Call T U G C) (id : ClientParts) → inserted_in call ≡ Some id → Inserts id call
   inserts_in (Asked (step.InsertClient transport client_data) (reply.InsertClient (Ok new))) id is =
       (transport, client_data, ap (λ (x : ClientParts). Asked (step.InsertClient transport client_data) (reply.InsertClient (Ok x))) (same_Some new id is))
-  inserts_in (Asked call answer) id is = absurd (none_some is)
-  inserts_in (Changed target t) id is = absurd (none_some is)
-  inserts_in (Grown rows answer) id is = absurd (none_some is)
+  inserts_in (Asked call answer) id is = absurd (none-some _ is)
+  inserts_in (Changed target t) id is = absurd (none-some _ is)
+  inserts_in (Grown rows answer) id is = absurd (none-some _ is)
 
   either_inserts : (id : ClientParts) (call : Call T U G C) → Inserts id call ⊎ IsNotInserted id call
   either_inserts id call = go (inserted_in call) refl
     where
       go : (o : Option ClientParts) → inserted_in call ≡ o → Inserts id call ⊎ IsNotInserted id call
-      go None none = inr (λ new (transport, client_data, is). absurd (none_some (sym none ∙ ap inserted_in is)))
+      go None none = inr (λ new (transport, client_data, is). absurd (none-some _ (sym none ∙ ap inserted_in is)))
       go (Some k) one = at (same_client k id) refl
         where
           at : (b : Bool) → same_client k id ≡ b → Inserts id call ⊎ IsNotInserted id call

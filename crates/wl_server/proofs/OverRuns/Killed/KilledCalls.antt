@@ -3,7 +3,7 @@ use Rattle.std.proofs.Common.{◌≡◌, ◌⊎◌, ℕ, Bool, true, false, List
 use Rattle.std.specs.Prelude.{Vec, is_ok}
 use Rattle.std.specs.Global.{Global}
 use Rattle.std.proofs.lemmas.Bool.{false≢true}
-use Rattle.std.proofs.lemmas.Option.{same_Some}
+use Rattle.std.proofs.lemmas.Option.{same_Some, none-some}
 use mathlib.Core.Logic.{inl, inr}
 use Rattle.wl_wire.specs.declared.error.IoFault.{IoFault}
 use Rattle.wl_wire.specs.declared.error.IoFault.TheVariants as fault
@@ -38,9 +38,6 @@ use Rattle.wl_server.proofs.OverRuns.Alone.IsolationLaw.{other_call}
 use Rattle.wl_server.proofs.OverRuns.Moves.BaseMoves.{Doings, Goes, any, notes_taken, taken_out, unfelt, within}
 use Rattle.wl_server.proofs.OverRuns.Moves.BaseMovesLaw.{call_goes, call_moves}
 use Rattle.wl_server.proofs.OverRuns.Killed.KilledParts.{Remains, fading, moves_remain, remains, when_killed}
-
-none_some : {A : Type 0} {x : A} → None ≡ Some x → ⊥
-none_some e = true≢false (sym (ap is_some e))
 
 -- ---- the answer of a reading
 
@@ -101,7 +98,7 @@ module _ {T U G C : Type 0} (w : World T G C) (id : ClientParts) (offer : Offer 
           → (did ≡ []) × (same_client target id ≡ true → (answer ≡ Err (refusal_with p.action)) × (r' ≡ r))
       go true is h =
           elim (either_option before.part h) [
-            | inl (none, nothing) ↦ absurd (none_some (sym none ∙ there))
+            | inl (none, nothing) ↦ absurd (none-some _ (sym none ∙ there))
             | inr (p', there', (q, next, same)) ↦
                 let u = dead_unread r r' answer q (subst (λ (x : Part T U C). NextAction w.sends w.receives (around w id offer) r x answer r' lacked did q) (found_part p' there') next) in
                 (u.none, λ mine. (u.answers, u.left))
@@ -154,7 +151,7 @@ module _ {T U G C : Type 0} (w : World T G C) (id : ClientParts) (offer : Offer 
   cleanup_dead answer (Err e) is h = inl (unfelt_dead h)
   cleanup_dead answer (Ok out) is h =
       elim (either_option before.part h) [
-        | inl (none, nothing) ↦ absurd (none_some (sym none ∙ there))
+        | inl (none, nothing) ↦ absurd (none-some _ (sym none ∙ there))
         | inr (p', there', (q, cleans, same)) ↦
             let (sent, flushed, end, flushes, did_so, handed, gone) =
             when_killed _ p.is_killed killed (subst (λ (x : Part T U C). Cleaned w.sends id x lacked did (share_of id out.items) q) (found_part p' there') cleans) in
@@ -166,7 +163,7 @@ module _ {T U G C : Type 0} (w : World T G C) (id : ClientParts) (offer : Offer 
       elim (either_bool (same_client target id) h) [
         | inl on ↦
             elim (either_option before.part on) [
-              | inl (none, nothing) ↦ absurd (none_some (sym none ∙ there))
+              | inl (none, nothing) ↦ absurd (none-some _ (sym none ∙ there))
               | inr (p', there', (q, next, same)) ↦ (
                 q,
                 ap (λ (s : Seen T U C). s.part) same,
@@ -210,7 +207,7 @@ module _ {T U G C : Type 0} (w : World T G C) (id : ClientParts) (offer : Offer 
       go true is h =
           elim (either_option before.part h) [
             | inl (nobody, (says, (calm, none, same))) ↦ (none, λ mine. says)
-            | inr (p, there, others) ↦ absurd (none_some (sym gone ∙ there))
+            | inr (p, there, others) ↦ absurd (none-some _ (sym gone ∙ there))
           ]
       go false is (calm, none, same) = (none, λ mine. absurd (true≢false (sym mine ∙ is)))
 
@@ -234,7 +231,7 @@ module _ {T U G C : Type 0} (w : World T G C) (id : ClientParts) (offer : Offer 
 
   goes_out : (d : _) → Goes (any true) w.sends w.receives id before d after → after.part ≡ None
   goes_out d (unfelt is same) = ap (λ (s : Seen T U C). s.part) same ∙ gone
-  goes_out d (within p q there moves same) = absurd (none_some (sym gone ∙ there))
+  goes_out d (within p q there moves same) = absurd (none-some _ (sym gone ∙ there))
   goes_out d (taken_out p q on there killed moves empty no_notes same) = ap (λ (s : Seen T U C). s.part) same
   goes_out d (notes_taken on is same) = ap (λ (s : Seen T U C). s.part) same ∙ gone
 

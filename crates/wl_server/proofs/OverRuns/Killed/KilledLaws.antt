@@ -1,5 +1,6 @@
 -- That a killed client stays killed until a cleanup takes it out, over each run of a new server.
 use Rattle.std.proofs.Common.{◌≡◌, ◌≤◌, true, List, [], ◌∷◌, ◌++◌, length, Option, None, Some, is_some, refl, sym, ap, subst, ◌∙◌, true≢false, arith}
+use Rattle.std.proofs.lemmas.Option.{none-some}
 use mathlib.Core.Logic.{inl, inr}
 use Rattle.wl_wire.specs.declared.error.IoFault.TheVariants as fault
 use Rattle.wl_wire.specs.Table.{InterfaceRow}
@@ -16,9 +17,6 @@ use Rattle.wl_server.specs.Server.{Seen, ServerState, new_server, seen}
 use Rattle.wl_server.specs.Steps.{Entry, OneStep}
 use Rattle.wl_server.proofs.OverRuns.Alone.IsolationLaw.{known_before, not_again}
 use Rattle.wl_server.proofs.OverRuns.Killed.KilledCalls.{DeadOrOut, dead_or_out, dead_says, dead_silent, out_says, out_silent, out_stays, refusal_with}
-
-none_some : {A : Type 0} {x : A} → None ≡ Some x → ⊥
-none_some e = true≢false (sym (ap is_some e))
 
 module _ {T U G C : Type 0} (w : World T G C) (id : ClientParts) where
   -- ---- a client that was taken out
@@ -98,7 +96,7 @@ module _ {T U G C : Type 0} (w : World T G C) (id : ClientParts) where
     without_action = rest.without_action;
     from_cleanup = rest.from_cleanup;
     split = ap (λ (l : List (Entry T U G C)). e ∷ l) rest.split;
-    opened = λ none. absurd (none_some (sym none));
+    opened = λ none. absurd (none-some _ (sym none));
     says_open = (says, rest.says_open);
     says_killed = rest.says_killed;
     ends = rest.ends;

@@ -1,5 +1,6 @@
 -- That each call is a chain of base moves, of whatever client.
 use Rattle.std.proofs.Common.{◌≡◌, ◌⊎◌, ℕ, zero, suc, ◌<◌, Bool, true, false, cond, List, [], ◌∷◌, ◌++◌, map, Option, None, Some, is_some, Result, Ok, Err, refl, sym, ap, subst, ◌∙◌, true≢false, arith}
+use Rattle.std.proofs.lemmas.Option.{none-some}
 use mathlib.Core.Logic.{inl, inr}
 use Rattle.std.specs.Prelude.{MatchBool, MatchOption, Contains, AllPairs, Vec}
 use Rattle.std.specs.Global.{Global}
@@ -66,9 +67,6 @@ module _ {A : Type 0} where
   pairs_first : (e : ℕ × A) (es : List (ℕ × A)) (x : ℕ × A) → AllPairs (λ a b. a.0 < b.0) (e ∷ es) → Contains es x → e.0 < x.0
   pairs_first e es x pairs (k, lt, is) = subst (λ (y : ℕ × A). e.0 < y.0) is (pairs zero (suc k) x (omega arith) (omega (arith, lt)))
 
-none_some : {A : Type 0} {x : A} → None ≡ Some x → ⊥
-none_some e = true≢false (sym (ap is_some e))
-
 module _ {U : Type 0} where
   doings_noted : (notes : List (Happening U)) → doings_in (map Noted notes) ≡ noting notes
   doings_noted [] = refl
@@ -111,7 +109,7 @@ module _ {T U C : Type 0} (kind : Kind) (sends : T → Queue → Result ℕ IoFa
     there = λ n x among. removed_other p.store e.0 n (λ same. later n x among same) ∙ is.there n x (contains_there e entries (n, x) among);
     all = λ n x holds. (
         elim (cases_eq n e.0) [
-          | inl same ↦ absurd (none_some (sym (removed_here p.store e.0 n same) ∙ holds))
+          | inl same ↦ absurd (none-some _ (sym (removed_here p.store e.0 n same) ∙ holds))
           | inr other ↦
               elim (contains_or e entries (n, x) (is.all n x (sym (removed_other p.store e.0 n other) ∙ holds))) [
                 | inl first ↦ absurd (other (ap (λ (y : ℕ × Object (Kept U)). y.0) (sym first)))

@@ -3,7 +3,7 @@ use Rattle.std.proofs.Common.{◌≡◌, ◌≢◌, ℕ, ◌≤◌, Bool, true, 
 use mathlib.Core.Logic.{inl, inr}
 use Rattle.std.specs.Prelude.{slice_get, is_ok}
 use Rattle.std.proofs.lemmas.Bool.{eqb-true}
-use Rattle.std.proofs.lemmas.Option.{same_Some}
+use Rattle.std.proofs.lemmas.Option.{same_Some, none-some}
 use Rattle.wl_wire.specs.declared.error.IoFault.{IoFault}
 use Rattle.wl_wire.specs.declared.error.IoFault.TheVariants as fault
 use Rattle.wl_wire.specs.declared.interface.InterfaceId.{InterfaceId}
@@ -45,20 +45,17 @@ use Rattle.wl_server.specs.Telling.{Core, Did, Kills, Tells, Told, closed_down, 
 
 -- ---- what an id names
 
-none_some : {A : Type 0} {x : A} → None ≡ Some x → ⊥
-none_some e = true≢false (sym (ap is_some e))
-
 module _ {U : Type 0} where
   pub named_held : (store : Store (Kept U)) (id : IdParts) (x : Object (Kept U)) → named store id ≡ Some x → held store id.number ≡ Some x
   named_held store id x e = go (eqb id.number 0) (held store id.number) e
     where
       one : (c : Bool) (y : Object (Kept U)) → cond c (Some y) None ≡ Some x → Some y ≡ Some x
       one true y e = e
-      one false y e = absurd (none_some e)
+      one false y e = absurd (none-some _ e)
 
       go : (b : Bool) (o : Option (Object (Kept U))) → cond b None (named_in serial_of (id_of id) o) ≡ Some x → o ≡ Some x
-      go true o e = absurd (none_some e)
-      go false None e = absurd (none_some e)
+      go true o e = absurd (none-some _ e)
+      go false None e = absurd (none-some _ e)
       go false (Some y) e = one (eqb y.value.serial id.serial) y e
 
   pub named_serial : (store : Store (Kept U)) (id : IdParts) (x : Object (Kept U)) → named store id ≡ Some x → x.value.serial ≡ id.serial
@@ -66,11 +63,11 @@ module _ {U : Type 0} where
     where
       one : (c : Bool) (y : Object (Kept U)) → eqb y.value.serial id.serial ≡ c → cond c (Some y) None ≡ Some x → x.value.serial ≡ id.serial
       one true y is e = ap (λ (o : Object (Kept U)). o.value.serial) (sym (same_Some y x e)) ∙ eqb-true y.value.serial id.serial is
-      one false y is e = absurd (none_some e)
+      one false y is e = absurd (none-some _ e)
 
       go : (b : Bool) (o : Option (Object (Kept U))) → cond b None (named_in serial_of (id_of id) o) ≡ Some x → x.value.serial ≡ id.serial
-      go true o e = absurd (none_some e)
-      go false None e = absurd (none_some e)
+      go true o e = absurd (none-some _ e)
+      go false None e = absurd (none-some _ e)
       go false (Some y) e = one (eqb y.value.serial id.serial) y refl e
 
   -- the id of the object that an id names has its number and serial
@@ -133,11 +130,11 @@ module _ {U : Type 0} where
       go : (o : Option (Object (Kept U))) → named store id ≡ o → held (data_given store id.number o u) n ≡ None
       go None e = free
       go (Some x) e =
-          rewritten_other store id.number (with_user_data u x) n (λ same. none_some (sym free ∙ ap (held store) same ∙ named_held store id x e)) ∙ free
+          rewritten_other store id.number (with_user_data u x) n (λ same. none-some _ (sym free ∙ ap (held store) same ∙ named_held store id x e)) ∙ free
 
   pub ended_named : (store : Store (Kept U)) (id : IdParts) (b : Bool) (x : Object (Kept U)) → ended_by store id b ≡ Some x → named store id ≡ Some x
   ended_named store id true x e = e
-  ended_named store id false x e = absurd (none_some e)
+  ended_named store id false x e = absurd (none-some _ e)
 
 module _ {T : Type 0} (sends : T → Queue → Result ℕ IoFault → T → Type 0) where
   -- one message is put
@@ -231,7 +228,7 @@ module _ {T U C : Type 0} (kind : Kind) (sends : T → Queue → Result ℕ IoFa
   destroyable_named p id x e = go (eqb id.number 1) e
     where
       go : (b : Bool) → cond b None (named p.store id) ≡ Some x → named p.store id ≡ Some x
-      go true e = absurd (none_some e)
+      go true e = absurd (none-some _ e)
       go false e = e
 
   pub destroys_moves : (p : Part T U C) (id : IdParts) (answer : Result (Unit {0}) DestroyError) (lacked : Bool) (did : List (Deed U)) (q : Part T U C)

@@ -44,9 +44,6 @@ use Rattle.wl_server.specs.Requests.{Converted, Converting, Outcome, Whole, Wron
 use Rattle.wl_server.specs.Telling.{Core, Did, Stops, Told, closed_down, objects_in, with_objects}
 use Rattle.wl_link.proofs.Ids.HandedIds.{argument_ids_both}
 
-none_some : {A : Type 0} {x : A} → None ≡ Some x → ⊥
-none_some e = true≢false (sym (ap is_some e))
-
 not_some : {A : Type 0} (o : Option A) (b : Bool) → (not (is_some o) && b) ≡ true → o ≡ None
 not_some None b e = refl
 not_some (Some x) b e = absurd (true≢false (sym e))

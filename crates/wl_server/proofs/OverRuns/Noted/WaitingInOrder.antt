@@ -1,5 +1,6 @@
 -- The notes that wait, over a run: those that waited at an earlier point come first among those that waited at a later one.
 use Rattle.std.proofs.Common.{◌≡◌, ◌∙◌, ℕ, suc, ◌+◌, ◌<◌, Bool, true, false, List, [], ◌∷◌, ◌++◌, length, map, Option, None, Some, is_some, Result, Ok, Err, Vec, refl, sym, ap, subst, arith, append_assoc, append-nil, true≢false}
+use Rattle.std.proofs.lemmas.Option.{none-some}
 use mathlib.Core.Logic.{inl, inr}
 use Rattle.std.specs.Global.{Global}
 use Rattle.std.specs.List.{sum_by}
@@ -113,9 +114,6 @@ module _ {T U C : Type 0} (sends : T → Queue → Result ℕ IoFault → T → 
   goes_grow s t d (taken_out p q on there killed moves none noted same) = absurd (false≢true on)
   goes_grow s t d (notes_taken on is same) = grown_still (waiting_of s.part) (waiting_of t.part) (ap (λ (x : Seen T U C). waiting_of x.part) same)
 
-none_some : {A : Type 0} {x : A} → None ≡ Some x → ⊥
-none_some e = true≢false (sym (ap is_some e))
-
 module _ {T U G C : Type 0} where
   abbrev waits_at : ClientParts → ServerState T U G C → List (Happening U)
   waits_at id s = waiting_of (seen id s).part
@@ -141,7 +139,7 @@ module _ {T U G C : Type 0} (w : World T G C) where
               decide true here =
                   let free = (numbered s e.call new one.client inserts).0.free in
                   let gone = subst (λ (i : ClientParts). stored_at i.slot s.clients ≡ None) (same_client_is new id here) free in
-                  absurd (none_some (sym (ap (λ (o : Option (Stored T U C)). option_map (λ c. c.part) (if_serial id.serial o)) gone) ∙ is))
+                  absurd (none-some _ (sym (ap (λ (o : Option (Stored T U C)). option_map (λ c. c.part) (if_serial id.serial o)) gone) ∙ is))
 
           go : (b : Bool) → concerns id e.call ≡ b → Grown (waits_at id s) (waits_at id t)
           go true about =
@@ -176,14 +174,14 @@ module _ {T U G C : Type 0} where
     same_long k None None is is' = refl
     same_long k None (Some y) is is' =
         let id : ClientParts = record { slot = k; serial = y.serial } in
-        absurd (none_some (sym (ap (λ (o : Option (Stored T U C)). part_in (if_serial y.serial o)) is) ∙ (sym (parts id) ∙ ap part_in (stored_found y (stored_at k t.clients) is'))))
+        absurd (none-some _ (sym (ap (λ (o : Option (Stored T U C)). part_in (if_serial y.serial o)) is) ∙ (sym (parts id) ∙ ap part_in (stored_found y (stored_at k t.clients) is'))))
     same_long k (Some x) b is is' = at b is' (ap (λ (o : Option (Stored T U C)). part_in (if_serial x.serial o)) (sym is') ∙ (parts id ∙ ap part_in (stored_found x (stored_at k s.clients) is)))
       where
         id : ClientParts
         id = record { slot = k; serial = x.serial }
 
         at : (b : Option (Stored T U C)) → stored_at k t.clients ≡ b → part_in (if_serial x.serial b) ≡ Some x.part → length (waits (Some x)) ≡ length (waits b)
-        at None is' there = absurd (none_some there)
+        at None is' there = absurd (none-some _ there)
         at (Some y) is' there = go (y.serial == x.serial) refl
           where
             go : (c : Bool) → (y.serial == x.serial) ≡ c → length (waits (Some x)) ≡ length (waits (Some y))
@@ -192,7 +190,7 @@ module _ {T U G C : Type 0} where
                 ap (λ (o : Option (Part T U C)). length (waiting_of o)) (sym there ∙ now)
             go false other =
                 let now : part_in (if_serial x.serial (Some y)) ≡ None = ap (λ (z : Bool). part_in (if z then Some y else None)) other in
-                absurd (none_some (sym now ∙ there))
+                absurd (none-some _ (sym now ∙ there))
 
     -- what is left of the numbers of those that wait is all of them
     same_waiting : AllNumbered s.clients → AllNumbered t.clients → AllTakeFirst (map times_of s.clients) (map times_of t.clients) → (k : ℕ)
