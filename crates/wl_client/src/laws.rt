@@ -102,8 +102,8 @@ pub fn local_calls_are_calls<T: Transport, U>()
 {}
 
 /// A call of a session over the transport by script is a step over that transport (`step`). So a history of such calls is one
-/// of steps (`history`). Each step is such a call, or a change of the transport (`change`). So what is said of histories over
-/// every transport is said of steps, too.
+/// of steps (`history`). Each step is such a call, or a change of the transport (`change`), and a history of steps is one of
+/// such calls and changes (`changes`). So what is said of histories over every transport is said of steps, too.
 pub fn calls_over_scripts_are_steps<U>()
     ensures step { (before : SessionState Script U) (call : Step U) (answer : Reply U) (refused : Bool) (after : SessionState Script U) →
         CallOf ScriptSends ScriptReceives before call answer refused after → StepOf before call answer refused after }
@@ -112,6 +112,8 @@ pub fn calls_over_scripts_are_steps<U>()
     ensures change { (before : SessionState Script U) (call : Step U) (answer : Reply U) (refused : Bool) (after : SessionState Script U) →
         StepOf before call answer refused after →
         CallOf ScriptSends ScriptReceives before call answer refused after ⊎ ((t : Script) × (after ≡ over_transport before t)) }
+    ensures changes { (before after : SessionState Script U) (deeds : List (Deed Script U)) → History StepOf before deeds after →
+        (others : List (Deed Script U)) × History (CallOf ScriptSends ScriptReceives) before others after }
 {}
 
 /// Histories that follow one another are one history (`every`). A run, as of `Backend::replay`, is a history of its entries

@@ -284,7 +284,7 @@ pub fn registries_announce_what_is_shown<T: Transport, U, G: GlobalHandler<C>, C
 /// the transport by script holds of the whole.
 ///
 /// A step over the transport by script is such a call, or a change of a client's transport (clause `change`). So what is
-/// said of runs over every transport is said of steps, too.
+/// said of runs over every transport is said of steps, too. Clause `changes` has that of a whole run.
 pub fn calls_over_scripts_are_steps<U, G: GlobalHandler<C>, C>()
     ensures step { (before after : ServerState Script U G C) (call : Step Script U G C) (answer : Reply Script U) (refused : Bool) →
         StepOf (over ScriptSends ScriptReceives G.views) before call answer refused after → StepOf (over_scripts G.views) before call answer refused after }
@@ -295,6 +295,8 @@ pub fn calls_over_scripts_are_steps<U, G: GlobalHandler<C>, C>()
     ensures change { (before after : ServerState Script U G C) (e : Entry Script U G C) → OneStep (over_scripts G.views) before e after →
         OneStep (over ScriptSends ScriptReceives G.views) before e after
         ⊎ ((target : ClientParts) × (t : Script) × Makes (over ScriptSends ScriptReceives G.views) before (Changed target t) false after) }
+    ensures changes { (before after : ServerState Script U G C) (run : List (Entry Script U G C)) → Leads (over_scripts G.views) before run after →
+        (others : List (Entry Script U G C)) × Leads (over ScriptSends ScriptReceives G.views) before others after }
 {}
 
 /// Seven laws of runs hold of one history of steps over the transport by script (clause `steps`).

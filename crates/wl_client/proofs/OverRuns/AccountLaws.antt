@@ -140,6 +140,21 @@ module _ {U : Type 0} where
   call_history before after (Changed t ∷ deeds) (mid, same, leads) = (mid, same, call_history mid after deeds leads)
   call_history before after (Grown rows answer ∷ deeds) (mid, added, leads) = (mid, added, call_history mid after deeds leads)
 
+  -- and a history of steps is one of such calls, with changes of the transport in place of its own
+  pub history_of_calls : (before after : SessionState Script U) (deeds : List (Deed Script U)) → History StepOf before deeds after
+      → (others : List (Deed Script U)) × History (CallOf ScriptSends ScriptReceives) before others after
+  history_of_calls before after [] same = ([], same)
+  history_of_calls before after (d ∷ deeds) (mid, does, leads) =
+      let (others, behind) = history_of_calls mid after deeds leads in
+      let (first, does_so) = on d does in
+      (first ∷ others, (mid, does_so, behind))
+    where
+      on : (d : Deed Script U) → Does StepOf before d mid → (first : Deed Script U) × Does (CallOf ScriptSends ScriptReceives) before first mid
+      on (Called e) by =
+          elim (call_or_change before e.step e.answer e.refused mid by) [ inl call ↦ (Called e, call) | inr (t, same) ↦ (Changed t, same) ]
+      on (Changed t) same = (Changed t, same)
+      on (Grown rows answer) added = (Grown rows answer, added)
+
   -- a run that stopped is accounted for, with the step that met a want of memory
   pub stopped_accounts : (s after : SessionState Script U) (steps : List (Step U)) (n : ℕ) (replies : List (Reply U)) → StopsAt s steps n replies after
       → (table : List InterfaceRow) (transport : Script) (begun : SessionState Script U) (deeds : List (Deed Script U)) → IsConnected table transport begun

@@ -174,3 +174,15 @@ module _ {U G C : Type 0} (views : G → ClientParts → C → GlobalParts → B
         notes = one.notes;
         each = one.each;
       })
+
+module _ {U G C : Type 0} (views : G → ClientParts → C → GlobalParts → Bool) where
+  -- a run over the transport by script is one of calls over it, with changes of a client's transport in place of its own
+  pub run_of_calls : (before : ServerState Script U G C) (run : List (Entry Script U G C)) (after : ServerState Script U G C) → Leads (over_scripts views) before run after
+      → (others : List (Entry Script U G C)) × Leads (by_script views) before others after
+  run_of_calls before [] after same = ([], same)
+  run_of_calls before (e ∷ run) after (mid, one, leads) =
+      let (others, behind) = run_of_calls mid run after leads in
+      elim (call_or_change views before mid e one) [
+        | inl asked ↦ (e ∷ others, (mid, asked, behind))
+        | inr (target, t, made) ↦ (made.0 ∷ others, (mid, made.3, behind))
+      ]

@@ -1,4 +1,4 @@
-use Rattle.wl_server.proofs.CallSteps.OverScripts.{call_or_change, one_over_script, run_over_script, step_over_script}
+use Rattle.wl_server.proofs.CallSteps.OverScripts.{call_or_change, one_over_script, run_of_calls, run_over_script, step_over_script}
 use Rattle.wl_server.proofs.laws.calls_over_scripts_are_steps.Goals as goal
 
 pub returns-clause-step : goal.returns-clause-step
@@ -12,3 +12,6 @@ returns-clause-run g c = λ before after run. run_over_script g.G.GlobalHandler.
 
 pub returns-clause-change : goal.returns-clause-change
 returns-clause-change g c = λ before after e. call_or_change g.G.GlobalHandler.views before after e
+
+pub returns-clause-changes : goal.returns-clause-changes
+returns-clause-changes g c = λ before after run. run_of_calls g.G.GlobalHandler.views before run after
