@@ -1,5 +1,5 @@
 -- The objects of a client that leaves are noted, one after another.
-use Rattle.std.proofs.Common.{◌≡◌, ℕ, ◌+◌, ◌≤◌, List, [], ◌∷◌, ◌++◌, length, map, refl, sym, ap, subst, ◌∙◌, arith, append-nil, append_assoc}
+use Rattle.std.proofs.Common.{◌≡◌, ℕ, ◌+◌, ◌≤◌, List, ◌∷◌, ◌++◌, length, map, refl, sym, ap, subst, ◌∙◌, arith, append_assoc}
 use Rattle.std.proofs.lemmas.List.{length-append, length-map, map-append}
 use Rattle.wl_link.specs.declared.object.Object.{Object}
 use Rattle.wl_server.specs.declared.objects.Kept.{Kept}

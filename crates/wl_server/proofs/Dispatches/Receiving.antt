@@ -12,7 +12,6 @@ use Rattle.wl_link.specs.Reader.{Gives, Handled, ReaderState, Reads, Received, T
 use Rattle.wl_server.specs.declared.error.ActionError.{ActionError}
 use Rattle.wl_server.specs.declared.error.ActionError.TheVariants.{Io}
 use Rattle.wl_server.specs.declared.error.FinishError.{FinishError}
-use Rattle.wl_server.specs.declared.error.InsertClientError.{InsertClientError}
 use Rattle.wl_server.specs.declared.reading.action.Action.{Action}
 use Rattle.wl_server.specs.declared.reading.action.Action.TheVariants as action
 use Rattle.wl_server.specs.declared.reading.action.Reading.{Reading}
@@ -27,17 +26,17 @@ use Rattle.wl_server.specs.Dispatch.{Answering, Answers, EndsDispatch, Handles, 
 use Rattle.wl_server.specs.Globals.{Offer}
 use Rattle.wl_server.specs.Ids.{ClientParts, same_client}
 use Rattle.wl_server.specs.Part.{Part}
-use Rattle.wl_server.specs.PartStep.{Asked, Call, InsertedAs, OfClient, PartCall, ReadsFor, Unfelt, World, around}
+use Rattle.wl_server.specs.PartStep.{Asked, Call, OfClient, PartCall, ReadsFor, World, around}
 use Rattle.wl_server.specs.Reached.{AllSpare}
 use Rattle.wl_server.specs.Reading.{Around, NextAction, action_content, new_reading, server}
-use Rattle.wl_server.specs.Runs.{IsNotInserted, Leads, concerns}
+use Rattle.wl_server.specs.Runs.{Leads}
 use Rattle.wl_server.specs.Server.{Seen, ServerState, seen}
 use Rattle.wl_server.specs.Steps.{Entry, OneStep}
 use Rattle.wl_server.specs.Telling.{Core, Told, reader_part}
-use Rattle.wl_server.proofs.Dispatches.Waiting.{at_other, spared_unread, stops_left, unread_goes, unread_moves}
-use Rattle.wl_server.proofs.OverRuns.Alone.IsolationLaw.{other_call, same_self}
+use Rattle.wl_server.proofs.Dispatches.Waiting.{spared_unread, stops_left, unread_goes, unread_moves}
+use Rattle.wl_server.proofs.OverRuns.Alone.IsolationLaw.{same_self}
 use Rattle.wl_server.proofs.OverRuns.Cut.RoomLaws.{no_more, none_sent, received, received_deeds}
-use Rattle.wl_server.proofs.OverRuns.Moves.BaseMoves.{Doings, Goes, Moves, any, born, cleaned, finished, ended, flushed, followed, found, found_none, handed_out, notes_taken, opens, received as received_move, relinked, remembered, stayed, taken_out, told, unfelt, went, within, wrote}
+use Rattle.wl_server.proofs.OverRuns.Moves.BaseMoves.{Doings, Goes, Moves, born, cleaned, finished, ended, flushed, followed, found, found_none, handed_out, notes_taken, opens, received as received_move, relinked, remembered, stayed, taken_out, told, unfelt, went, within, wrote}
 use Rattle.wl_server.proofs.OverRuns.Moves.BaseMovesLaw.{reads_of}
 
 -- ---- a call that does not read the client

@@ -1,44 +1,28 @@
 -- That a dispatch ends: each action that is read takes a message off what waits to be read of its client, or a receive is
 -- used up; and what is called in between adds nothing to what waits.
-use Rattle.std.proofs.Common.{◌≡◌, ◌⊎◌, ℕ, suc, ◌<◌, ◌≤◌, Bool, true, false, List, [], ◌∷◌, ◌++◌, append-nil, length, Option, None, Some, Result, Ok, Err, MatchBool, refl, sym, ap, subst, ◌∙◌, true≢false, arith}
+use Rattle.std.proofs.Common.{◌≡◌, ◌⊎◌, ℕ, suc, ◌<◌, ◌≤◌, Bool, true, false, List, [], ◌∷◌, ◌++◌, length, Option, None, Some, Result, Ok, Err, MatchBool, refl, sym, ap, subst, ◌∙◌, true≢false, arith}
 use Rattle.std.specs.Option.{option_map_or}
-use Rattle.std.specs.Prelude.{◌||◌, ◌==◌, MatchResult, Vec, not, slice_get}
+use Rattle.std.specs.Prelude.{◌||◌, MatchResult, not}
 use Rattle.std.proofs.lemmas.Bool.{cases_lt}
 use Rattle.std.proofs.lemmas.List.{length-drop}
-use Rattle.std.specs.Global.{Global}
 use mathlib.Core.Logic.{inl, inr}
 use Rattle.wl_wire.specs.declared.error.IoFault.{IoFault}
 use Rattle.wl_wire.specs.declared.error.IoFault.TheVariants as fault
 use Rattle.wl_wire.specs.declared.argument.ArgumentType.{ArgumentType}
-use Rattle.wl_wire.specs.declared.error.OutOfMemory.{OutOfMemory}
-use Rattle.wl_wire.specs.declared.interface.InterfaceId.{InterfaceId}
 use Rattle.wl_wire.specs.Message.{WireMessage}
 use Rattle.wl_wire.specs.Parse.{length_of}
-use Rattle.wl_wire.specs.Table.{InterfaceRow}
-use Rattle.wl_link.specs.declared.object.Object.{Object}
-use Rattle.wl_link.proofs.Calls.Branches.{either_bool, either_option, either_result}
+use Rattle.wl_link.proofs.Calls.Branches.{either_bool, either_option}
 use Rattle.wl_link.specs.Exchange.{Queue, Sending, nothing}
 use Rattle.wl_link.proofs.Streams.LengthLaws.{carries_stays}
-use Rattle.wl_link.specs.Link.{LinkState, ReadOne, WroteBy, count_of, counted_answer}
+use Rattle.wl_link.specs.Link.{LinkState, ReadOne, count_of, counted_answer}
 use Rattle.wl_link.specs.Puts.{PutsOut, Said, lacks_memory}
 use Rattle.wl_link.specs.Reader.{CarriesOut, Given, Gives, Handled, Reader, Reads, Received, Stops as StopsReading, Turn, Unread, Verdict, came_to, put_and_gave, stops, with_link as at_link, ReaderState}
 use Rattle.wl_link.proofs.Streams.StreamLaws.{read_left}
 use Rattle.wl_server.specs.declared.error.ActionError.{ActionError}
 use Rattle.wl_server.specs.declared.error.ActionError.TheVariants.{Io}
-use Rattle.wl_server.specs.declared.error.CreateError.{CreateError}
-use Rattle.wl_server.specs.declared.error.DestroyError.{DestroyError}
-use Rattle.wl_server.specs.declared.error.EventError.{EventError}
 use Rattle.wl_server.specs.declared.error.FinishError.{FinishError}
-use Rattle.wl_server.specs.declared.error.FinishRefused.{FinishRefused}
-use Rattle.wl_server.specs.declared.error.GlobalError.{GlobalError}
-use Rattle.wl_server.specs.declared.error.InsertClientError.{InsertClientError}
-use Rattle.wl_server.specs.declared.error.InvalidId.{InvalidId}
-use Rattle.wl_server.specs.declared.notes.Note.{Note}
-use Rattle.wl_server.specs.declared.objects.Kept.{Kept}
 use Rattle.wl_server.specs.declared.reading.action.Action.{Action}
 use Rattle.wl_server.specs.declared.reading.action.Action.TheVariants as action
-use Rattle.wl_server.specs.declared.reading.action.OpenAction.{OpenAction}
-use Rattle.wl_server.specs.declared.reading.action.OpenAction.TheVariants as opened
 use Rattle.wl_server.specs.declared.reading.action.Reading.{Reading}
 use Rattle.wl_server.specs.declared.runs.step.Reply.{Reply}
 use Rattle.wl_server.specs.declared.runs.step.Reply.TheVariants as reply
@@ -47,23 +31,17 @@ use Rattle.wl_server.specs.declared.runs.step.Step.TheVariants as step
 use Rattle.wl_server.specs.Backend.{BackendState, Calls}
 use Rattle.wl_server.specs.Deeds.{Deed, Handed, handed}
 use Rattle.wl_server.specs.Dispatch.{Answering, Answers, Handles}
-use Rattle.wl_server.specs.Errors.{PostsError, posts}
-use Rattle.wl_server.specs.Events.{SendsEvent, SendsGranted, SentAs, SessionMessage, ends_closed, ends_sender, event_check, said, session_content}
-use Rattle.wl_server.specs.Felt.{FlushedTo, FlushesLive, Hears, news, removals}
-use Rattle.wl_server.specs.Finish.{FinishesBind, FinishesOpen, FinishesOpenBind, FinishesRequest, ends_request, refusal}
-use Rattle.wl_server.specs.Globals.{Offer, global_of, is_enabled}
-use Rattle.wl_server.specs.Ids.{ClientParts, GlobalParts, IdParts, same_client}
+use Rattle.wl_server.specs.Globals.{Offer}
+use Rattle.wl_server.specs.Ids.{ClientParts, same_client}
 use Rattle.wl_server.specs.Inside.Dispatching.{Fewer, waiting_of, waits}
-use Rattle.wl_server.specs.Moves.{Move, Moved}
-use Rattle.wl_server.specs.Objects.{Creates, CreatesAt, DataSet, Destroys, destroyable, destroys}
-use Rattle.wl_server.specs.Part.{Part, last_possible_serial, named}
-use Rattle.wl_server.specs.PartStep.{Asked, Call, Changed, CleanedAs, FeelsGlobal, FeelsLoss, FlushedFor, Grown, InsertedAs, MovedFor, NotesTaken, OfClient, OnPart, PartCall, ReadsFor, Unfelt, World, around}
+use Rattle.wl_server.specs.Part.{Part}
+use Rattle.wl_server.specs.PartStep.{Asked, Call, PartCall, ReadsFor, World, around}
 use Rattle.wl_server.specs.Reached.{AllSpare, spares}
 use Rattle.wl_server.specs.Reading.{Around, NextAction, action_content, action_in, answered, garbled, server}
 use Rattle.wl_server.specs.Runs.{Leads}
 use Rattle.wl_server.specs.Server.{Seen, ServerState, seen}
 use Rattle.wl_server.specs.Steps.{Entry, OneStep}
-use Rattle.wl_server.specs.Telling.{Core, Finish, Stops, Tells, Told, core_of, part_of, reader_part, speaker, tells}
+use Rattle.wl_server.specs.Telling.{Core, Finish, Stops, Told, core_of, part_of, reader_part, speaker, tells}
 use Rattle.wl_server.proofs.OverRuns.Alone.IsolationLaw.{same_self}
 use Rattle.wl_server.proofs.OverRuns.Ids.ReplyLaws.{own_step}
 use Rattle.wl_server.proofs.OverRuns.Moves.BaseMoves.{Doings, Goes, Kind, Moves, born, cleaned, ended, finished, flushed, followed, found as found_one, found_none, handed_out, notes_taken, opens, received as received_move, relinked, remembered, stayed, taken_out, told, unfelt, went, within, wrote as wrote_data}

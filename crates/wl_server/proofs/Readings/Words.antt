@@ -1,7 +1,7 @@
 -- A request of words that is handed out where it stands is handled as any other.
 use Rattle.std.proofs.Common.{◌≡◌, ◌∙◌, ℕ, ◌*◌, ◌<◌, ◌≤◌, Bool, true, false, ◌==◌, nat_le, nat_lt, if◌then◌else◌, List, [], ◌∷◌, ◌++◌, append-nil, append_assoc, drop, length, take, Option, None, Some, option_map, Result, Ok, Err, refl, sym, ap, ap₂, subst, arith, true≢false}
 use Rattle.std.proofs.lemmas.List.{length-drop, length-take-le, take-append-drop}
-use Rattle.std.proofs.lemmas.Bool.{and_parts, le-leb, le-ltb, leb-true, lt-leb}
+use Rattle.std.proofs.lemmas.Bool.{and_parts, le-leb, le-ltb, leb-true}
 use Rattle.std.specs.Int.{w32, cast_signed}
 use Rattle.wl_wire.specs.declared.argument.AllowNull.{AllowNull}
 use Rattle.wl_wire.specs.declared.argument.AllowNull.TheVariants as allow

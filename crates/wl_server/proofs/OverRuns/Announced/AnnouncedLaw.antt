@@ -1,5 +1,5 @@
 -- That what a client's registries announced is what it is shown: over every run.
-use Rattle.std.proofs.Common.{◌≡◌, ◌≢◌, ℕ, ◌≤◌, Bool, true, false, List, [], ◌∷◌, ◌++◌, map, append-nil, append_assoc, Option, None, Some, is_some, Result, Ok, Err, MatchBool, MatchOption, refl, sym, ap, subst, ◌∙◌, true≢false, arith}
+use Rattle.std.proofs.Common.{◌≡◌, ◌≢◌, ℕ, ◌≤◌, Bool, true, false, List, [], ◌∷◌, ◌++◌, map, append-nil, append_assoc, Option, None, Some, Result, Ok, Err, MatchBool, MatchOption, refl, sym, ap, subst, ◌∙◌, true≢false, arith}
 use mathlib.Core.Logic.{inl, inr}
 use Rattle.std.specs.Prelude.{◌+◌, Contains, Vec, if◌then◌else◌, is_ok, nat_le, slice_get}
 use Rattle.std.specs.Global.{Global}

@@ -1,32 +1,28 @@
 -- That each error which a note tells of was told of before a call, or is one for which the call may kill the client.
-use Rattle.std.proofs.Common.{◌≡◌, ℕ, Bool, true, false, cond, List, [], ◌∷◌, ◌++◌, append-nil, Option, None, Some, Result, Ok, Err, refl, sym, ap, subst, ◌∙◌, arith, append_assoc}
+use Rattle.std.proofs.Common.{◌≡◌, ℕ, Bool, true, false, cond, List, [], ◌∷◌, ◌++◌, Option, None, Some, Result, refl, sym, ap, subst, ◌∙◌, arith}
 use mathlib.Core.Logic.{inl, inr}
 use Rattle.std.specs.Prelude.{◌⊎◌, Contains}
 use Rattle.std.proofs.lemmas.List.Elements.{Contains-append_cases, Contains-append_left, Contains-append_right, Contains-push_cases}
 use Rattle.wl_wire.specs.declared.error.IoFault.{IoFault}
 use Rattle.wl_wire.specs.declared.error.ProtocolError.{ProtocolError}
 use Rattle.wl_wire.specs.Table.{InterfaceRow}
-use Rattle.wl_link.proofs.Calls.Branches.{either_bool}
 use Rattle.wl_link.specs.declared.object.Object.{Object}
 use Rattle.wl_link.specs.Exchange.{Queue}
-use Rattle.wl_server.specs.declared.error.InsertClientError.{InsertClientError}
 use Rattle.wl_server.specs.declared.notes.DisconnectReason.{DisconnectReason}
 use Rattle.wl_server.specs.declared.notes.DisconnectReason.TheVariants.{ConnectionClosed, ProtocolError as BrokeProtocol}
 use Rattle.wl_server.specs.declared.notes.Happening.{Happening}
 use Rattle.wl_server.specs.declared.notes.Happening.TheVariants.{Destroyed, Disconnected, Initialized}
 use Rattle.wl_server.specs.declared.objects.Kept.{Kept}
-use Rattle.wl_server.specs.declared.runs.step.Step.TheVariants as step
 use Rattle.wl_server.specs.Deeds.{Deed}
 use Rattle.wl_server.specs.Globals.{Offer}
 use Rattle.wl_server.specs.Identified.{waiting_of}
-use Rattle.wl_server.specs.Ids.{ClientParts, IdParts, same_client}
+use Rattle.wl_server.specs.Ids.{ClientParts, IdParts}
 use Rattle.wl_server.specs.NotedEnds.Errors.{EachErrorIsCaused, MayHaveKilledFor, MayKillFor, TellsError}
 use Rattle.wl_server.specs.Part.{Part, end_note, id_at, note_of_end}
-use Rattle.wl_server.specs.PartStep.{Asked, Call, Changed, Grown, InsertedAs, PartCall, World}
-use Rattle.wl_server.specs.Runs.{IsNotInserted, Leads, concerns}
+use Rattle.wl_server.specs.PartStep.{Call, PartCall, World}
+use Rattle.wl_server.specs.Runs.{Leads}
 use Rattle.wl_server.specs.Server.{Seen, ServerState, new_server, seen}
 use Rattle.wl_server.specs.Steps.{Entry, OneStep}
-use Rattle.wl_server.proofs.OverRuns.Alone.IsolationLaw.{other_call}
 use Rattle.wl_server.proofs.OverRuns.Moves.BaseMoves.{Doings, Goes, Kind, Moves, born, cleaned, end_notes, ended, finished, flushed, followed, found, found_none, handed_out, left_by, notes_taken, opens, received, relinked, remembered, stayed, taken_out, told, unfelt, went, within, wrote}
 use Rattle.wl_server.proofs.OverRuns.Moves.BaseMovesLaw.{any_moves}
 

@@ -9,7 +9,7 @@ use Rattle.std.proofs.lemmas.List.Sums.{sum_by-append, sum_by-cons}
 use Rattle.std.specs.List.{sum_by}
 use Rattle.wl_server.specs.declared.notes.queues.NotePlace.{NotePlace}
 use Rattle.wl_server.specs.NoteOrder.{IsNoLater, Rise, RiseWithin, all_places, place_at, places_of, times_at}
-use Rattle.wl_server.specs.Server.{NoteTimes}
+use Rattle.wl_server.specs.Server.{NoteTimes, no_times}
 
 -- ---- lists in order, by recursion
 
@@ -237,26 +237,33 @@ of_client waits k slot n b is t =
     last : (m : ℕ) → times_at_time slot n (if waits then map (place_at true k) t.waiting else []) ≡ 0 → m + times_at_time slot n (if waits then map (place_at true k) t.waiting else []) ≡ m
     last m none = omega (arith, none)
 
-past : (waits : Bool) (k slot n : ℕ) (ts : List NoteTimes) → slot < k → times_at_time slot n (all_places waits k ts) ≡ 0
-past waits k slot n [] less = refl
-past waits k slot n (t ∷ ts) less =
-    let both = sum_by-append (at_time slot n) (places_of waits k t) (all_places waits (k + 1) ts) in
-    let this = of_client waits k slot n false (ne_eqb k slot (λ e. omega (arith, less, e))) t in
-    let more = past waits (k + 1) slot n ts (omega (arith, less)) in
-    omega (arith, both, this, more)
+-- The places of a slot among those of all clients are its client's, if each count of places sees those of one slot alone.
+module _ (f : NotePlace → ℕ) (slot : ℕ) (waits : Bool) (g : NoteTimes → ℕ) (none : g no_times ≡ 0)
+    (own : (k : ℕ) (b : Bool) → (k == slot) ≡ b → (t : NoteTimes) → sum_by f (places_of waits k t) ≡ (if b then g t else 0)) where
+  past : (k : ℕ) (ts : List NoteTimes) → slot < k → sum_by f (all_places waits k ts) ≡ 0
+  past k [] less = refl
+  past k (t ∷ ts) less =
+      let both = sum_by-append f (places_of waits k t) (all_places waits (k + 1) ts) in
+      let this = own k false (ne_eqb k slot (λ e. omega (arith, less, e))) t in
+      let more = past (k + 1) ts (omega (arith, less)) in
+      omega (arith, both, this, more)
 
-pub among_all : (waits : Bool) (k j slot n : ℕ) (ts : List NoteTimes) → slot ≡ k + j → times_at_time slot n (all_places waits k ts) ≡ often n (times_at j ts).made
-among_all waits k j slot n [] is = refl
-among_all waits k zero slot n (t ∷ ts) is =
-    let both = sum_by-append (at_time slot n) (places_of waits k t) (all_places waits (k + 1) ts) in
-    let this = of_client waits k slot n true (eq-eqb k slot (omega (arith, is))) t in
-    let more = past waits (k + 1) slot n ts (omega (arith, is)) in
-    omega (arith, both, this, more)
-among_all waits k (suc j) slot n (t ∷ ts) is =
-    let both = sum_by-append (at_time slot n) (places_of waits k t) (all_places waits (k + 1) ts) in
-    let this = of_client waits k slot n false (ne_eqb k slot (λ e. omega (arith, is, e))) t in
-    let more = among_all waits (k + 1) j slot n ts (omega (arith, is)) in
-    omega (arith, both, this, more)
+  pub among : (k j : ℕ) (ts : List NoteTimes) → slot ≡ k + j → sum_by f (all_places waits k ts) ≡ g (times_at j ts)
+  among k j [] is = sym none
+  among k zero (t ∷ ts) is =
+      let both = sum_by-append f (places_of waits k t) (all_places waits (k + 1) ts) in
+      let this = own k true (eq-eqb k slot (omega (arith, is))) t in
+      let more = past (k + 1) ts (omega (arith, is)) in
+      omega (arith, both, this, more)
+  among k (suc j) (t ∷ ts) is =
+      let both = sum_by-append f (places_of waits k t) (all_places waits (k + 1) ts) in
+      let this = own k false (ne_eqb k slot (λ e. omega (arith, is, e))) t in
+      let more = among (k + 1) j ts (omega (arith, is)) in
+      omega (arith, both, this, more)
+
+among_all : (waits : Bool) (slot n : ℕ) (ts : List NoteTimes) → times_at_time slot n (all_places waits 0 ts) ≡ often n (times_at slot ts).made
+among_all waits slot n ts =
+    among (at_time slot n) slot waits (λ t. often n t.made) refl (λ k b is t. of_client waits k slot n b is t) 0 slot ts (omega arith)
 
 -- ---- numbers
 
@@ -325,13 +332,13 @@ earlier_first waits ts ts' a b next next' up moved up' moved' rise grow apart =
         let (more, is, later) = grow slot in
         let one = sum_by-IsPermutation (at_time slot n) (all_places false 0 ts) a moved in
         let two = sum_by-IsPermutation (at_time slot n) (all_places waits 0 ts') b moved' in
-        let three = among_all false 0 slot slot n ts (omega arith) in
-        let four = among_all waits 0 slot slot n ts' (omega arith) in
+        let three = among_all false slot n ts in
+        let four = among_all waits slot n ts' in
         let five = as_often (times_at slot ts).made more (times_at slot ts').made next next' n is later less in
         one ∙ (three ∙ (five ∙ (sym four ∙ sym two)))
 
     known : (slot n : ℕ) → 1 ≤ times_at_time slot n b → Contains (times_at slot ts').made n
     known slot n some =
         let two = sum_by-IsPermutation (at_time slot n) (all_places waits 0 ts') b moved' in
-        let four = among_all waits 0 slot slot n ts' (omega arith) in
+        let four = among_all waits slot n ts' in
         has_number n (times_at slot ts').made (omega (arith, some, two, four))

@@ -1,15 +1,15 @@
 -- The places of notes that wait: in order of time, those that waited earlier come first; and how many each client has.
-use Rattle.std.proofs.Common.{◌≡◌, ◌∙◌, ℕ, zero, suc, ◌+◌, ◌<◌, ◌≤◌, Bool, true, false, not, List, [], ◌∷◌, ◌++◌, length, map, refl, sym, ap, subst, arith}
+use Rattle.std.proofs.Common.{◌≡◌, ◌∙◌, ℕ, suc, ◌+◌, ◌<◌, ◌≤◌, Bool, true, false, not, List, [], ◌∷◌, ◌++◌, length, map, refl, sym, ap, subst, arith}
 use Rattle.std.specs.List.{AllByRecursion, sum_by}
 use Rattle.std.specs.Prelude.{◌==◌, Contains, if◌then◌else◌, IsPermutation}
-use Rattle.std.proofs.lemmas.Bool.{eq-eqb, false≢true, ne_eqb}
+use Rattle.std.proofs.lemmas.Bool.{false≢true}
 use Rattle.std.proofs.lemmas.List.Elements.{All-from_recursion, recursion_from_All}
 use Rattle.std.proofs.lemmas.List.Sorted.{All-permutation, sum_by-IsPermutation}
 use Rattle.std.proofs.lemmas.List.Sums.{sum_by-append, sum_by-cons}
 use Rattle.wl_server.specs.declared.notes.queues.NotePlace.{NotePlace}
 use Rattle.wl_server.specs.NoteOrder.{IsNoLater, Rise, RiseWithin, all_places, place_at, places_of, times_at}
-use Rattle.wl_server.specs.Server.{NoteTimes}
-use Rattle.wl_server.proofs.OverRuns.Noted.PlacesInOrder.{IsEarly, Sorted, all_append, as_often, early_so, has_number, last_up, of_made, often, sorted_of, times_at_time}
+use Rattle.wl_server.specs.Server.{NoteTimes, no_times}
+use Rattle.wl_server.proofs.OverRuns.Noted.PlacesInOrder.{IsEarly, Sorted, all_append, among, as_often, early_so, has_number, last_up, of_made, often, sorted_of, times_at_time}
 
 -- ---- those that were made come before those that wait
 
@@ -122,26 +122,8 @@ of_client k slot n b is t =
     let waiting = list_waiting k slot n t.waiting ∙ of_made k slot n b is t.waiting in
     omega (arith, both, made, waiting)
 
-past : (k slot n : ℕ) (ts : List NoteTimes) → slot < k → sum_by (at_waiting slot n) (all_places true k ts) ≡ 0
-past k slot n [] less = refl
-past k slot n (t ∷ ts) less =
-    let both = sum_by-append (at_waiting slot n) (places_of true k t) (all_places true (k + 1) ts) in
-    let this = of_client k slot n false (ne_eqb k slot (λ e. omega (arith, less, e))) t in
-    let more = past (k + 1) slot n ts (omega (arith, less)) in
-    omega (arith, both, this, more)
-
-among_waiting : (k j slot n : ℕ) (ts : List NoteTimes) → slot ≡ k + j → sum_by (at_waiting slot n) (all_places true k ts) ≡ often n (times_at j ts).waiting
-among_waiting k j slot n [] is = refl
-among_waiting k zero slot n (t ∷ ts) is =
-    let both = sum_by-append (at_waiting slot n) (places_of true k t) (all_places true (k + 1) ts) in
-    let this = of_client k slot n true (eq-eqb k slot (omega (arith, is))) t in
-    let more = past (k + 1) slot n ts (omega (arith, is)) in
-    omega (arith, both, this, more)
-among_waiting k (suc j) slot n (t ∷ ts) is =
-    let both = sum_by-append (at_waiting slot n) (places_of true k t) (all_places true (k + 1) ts) in
-    let this = of_client k slot n false (ne_eqb k slot (λ e. omega (arith, is, e))) t in
-    let more = among_waiting (k + 1) j slot n ts (omega (arith, is)) in
-    omega (arith, both, this, more)
+among_waiting : (slot n : ℕ) (ts : List NoteTimes) → sum_by (at_waiting slot n) (all_places true 0 ts) ≡ often n (times_at slot ts).waiting
+among_waiting slot n ts = among (at_waiting slot n) slot true (λ t. often n t.waiting) refl (λ k b is t. of_client k slot n b is t) 0 slot ts (omega arith)
 
 -- those that wait have numbers below the next
 abbrev IsLow : ℕ → NotePlace → Type 0
@@ -192,12 +174,12 @@ waiting_first ts ts' a b next next' up moved up' moved' rise grow apart =
     early = early_places next one.waiting one.all_waiting (all_end (IsLow next) one.made one.waiting (subst (AllByRecursion (IsLow next)) one.are low))
 
     there : (slot n : ℕ) → times_at_time slot n (map made_so two.waiting) ≡ often n (times_at slot ts').waiting
-    there slot n = count_parted slot n b two ∙ (sum_by-IsPermutation (at_waiting slot n) (all_places true 0 ts') b moved' ∙ among_waiting 0 slot slot n ts' (omega arith))
+    there slot n = count_parted slot n b two ∙ (sum_by-IsPermutation (at_waiting slot n) (all_places true 0 ts') b moved' ∙ among_waiting slot n ts')
 
     same : (slot n : ℕ) → n < next → times_at_time slot n (map made_so one.waiting) ≡ times_at_time slot n (map made_so two.waiting)
     same slot n less =
         let (more, is, later) = grow slot in
-        let here = count_parted slot n a one ∙ (sum_by-IsPermutation (at_waiting slot n) (all_places true 0 ts) a moved ∙ among_waiting 0 slot slot n ts (omega arith)) in
+        let here = count_parted slot n a one ∙ (sum_by-IsPermutation (at_waiting slot n) (all_places true 0 ts) a moved ∙ among_waiting slot n ts) in
         here ∙ (as_often (times_at slot ts).waiting more (times_at slot ts').waiting next next' n is later less ∙ sym (there slot n))
 
     known : (slot n : ℕ) → 1 ≤ times_at_time slot n (map made_so two.waiting) → Contains (times_at slot ts').waiting n
@@ -257,30 +239,12 @@ kind_client false k slot b here t =
     let waiting : sum_by (of_kind false slot) (map (place_at true k) t.waiting) ≡ 0 = kind_list false true k slot false b refl here t.waiting in
     omega (arith, both, made, waiting)
 
-kind_past : (v : Bool) (k slot : ℕ) (ts : List NoteTimes) → slot < k → sum_by (of_kind v slot) (all_places true k ts) ≡ 0
-kind_past v k slot [] less = refl
-kind_past v k slot (t ∷ ts) less =
-    let both = sum_by-append (of_kind v slot) (places_of true k t) (all_places true (k + 1) ts) in
-    let this = kind_client v k slot false (ne_eqb k slot (λ e. omega (arith, less, e))) t in
-    let more = kind_past v (k + 1) slot ts (omega (arith, less)) in
-    omega (arith, both, this, more)
-
-none_of_kind : (v : Bool) → length (kind_of v (record { made = []; waiting = [] })) ≡ 0
+none_of_kind : (v : Bool) → length (kind_of v no_times) ≡ 0
 none_of_kind true = refl
 none_of_kind false = refl
 
-kind_among : (v : Bool) (k j slot : ℕ) (ts : List NoteTimes) → slot ≡ k + j → sum_by (of_kind v slot) (all_places true k ts) ≡ length (kind_of v (times_at j ts))
-kind_among v k j slot [] is = sym (none_of_kind v)
-kind_among v k zero slot (t ∷ ts) is =
-    let both = sum_by-append (of_kind v slot) (places_of true k t) (all_places true (k + 1) ts) in
-    let this = kind_client v k slot true (eq-eqb k slot (omega (arith, is))) t in
-    let more = kind_past v (k + 1) slot ts (omega (arith, is)) in
-    omega (arith, both, this, more)
-kind_among v k (suc j) slot (t ∷ ts) is =
-    let both = sum_by-append (of_kind v slot) (places_of true k t) (all_places true (k + 1) ts) in
-    let this = kind_client v k slot false (ne_eqb k slot (λ e. omega (arith, is, e))) t in
-    let more = kind_among v (k + 1) j slot ts (omega (arith, is)) in
-    omega (arith, both, this, more)
+kind_among : (v : Bool) (slot : ℕ) (ts : List NoteTimes) → sum_by (of_kind v slot) (all_places true 0 ts) ≡ length (kind_of v (times_at slot ts))
+kind_among v slot ts = among (of_kind v slot) slot true (λ t. length (kind_of v t)) (none_of_kind v) (λ k b is t. kind_client v k slot b is t) 0 slot ts (omega arith)
 
 kind_all : (v : Bool) (slot : ℕ) (ps : List NotePlace) → AllByRecursion (λ p. is_kind v p.waits ≡ true) ps → sum_by (of_kind v slot) ps ≡ sum_by (at_slot slot) ps
 kind_all v slot [] all = refl
@@ -308,7 +272,7 @@ pub made_places : (slot : ℕ) (ts : List NoteTimes) (order : List NotePlace) �
     → sum_by (at_slot slot) parts.made ≡ length (times_at slot ts).made
 made_places slot ts order moved parts =
     let all = sum_by-IsPermutation (of_kind false slot) (all_places true 0 ts) order moved in
-    let among = kind_among false 0 slot slot ts (omega arith) in
+    let among = kind_among false slot ts in
     let are = ap (sum_by (of_kind false slot)) parts.are in
     let both = sum_by-append (of_kind false slot) parts.made parts.waiting in
     let made = kind_all false slot parts.made (all_not false parts.made parts.all_made) in
@@ -319,7 +283,7 @@ pub waiting_places : (slot : ℕ) (ts : List NoteTimes) (order : List NotePlace)
     → sum_by (at_slot slot) parts.waiting ≡ length (times_at slot ts).waiting
 waiting_places slot ts order moved parts =
     let all = sum_by-IsPermutation (of_kind true slot) (all_places true 0 ts) order moved in
-    let among = kind_among true 0 slot slot ts (omega arith) in
+    let among = kind_among true slot ts in
     let are = ap (sum_by (of_kind true slot)) parts.are in
     let both = sum_by-append (of_kind true slot) parts.made parts.waiting in
     let made = kind_none true slot parts.made parts.all_made in
