@@ -10,7 +10,8 @@ use std::cell::Cell;
 use std::test::Fail;
 use test_kit::log::holds;
 use test_kit::quad::{QUAD, quad_table};
-use wl_client::Backend;
+use wl_client::{Backend, ObjectId};
+use wl_wire::WL_CALLBACK_INTERFACE;
 
 /// A client whose transport takes all that it is sent, without memory.
 type Client<'a> = Backend<Line<'a>, Counted<'a>>;
@@ -38,12 +39,14 @@ enum Call {
     Flush,
     /// `destroy_object`, of the callback.
     Destroy,
+    /// `destroy_object`, of the callback of the second sync.
+    DestroySecond,
     /// `take_notes`.
     Notes,
 }
 
-/// The calls, in order, each with its name.
-static CALLS: [(&str, Call); 12] = [
+/// The calls, in order, each with its name if it is counted.
+static CALLS: [(&str, Call); 14] = [
     ("control: send_request", Call::Send),
     ("look-ups", Call::LookUp),
     ("set_data", Call::SetData),
@@ -53,7 +56,12 @@ static CALLS: [(&str, Call); 12] = [
     ("dispatch_inner_queue", Call::Dispatch),
     ("transport_mut", Call::Transport),
     ("flush", Call::Flush),
+    ("", Call::Send),
     ("control: destroy_object", Call::Destroy),
+    (
+        "destroy_object, with room for its note",
+        Call::DestroySecond,
+    ),
     ("take_notes", Call::Notes),
     ("take_notes of none", Call::Notes),
 ];
@@ -117,20 +125,28 @@ fn make_of_all(client: &mut Client, call: Call) -> bool {
         }
         Call::Flush => client.flush().is_ok(),
         Call::Destroy => client.destroy_object(&Object::Callback.id()).is_ok(),
-        _ => client.take_notes().len() < 2,
+        Call::DestroySecond => {
+            let second = ObjectId::from_parts(3, 2, WL_CALLBACK_INTERFACE);
+            client.destroy_object(&second).is_ok()
+        }
+        _ => client.take_notes().len() < 3,
     }
 }
 
-/// Names the call and makes it. Fails if it does not answer as it has to, or was refused memory.
+/// Makes the call, and names it before if it is counted. Fails if it does not answer as it has to, or was refused memory.
 fn counted<'a>(
     rt: &(impl Eprint + AllocGlobal),
     drops: &'a Cell<u64>,
     client: &mut Client<'a>,
     (name, call): (&str, Call),
 ) -> Result<(), Fail> {
-    let _ = eprintln!(rt; "call: {name}");
+    if !name.is_empty() {
+        let _ = eprintln!(rt; "call: {name}");
+    }
     let is_made = make(rt.alloc(), drops, client, call)?;
-    let _ = eprintln!(rt; "end");
+    if !name.is_empty() {
+        let _ = eprintln!(rt; "end");
+    }
     holds(rt, name, is_made && !client.memory_refused())
 }
 

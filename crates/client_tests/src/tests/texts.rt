@@ -4,7 +4,7 @@ use std::alloc::{AllocError, Global};
 use std::fmt::Write;
 use std::test::Fail;
 use test_kit::log::tells;
-use wl_client::{InvalidId, ObjectId, WaylandError};
+use wl_client::{InvalidId, ObjectId, RequestError, WaylandError};
 use wl_wire::{InterfaceId, IoFault, Protocol, ProtocolError, Text, WL_CALLBACK_INTERFACE};
 
 /// Writes the text of an id.
@@ -57,14 +57,22 @@ fn write_error(log: &mut String, error: &WaylandError) -> Result<(), AllocError>
     writeln!(log, "{error}")
 }
 
-/// Writes the texts of an id's error, of a fault of a session, and of this error of one, a line each.
+/// Writes the text of a request's error.
+fn write_refusal(log: &mut String, error: RequestError) -> Result<(), AllocError> {
+    writeln!(log, "{error}")
+}
+
+/// Writes the texts of an id's error, of the errors of a request that no run gets, of a fault of a session, and of this error of
+/// one, a line each.
 fn write_errors(log: &mut String, error: &WaylandError) -> Result<(), AllocError> {
     writeln!(log, "{InvalidId}")?;
+    write_refusal(log, RequestError::IdsExhausted)?;
+    write_refusal(log, RequestError::SerialsExhausted)?;
     write_error(log, &WaylandError::Io(IoFault::Pipe))?;
     write_error(log, error)
 }
 
-/// The texts of an id's error and of two of a session, a line each.
+/// The texts of these errors, of which that of the session is a protocol error.
 fn errors_told(alloc: Global) -> Result<String, Fail> {
     let error = WaylandError::Protocol(no(alloc)?);
     let mut log = String::new(alloc);
@@ -77,6 +85,6 @@ fn texts_of_errors(rt: HostRuntime) -> Result<(), Fail> {
     tells(
         &rt,
         errors_told(rt.alloc()),
-        "Invalid ObjectId\nIo error: broken pipe\nProtocol error 1 on object quad@3: no\n",
+        "Invalid ObjectId\nno number is left\nno serial is left\nIo error: broken pipe\nProtocol error 1 on object quad@3: no\n",
     )
 }

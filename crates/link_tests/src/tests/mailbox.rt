@@ -5,7 +5,7 @@ use super::script::tell_received;
 use std::alloc::Global;
 use std::collections::VecDeque;
 use std::test::Fail;
-use test_kit::log::{row_tells, tells};
+use test_kit::log::{holds, row_tells, tells};
 use test_kit::message::{Arg, tell_bytes};
 use wl_link::{Ending, Mailbox, MailboxError, Transport};
 use wl_wire::{IoFault, Token};
@@ -464,6 +464,73 @@ fn drill_of_a_mailbox(rt: HostRuntime) -> Result<(), Fail> {
         mailbox_log(rt.alloc(), &calls, true),
         "received 2 in 01 02, fd 8, fd 9\nreceived 11 in 03 04 05 06 07 08 09 0a 0b 0c 0d, fd 7\nsent 3\nsent 10\nwaiting: 02 03 04 05 06 07 08 09 0a 0b 0c 0d, fd 4\n",
     )
+}
+
+/// Bytes that pass through a mailbox.
+const BYTES: [u8; 40] = [7; 40];
+
+/// Tokens that pass with them.
+const TOKENS: [Token; 2] = [Token(8), Token(9)];
+
+/// The calls of a mailbox through which these bytes pass twice in each direction, each with its name. The first that puts bytes
+/// in needs memory, and so does the first that sends some. What they take is kept.
+static COUNTED: [(&str, Call); 12] = [
+    ("control: arrive", Call::Arrive(&BYTES, &TOKENS)),
+    ("a part received", Call::Receive(30)),
+    ("the rest received", Call::Receive(10)),
+    ("control: send_msg", Call::Send(&BYTES, &TOKENS)),
+    ("a part sent", Call::Sent(30)),
+    ("the rest sent", Call::Sent(10)),
+    ("arrive again", Call::Arrive(&BYTES, &TOKENS)),
+    ("a part received again", Call::Receive(30)),
+    ("the rest received again", Call::Receive(10)),
+    ("send_msg again", Call::Send(&BYTES, &TOKENS)),
+    ("a part sent again", Call::Sent(30)),
+    ("the rest sent again", Call::Sent(10)),
+];
+
+/// Makes the call, for which there are tokens to come to; whether it puts in, gives or sends all of it.
+fn is_made(mailbox: &mut Mailbox, tokens: &mut VecDeque<Token>, call: Call) -> bool {
+    match call {
+        Call::Arrive(bytes, fds) => mailbox.arrive(bytes, fds).is_ok(),
+        Call::Receive(room) => mailbox.rcv_msg(&mut [0; 40][..room], tokens) == Ok(room),
+        Call::Send(bytes, fds) => mailbox.send_msg(bytes, fds) == Ok(bytes.len()),
+        _ => {
+            tell_mailbox(mailbox, call);
+            true
+        }
+    }
+}
+
+/// Names each call on standard error before it is made. Fails if one does not do all of it.
+fn count_all(
+    rt: &impl Eprint,
+    mailbox: &mut Mailbox,
+    tokens: &mut VecDeque<Token>,
+) -> Result<(), Fail> {
+    for (name, call) in &COUNTED {
+        let _ = eprintln!(rt; "call: {name}");
+        let is_made = is_made(mailbox, tokens, *call);
+        let _ = eprintln!(rt; "end");
+        holds(rt, name, is_made)?;
+    }
+    Ok(())
+}
+
+/// Makes the calls of a new mailbox, with room for the tokens that come.
+fn counted(rt: &(impl Eprint + AllocGlobal)) -> Result<(), Fail> {
+    let mut tokens = VecDeque::with_capacity(rt.alloc(), 28)?;
+    let mut mailbox = Mailbox::new(rt.alloc());
+    let answer = count_all(rt, &mut mailbox, &mut tokens);
+    drop(mailbox);
+    answer
+}
+
+/// A mailbox keeps its memory. `./refusal-drill` counts what is allocated for each call: nothing, but for the two whose names begin
+/// with `control`.
+#[test]
+fn takes_no_memory(rt: HostRuntime) -> Result<(), Fail> {
+    counted(&rt)
 }
 
 /// A link over a mailbox: what finds no room waits in the link, and goes once the host has sent.

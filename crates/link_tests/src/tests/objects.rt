@@ -2,7 +2,7 @@
 
 use std::alloc::Global;
 use std::test::Fail;
-use test_kit::log::row_tells;
+use test_kit::log::{row_tells, tells};
 use wl_link::{InsertError, NewError, Object, ObjectMap};
 use wl_wire::{OutOfMemory, WL_CALLBACK_INTERFACE};
 
@@ -347,11 +347,18 @@ static ROWS: [Row; 9] = [
     },
 ];
 
+/// What is told if a range is full. No run fills one.
+fn full_log(alloc: Global) -> Result<String, Fail> {
+    let mut log = String::new(alloc);
+    tell_new(&mut log, "server new", Err(NewError::IdsExhausted))?;
+    Ok(log)
+}
+
 /// Each run tells what it has to.
 #[test]
 fn rows(rt: HostRuntime) -> Result<(), Fail> {
     for row in &ROWS {
         row_tells(&rt, row.name, map_log(rt.alloc(), row.acts), row.told)?;
     }
-    Ok(())
+    tells(&rt, full_log(rt.alloc()), "server new: no number is left\n")
 }

@@ -3,7 +3,7 @@
 use std::alloc::Global;
 use std::test::Fail;
 use test_kit::log::{row_tells, tells};
-use wl_relay::{Stop, run, status, tell};
+use wl_relay::{ArriveError, Stop, run, status, tell};
 
 /// A row of a table of inputs: what a failing one is named, its lines, and what is written for them: the output, in brackets what
 /// is told on standard error, and the exit status.
@@ -188,13 +188,23 @@ pub static ROWS: [Row; 30] = [
     },
 ];
 
+/// The text of too many tokens. The program writes it for no input: there it is a bad line.
+fn text_of_too_many(alloc: Global) -> Result<String, Fail> {
+    let error = ArriveError::TooManyTokens;
+    Ok(format!(in alloc; "{error}")?)
+}
+
 /// Each input has its output.
 #[test]
 fn rows(rt: HostRuntime) -> Result<(), Fail> {
     for row in &ROWS {
         row_tells(&rt, row.name, written(rt.alloc(), row.lines), row.written)?;
     }
-    Ok(())
+    tells(
+        &rt,
+        text_of_too_many(rt.alloc()),
+        "more than 28 tokens came",
+    )
 }
 
 /// How many lines of 4096 zeros fill the buffer of a side.

@@ -26,6 +26,9 @@ const BINDS: [u8; 76] = [
 /// The object that the server makes for the first client.
 const MADE: Thing = Thing(FIRST, 0xFF00_0000, 1, QUAD);
 
+/// The object that the first client binds first, after its registry.
+const BOUND: Thing = Thing(FIRST, 3, 3, QUAD);
+
 /// The global.
 const GLOBAL: Named = Named(1, 1);
 
@@ -66,6 +69,8 @@ enum Call {
     FlushAll,
     /// `take_notes`.
     Notes,
+    /// `destroy_object`, of this object.
+    Destroy(Thing),
     /// `cleanup`.
     Cleanup,
     /// `kill_client`, of the first client.
@@ -73,7 +78,7 @@ enum Call {
 }
 
 /// The calls, in order, each with its name if it is counted.
-static CALLS: [(&str, Call); 23] = [
+static CALLS: [(&str, Call); 27] = [
     ("control: insert_client", Call::Insert),
     ("", Call::Insert),
     ("", Call::Create),
@@ -95,6 +100,13 @@ static CALLS: [(&str, Call); 23] = [
     ("control: take_notes", Call::Notes),
     ("take_notes of none", Call::Notes),
     ("cleanup of nothing", Call::Cleanup),
+    ("control: destroy_object", Call::Destroy(MADE)),
+    ("control: cleanup of a note", Call::Cleanup),
+    ("take_notes of those that are gathered", Call::Notes),
+    (
+        "destroy_object, with room for its note",
+        Call::Destroy(BOUND),
+    ),
     ("kill_client", Call::Kill),
     ("control: cleanup", Call::Cleanup),
 ];
@@ -203,6 +215,7 @@ fn make_of_first(server: &mut Server, call: Call) -> bool {
 fn make_of_ends(server: &mut Server, call: Call) -> bool {
     match call {
         Call::Notes => server.take_notes().is_ok(),
+        Call::Destroy(object) => server.destroy_object(&object.id()).is_ok(),
         Call::Cleanup => server.cleanup().is_ok(),
         _ => {
             server.kill_client(&FIRST.id(), DisconnectReason::ConnectionClosed);

@@ -3,9 +3,13 @@
 use super::run::{Act, Beside, Look, Row, rows_tell};
 use server_test_kit::arrivals::{GET_REGISTRY, MAKE_BY_SERVER, SYNC, SYNC_AT_5};
 use server_test_kit::steps::Call;
+use server_test_kit::told::done;
 use server_test_kit::values::{DISPLAY, Event, FIRST, Named, SECOND, Thing};
+use std::alloc::Global;
 use std::test::Fail;
+use test_kit::log::tells;
 use test_kit::quad::QUAD;
+use wl_server::{CreateError, GlobalError, InsertClientError, ScriptError};
 use wl_wire::{IoFault, WL_REGISTRY_INTERFACE};
 
 /// The first object that the server makes for the first client.
@@ -269,8 +273,29 @@ static ROWS: [Row; 14] = [
     },
 ];
 
-/// Each run tells what it has to.
+/// What is told of errors that no run gets.
+fn tell_refusals(log: &mut String) -> Result<(), Fail> {
+    done(log, &Err(InsertClientError::Full))?;
+    done(log, &Err(CreateError::IdsExhausted))?;
+    done(log, &Err(CreateError::SerialsExhausted))?;
+    done(log, &Err(GlobalError::Full))?;
+    done(log, &Err(ScriptError::TooManyTokens))
+}
+
+/// The same as a log.
+fn refusals(alloc: Global) -> Result<String, Fail> {
+    let mut log = String::new(alloc);
+    tell_refusals(&mut log)?;
+    Ok(log)
+}
+
+/// Each run tells what it has to, and so does each error that no run gets.
 #[test]
 fn rows(rt: HostRuntime) -> Result<(), Fail> {
-    rows_tell(&rt, &ROWS)
+    rows_tell(&rt, &ROWS)?;
+    tells(
+        &rt,
+        refusals(rt.alloc()),
+        "no slot or no serial is left\nno number is left\nno serial is left\nno name or no serial is left\nmore tokens than a receive may give\n",
+    )
 }

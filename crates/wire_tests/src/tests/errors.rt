@@ -4,7 +4,9 @@ use super::texts;
 use std::alloc::{AllocError, Global};
 use std::test::Fail;
 use test_kit::log::tells;
-use wl_wire::{IoFault, MessageParseError, MessageWriteError, ProtocolError, Text};
+use wl_wire::{
+    IoFault, MessageParseError, MessageWriteError, ProtocolError, TableError, Text, ZeroByte,
+};
 
 /// The error 1 of a `quad`, of this message.
 fn protocol_error(alloc: Global, message: &str) -> Result<ProtocolError, AllocError> {
@@ -64,7 +66,7 @@ fn protocol_errors_give_their_message(rt: HostRuntime) -> Result<(), Fail> {
 }
 
 #[test]
-fn refusals_of_messages_have_texts(rt: HostRuntime) -> Result<(), Fail> {
+fn refusals_have_texts(rt: HostRuntime) -> Result<(), Fail> {
     tells(
         &rt,
         texts(rt.alloc(), &[MessageWriteError::BufferTooSmall]),
@@ -79,6 +81,25 @@ fn refusals_of_messages_have_texts(rt: HostRuntime) -> Result<(), Fail> {
         &rt,
         texts(rt.alloc(), &errors),
         "The message references a FD but the buffer FD is empty.\nMore data is needed to deserialize the message\nThe message is malformed and cannot be parsed\n",
+    )?;
+    let refusals = [
+        TableError::ZeroInName(0),
+        TableError::DuplicateName(1),
+        TableError::UnknownInterface(2),
+        TableError::TooManyNewIds(3),
+        TableError::MissingChild(4),
+        TableError::ArgInterfaces(50),
+        TableError::OutOfMemory,
+    ];
+    tells(
+        &rt,
+        texts(rt.alloc(), &refusals),
+        "interface 0: a name holds a zero byte\ninterface 1: the name is taken\ninterface 2: a message names an interface outside the table\ninterface 3: a message has more than one new id\ninterface 4: a message with a new id has no child interface\ninterface 50: a message has not one argument interface for each object\nout of memory\n",
+    )?;
+    tells(
+        &rt,
+        texts(rt.alloc(), &[ZeroByte]),
+        "a string holds a zero byte\n",
     )
 }
 
