@@ -12,15 +12,3 @@ returns-clause-handles g c = rw (← c.self.view_is)
     (sync_answered g.T.Transport.sends g.T.Transport.receives (around_of g.G.GlobalHandler.views c.args.around.now) _ c.in-Some.number
     (rw (← c.self.view_is) at c.requires.live) (rw (← c.self.view_is) at c.in-Some.ensures) (c.if-not-leaves_no_trace.ensures refl) c.args.reading.now _
     c.put_done_at_once.new.socket _ (rw c.skip_message.ensures at c.put_done_at_once.ensures (c.self.inside.objects.last_serial + 1)) refl refl c.saturating_add-reading.ensures)
-
-pub invariant_of-self : goal.invariant_of-self
-invariant_of-self g c = c.self.invariant
-
-pub returns-clause-numbered : goal.returns-clause-numbered
-returns-clause-numbered g c = rw (← c.self.view_is) (λ numbered. numbered)
-
-pub returns-clause-times : goal.returns-clause-times
-returns-clause-times g c = rw (← c.self.view_is) refl
-
-pub returns-in_default-clause-numbered : goal.returns-in_default-clause-numbered
-returns-in_default-clause-numbered g c = λ numbered. numbered

@@ -1,4 +1,4 @@
-use Rattle.std.proofs.Common.{◌∙◌, ap, not, rules, refl}
+use Rattle.std.proofs.Common.{◌∙◌, ap, not, rules}
 use Rattle.wl_server.proofs.ObjectCalls.Creation.{unknown_interface, lacks_serial, created, exhausted, no_memory, row_found}
 use Rattle.wl_server.proofs.client.Client.create_object.Goals as goal
 use Rattle.wl_server.specs.Server.{no_times}
@@ -26,36 +26,3 @@ pub returns-in-Err-OutOfMemory-clause-does : goal.returns-in-Err-OutOfMemory-cla
 returns-in-Err-OutOfMemory-clause-does g c = rw (← c.self.view_is)
     (no_memory c.args.protocol.now c.args.id.now (record { serial = _; part = _; made = _; times = no_times }) c.args.interface c.args.version c.args.user_data (row_found _ _ _ _ c.get.ensures.interface c.is_none.ensures ∙ ap not c.if-is_none.false)
     c.in-Some.ensures.0 c.in-Err-OutOfMemory.field-0 c.fresh_object-object.result _ c.in-Err-OutOfMemory.field-0-is c.in-Err-OutOfMemory.ensures.inserts)
-
-pub invariant_of-self : goal.invariant_of-self
-invariant_of-self g c = c.self.invariant
-
-pub invariant_of-self-in-Err-IdsExhausted : goal.invariant_of-self-in-Err-IdsExhausted
-invariant_of-self-in-Err-IdsExhausted g c = c.self.invariant
-
-pub invariant_of-self-in-Err-OutOfMemory : goal.invariant_of-self-in-Err-OutOfMemory
-invariant_of-self-in-Err-OutOfMemory g c = c.self.invariant
-
-pub returns-in-Err-IdsExhausted-clause-numbered : goal.returns-in-Err-IdsExhausted-clause-numbered
-returns-in-Err-IdsExhausted-clause-numbered g c = rw (← c.self.view_is) (λ numbered. numbered)
-
-pub returns-in-Err-OutOfMemory-clause-numbered : goal.returns-in-Err-OutOfMemory-clause-numbered
-returns-in-Err-OutOfMemory-clause-numbered g c = rw (← c.self.view_is) (λ numbered. numbered)
-
-pub returns-in-Ok-clause-numbered : goal.returns-in-Ok-clause-numbered
-returns-in-Ok-clause-numbered g c = rw (← c.self.view_is) (λ numbered. numbered)
-
-pub returns-in-Err-IdsExhausted-clause-times : goal.returns-in-Err-IdsExhausted-clause-times
-returns-in-Err-IdsExhausted-clause-times g c = rw (← c.self.view_is) refl
-
-pub returns-in-Err-OutOfMemory-clause-times : goal.returns-in-Err-OutOfMemory-clause-times
-returns-in-Err-OutOfMemory-clause-times g c = rw (← c.self.view_is) refl
-
-pub returns-in-Ok-clause-times : goal.returns-in-Ok-clause-times
-returns-in-Ok-clause-times g c = rw (← c.self.view_is) refl
-
-pub returns-in_default-clause-numbered : goal.returns-in_default-clause-numbered
-returns-in_default-clause-numbered g c = λ numbered. numbered
-
-pub returns-then-is_none-clause-numbered : goal.returns-then-is_none-clause-numbered
-returns-then-is_none-clause-numbered g c = λ numbered. numbered

@@ -52,12 +52,3 @@ returns-clause-in_time g c =
     (subst (λ (l : List (ℕ × Happening _)). GivesNumbers (map (λ w. w.0) l) c.args.numbers.now.waiting (map (λ w. w.0) c.take_out_noted.new.waiting.queue.items) c.take_out_noted.new.numbers.waiting)
     c.reserve_note.ensures.items c.take_out_noted.ensures.in_time) refl c.take_out_noted.ensures.made) in
     in_time_both _ _ _ _ _ _ first c.kill_unless_written.ensures.in_time
-
-pub invariant_of-self : goal.invariant_of-self
-invariant_of-self g c = c.self.invariant
-
-pub invariant_of-self-2 : goal.invariant_of-self-2
-invariant_of-self-2 g c = c.self.invariant
-
-pub invariant_of-self-then-is_out_of_memory : goal.invariant_of-self-then-is_out_of_memory
-invariant_of-self-then-is_out_of_memory g c = c.self.invariant

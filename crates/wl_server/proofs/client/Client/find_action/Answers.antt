@@ -25,9 +25,3 @@ returns-clause-does g c =
     rw (← c.self.view_is)
     (reading_done g.T.Transport.sends g.T.Transport.receives (around_of g.G.GlobalHandler.views c.args.around.now) _ c.read.new.self c.args.reading.now c.read.new.reading (Ok (found_with c.read.new.found c.read.new.args.items)) (c.if-self.false, live_is _ (sym c.is_open.ensures ∙ c.if-is_open.false))
     (rw (← c.self.view_is) at c.in_default.ensures.ends))
-
-pub returns-then-is_open-clause-numbered : goal.returns-then-is_open-clause-numbered
-returns-then-is_open-clause-numbered g c = λ numbered. numbered
-
-pub returns-then-self-clause-numbered : goal.returns-then-self-clause-numbered
-returns-then-self-clause-numbered g c = λ numbered. numbered

@@ -26,6 +26,3 @@ returns-clause-in_time g c =
 
 pub returns-then-self-clause-in_time : goal.returns-then-self-clause-in_time
 returns-then-self-clause-in_time g c = in_time_none _ _
-
-pub returns-then-self-clause-numbered : goal.returns-then-self-clause-numbered
-returns-then-self-clause-numbered g c = λ numbered. numbered
