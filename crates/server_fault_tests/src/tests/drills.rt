@@ -7,7 +7,7 @@ use server_test_kit::arrivals::{
     SYNC_AT_SERVER,
 };
 use server_test_kit::steps::Call;
-use server_test_kit::values::{BOUND, Event, FIRST, Named, SECOND, THIRD, Thing, Who};
+use server_test_kit::values::{BOUND, Event, FIRST, Named, SECOND, THIRD, Thing};
 use std::alloc::Global;
 use std::process::Abort;
 use std::test::Fail;
@@ -453,30 +453,22 @@ fn drill_of_the_text_of_an_id(rt: HostRuntime) -> Result<(), Fail> {
     is_displayed(&rt, &protocol, MADE, "quad@4278190080[0]")
 }
 
-/// Puts the steps by which a client makes a registry.
-fn push_registry(entries: &mut Vec<Entry>, who: Who) -> Result<(), Fail> {
-    entries.push(Entry::Do(Call::Arrive(who, &GET_REGISTRY), ""))?;
-    Ok(entries.push(Entry::Do(Call::Next(who), "Io error: would block\n"))?)
-}
-
-/// Three clients are inserted.
-static THREE: [Entry; 3] = [
+/// Three clients are inserted, each of which makes a registry.
+static THREE: [Entry; 9] = [
     Entry::Do(Call::Insert(true), "client 0, 1\n"),
     Entry::Do(Call::Insert(true), "client 1, 2\n"),
     Entry::Do(Call::Insert(true), "client 2, 3\n"),
+    Entry::Do(Call::Arrive(FIRST, &GET_REGISTRY), ""),
+    Entry::Do(Call::Next(FIRST), "Io error: would block\n"),
+    Entry::Do(Call::Arrive(SECOND, &GET_REGISTRY), ""),
+    Entry::Do(Call::Next(SECOND), "Io error: would block\n"),
+    Entry::Do(Call::Arrive(THIRD, &GET_REGISTRY), ""),
+    Entry::Do(Call::Next(THIRD), "Io error: would block\n"),
 ];
-
-/// Puts the steps by which each of the three has a registry.
-fn push_registries(entries: &mut Vec<Entry>) -> Result<(), Fail> {
-    push_registry(entries, FIRST)?;
-    push_registry(entries, SECOND)?;
-    push_registry(entries, THIRD)
-}
 
 /// Puts the steps by which three clients have a registry each, and so many globals are created.
 fn push_three(entries: &mut Vec<Entry>, globals: u32) -> Result<(), Fail> {
     entries.extend_from_slice(&THREE)?;
-    push_registries(entries)?;
     for name in 1..=globals {
         entries.push(Entry::Global(name))?;
     }

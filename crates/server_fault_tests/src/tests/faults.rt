@@ -194,27 +194,47 @@ fn perform(
 ) -> Result<(), Fail> {
     let steps = alone(alloc, entry)?;
     match server.replay(steps) {
-        Ok(replies) => hear_all(alloc, heard, who, entry, replies.as_slice())?,
-        Err(_) => return Err(Fail::new("memory was refused")),
+        Ok(replies) => hear_all(alloc, heard, who, entry, replies.as_slice()),
+        Err(_) => Err(Fail::new("memory was refused")),
     }
+}
+
+/// The same, and hears how many sends to the client there were up to its end.
+fn perform_and_count(
+    alloc: Global,
+    server: &mut Server,
+    heard: &mut Heard,
+    who: Who,
+    entry: Entry,
+) -> Result<(), Fail> {
+    perform(alloc, server, heard, who, entry)?;
     let sends = heard.taken.saturating_add(sends_left(server, who));
     Ok(heard.sends.push(sends)?)
+}
+
+/// Puts the step of the call.
+fn push_step(alloc: Global, steps: &mut Vec<Made>, call: Call) -> Result<(), Fail> {
+    let step = step(alloc, call)?;
+    Ok(steps.push(step)?)
+}
+
+/// Puts the steps by which so many sends of the client are taken.
+fn push_accepts(alloc: Global, steps: &mut Vec<Made>, who: Who, count: usize) -> Result<(), Fail> {
+    for _ in 0..count {
+        push_step(alloc, steps, Call::Accept(who, usize::MAX))?;
+    }
+    Ok(())
 }
 
 /// Puts the steps by which the client's script gets the fault.
 fn push_cue(alloc: Global, steps: &mut Vec<Made>, who: Who, cue: Cue) -> Result<(), Fail> {
     match cue {
-        Cue::Receive => {
-            steps.push(step(alloc, Call::ArriveFault(who, IoFault::Other(5)))?)?;
-        }
+        Cue::Receive => push_step(alloc, steps, Call::ArriveFault(who, IoFault::Other(5))),
         Cue::Send(before) => {
-            for _ in 0..before {
-                steps.push(step(alloc, Call::Accept(who, usize::MAX))?)?;
-            }
-            steps.push(step(alloc, Call::AcceptFault(who, IoFault::Other(5)))?)?;
+            push_accepts(alloc, steps, who, before)?;
+            push_step(alloc, steps, Call::AcceptFault(who, IoFault::Other(5)))
         }
     }
-    Ok(())
 }
 
 /// Gives the client's script the fault.
@@ -239,7 +259,7 @@ fn perform_all(
         if at == place {
             give(alloc, server, who, cue)?;
         }
-        perform(alloc, server, heard, who, *entry)?;
+        perform_and_count(alloc, server, heard, who, *entry)?;
     }
     Ok(())
 }
@@ -258,8 +278,11 @@ fn heard_by(
 
 /// The same of a new server.
 fn heard_of(alloc: Global, fault: (Who, usize, Cue), entries: &[Entry]) -> Result<Heard, Fail> {
-    let mut server = Backend::new(alloc, quad_table(alloc)?);
-    heard_by(alloc, &mut server, fault, entries)
+    let table = quad_table(alloc)?;
+    let mut server = Backend::new(alloc, table);
+    let answer = heard_by(alloc, &mut server, fault, entries);
+    drop(server);
+    answer
 }
 
 /// The run, and then all that waits is sent and taken, and all notes are.

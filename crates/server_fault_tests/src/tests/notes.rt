@@ -121,5 +121,7 @@ fn judge(rt: &(impl Eprint + AllocGlobal), server: &mut Server) -> Result<(), Fa
 #[test]
 fn drill_of_notes_over_a_cleanup(rt: HostRuntime) -> Result<(), Fail> {
     let mut server = Backend::new(rt.alloc(), quad_table(rt.alloc())?);
-    judge(&rt, &mut server)
+    let answer = judge(&rt, &mut server);
+    drop(server);
+    answer
 }

@@ -1,6 +1,7 @@
 //! Each receive and each send of a client's transport fails in turn.
 
-use server_test_kit::steps::{Call, step};
+use super::drill::only;
+use server_test_kit::steps::Call;
 use server_test_kit::told::reply;
 use server_test_kit::values::{FIRST, Named, SECOND, Shown, Who};
 use std::alloc::Global;
@@ -142,15 +143,19 @@ fn text_of(alloc: Global, told: &Reply<Memory, u32>) -> Result<String, Fail> {
     Ok(log)
 }
 
+/// What the first of the replies tells.
+fn first_of(alloc: Global, replies: &[Reply<Memory, u32>]) -> Result<Option<String>, Fail> {
+    match replies.first() {
+        Some(told) => Ok(Some(text_of(alloc, told)?)),
+        None => Err(Fail::new("there is a reply")),
+    }
+}
+
 /// Makes the call; what its reply tells, or none if memory was refused.
 fn answer(alloc: Global, server: &mut Server, call: Call) -> Result<Option<String>, Fail> {
-    let mut steps = Vec::new(alloc);
-    steps.push(step(alloc, call)?)?;
+    let steps = only(alloc, call)?;
     match server.replay(steps) {
-        Ok(replies) => match replies.first() {
-            Some(told) => Ok(Some(text_of(alloc, told)?)),
-            None => Err(Fail::new("there is a reply")),
-        },
+        Ok(replies) => first_of(alloc, replies.as_slice()),
         Err(_) => Ok(None),
     }
 }
@@ -210,8 +215,11 @@ fn played_by(alloc: Global, server: &mut Server, calls: &[Call]) -> Result<Vec<S
 
 /// The same of a new server.
 fn played(alloc: Global, calls: &[Call]) -> Result<Vec<String>, Fail> {
-    let mut server = Backend::new(alloc, quad_table(alloc)?);
-    played_by(alloc, &mut server, calls)
+    let table = quad_table(alloc)?;
+    let mut server = Backend::new(alloc, table);
+    let answer = played_by(alloc, &mut server, calls);
+    drop(server);
+    answer
 }
 
 /// Whether the call names the first client.
