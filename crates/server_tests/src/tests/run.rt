@@ -609,6 +609,14 @@ fn send_lent(
     reply(log, &Reply::SendEvent(answer))
 }
 
+/// Tells the data that came back, if some did.
+fn tell_back(log: &mut String, back: Option<u32>) -> Result<(), Fail> {
+    match back {
+        Some(data) => Ok(writeln!(log, "{data} came back")?),
+        None => Ok(()),
+    }
+}
+
 /// Tells the data that came back of a finish, and its answer as that of the call that drops them.
 fn finish_returning(
     server: &mut Server,
@@ -616,11 +624,14 @@ fn finish_returning(
     who: Who,
     given: Option<u32>,
 ) -> Result<(), Fail> {
-    let answer = server.finish_request_returning(&who.id(), given);
-    if let Ok(Some(data)) = &answer {
-        writeln!(log, "{data} came back")?;
-    }
-    reply(log, &Reply::FinishRequest(answer.map(|_| ())))
+    let answer = match server.finish_request_returning(&who.id(), given) {
+        Ok(back) => {
+            tell_back(log, back)?;
+            Ok(())
+        }
+        Err(refused) => Err(refused),
+    };
+    reply(log, &Reply::FinishRequest(answer))
 }
 
 /// Adds to the data of the object where they stand, and tells what they were.
@@ -644,11 +655,14 @@ fn finish_bind_returning(
     who: Who,
     given: u32,
 ) -> Result<(), Fail> {
-    let answer = server.finish_bind_returning(&who.id(), given);
-    if let Ok(Some(data)) = &answer {
-        writeln!(log, "{data} came back")?;
-    }
-    reply(log, &Reply::FinishBind(answer.map(|_| ())))
+    let answer = match server.finish_bind_returning(&who.id(), given) {
+        Ok(back) => {
+            tell_back(log, back)?;
+            Ok(())
+        }
+        Err(refused) => Err(refused),
+    };
+    reply(log, &Reply::FinishBind(answer))
 }
 
 /// Makes the call, for which there is to be memory, and tells its answer as that of the call that it stands beside.
