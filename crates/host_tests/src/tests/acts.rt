@@ -422,6 +422,11 @@ pub fn tell_act(log: &mut String, server: &mut Server, act: Act) -> Result<Statu
     Ok(status)
 }
 
+/// A new session, unless the table is refused.
+pub fn new_server(alloc: Global) -> Result<Server, TableFault> {
+    with_rows(|rows| Server::new(alloc, rows))
+}
+
 /// Does the acts, and tells each in a line.
 fn do_all(log: &mut String, server: &mut Server, acts: &[Act]) -> Result<(), Fail> {
     for act in acts {
@@ -430,13 +435,20 @@ fn do_all(log: &mut String, server: &mut Server, acts: &[Act]) -> Result<(), Fai
     Ok(())
 }
 
-/// Does the acts with a new session, and tells each in a line.
-fn do_anew(log: &mut String, acts: &[Act]) -> Result<(), Fail> {
-    let alloc = *log.allocator();
-    match with_rows(|rows| Server::new(alloc, rows)) {
-        Ok(mut server) => do_all(log, &mut server, acts),
+/// A new session.
+fn begun(alloc: Global) -> Result<Server, Fail> {
+    match new_server(alloc) {
+        Ok(server) => Ok(server),
         Err(_) => Err(Fail::new("the table was refused")),
     }
+}
+
+/// Does the acts with a new session, and tells each in a line.
+fn do_anew(log: &mut String, acts: &[Act]) -> Result<(), Fail> {
+    let mut server = begun(*log.allocator())?;
+    let answer = do_all(log, &mut server, acts);
+    drop(server);
+    answer
 }
 
 /// What these acts tell, one after another, of a new session.

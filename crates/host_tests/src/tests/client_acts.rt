@@ -10,7 +10,7 @@ use std::alloc::Global;
 use std::test::Fail;
 use wl_host::{
     Client, Counts, FlatArgument, FlatClientId, FlatError, FlatEvent, FlatObjectId, FlatRequest,
-    Status,
+    Status, TableFault,
 };
 
 /// One call of the session. What it refers to is constant, so that acts can stand in a table.
@@ -374,6 +374,11 @@ pub fn tell_act(log: &mut String, client: &mut Client, act: Act) -> Result<Statu
     Ok(status)
 }
 
+/// A new session, unless the table is refused.
+pub fn new_client(alloc: Global) -> Result<Client, TableFault> {
+    with_rows(|rows| Client::connect(alloc, rows))
+}
+
 /// Does the acts, and tells each in a line.
 fn do_all(log: &mut String, client: &mut Client, acts: &[Act]) -> Result<(), Fail> {
     for act in acts {
@@ -382,13 +387,20 @@ fn do_all(log: &mut String, client: &mut Client, acts: &[Act]) -> Result<(), Fai
     Ok(())
 }
 
-/// Does the acts with a new session, and tells each in a line.
-fn do_anew(log: &mut String, acts: &[Act]) -> Result<(), Fail> {
-    let alloc = *log.allocator();
-    match with_rows(|rows| Client::connect(alloc, rows)) {
-        Ok(mut client) => do_all(log, &mut client, acts),
+/// A new session.
+fn begun(alloc: Global) -> Result<Client, Fail> {
+    match new_client(alloc) {
+        Ok(client) => Ok(client),
         Err(_) => Err(Fail::new("the table was refused")),
     }
+}
+
+/// Does the acts with a new session, and tells each in a line.
+fn do_anew(log: &mut String, acts: &[Act]) -> Result<(), Fail> {
+    let mut client = begun(*log.allocator())?;
+    let answer = do_all(log, &mut client, acts);
+    drop(client);
+    answer
 }
 
 /// What these acts tell, one after another, of a new session.

@@ -4,7 +4,8 @@
 //! after it tell the same as with ample memory. If the test itself asked for that memory, it ends with the want, and nothing
 //! is judged. `./refusal-drill` refuses each allocation in turn.
 
-use crate::tests::rows::with_rows;
+use crate::tests::acts::new_server;
+use crate::tests::client_acts::new_client;
 use crate::tests::{acts, client_acts};
 use std::alloc::Global;
 use std::test::Fail;
@@ -38,11 +39,6 @@ fn is_want(refused: TableFault) -> Result<(), Fail> {
         return Ok(());
     }
     Err(Fail::new("the table was refused"))
-}
-
-/// A new server.
-fn new_server(alloc: Global) -> Result<Server, TableFault> {
-    with_rows(|rows| Server::new(alloc, rows))
 }
 
 /// Does the act, and once more if it was refused memory.
@@ -106,31 +102,47 @@ fn run_server(
     end_server(rt, server, run)
 }
 
-/// Does the run of a server for which there is memory now.
-fn drill_another_server(
-    rt: &(impl Eprint + AllocGlobal),
-    run: &ServerRun,
-    refused: TableFault,
-) -> Result<(), Fail> {
+/// A new server, for which there is memory now.
+fn server_again(alloc: Global, refused: TableFault) -> Result<Server, Fail> {
     is_want(refused)?;
-    match new_server(rt.alloc()) {
-        Ok(mut server) => run_server(rt, &mut server, run),
+    match new_server(alloc) {
+        Ok(server) => Ok(server),
         Err(_) => Err(Fail::new("memory was refused again")),
+    }
+}
+
+/// A new server; if memory was refused it is made once more.
+fn begun(alloc: Global) -> Result<Server, Fail> {
+    match new_server(alloc) {
+        Ok(server) => Ok(server),
+        Err(refused) => server_again(alloc, refused),
     }
 }
 
 /// Does the run of a new server, and fails if it is not as it has to be. If memory was refused for the server, it is made once
 /// more.
 pub fn drill_server(rt: &(impl Eprint + AllocGlobal), run: &ServerRun) -> Result<(), Fail> {
-    match new_server(rt.alloc()) {
-        Ok(mut server) => run_server(rt, &mut server, run),
-        Err(refused) => drill_another_server(rt, run, refused),
+    let mut server = begun(rt.alloc())?;
+    let answer = run_server(rt, &mut server, run);
+    drop(server);
+    answer
+}
+
+/// A new client, for which there is memory now.
+fn client_again(alloc: Global, refused: TableFault) -> Result<Client, Fail> {
+    is_want(refused)?;
+    match new_client(alloc) {
+        Ok(client) => Ok(client),
+        Err(_) => Err(Fail::new("memory was refused again")),
     }
 }
 
-/// A new client.
-fn new_client(alloc: Global) -> Result<Client, TableFault> {
-    with_rows(|rows| Client::connect(alloc, rows))
+/// A new client; if memory was refused it is made once more.
+fn connected(alloc: Global) -> Result<Client, Fail> {
+    match new_client(alloc) {
+        Ok(client) => Ok(client),
+        Err(refused) => client_again(alloc, refused),
+    }
 }
 
 /// Does the act, and once more if it was refused memory.
@@ -158,20 +170,6 @@ fn play_client(
     Ok(())
 }
 
-/// Does the acts with a client for which there is memory now.
-fn drill_another_client(
-    rt: &(impl Eprint + AllocGlobal),
-    name: &str,
-    entries: &[ClientEntry],
-    refused: TableFault,
-) -> Result<(), Fail> {
-    is_want(refused)?;
-    match new_client(rt.alloc()) {
-        Ok(mut client) => play_client(rt, &mut client, name, entries),
-        Err(_) => Err(Fail::new("memory was refused again")),
-    }
-}
-
 /// Does the acts with a new client, and fails if one tells anything else. If memory was refused for the client, it is made once
 /// more.
 pub fn drill_client(
@@ -179,8 +177,8 @@ pub fn drill_client(
     name: &str,
     entries: &[ClientEntry],
 ) -> Result<(), Fail> {
-    match new_client(rt.alloc()) {
-        Ok(mut client) => play_client(rt, &mut client, name, entries),
-        Err(refused) => drill_another_client(rt, name, entries, refused),
-    }
+    let mut client = connected(rt.alloc())?;
+    let answer = play_client(rt, &mut client, name, entries);
+    drop(client);
+    answer
 }
