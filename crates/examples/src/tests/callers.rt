@@ -121,7 +121,9 @@ fn log_of(alloc: Global, server: &mut Server) -> Result<String, Fail> {
 /// The log of a new server.
 fn server_log(alloc: Global) -> Result<String, Fail> {
     let mut server = Server::new(alloc, quad_table(alloc)?);
-    log_of(alloc, &mut server)
+    let answer = log_of(alloc, &mut server);
+    drop(server);
+    answer
 }
 
 /// Data is read as it was set, until its object ends; a client is handed out once, with what it was sent.
@@ -183,7 +185,9 @@ fn log_of_proxy(alloc: Global, client: &mut Client) -> Result<String, Fail> {
 fn proxy_log(alloc: Global) -> Result<String, Fail> {
     let table: Protocol = quad_table(alloc)?;
     let mut client = Client::connect(alloc, table, Memory::new(alloc))?;
-    log_of_proxy(alloc, &mut client)
+    let answer = log_of_proxy(alloc, &mut client);
+    drop(client);
+    answer
 }
 
 /// All events that are there are handed on, in order.

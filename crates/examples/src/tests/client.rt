@@ -220,7 +220,9 @@ fn connected(alloc: Global, from_server: &[u8]) -> Result<Client<'_>, Fail> {
 /// The data of the answers that this is, played back to a client.
 fn played_back(alloc: Global, from_server: &[u8]) -> Result<[Option<u32>; 2], Fail> {
     let mut client = connected(alloc, from_server)?;
-    answers(alloc, &mut client)
+    let answer = answers(alloc, &mut client);
+    drop(client);
+    answer
 }
 
 /// What is known of the object that a client binds, and how many bytes it sends for it.
@@ -232,7 +234,9 @@ fn bound(alloc: Global, client: &mut Client<'_>) -> Result<(ObjectInfo, usize), 
 /// The same, of a client to which this is played back.
 fn bound_by(alloc: Global, from_server: &[u8]) -> Result<(ObjectInfo, usize), Fail> {
     let mut client = connected(alloc, from_server)?;
-    bound(alloc, &mut client)
+    let answer = bound(alloc, &mut client);
+    drop(client);
+    answer
 }
 
 #[test]

@@ -124,15 +124,9 @@ fn exchange_with_the_first(
     tell_bytes(log, &[], descriptors.as_slice())
 }
 
-/// A server with one global.
-fn serving(alloc: Global) -> Result<Server, Fail> {
-    let mut server = Server::new(alloc, quad_table(alloc)?);
-    server.create_global(QUAD, 3, ShownToAll)?;
-    Ok(server)
-}
-
-/// The log of a server and its first client.
+/// The log of a server, which gets a global, and of its first client.
 fn log_of_first(alloc: Global, server: &mut Server, receives: &[Receive]) -> Result<String, Fail> {
+    server.create_global(QUAD, 3, ShownToAll)?;
     let mut log = String::new(alloc);
     exchange_with_the_first(server, receives, &mut log)?;
     Ok(log)
@@ -140,8 +134,11 @@ fn log_of_first(alloc: Global, server: &mut Server, receives: &[Receive]) -> Res
 
 /// The log of a new server and its first client.
 fn server_log(alloc: Global, receives: &[Receive]) -> Result<String, Fail> {
-    let mut server = serving(alloc)?;
-    log_of_first(alloc, &mut server, receives)
+    let table = quad_table(alloc)?;
+    let mut server = Server::new(alloc, table);
+    let answer = log_of_first(alloc, &mut server, receives);
+    drop(server);
+    answer
 }
 
 /// `get_registry`, with the new id 2, and the front of `bind`, of the global 1.
@@ -227,7 +224,9 @@ fn log_of_sync(alloc: Global, client: &mut Client, answer: &[u8]) -> Result<Stri
 /// The log of a new client.
 fn client_log(alloc: Global, answer: &[u8]) -> Result<String, Fail> {
     let mut client = connected(alloc)?;
-    log_of_sync(alloc, &mut client, answer)
+    let answer = log_of_sync(alloc, &mut client, answer);
+    drop(client);
+    answer
 }
 
 /// A client sends a sync, and its answer is one event: `delete_id` is handled by the session.

@@ -91,12 +91,22 @@ fn asks(link: &mut BufferedSocket<Memory>, alloc: Global) -> Result<(bool, bool)
     Ok((sent, answered))
 }
 
+/// The same, and what is left to wait.
+fn asks_and_waits(
+    link: &mut BufferedSocket<Memory>,
+    alloc: Global,
+) -> Result<(bool, bool, [usize; 4]), Fail> {
+    let (sent, answered) = asks(link, alloc)?;
+    Ok((sent, answered, link.waiting()))
+}
+
 /// Whether the sync is sent over a new link, its answer read, and nothing left to wait.
 fn asked(alloc: Global) -> Result<(bool, bool, [usize; 4]), Fail> {
     let script = answer_in_two(alloc)?;
     let mut link = BufferedSocket::new(alloc, script, None)?;
-    let (sent, answered) = asks(&mut link, alloc)?;
-    Ok((sent, answered, link.waiting()))
+    let answer = asks_and_waits(&mut link, alloc);
+    drop(link);
+    answer
 }
 
 #[test]

@@ -27,11 +27,19 @@ fn serve(alloc: Global, server: &mut Server, received: &[u8]) -> Result<Sends> {
     Ok(server.transport_mut(&client)?.take_sent())
 }
 
+/// What a new server sends to a client whose socket received these bytes.
+fn served(alloc: Global, received: &[u8]) -> Result<Sends> {
+    let table = Protocol::new(alloc, Vec::new(alloc))?;
+    let mut server = Server::new(alloc, table);
+    let sends = serve(alloc, &mut server, received);
+    drop(server);
+    sends
+}
+
 #[test]
 fn sync_is_answered(rt: HostRuntime) -> Result<(), Fail> {
-    let mut server = Server::new(rt.alloc(), Protocol::new(rt.alloc(), Vec::new(rt.alloc()))?);
     let sync = [1, 0, 0, 0, 0, 0, 12, 0, 2, 0, 0, 0]; // to object 1: opcode 0, with new object 2
-    let sent = serve(rt.alloc(), &mut server, &sync)?;
+    let sent = served(rt.alloc(), &sync)?;
     let done_and_delete_id = [
         2, 0, 0, 0, 0, 0, 12, 0, 0, 0, 0, 0, 1, 0, 0, 0, 1, 0, 12, 0, 2, 0, 0, 0,
     ];

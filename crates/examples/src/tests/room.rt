@@ -277,7 +277,9 @@ fn conversation(alloc: Global, server: &mut Server, bytes: &[u8]) -> Result<([Ki
 /// The same, of a new server.
 fn played_back(alloc: Global, bytes: &[u8]) -> Result<([Kind; 2], usize)> {
     let mut server = Server::new(alloc, table(alloc)?);
-    conversation(alloc, &mut server, bytes)
+    let answer = conversation(alloc, &mut server, bytes);
+    drop(server);
+    answer
 }
 
 #[test]

@@ -103,12 +103,10 @@ fn table(alloc: Global) -> Result<Protocol, Fail> {
     Ok(Protocol::new(alloc, interfaces)?)
 }
 
-/// A server that offers a counter. Its clients may send messages of any length.
-fn offering<'a>(alloc: Global) -> Result<(Server<'a>, GlobalId), Fail> {
-    let mut server = Backend::new(alloc, table(alloc)?);
+/// Offers a counter. From now on the clients may send messages of any length.
+fn offer(server: &mut Server<'_>) -> Result<GlobalId, Fail> {
     server.set_default_max_buffer_size(65536);
-    let global = server.create_global(COUNTER, 1, ShownToAll)?;
-    Ok((server, global))
+    Ok(server.create_global(COUNTER, 1, ShownToAll)?)
 }
 
 /// What a request asks to be added.
@@ -252,21 +250,24 @@ fn conversation(
     Ok((count(server, client)?, served, withdrawn))
 }
 
-/// The same, of a client of which this is to come.
+/// The same, of a server that offers a counter, and a client of which this is to come.
 fn conversation_with_a_new_client<'a>(
     alloc: Global,
     server: &mut Server<'a>,
-    counter: &GlobalId,
     from_client: &'a [u8],
 ) -> Result<(i32, usize, usize), Fail> {
+    let counter = offer(server)?;
     let client = inserted(alloc, server, from_client)?;
-    conversation(alloc, server, &client, counter)
+    conversation(alloc, server, &client, &counter)
 }
 
 /// The same, of the first client of a new server.
 fn played_back(alloc: Global, from_client: &[u8]) -> Result<(i32, usize, usize), Fail> {
-    let (mut server, counter) = offering(alloc)?;
-    conversation_with_a_new_client(alloc, &mut server, &counter, from_client)
+    let table = table(alloc)?;
+    let mut server = Backend::new(alloc, table);
+    let answer = conversation_with_a_new_client(alloc, &mut server, from_client);
+    drop(server);
+    answer
 }
 
 #[test]
