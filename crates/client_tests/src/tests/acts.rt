@@ -511,7 +511,9 @@ pub fn log_by(alloc: Global, client: &mut Client, way: Way, acts: &[Act]) -> Res
 /// What the acts tell of a client in which nothing has happened.
 pub fn log_of(alloc: Global, way: Way, acts: &[Act]) -> Result<String, Fail> {
     let mut client = connected(alloc)?;
-    log_by(alloc, &mut client, way, acts)
+    let answer = log_by(alloc, &mut client, way, acts);
+    drop(client);
+    answer
 }
 
 /// A row of a table of runs: what a failing one is named, its acts, and what they have to tell.

@@ -40,7 +40,9 @@ const TOLD: &str =
 fn log_in(alloc: Global, way: Way) -> Result<String, Fail> {
     let table = hinting_table(alloc)?;
     let mut client = Backend::connect(alloc, table, Memory::new(alloc))?;
-    log_by(alloc, &mut client, way, &ACTS)
+    let answer = log_by(alloc, &mut client, way, &ACTS);
+    drop(client);
+    answer
 }
 
 #[test]

@@ -41,7 +41,10 @@ pub fn replay(
     calls: &[Call],
 ) -> Result<(), Fail> {
     let steps = steps(alloc, calls)?;
-    write_run(log, &client.replay(steps))?;
+    let answer = client.replay(steps);
+    let written = write_run(log, &answer);
+    drop(answer);
+    written?;
     Ok(write_refused(log, client)?)
 }
 
