@@ -134,6 +134,21 @@ fn run_lines<R: BufRead, W: Write>(
     Err(Stop::Failed)
 }
 
+/// Carries out the commands of the lines up to the end of the input, over a new server.
+fn run_anew<R: BufRead, W: Write>(
+    alloc: Global,
+    form: Form,
+    reader: &mut R,
+    writer: &mut W,
+) -> Result<(), Stop>
+    ensures { IfSome (R.remaining reader.old) (λ input. Runs form 1 (new_bench bench_rows) (lines input) result (W.contents writer.old) (W.contents writer.new)) }
+{
+    let mut bench = Bench::new(alloc)?;
+    let ended = run_lines(alloc, &mut bench, form, reader, writer);
+    drop(bench);
+    ended
+}
+
 /// Carries out the commands of the lines that are read, over a new server, and writes what each prints before the next
 /// line is read; the writer is flushed after each command.
 ///
@@ -148,8 +163,7 @@ pub fn run_commands<R: BufRead, W: Write>(
 ) -> Result<(), Stop>
     ensures { IfSome (R.remaining reader.old) (λ input. Runs shape.Answers 1 (new_bench bench_rows) (lines input) result (W.contents writer.old) (W.contents writer.new)) }
 {
-    let mut bench = Bench::new(alloc)?;
-    run_lines(alloc, &mut bench, Form::Answers, reader, writer)
+    run_anew(alloc, Form::Answers, reader, writer)
 }
 
 /// Carries out the commands of the lines that are read, as `run_commands` does, and writes the record of each: the number
@@ -161,6 +175,5 @@ pub fn record<R: BufRead, W: Write>(
 ) -> Result<(), Stop>
     ensures { IfSome (R.remaining reader.old) (λ input. Runs shape.Record 1 (new_bench bench_rows) (lines input) result (W.contents writer.old) (W.contents writer.new)) }
 {
-    let mut bench = Bench::new(alloc)?;
-    run_lines(alloc, &mut bench, Form::Record, reader, writer)
+    run_anew(alloc, Form::Record, reader, writer)
 }

@@ -69,7 +69,9 @@ pub fn request(alloc: Global) -> Result<Vec<u8>, Stop>
     ensures { IfOk result (λ v. v.items ≡ request_bytes) }
 {
     let mut client = fresh_client(alloc)?;
-    sync_bytes(alloc, &mut client)
+    let bytes = sync_bytes(alloc, &mut client);
+    drop(client);
+    bytes
 }
 
 /// A server over transports by script, whose objects and clients have no data.
@@ -129,5 +131,7 @@ pub fn answer(alloc: Global, request: &[u8]) -> Result<Vec<u8>, Stop>
     ensures { request.now ≡ request_bytes → IfOk result (λ v. v.items ≡ answer_bytes) }
 {
     let mut server = fresh_server(alloc)?;
-    answer_to(alloc, &mut server, request)
+    let bytes = answer_to(alloc, &mut server, request);
+    drop(server);
+    bytes
 }
