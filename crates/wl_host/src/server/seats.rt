@@ -126,6 +126,31 @@ fn make_room(
     Ok(())
 }
 
+/// Makes room for one client more, at this slot, in all lists.
+///
+/// The error says that there was no memory.
+fn make_all_room(
+    ledgers: &mut Vec<Option<Ledger>>,
+    gone: &mut VecDeque<Departed>,
+    left: &mut VecDeque<DescriptorQueue>,
+    writable: &mut SlotQueue,
+    marked: &mut SlotQueue,
+    slot: u32,
+) -> Result<(), OutOfMemory>
+    requires { vec_len ledgers.old ≤ 2 ^ 32 }
+    ensures ledgers { ledgers.new.items ≡ ledgers.old.items }
+    ensures gone { SameButRoom gone.old gone.new }
+    ensures left { SameButRoom left.old left.new }
+    ensures room { OnOk result (HasRoomAt slot ledgers.new gone.new left.new) }
+    ensures writable { (writable.new.slots ≡ writable.old.slots) × (writable.old.room ≤ writable.new.room) }
+    ensures marked { (marked.new.slots ≡ marked.old.slots) × (marked.old.room ≤ marked.new.room) }
+    ensures listed { OnOk result ((slot + 1 ≤ writable.new.room) × (slot + 1 ≤ marked.new.room)) }
+{
+    make_room(ledgers, gone, left, slot)?;
+    writable.make_room(slot as usize + 1)?;
+    marked.make_room(slot as usize + 1)
+}
+
 /// The core let the client go: it is gone, and its queue of what arrived is left.
 fn let_go(
     gone: &mut VecDeque<Departed>,
@@ -254,9 +279,14 @@ impl Seats {
             return Err(Status::Full);
         };
         let slot = next.slot();
-        make_room(&mut self.ledgers, &mut self.gone, &mut self.left, slot)?;
-        self.writable.make_room(slot as usize + 1)?;
-        self.marked.make_room(slot as usize + 1)?;
+        make_all_room(
+            &mut self.ledgers,
+            &mut self.gone,
+            &mut self.left,
+            &mut self.writable,
+            &mut self.marked,
+            slot,
+        )?;
         let alloc = *self.gone.allocator();
         let user_data = client.user_data;
         let id = core.insert_client(mailbox, client)?;
