@@ -164,20 +164,20 @@ fn syncs_and_flush(alloc: Global) -> Result<String, Fail> {
     Ok(text)
 }
 
+/// Appends so many answers.
+fn push_answers(text: &mut String, count: usize) -> Result<(), Fail> {
+    for _ in 0..count {
+        write!(text, "{DONE}{DELETE_ID}")?;
+    }
+    Ok(())
+}
+
 /// What is printed of them.
 fn answers_and_flush(alloc: Global) -> Result<String, Fail> {
     let mut text = String::from_str(alloc, "client 0 1\nok\ndispatched 180\nout 0 ")?;
-    for _ in 0..170 {
-        text.push_str(DONE)?;
-        text.push_str(DELETE_ID)?;
-    }
-    text.push_str(DONE)?;
-    text.push_str(" -\nok\nout 0 ")?;
-    text.push_str(DELETE_ID)?;
-    for _ in 0..9 {
-        text.push_str(DONE)?;
-        text.push_str(DELETE_ID)?;
-    }
+    push_answers(&mut text, 170)?;
+    write!(text, "{DONE} -\nok\nout 0 {DELETE_ID}")?;
+    push_answers(&mut text, 9)?;
     text.push_str(" -\n")?;
     Ok(text)
 }
