@@ -489,11 +489,20 @@ static COUNTED: [(&str, Call); 12] = [
     ("the rest sent again", Call::Sent(10)),
 ];
 
-/// Makes the call, for which there are tokens to come to; whether it puts in, gives or sends all of it.
+/// Receives into so many bytes; whether as many come.
+fn fills(mailbox: &mut Mailbox, tokens: &mut VecDeque<Token>, room: usize) -> bool {
+    let mut buffer = [0; 40];
+    match buffer.get_mut(..room) {
+        Some(part) => mailbox.rcv_msg(part, tokens) == Ok(room),
+        None => false,
+    }
+}
+
+/// Makes the call; whether it puts in, gives or sends all of it.
 fn is_made(mailbox: &mut Mailbox, tokens: &mut VecDeque<Token>, call: Call) -> bool {
     match call {
         Call::Arrive(bytes, fds) => mailbox.arrive(bytes, fds).is_ok(),
-        Call::Receive(room) => mailbox.rcv_msg(&mut [0; 40][..room], tokens) == Ok(room),
+        Call::Receive(room) => fills(mailbox, tokens, room),
         Call::Send(bytes, fds) => mailbox.send_msg(bytes, fds) == Ok(bytes.len()),
         _ => {
             tell_mailbox(mailbox, call);
