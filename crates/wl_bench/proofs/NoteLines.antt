@@ -31,7 +31,7 @@ use Rattle.wl_server.specs.NotedEnds.Errors.{EachCallCausesItsErrors, MayKillFor
 use Rattle.wl_server.specs.PartStep.{Asked, Call, Changed, PartStep, World, over}
 use Rattle.wl_server.specs.Runs.{Performs}
 use Rattle.wl_server.specs.Server.{notes_of, seen, told_of}
-use Rattle.wl_server.specs.Steps.{Entry, Makes as MakesCall, OneStep, offer_after}
+use Rattle.wl_server.specs.Steps.{Entry, IsCallOfScript, Makes as MakesCall, OneStep, offer_after}
 use Rattle.wl_bench.specs.declared.bench.Open.{Open}
 use Rattle.wl_bench.specs.declared.bench.Open.TheVariants as opened
 use Rattle.wl_bench.specs.declared.bench.Seat.{Seat}
@@ -97,12 +97,12 @@ plain_error table id s answer e is safe may = absurd may
 
 -- A step over scripts is a call, or a change of a client's script, which kills for no error. So the law of calls is one of steps.
 pub steps_cause : ((before after : BenchServer) (e : BenchEntry) → OneStep bench_world before e after
-    → OneStep dispatch_world before e after ⊎ ((target : ClientParts) × (t : Script) × MakesCall dispatch_world before (Changed target t) false after))
+    → OneStep dispatch_world before e after ⊎ (IsCallOfScript e.call × (target : ClientParts) × (t : Script) × MakesCall dispatch_world before (Changed target t) false after))
     → EachCallCausesItsErrors ℕ dispatch_world → EachCallCausesItsErrors ℕ bench_world
 steps_cause change law before after e one id error tell =
     elim (change before after e one) [
       | inl call ↦ law before after e call id error tell
-      | inr (target, t, (f, is, calm, changed)) ↦ elim (law before after f changed id error tell) [
+      | inr (scripted, target, t, (f, is, calm, changed)) ↦ elim (law before after f changed id error tell) [
         | inl was ↦ inl was
         | inr may ↦ absurd (subst (λ (c : BenchCall). MayKillFor before.offer.table id c error) is may)
       ]

@@ -4,7 +4,7 @@ use Rattle.std.specs.Prelude.{◌≡◌, List, [], ◌∷◌, Result, map}
 use Rattle.wl_wire.specs.declared.protocol.TableError.{TableError}
 use Rattle.wl_wire.specs.Table.{InterfaceRow}
 use Rattle.wl_client.specs.Session.{SessionState, over_transport}
-use Rattle.wl_client.specs.Steps.{Entry, InterfacesAdded, Making}
+use Rattle.wl_client.specs.Steps.{Entry, InterfacesAdded, IsOfScript, Making}
 
 -- A deed is a call, as an entry of a run; a change of the transport, which becomes this one; or interfaces that were to be
 -- added to the table, with the answer.
@@ -28,3 +28,15 @@ module _ {T U : Type 0} (makes : Making T U) where
   abbrev pub History : SessionState T U → List (Deed T U) → SessionState T U → Type 0
   History before [] after = after ≡ before
   History before (d ∷ deeds) after = (mid : SessionState T U) × Does before d mid × History mid deeds after
+
+-- A deed over the transport by script stands for one over every transport: a call of the transport itself for a change of it,
+-- and each other deed for itself.
+abbrev pub StandsFor : {T U : Type 0} → Deed T U → Deed T U → Type 0
+StandsFor (Called e) (Changed t) = IsOfScript e.step
+StandsFor d other = other ≡ d
+
+-- the deeds stand for these, one for one
+abbrev pub EachStandsFor : {T U : Type 0} → List (Deed T U) → List (Deed T U) → Type 0
+EachStandsFor [] others = others ≡ []
+EachStandsFor (d ∷ deeds) [] = ⊥
+EachStandsFor (d ∷ deeds) (other ∷ others) = StandsFor d other × EachStandsFor deeds others

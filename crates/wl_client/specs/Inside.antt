@@ -3,4 +3,3 @@ pub mod Sending
 pub mod Conversion
 pub mod ReadingLoop
 pub mod InPlace
-pub mod Performing

@@ -118,6 +118,15 @@ module _ {T U : Type 0} (sends : T → Queue → Result ℕ IoFault → T → Ty
       (r : _) × (answer ≡ reply.NextEvent r) × NextEvent sends receives before (event_content r) refused after
   CallOf before call answer refused after = LocalCall before call answer refused after
 
+-- the step is a call of the transport by script
+abbrev pub IsOfScript : {U : Type 0} → Step U → Type 0
+IsOfScript (step.Arrive bytes tokens) = Unit {0}
+IsOfScript (step.ArriveFault fault) = Unit {0}
+IsOfScript (step.Accept count) = Unit {0}
+IsOfScript (step.AcceptFault fault) = Unit {0}
+IsOfScript step.TakeSent = Unit {0}
+IsOfScript _ = ⊥
+
 module _ {U : Type 0} where
   -- a step over the transport by script: a call of that transport, or of the session
   abbrev pub StepOf : Making Script U

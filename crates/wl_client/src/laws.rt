@@ -29,7 +29,7 @@ ghost use Rattle.wl_client.specs.Accounts.{Calls, CallsLocally, IsAccountedFor, 
 ghost use Rattle.wl_client.specs.Failed.{StaysFailed};
 ghost use Rattle.wl_client.specs.Handed.{HasOwnIds};
 ghost use Rattle.wl_client.specs.Heard.{AllHeard, Hears, events_in, finished_in};
-ghost use Rattle.wl_client.specs.Histories.{Called, Changed, Deed, History, called};
+ghost use Rattle.wl_client.specs.Histories.{Called, Changed, Deed, EachStandsFor, History, called};
 ghost use Rattle.wl_client.specs.Named.{KeepsNaming};
 ghost use Rattle.wl_client.specs.ObjectId.{IdParts};
 ghost use Rattle.wl_client.specs.Noted.{NotesWhatEnded};
@@ -37,7 +37,7 @@ ghost use Rattle.wl_client.specs.OneOutcome.{SameAnswers, SameDeeds};
 ghost use Rattle.wl_client.specs.Replies.{SameReply, SameReplies};
 ghost use Rattle.wl_client.specs.Scripted.{Arrives, Becomes};
 ghost use Rattle.wl_client.specs.Session.{ClientState, Core, SessionState, IsConnected, named, over_transport};
-ghost use Rattle.wl_client.specs.Steps.{CallOf, Entry, Leads, StepOf, entries, refused_arrive, refused_script};
+ghost use Rattle.wl_client.specs.Steps.{CallOf, Entry, IsOfScript, Leads, StepOf, entries, refused_arrive, refused_script};
 ghost use Rattle.wl_client.specs.Stretches.{IsRunServed, IsStretch, IsStretchWithin, SameLeft, arrived, events_of, finished};
 
 use crate::next_event::READ_TURNS;
@@ -102,8 +102,8 @@ pub fn local_calls_are_calls<T: Transport, U>()
 {}
 
 /// A call of a session over the transport by script is a step over that transport (`step`). So a history of such calls is one
-/// of steps (`history`). Each step is such a call, or a change of the transport (`change`), and a history of steps is one of
-/// such calls and changes (`changes`). So what is said of histories over every transport is said of steps, too.
+/// of steps (`history`). Each step is such a call, or one of the transport itself, which is a change of it (`change`). A history of
+/// steps stands, one for one, for one of such calls and changes (`changes`). So what is said of histories over every transport is said of steps, too.
 pub fn calls_over_scripts_are_steps<U>()
     ensures step { (before : SessionState Script U) (call : Step U) (answer : Reply U) (refused : Bool) (after : SessionState Script U) →
         CallOf ScriptSends ScriptReceives before call answer refused after → StepOf before call answer refused after }
@@ -111,9 +111,9 @@ pub fn calls_over_scripts_are_steps<U>()
         History (CallOf ScriptSends ScriptReceives) before deeds after → History StepOf before deeds after }
     ensures change { (before : SessionState Script U) (call : Step U) (answer : Reply U) (refused : Bool) (after : SessionState Script U) →
         StepOf before call answer refused after →
-        CallOf ScriptSends ScriptReceives before call answer refused after ⊎ ((t : Script) × (after ≡ over_transport before t)) }
+        CallOf ScriptSends ScriptReceives before call answer refused after ⊎ (IsOfScript call × (t : Script) × (after ≡ over_transport before t)) }
     ensures changes { (before after : SessionState Script U) (deeds : List (Deed Script U)) → History StepOf before deeds after →
-        (others : List (Deed Script U)) × History (CallOf ScriptSends ScriptReceives) before others after }
+        (others : List (Deed Script U)) × EachStandsFor deeds others × History (CallOf ScriptSends ScriptReceives) before others after }
 {}
 
 /// Histories that follow one another are one history (`every`). A run, as of `Backend::replay`, is a history of its entries

@@ -8,8 +8,7 @@ ghost use Rattle.wl_client.specs.Histories.{Deed, History, called};
 ghost use Rattle.wl_client.specs.Named.{KeepsNaming};
 ghost use Rattle.wl_client.specs.Replies.{SameReplies};
 ghost use Rattle.wl_client.specs.Session.{IsConnected, SessionState};
-ghost use Rattle.wl_client.specs.Inside.Performing.{IsOfScript};
-ghost use Rattle.wl_client.specs.Steps.{ArrivesWith, Leads, Scripts, StepOf, StopsAt, entries, refused_arrive, refused_script, with_script};
+ghost use Rattle.wl_client.specs.Steps.{ArrivesWith, IsOfScript, Leads, Scripts, StepOf, StopsAt, entries, refused_arrive, refused_script, with_script};
 ghost use Rattle.wl_client.specs.Stretches.{EachPartIsCut};
 
 use crate::backend::Backend;

@@ -1,5 +1,5 @@
 -- What a call does to a server: to what all clients share, and to what is held of every client id.
-use Rattle.std.specs.Prelude.{◌≡◌, ◌≢◌, ℕ, ◌+◌, ◌<◌, ◌⊎◌, ◌++◌, List, [], Bool, true, false, Option, None, Some, IsSome, Result, Ok, Err, AllPairs, ◌↔◌, map}
+use Rattle.std.specs.Prelude.{◌≡◌, ◌≢◌, ℕ, ◌+◌, ◌<◌, ◌⊎◌, ◌∷◌, ◌++◌, List, [], Bool, true, false, Option, None, Some, IsSome, Result, Ok, Err, AllPairs, ◌↔◌, map}
 use Rattle.std.specs.Option.{option_map_or}
 use Rattle.wl_wire.specs.declared.interface.InterfaceId.{InterfaceId}
 use Rattle.wl_wire.specs.declared.protocol.TableError.TheVariants as table
@@ -17,7 +17,7 @@ use Rattle.wl_server.specs.declared.notes.Note.{Note}
 use Rattle.wl_server.specs.Ids.{ClientParts}
 use Rattle.wl_server.specs.NoteOrder.{AllInTime, AllNumbered, AllTakeFirst, IsInOrder, NoneWaits, RiseFromSlot, times_of}
 use Rattle.wl_server.specs.Part.{last_possible_serial}
-use Rattle.wl_server.specs.PartStep.{Asked, Call, Grown, PartCall, World}
+use Rattle.wl_server.specs.PartStep.{Asked, Call, Changed, Grown, PartCall, World}
 use Rattle.wl_server.specs.Server.{ServerState, Stored, client_at, seen, stored_at}
 
 -- A call of a run, and whether memory was refused in it; and for each client id whether memory was refused to that client,
@@ -181,3 +181,30 @@ module _ {T U G C : Type 0} (w : World T G C) where
   -- a step, its reply, and whether memory was refused in it
   abbrev pub StepOf : ServerState T U G C → Step T U G C → Reply T U → Bool → ServerState T U G C → Type 0
   StepOf before s answer refused after = Makes before (Asked s answer) refused after
+
+-- ---- over transports by script, and over every transport
+
+-- the step is a call of a transport by script
+abbrev pub IsOfScript : {T U G C : Type 0} → Step T U G C → Type 0
+IsOfScript (step.Arrive target bytes tokens) = Unit {0}
+IsOfScript (step.ArriveFault target f) = Unit {0}
+IsOfScript (step.Accept target n) = Unit {0}
+IsOfScript (step.AcceptFault target f) = Unit {0}
+IsOfScript (step.TakeSent target) = Unit {0}
+IsOfScript _ = ⊥
+
+abbrev pub IsCallOfScript : {T U G C : Type 0} → Call T U G C → Type 0
+IsCallOfScript (Asked s answer) = IsOfScript s
+IsCallOfScript _ = ⊥
+
+-- the call is a change of a client's transport
+abbrev pub IsOfTransport : {T U G C : Type 0} → Call T U G C → Type 0
+IsOfTransport (Changed target t) = Unit {0}
+IsOfTransport _ = ⊥
+
+-- A run over transports by script stands for one over every transport, entry for entry: a call of a transport itself for a change
+-- of it, and each other call for itself.
+abbrev pub EachStandsFor : {T U G C : Type 0} → List (Entry T U G C) → List (Entry T U G C) → Type 0
+EachStandsFor [] others = others ≡ []
+EachStandsFor (e ∷ run) [] = ⊥
+EachStandsFor (e ∷ run) (other ∷ others) = ((other ≡ e) ⊎ (IsCallOfScript e.call × IsOfTransport other.call)) × EachStandsFor run others

@@ -58,7 +58,7 @@ ghost use Rattle.wl_server.specs.Reading.{Around, answered, reads_on, server};
 ghost use Rattle.wl_server.specs.ReadingEnds.{ReadingEnds};
 ghost use Rattle.wl_server.specs.Runs.{Alone, IsIsolated, Leads, Own, Performs, history};
 ghost use Rattle.wl_server.specs.Server.{Seen, ServerState, Stored, new_server};
-ghost use Rattle.wl_server.specs.Steps.{RiseBySlot, Entry, InsertsNext, Makes, OneStep, StepOf};
+ghost use Rattle.wl_server.specs.Steps.{EachStandsFor, RiseBySlot, Entry, InsertsNext, IsCallOfScript, Makes, OneStep, StepOf};
 ghost use Rattle.wl_server.specs.Stretches.{StretchIsServed, IsStretch, IsStretchWithin, SameLeft, handed_out, arrived, beside_exchanges, finished};
 ghost use Rattle.wl_server.specs.Telling.{Core, Finish, Told, reader_part};
 ghost use Rattle.wl_server.specs.Outcome.Whole.{AnswersAlike, HoldsSame, PerformancesHaveOneOutcome, RunsHaveOneOutcome};
@@ -283,8 +283,9 @@ pub fn registries_announce_what_is_shown<T: Transport, U, G: GlobalHandler<C>, C
 /// one history may be made of calls, changes of transports and runs by `replay`. What is said of calls or of steps over
 /// the transport by script holds of the whole.
 ///
-/// A step over the transport by script is such a call, or a change of a client's transport (clause `change`). So what is
-/// said of runs over every transport is said of steps, too. Clause `changes` has that of a whole run.
+/// A step over the transport by script is such a call, or one of the transport itself, which is a change of it (clause
+/// `change`). So what is said of runs over every transport is said of steps, too: a run of steps stands, entry for entry,
+/// for one of calls and changes (clause `changes`).
 pub fn calls_over_scripts_are_steps<U, G: GlobalHandler<C>, C>()
     ensures step { (before after : ServerState Script U G C) (call : Step Script U G C) (answer : Reply Script U) (refused : Bool) →
         StepOf (over ScriptSends ScriptReceives G.views) before call answer refused after → StepOf (over_scripts G.views) before call answer refused after }
@@ -294,9 +295,9 @@ pub fn calls_over_scripts_are_steps<U, G: GlobalHandler<C>, C>()
         Leads (over ScriptSends ScriptReceives G.views) before run after → Leads (over_scripts G.views) before run after }
     ensures change { (before after : ServerState Script U G C) (e : Entry Script U G C) → OneStep (over_scripts G.views) before e after →
         OneStep (over ScriptSends ScriptReceives G.views) before e after
-        ⊎ ((target : ClientParts) × (t : Script) × Makes (over ScriptSends ScriptReceives G.views) before (Changed target t) false after) }
+        ⊎ (IsCallOfScript e.call × (target : ClientParts) × (t : Script) × Makes (over ScriptSends ScriptReceives G.views) before (Changed target t) false after) }
     ensures changes { (before after : ServerState Script U G C) (run : List (Entry Script U G C)) → Leads (over_scripts G.views) before run after →
-        (others : List (Entry Script U G C)) × Leads (over ScriptSends ScriptReceives G.views) before others after }
+        (others : List (Entry Script U G C)) × EachStandsFor run others × Leads (over ScriptSends ScriptReceives G.views) before others after }
 {}
 
 /// Seven laws of runs hold of one history of steps over the transport by script (clause `steps`).

@@ -18,9 +18,9 @@ use Rattle.wl_client.proofs.OverRuns.FailedLaws.{IsKept, calls_kept, steps_kept}
 use Rattle.wl_client.proofs.OverRuns.IdentityLaws.{accounted}
 use Rattle.wl_client.proofs.OverRuns.StretchLaws.{parts_cut}
 use Rattle.wl_client.specs.Accounts.{AccountsForStopped, Calls, CallsLocally, IsChange, IsGrowth, StaysAccountedFor}
-use Rattle.wl_client.specs.Histories.{Called, Changed, Deed, Does, Grown, History, called}
+use Rattle.wl_client.specs.Histories.{Called, Changed, Deed, Does, EachStandsFor, Grown, History, StandsFor, called}
 use Rattle.wl_client.specs.Session.{ClientState, IsConnected, SessionState, over_transport}
-use Rattle.wl_client.specs.Steps.{ArrivesWith, CallOf, Entry, InterfacesAdded, Leads, LocalCall, Making, Scripts, StepOf, StopsAt, entries}
+use Rattle.wl_client.specs.Steps.{ArrivesWith, CallOf, Entry, InterfacesAdded, IsOfScript, Leads, LocalCall, Making, Scripts, StepOf, StopsAt, entries}
 
 module _ {T U : Type 0} (makes : Making T U) where
   -- ---- histories behind one another
@@ -124,12 +124,12 @@ module _ {U : Type 0} where
   arrives_change before chunk (Err arrive.OutOfMemory) after h = (before.link.transport, h.1)
 
   pub call_or_change : (before : SessionState Script U) (call : Step U) (answer : Reply U) (refused : Bool) (after : SessionState Script U)
-      → StepOf before call answer refused after → CallOf ScriptSends ScriptReceives before call answer refused after ⊎ IsChanged before after
-  call_or_change before (step.Arrive bytes tokens) answer refused after (r, is, lacks, h) = inr (arrives_change before _ r after h)
-  call_or_change before (step.ArriveFault f) answer refused after (r, is, lacks, h) = inr (scripts_change before _ r after h)
-  call_or_change before (step.Accept n) answer refused after (r, is, lacks, h) = inr (scripts_change before _ r after h)
-  call_or_change before (step.AcceptFault f) answer refused after (r, is, lacks, h) = inr (scripts_change before _ r after h)
-  call_or_change before step.TakeSent answer refused after (sent, is, lacks, parcels, same) = inr (_, same)
+      → StepOf before call answer refused after → CallOf ScriptSends ScriptReceives before call answer refused after ⊎ (IsOfScript call × (t : Script) × (after ≡ over_transport before t))
+  call_or_change before (step.Arrive bytes tokens) answer refused after (r, is, lacks, h) = let c = arrives_change before _ r after h in inr (tt, c.0, c.1)
+  call_or_change before (step.ArriveFault f) answer refused after (r, is, lacks, h) = let c = scripts_change before _ r after h in inr (tt, c.0, c.1)
+  call_or_change before (step.Accept n) answer refused after (r, is, lacks, h) = let c = scripts_change before _ r after h in inr (tt, c.0, c.1)
+  call_or_change before (step.AcceptFault f) answer refused after (r, is, lacks, h) = let c = scripts_change before _ r after h in inr (tt, c.0, c.1)
+  call_or_change before step.TakeSent answer refused after (sent, is, lacks, parcels, same) = inr (tt, _, same)
   call_or_change before call answer refused after h = inl h
 
   pub call_history : (before after : SessionState Script U) (deeds : List (Deed Script U)) → History (CallOf ScriptSends ScriptReceives) before deeds after
@@ -140,20 +140,23 @@ module _ {U : Type 0} where
   call_history before after (Changed t ∷ deeds) (mid, same, leads) = (mid, same, call_history mid after deeds leads)
   call_history before after (Grown rows answer ∷ deeds) (mid, added, leads) = (mid, added, call_history mid after deeds leads)
 
-  -- and a history of steps is one of such calls, with changes of the transport in place of its own
+  -- and a history of steps stands for one of such calls, with changes of the transport
   pub history_of_calls : (before after : SessionState Script U) (deeds : List (Deed Script U)) → History StepOf before deeds after
-      → (others : List (Deed Script U)) × History (CallOf ScriptSends ScriptReceives) before others after
-  history_of_calls before after [] same = ([], same)
+      → (others : List (Deed Script U)) × EachStandsFor deeds others × History (CallOf ScriptSends ScriptReceives) before others after
+  history_of_calls before after [] same = ([], refl, same)
   history_of_calls before after (d ∷ deeds) (mid, does, leads) =
-      let (others, behind) = history_of_calls mid after deeds leads in
-      let (first, does_so) = on d does in
-      (first ∷ others, (mid, does_so, behind))
+      let (others, stand, behind) = history_of_calls mid after deeds leads in
+      let (first, stands, does_so) = on d does in
+      (first ∷ others, (stands, stand), (mid, does_so, behind))
     where
-      on : (d : Deed Script U) → Does StepOf before d mid → (first : Deed Script U) × Does (CallOf ScriptSends ScriptReceives) before first mid
+      on : (d : Deed Script U) → Does StepOf before d mid → (first : Deed Script U) × StandsFor d first × Does (CallOf ScriptSends ScriptReceives) before first mid
       on (Called e) by =
-          elim (call_or_change before e.step e.answer e.refused mid by) [ inl call ↦ (Called e, call) | inr (t, same) ↦ (Changed t, same) ]
-      on (Changed t) same = (Changed t, same)
-      on (Grown rows answer) added = (Grown rows answer, added)
+          elim (call_or_change before e.step e.answer e.refused mid by) [
+            | inl call ↦ (Called e, refl, call)
+            | inr (scripted, t, same) ↦ (Changed t, scripted, same)
+          ]
+      on (Changed t) same = (Changed t, refl, same)
+      on (Grown rows answer) added = (Grown rows answer, refl, added)
 
   -- a run that stopped is accounted for, with the step that met a want of memory
   pub stopped_accounts : (s after : SessionState Script U) (steps : List (Step U)) (n : ℕ) (replies : List (Reply U)) → StopsAt s steps n replies after

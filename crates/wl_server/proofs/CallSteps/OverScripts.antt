@@ -20,7 +20,7 @@ use Rattle.wl_server.specs.Part.{Part}
 use Rattle.wl_server.specs.PartStep.{Asked, Call, Changed, Grown, MovedFor, OfClient, OnPart, PartCall, PartStep, Quietly, Unfelt, WithTransport, World, lacks_move, over, over_scripts}
 use Rattle.wl_server.specs.Runs.{Leads}
 use Rattle.wl_server.specs.Server.{Seen, ServerState, seen}
-use Rattle.wl_server.specs.Steps.{Entry, Makes, MakesNotes, OneStep, StepOf}
+use Rattle.wl_server.specs.Steps.{EachStandsFor, IsCallOfScript, IsOfTransport, Entry, Makes, MakesNotes, OneStep, StepOf}
 
 module _ {U G C : Type 0} (w : World Script G C) where
   abbrev Moves : Moved → Move → Bool → List (Deed U) → Part Script U C → Part Script U C → Type 0
@@ -153,16 +153,18 @@ module _ {U G C : Type 0} (views : G → ClientParts → C → GlobalParts → B
     )
 
   pub call_or_change : (e : Entry Script U G C) → OneStep (over_scripts views) before e after
-      → OneStep (by_script views) before e after ⊎ ((target : ClientParts) × (t : Script) × Makes (by_script views) before (Changed target t) false after)
+      → OneStep (by_script views) before e after
+      ⊎ (IsCallOfScript e.call × (target : ClientParts) × (t : Script) × Makes (by_script views) before (Changed target t) false after)
   call_or_change e one = on e.call one
     where
       on : (call : Call Script U G C) → OneStep (over_scripts views) before (record e { call = call }) after
-          → OneStep (by_script views) before (record e { call = call }) after ⊎ ((target : ClientParts) × (t : Script) × Makes (by_script views) before (Changed target t) false after)
-      on (Asked (step.Arrive target bytes tokens) answer) one = inr (change target (Arrive (record { bytes = bytes.items; tokens = tokens.items })) e.lacks e.did (λ id. (_, (one.each id).2)) one.offer one.last one.notes)
-      on (Asked (step.ArriveFault target f) answer) one = inr (change target (ArriveFault f) e.lacks e.did (λ id. (_, (one.each id).2)) one.offer one.last one.notes)
-      on (Asked (step.Accept target n) answer) one = inr (change target (Accept n) e.lacks e.did (λ id. (_, (one.each id).2)) one.offer one.last one.notes)
-      on (Asked (step.AcceptFault target f) answer) one = inr (change target (AcceptFault f) e.lacks e.did (λ id. (_, (one.each id).2)) one.offer one.last one.notes)
-      on (Asked (step.TakeSent target) answer) one = inr (change target TakeSent e.lacks e.did (λ id. (_, (one.each id).2)) one.offer one.last one.notes)
+          → OneStep (by_script views) before (record e { call = call }) after
+          ⊎ (IsCallOfScript call × (target : ClientParts) × (t : Script) × Makes (by_script views) before (Changed target t) false after)
+      on (Asked (step.Arrive target bytes tokens) answer) one = let c = change target (Arrive (record { bytes = bytes.items; tokens = tokens.items })) e.lacks e.did (λ id. (_, (one.each id).2)) one.offer one.last one.notes in inr (tt, c.0, c.1, c.2)
+      on (Asked (step.ArriveFault target f) answer) one = let c = change target (ArriveFault f) e.lacks e.did (λ id. (_, (one.each id).2)) one.offer one.last one.notes in inr (tt, c.0, c.1, c.2)
+      on (Asked (step.Accept target n) answer) one = let c = change target (Accept n) e.lacks e.did (λ id. (_, (one.each id).2)) one.offer one.last one.notes in inr (tt, c.0, c.1, c.2)
+      on (Asked (step.AcceptFault target f) answer) one = let c = change target (AcceptFault f) e.lacks e.did (λ id. (_, (one.each id).2)) one.offer one.last one.notes in inr (tt, c.0, c.1, c.2)
+      on (Asked (step.TakeSent target) answer) one = let c = change target TakeSent e.lacks e.did (λ id. (_, (one.each id).2)) one.offer one.last one.notes in inr (tt, c.0, c.1, c.2)
       on call one = inl (record {
         offer = one.offer;
         last = one.last;
@@ -176,13 +178,14 @@ module _ {U G C : Type 0} (views : G → ClientParts → C → GlobalParts → B
       })
 
 module _ {U G C : Type 0} (views : G → ClientParts → C → GlobalParts → Bool) where
-  -- a run over the transport by script is one of calls over it, with changes of a client's transport in place of its own
+  -- a run over the transport by script stands for one of calls over it, with changes of a client's transport
   pub run_of_calls : (before : ServerState Script U G C) (run : List (Entry Script U G C)) (after : ServerState Script U G C) → Leads (over_scripts views) before run after
-      → (others : List (Entry Script U G C)) × Leads (by_script views) before others after
-  run_of_calls before [] after same = ([], same)
+      → (others : List (Entry Script U G C)) × EachStandsFor run others × Leads (by_script views) before others after
+  run_of_calls before [] after same = ([], refl, same)
   run_of_calls before (e ∷ run) after (mid, one, leads) =
-      let (others, behind) = run_of_calls mid run after leads in
+      let (others, stand, behind) = run_of_calls mid run after leads in
       elim (call_or_change views before mid e one) [
-        | inl asked ↦ (e ∷ others, (mid, asked, behind))
-        | inr (target, t, made) ↦ (made.0 ∷ others, (mid, made.3, behind))
+        | inl asked ↦ (e ∷ others, (inl refl, stand), (mid, asked, behind))
+        | inr (scripted, target, t, made) ↦
+            (made.0 ∷ others, (inr (scripted, subst IsOfTransport (sym made.1) tt), stand), (mid, made.3, behind))
       ]

@@ -37,12 +37,3 @@ module _ {T U G C : Type 0} where
   IsOfAll step.Cleanup = Unit {0}
   IsOfAll step.TakeNotes = Unit {0}
   IsOfAll _ = ⊥
-
-  -- it is a call of a transport by script
-  abbrev pub IsOfScript : Step T U G C → Type 0
-  IsOfScript (step.Arrive target bytes tokens) = Unit {0}
-  IsOfScript (step.ArriveFault target f) = Unit {0}
-  IsOfScript (step.Accept target n) = Unit {0}
-  IsOfScript (step.AcceptFault target f) = Unit {0}
-  IsOfScript (step.TakeSent target) = Unit {0}
-  IsOfScript _ = ⊥

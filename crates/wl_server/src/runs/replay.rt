@@ -10,9 +10,10 @@ ghost use Rattle.wl_server.specs.declared.runs.step.Step.{Step};
 ghost use Rattle.wl_server.specs.Backend.{Calls};
 ghost use Rattle.wl_server.specs.Histories.{Extends, ExtendsUpTo};
 ghost use Rattle.wl_server.specs.PartStep.{over_scripts};
-ghost use Rattle.wl_server.specs.Inside.Performing.{IsOfAll, IsOfGlobals, IsOfObject, IsOfReading, IsOfScript};
+ghost use Rattle.wl_server.specs.Inside.Performing.{IsOfAll, IsOfGlobals, IsOfObject, IsOfReading};
 ghost use Rattle.wl_server.specs.Runs.{Performs, StopsAt};
 ghost use Rattle.wl_server.specs.Server.{ServerState};
+ghost use Rattle.wl_server.specs.Steps.{IsOfScript};
 ghost use Rattle.wl_server.specs.Outcome.Whole.{SameServer, WholeReply};
 
 use crate::backend::Backend;
