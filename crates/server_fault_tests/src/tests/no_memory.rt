@@ -15,12 +15,12 @@ use wl_wire::Protocol;
 /// A server whose transports take all that they are sent, without memory.
 type Server<'a> = Backend<Line<'a>, Counted<'a>, Counted<'a>, Counted<'a>>;
 
-/// `wl_display.get_registry` with the new id 2; and `wl_registry.bind`, of the global 1, as `quad` of version 3, twice: with the
-/// new id 3, and with the new id 4.
-const BINDS: [u8; 76] = [
+/// `wl_display.get_registry` with the new id 2; `wl_registry.bind`, of the global 1, as `quad` of version 3, twice: with the
+/// new id 3, and with the new id 4; and `quad.poke`, by object 3.
+const BINDS: [u8; 88] = [
     1, 0, 0, 0, 1, 0, 12, 0, 2, 0, 0, 0, 2, 0, 0, 0, 0, 0, 32, 0, 1, 0, 0, 0, 5, 0, 0, 0, 113, 117,
     97, 100, 0, 0, 0, 0, 3, 0, 0, 0, 3, 0, 0, 0, 2, 0, 0, 0, 0, 0, 32, 0, 1, 0, 0, 0, 5, 0, 0, 0,
-    113, 117, 97, 100, 0, 0, 0, 0, 3, 0, 0, 0, 4, 0, 0, 0,
+    113, 117, 97, 100, 0, 0, 0, 0, 3, 0, 0, 0, 4, 0, 0, 0, 3, 0, 0, 0, 0, 0, 12, 0, 7, 0, 0, 0,
 ];
 
 /// The object that the server makes for the first client.
@@ -41,7 +41,7 @@ enum Call {
     Create,
     /// `create_global`.
     Global,
-    /// `next_action`, of the first client, which gives a bind.
+    /// `next_action`, of the first client, which gives a bind, or the request after both.
     Next,
     /// All calls that look something up.
     LookUp,
@@ -63,6 +63,8 @@ enum Call {
     FinishNone,
     /// `finish_bind_returning`.
     FinishReturning,
+    /// `finish_request`, of a request that made no object and ended none.
+    FinishRequest,
     /// `flush` of the first client.
     Flush,
     /// `flush` of all clients.
@@ -78,7 +80,7 @@ enum Call {
 }
 
 /// The calls, in order, each with its name if it is counted.
-static CALLS: [(&str, Call); 27] = [
+static CALLS: [(&str, Call); 29] = [
     ("control: insert_client", Call::Insert),
     ("", Call::Insert),
     ("", Call::Create),
@@ -95,6 +97,8 @@ static CALLS: [(&str, Call); 27] = [
     ("finish_bind of no action", Call::FinishNone),
     ("", Call::Next),
     ("finish_bind_returning", Call::FinishReturning),
+    ("next_action of a request of a number", Call::Next),
+    ("finish_request", Call::FinishRequest),
     ("flush of a client", Call::Flush),
     ("flush of all clients", Call::FlushAll),
     ("control: take_notes", Call::Notes),
@@ -111,13 +115,29 @@ static CALLS: [(&str, Call); 27] = [
     ("control: cleanup", Call::Cleanup),
 ];
 
+/// How many clients, and how many objects of the first one, the iterators give.
+fn walked(server: &Server) -> u32 {
+    let mut count = 0u32;
+    for _client in server.all_clients() {
+        count = count.wrapping_add(1);
+    }
+    if let Ok(objects) = server.all_objects_for(&FIRST.id()) {
+        for _object in objects {
+            count = count.wrapping_add(1);
+        }
+    }
+    count
+}
+
 /// Whether each look-up finds what it has to.
 fn is_looked_up(server: &Server) -> bool {
     let mut count = 0u32;
     server.with_all_clients(|_| count = count.wrapping_add(1));
     server.visit_clients(&mut |_| count = count.wrapping_add(1));
     let has_clients = count == 4;
+    // Two clients, and of the first the display, the registry, what is bound, and what was made.
     has_clients
+        && walked(server) == 6
         && server.next_client_id().is_some()
         && server.get_client_data(&FIRST.id()).is_ok()
         && server.transport(&FIRST.id()).is_ok()
@@ -206,6 +226,7 @@ fn make_of_first(server: &mut Server, call: Call) -> bool {
     match call {
         Call::Transport => server.transport_mut(&FIRST.id()).is_ok(),
         Call::Next => server.next_action(&FIRST.id()).is_ok(),
+        Call::FinishRequest => server.finish_request(&FIRST.id(), None).is_ok(),
         Call::Flush => server.flush(Some(FIRST.id())).is_ok(),
         _ => server.flush(None).is_ok(),
     }
@@ -233,7 +254,9 @@ fn make_of_all(server: &mut Server, call: Call) -> bool {
             set_limit(server, call);
             true
         }
-        Call::Transport | Call::Next | Call::Flush | Call::FlushAll => make_of_first(server, call),
+        Call::Transport | Call::Next | Call::FinishRequest | Call::Flush | Call::FlushAll => {
+            make_of_first(server, call)
+        }
         _ => make_of_ends(server, call),
     }
 }
