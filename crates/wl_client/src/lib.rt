@@ -21,7 +21,7 @@
 //! | `replay` | `step`, `replay` | `Steps`, `Handed`, `Named`, `Noted`, `Replies`, `Stretches` |
 //!
 //! The clause `call` of a call through `&mut self` says that it is a step of a history (`Steps`, `Histories`), of which the laws
-//! hold (`Accounts`). The clause `plain` says what a program finds after it (`Plain`).
+//! hold (`Accounts`). A clause `plain` says what a program finds after it (`Plain`).
 //!
 //! The functions of [`laws`] do nothing. Their contracts are the laws of runs of calls, in the words of these files:
 //! `Handed` and `Named` (ids), `Noted` (notes), `Failed` (errors), `Replies` (there is one outcome), `Cutting`, `Heard` and

@@ -29,7 +29,7 @@ use wl_wire::{
     WL_REGISTRY_INTERFACE,
 };
 
-/// What the sender of a request is. It is looked up once, before the request is read.
+/// What the sender of a request is. It is found before the request is read, and handed on.
 #[derive(Clone, Copy)]
 pub struct Sender {
     /// The serial of the object.

@@ -1,5 +1,4 @@
-//! What the server may do after a request was handled: it writes to the client, or kills it. Also what is kept of an action
-//! while it is open.
+//! What the server may do after a request was handled: it writes to the client, or kills it.
 //!
 //! A client is *live* as long as it is stored and not killed.
 
