@@ -102,8 +102,9 @@ pub fn local_calls_are_calls<T: Transport, U>()
 {}
 
 /// A call of a session over the transport by script is a step over that transport (`step`). So a history of such calls is one
-/// of steps (`history`). Each step is such a call, or one of the transport itself, which is a change of it (`change`). A history of
-/// steps stands, one for one, for one of such calls and changes (`changes`). So what is said of histories over every transport is said of steps, too.
+/// of steps (`history`). Each step is such a call, or one of the transport itself, which is a change of it (`change`). A
+/// history of steps stands, one for one, for one of such calls and changes (`changes`). So what is said of histories over
+/// every transport is said of steps, too, but for what a call of the transport itself answers.
 pub fn calls_over_scripts_are_steps<U>()
     ensures step { (before : SessionState Script U) (call : Step U) (answer : Reply U) (refused : Bool) (after : SessionState Script U) →
         CallOf ScriptSends ScriptReceives before call answer refused after → StepOf before call answer refused after }

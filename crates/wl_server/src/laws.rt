@@ -285,7 +285,7 @@ pub fn registries_announce_what_is_shown<T: Transport, U, G: GlobalHandler<C>, C
 ///
 /// A step over the transport by script is such a call, or one of the transport itself, which is a change of it (clause
 /// `change`). So what is said of runs over every transport is said of steps, too: a run of steps stands, entry for entry,
-/// for one of calls and changes (clause `changes`).
+/// for one of calls and changes (clause `changes`). What a call of the transport itself answers is not in that.
 pub fn calls_over_scripts_are_steps<U, G: GlobalHandler<C>, C>()
     ensures step { (before after : ServerState Script U G C) (call : Step Script U G C) (answer : Reply Script U) (refused : Bool) →
         StepOf (over ScriptSends ScriptReceives G.views) before call answer refused after → StepOf (over_scripts G.views) before call answer refused after }
