@@ -4,6 +4,7 @@
 mod handed_on;
 mod limits;
 mod mailbox;
+mod no_memory;
 mod objects;
 mod received;
 mod run;
