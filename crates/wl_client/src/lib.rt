@@ -17,7 +17,7 @@
 //! | `send_request`, `send_request_lent`, `flush` | `request`, `send_request`, `flush` | `Requests`, `Steps`, `Finish` |
 //! | `next_event`, `next_event_into` | `next_event`, `message`, `in_place`, `event`, `arguments`, `display` | `Reading`, `Handling`, `Events`, `Cutting` |
 //! | `finish_event`, `open_event` | `finish_event` | `Finish`, `Steps`, `Cutting` |
-//! | `info`, `get_data`, `set_data`, `destroy_object` | `objects` | `Objects` |
+//! | `info`, `get_data`, `set_data`, `with_data`, `destroy_object` | `objects` | `Objects` |
 //! | `replay` | `step`, `replay` | `Steps`, `Handed`, `Named`, `Noted`, `Replies`, `Stretches` |
 //!
 //! The clause `call` of a call through `&mut self` says that it is a step of a history (`Steps`, `Histories`), of which the laws

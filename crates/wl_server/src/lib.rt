@@ -15,7 +15,7 @@
 //! |---|---|---|
 //! | `insert_client`, `next_client_id`, `kill_client`, `flush`, the limits | `client::insert`, `client::kill`, `client::flush`, `client::limits` | `PartStep`, `Felt`, `Telling`, `Next` |
 //! | `transport_mut` | `client::transport` | `Backend`, `Lending` |
-//! | `create_object`, `destroy_object`, `set_object_data` | `objects` | `Objects` |
+//! | `create_object`, `destroy_object`, `set_object_data`, `with_object_data` | `objects` | `Objects`, `Plain/DataInPlace` |
 //! | `send_event`, `send_event_lent`, `post_error` | `events` | `Events`, `Errors`, `Posted` |
 //! | `next_action`, `next_action_within`, and both `_into` | `reading::next_action` | `Reading`, `Requests`, `Cutting`, `Room`, `Plain/Reading`, `ReadingEnds` |
 //! | `finish_request`, `finish_bind`, and both `_returning` | `reading::finish` | `Finish`, `Cutting`, `Plain` |
@@ -23,7 +23,7 @@
 //! | `create_global`, `disable_global`, `remove_global` | `globals::create_global`, `globals::remove_global` | `PartStep`, `Globals`, `Felt` |
 //! | `add_interfaces` | `globals::add_interfaces` | `Steps`, and `Table` of `wl_wire` |
 //! | `cleanup`, `take_notes` | `notes` | `PartStep`, `Felt` |
-//! | look-ups, `next_global_id`, `all_clients`, `with_all_clients`, `all_objects_for`, `with_all_objects_for` | `lookups`, `globals::lookups` | `Lookups`, `Next` |
+//! | look-ups, `next_global_id`, `all_clients`, `visit_clients`, `with_all_clients`, and the same of objects | `lookups`, `globals::lookups` | `Lookups`, `Next` |
 //! | `replay` | `runs::replay` | `Runs`, `Histories`, `Outcome/Whole` |
 //!
 //! Most calls have a second clause, `plain`. It says what the program finds of the object, the client, the global or the
