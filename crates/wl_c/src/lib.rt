@@ -21,6 +21,7 @@
 #![tactic(auto)]
 
 mod answer;
+mod boxed;
 pub mod client;
 mod parts;
 pub mod server;

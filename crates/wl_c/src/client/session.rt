@@ -1,6 +1,6 @@
 //! A client's session as a whole: its begin and its end, its table, its limits, its error.
 
-ghost use Rattle.std.specs.Prelude.{IfErr, IfOk, IsSome, None, Ok, Some, [], ◌↔◌, ◌≡◌, ◌≢◌};
+ghost use Rattle.std.specs.Prelude.{IsSome, None, Ok, Some, [], ◌↔◌, ◌≡◌, ◌≢◌};
 ghost use Rattle.wl_c.specs.Calls.{Added, Did, FoundFlag, Told, fault_code};
 ghost use Rattle.wl_host.specs.Client.{ConservesClient, HostedClient, SetsLimit, limit_of, mailbox_of, with_mailbox};
 ghost use Rattle.wl_host.specs.Faults.{flat_error, text_of_error};
@@ -10,14 +10,12 @@ ghost use Rattle.wl_host.specs.declared.status.Status.TheVariants as status;
 
 use super::place::ClientPlace;
 use crate::answer::{write_added, write_fault, write_flag};
+use crate::boxed::boxed;
 use std::alloc::Global;
-use wl_host::{
-    ArgumentRow, Client, FlatError, InterfaceRow, MessageRow, Rows, Status, TableFault, fault,
-};
+use wl_host::{ArgumentRow, Client, FlatError, InterfaceRow, MessageRow, Rows, Status, TableFault};
 
-/// Begins a session over this table of interfaces, in an empty place. A place that holds a session keeps it, and the status
-/// is
-/// `NB_IN_USE`. Where the table is refused, `fault` says which interface and why, and the place stays empty.
+/// Begins a session over this table of interfaces, in an empty place. A place that holds a session keeps it, and
+/// the status is `NB_IN_USE`. Where the table is refused, `fault` says which interface and why, and the place stays empty.
 #[unsafe(no_mangle)]
 pub extern "C" fn nb_client_connect(
     alloc: Global,
@@ -44,7 +42,7 @@ pub extern "C" fn nb_client_connect(
         messages,
         arguments,
     };
-    match boxed(alloc, &rows) {
+    match boxed(alloc, Client::connect(alloc, &rows)) {
         Ok(session) => {
             place.put(session);
             Status::Ok.code()
@@ -177,19 +175,4 @@ pub extern "C" fn nb_client_last_error(
     let status = session.last_error(error, text);
     place.put(session);
     status.code()
-}
-
-/// A session in a box of its own.
-fn boxed(alloc: Global, rows: &Rows) -> Result<Box<Client>, TableFault>
-    ensures made { IfOk result (λ session. IsNewClient rows.now session.value) }
-    ensures fault { IfErr result (IsFaultOf rows.now) }
-{
-    let session = Client::connect(alloc, rows)?;
-    match Box::new(alloc, session) {
-        Ok(session) => Ok(session),
-        Err(_) => Err(TableFault {
-            interface: 0,
-            fault: fault::OUT_OF_MEMORY,
-        }),
-    }
 }

@@ -1,6 +1,6 @@
 //! A server's session as a whole: its begin and its end, its table, its limits.
 
-ghost use Rattle.std.specs.Prelude.{IfErr, IfOk, IsSome, None, Ok, Some, [], ◌↔◌, ◌≡◌, ◌≢◌};
+ghost use Rattle.std.specs.Prelude.{IsSome, None, Ok, Some, [], ◌↔◌, ◌≡◌, ◌≢◌};
 ghost use Rattle.wl_c.specs.Calls.{Added, Did, FoundFlag, fault_code};
 ghost use Rattle.wl_host.specs.Calls.{world};
 ghost use Rattle.wl_host.specs.Clients.{SetsRoom};
@@ -15,14 +15,14 @@ ghost use Rattle.wl_server.specs.declared.runs.step.Step.TheVariants as step;
 
 use super::place::ServerPlace;
 use crate::answer::{write_added, write_fault, write_flag};
+use crate::boxed::boxed;
 use std::alloc::Global;
 use wl_host::{
-    ArgumentRow, FlatClientId, InterfaceRow, MessageRow, Rows, Server, Status, TableFault, fault,
+    ArgumentRow, FlatClientId, InterfaceRow, MessageRow, Rows, Server, Status, TableFault,
 };
 
-/// Begins a session over this table of interfaces, in an empty place. A place that holds a session keeps it, and the status
-/// is
-/// `NB_IN_USE`. Where the table is refused, `fault` says which interface and why, and the place stays empty.
+/// Begins a session over this table of interfaces, in an empty place. A place that holds a session keeps it, and
+/// the status is `NB_IN_USE`. Where the table is refused, `fault` says which interface and why, and the place stays empty.
 #[unsafe(no_mangle)]
 pub extern "C" fn nb_server_new(
     alloc: Global,
@@ -49,7 +49,7 @@ pub extern "C" fn nb_server_new(
         messages,
         arguments,
     };
-    match boxed(alloc, &rows) {
+    match boxed(alloc, Server::new(alloc, &rows)) {
         Ok(session) => {
             place.put(session);
             Status::Ok.code()
@@ -187,19 +187,4 @@ pub extern "C" fn nb_server_set_room(
     let status = session.set_room(client, room);
     place.put(session);
     status.code()
-}
-
-/// A session in a box of its own.
-fn boxed(alloc: Global, rows: &Rows) -> Result<Box<Server>, TableFault>
-    ensures made { IfOk result (λ session. IsNewServer rows.now session.value) }
-    ensures fault { IfErr result (IsFaultOf rows.now) }
-{
-    let session = Server::new(alloc, rows)?;
-    match Box::new(alloc, session) {
-        Ok(session) => Ok(session),
-        Err(_) => Err(TableFault {
-            interface: 0,
-            fault: fault::OUT_OF_MEMORY,
-        }),
-    }
 }
