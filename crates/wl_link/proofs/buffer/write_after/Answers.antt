@@ -14,3 +14,6 @@ returns-clause-message g c = c.write.ensures.message
 
 pub returns-clause-too_small : goal.returns-clause-too_small
 returns-clause-too_small g c = λ refused. omega (arith, (c.write.ensures.too_small.0 refused).1, c.requires.within)
+
+pub write-requires : goal.write-requires
+write-requires g c = omega arith

@@ -1,6 +1,7 @@
 use Rattle.std.proofs.Common.{◌∷◌, [], ◌<◌, length, reverse, ap, ◌∙◌, arith, append_assoc, length-append}
 use Rattle.std.proofs.lemmas.Bool.{false≢true}
 use Rattle.std.proofs.lemmas.List.{reverse-reverse, append-nil, length-reverse}
+use Rattle.std.proofs.lemmas.Grind.{common_steps}
 use Rattle.wl_wire.proofs.MapFd.{refill_whole, MapsFds-popped, MapsFds-done}
 use Rattle.wl_wire.proofs.message.map_arguments.Goals as goal
 
@@ -28,3 +29,15 @@ pub returns : goal.returns
 returns g c =
     let none : ¬ (0 < length c.loop-arg.old.items) = λ more. false≢true (c.in_default.ensures.variant.1 more) in
     record { mapped = (c.loop-arg.f, rw append-nil at (c.loop-arg.invariant.left [] c.loop-arg.f (MapsFds-done (goal.F-step g) c.loop-arg.f c.loop-arg.old.items none))) }
+
+pub deref_mut-requires : goal.deref_mut-requires
+deref_mut-requires g c = grind (arith, common_steps)
+
+pub pop-requires : goal.pop-requires
+pop-requires g c = grind (arith, common_steps)
+
+pub push_reserved-requires : goal.push_reserved-requires
+push_reserved-requires g c = grind (arith, common_steps)
+
+pub loop-arg-smaller : goal.loop-arg-smaller
+loop-arg-smaller g c = grind (arith, common_steps)

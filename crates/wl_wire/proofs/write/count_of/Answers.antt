@@ -1,5 +1,6 @@
 use Rattle.std.proofs.Common.{◌∙◌, sym, arith}
 use Rattle.std.proofs.lemmas.Bool.{leb-true}
+use Rattle.std.proofs.lemmas.Grind.{common_steps}
 use Rattle.wl_wire.specs.Inside.Buffer.{piece_len, token_count}
 use Rattle.wl_wire.proofs.Pieces.{sum_by-more, token_count-few}
 use Rattle.wl_wire.proofs.write.count_of.Goals as goal
@@ -14,3 +15,9 @@ loop-arg-preserved g c =
       tokens = omega (arith, c.loop-arg.invariant.tokens, c.add.ensures.tokens, tokens);
       few = omega (arith, c.loop-arg.invariant.few, c.add.ensures.tokens, token_count-few a);
     }
+
+pub returns-then-not-add : goal.returns-then-not-add
+returns-then-not-add g c = grind (arith, common_steps)
+
+pub returns : goal.returns
+returns g c = grind (arith, common_steps)

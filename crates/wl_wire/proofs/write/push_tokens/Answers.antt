@@ -1,5 +1,6 @@
 use Rattle.std.proofs.Common.{length, map, take, refl, sym, ap, ◌∙◌, append_assoc, arith, length-append}
 use Rattle.std.proofs.lemmas.List.{append-nil}
+use Rattle.std.proofs.lemmas.Grind.{common_steps}
 use Rattle.wl_wire.specs.MapIds.{with_ids}
 use Rattle.wl_wire.specs.Message.{token, tokens}
 use Rattle.wl_wire.proofs.Pieces.{got_with_ids, length-tokens-more, tokens-more}
@@ -30,3 +31,6 @@ loop-arg-preserved g c =
       omega (arith, c.push_token.ensures.len, c.loop-arg.invariant.1, ap length more, length-append before (token a)),
       c.push_token.ensures.capacity ∙ c.loop-arg.invariant.2,
     )
+
+pub returns-clause-items : goal.returns-clause-items
+returns-clause-items g c = grind (arith, common_steps)

@@ -2,6 +2,7 @@ use Rattle.std.proofs.Common.{◌++◌, length, map, take, refl, sym, ap, arith,
 use Rattle.wl_wire.specs.MapIds.{with_ids}
 use Rattle.wl_wire.specs.Message.{IsArgument, piece, pieces, token}
 use Rattle.std.proofs.lemmas.List.{length-map}
+use Rattle.std.proofs.lemmas.Grind.{common_steps}
 use Rattle.wl_wire.proofs.Pieces.{all-more, got_with_ids, length-piece, pieces-more, rest_at_least, tokens-more, overwritten-nil, overwritten-next, words_at_least}
 use Rattle.wl_wire.proofs.write.put_each_within.Goals as goal
 use Rattle.wl_wire.proofs.write.put_each_within.Goals.{then-args-gt-MAX_WORDS-via-then-args-gt-MAX_WORDS, then-args-gt-MAX_WORDS-via-else-args-gt-MAX_WORDS+then-end-args}
@@ -45,3 +46,21 @@ returns-in_err-at-clause-none g c = λ is none.
     let got = got_with_ids (g.N.Numbering.object_number c.args.numbers.now) (g.N.Numbering.new_number c.args.numbers.now) c.args.args.now i c.arg-item.result c.loop-arg-test.true c.arg-item.is in
     let rest = rest_at_least args i a got.0 got.1 none in
     omega (arith, rest.1, c.in_err-at.ensures.none refl rest.0, c.loop-arg.invariant.0, c.loop-arg.invariant.1, length-piece a, length-map c.args.args.now put)
+
+pub overflow_sub-room-in-loop-arg : goal.overflow_sub-room-in-loop-arg
+overflow_sub-room-in-loop-arg g c = grind (arith, common_steps)
+
+pub returns-clause-next : goal.returns-clause-next
+returns-clause-next g c = grind (arith, common_steps)
+
+pub returns-clause-bytes : goal.returns-clause-bytes
+returns-clause-bytes g c = grind (arith, common_steps)
+
+pub returns-clause-tokens : goal.returns-clause-tokens
+returns-clause-tokens g c = grind (arith, common_steps)
+
+pub returns-clause-values : goal.returns-clause-values
+returns-clause-values g c = grind (arith, common_steps)
+
+pub returns-clause-none : goal.returns-clause-none
+returns-clause-none g c = grind (arith, common_steps)

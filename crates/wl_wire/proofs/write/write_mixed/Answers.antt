@@ -1,5 +1,6 @@
 use Rattle.std.proofs.Common.{◌≡◌, ◌<◌, ◌+◌, ◌*◌, ◌++◌, Err, refl, ap, ◌∙◌, length, arith}
 use Rattle.std.proofs.lemmas.Result.{err_from_is_err_and}
+use Rattle.std.proofs.lemmas.Grind.{common_steps}
 use Rattle.wl_wire.specs.declared.error.MessageWriteError.TheVariants.{OutOfMemory}
 use Rattle.wl_wire.specs.MapIds.{numbered}
 use Rattle.wl_wire.specs.Message.{word, pieces, size, tokens}
@@ -12,7 +13,7 @@ returns-clause-written g c =
     let bytes-is : c.in-Some.measure.bytes ≡ size m = rw c.as_slice-args.ensures at c.in-Some.ensures.0 in (
       bytes-is,
       rw (c.put_arguments.ensures.bytes, c.put_header.ensures, c.number_object.ensures, c.as_slice-args.ensures, bytes-is)
-          (overwritten-header c.args.payload.now (word m.sender ++ word (size m * 65536 + m.opcode)) (pieces m.args) (length-header _ _) (omega (arith, bytes-is, c.if-payload-measure.false))),
+          (overwritten-header c.args.payload.now (word m.sender ++ word (size m * 65536 + m.opcode)) (pieces m.args) (length-header _ _) (rw bytes-is at c.if-payload-measure.false)),
     )
 
 pub returns-in_default-clause-too_long : goal.returns-in_default-clause-too_long
@@ -87,3 +88,54 @@ returns-clause-too_small g c =
     let m = numbered (g.N.Numbering.object_number c.args.numbers.now) (g.N.Numbering.new_number c.args.numbers.now) c.args.message.now in
     let bytes-is : c.in-Some.measure.bytes ≡ size m = rw c.as_slice-args.ensures at c.in-Some.ensures.0 in
     (λ e. absurd cc, λ q. absurd (omega (arith, q.1, bytes-is, c.if-payload-measure.false)))
+
+pub as_slice-args-requires : goal.as_slice-args-requires
+as_slice-args-requires g c = grind (arith, common_steps)
+
+pub returns-in_default-clause-memory : goal.returns-in_default-clause-memory
+returns-in_default-clause-memory g c = grind (arith, common_steps)
+
+pub returns-in_default-clause-no_tokens : goal.returns-in_default-clause-no_tokens
+returns-in_default-clause-no_tokens g c = grind (arith, common_steps)
+
+pub returns-then-payload-measure-clause-memory : goal.returns-then-payload-measure-clause-memory
+returns-then-payload-measure-clause-memory g c = grind (arith, common_steps)
+
+pub returns-then-payload-measure-clause-no_tokens : goal.returns-then-payload-measure-clause-no_tokens
+returns-then-payload-measure-clause-no_tokens g c = grind (arith, common_steps)
+
+pub append_tokens-requires : goal.append_tokens-requires
+append_tokens-requires g c = grind (arith, common_steps)
+
+pub returns-in_err-append_tokens-clause-written : goal.returns-in_err-append_tokens-clause-written
+returns-in_err-append_tokens-clause-written g c = rw (err_from_is_err_and c.from_residual.result c.from_residual.ensures.1).1 tt
+
+pub returns-in_err-append_tokens-clause-tokens : goal.returns-in_err-append_tokens-clause-tokens
+returns-in_err-append_tokens-clause-tokens g c = rw (err_from_is_err_and c.from_residual.result c.from_residual.ensures.1).1 tt
+
+pub returns-in_err-append_tokens-clause-message : goal.returns-in_err-append_tokens-clause-message
+returns-in_err-append_tokens-clause-message g c = rw (err_from_is_err_and c.from_residual.result c.from_residual.ensures.1).1 tt
+
+pub returns-in_err-append_tokens-clause-unchanged : goal.returns-in_err-append_tokens-clause-unchanged
+returns-in_err-append_tokens-clause-unchanged g c = rw (err_from_is_err_and c.from_residual.result c.from_residual.ensures.1).1 (refl, c.in_err-append_tokens.ensures.unchanged)
+
+pub returns-in_err-append_tokens-clause-refused_room : goal.returns-in_err-append_tokens-clause-refused_room
+returns-in_err-append_tokens-clause-refused_room g c = rw (err_from_is_err_and c.from_residual.result c.from_residual.ensures.1).1 c.in_err-append_tokens.ensures.refused_room
+
+pub put_header-requires-clause-size : goal.put_header-requires-clause-size
+put_header-requires-clause-size g c = grind (arith, common_steps)
+
+pub put_header-requires-clause-room : goal.put_header-requires-clause-room
+put_header-requires-clause-room g c = grind (arith, common_steps)
+
+pub returns-clause-tokens : goal.returns-clause-tokens
+returns-clause-tokens g c = grind (arith, common_steps)
+
+pub returns-clause-memory : goal.returns-clause-memory
+returns-clause-memory g c = grind (arith, common_steps)
+
+pub returns-clause-no_tokens : goal.returns-clause-no_tokens
+returns-clause-no_tokens g c = grind (arith, common_steps)
+
+pub returns-clause-room : goal.returns-clause-room
+returns-clause-room g c = grind (arith, common_steps)

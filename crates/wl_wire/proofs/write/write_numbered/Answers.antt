@@ -1,7 +1,8 @@
-use Rattle.std.proofs.Common.{◌++◌, ◌∙◌, refl, sym, ap, subst}
+use Rattle.std.proofs.Common.{◌++◌, ◌∙◌, refl, sym, ap, subst, arith}
 use Rattle.std.proofs.lemmas.List.{append-nil}
 use Rattle.std.proofs.lemmas.Result.{on_err_weaker, on_ok_weaker}
 use Rattle.std.specs.List.{AllByRecursion}
+use Rattle.std.proofs.lemmas.Grind.{common_steps}
 use Rattle.wl_wire.specs.Inside.Buffer.{IsWord}
 use Rattle.wl_wire.proofs.Pieces.{tokens_of_words}
 use Rattle.wl_wire.proofs.write.write_numbered.Goals as goal
@@ -70,3 +71,12 @@ returns-clause-refused_room g c = c.write_mixed.ensures.refused_room
 
 pub returns-clause-room : goal.returns-clause-room
 returns-clause-room g c = c.write_mixed.ensures.room
+
+pub as_slice-requires : goal.as_slice-requires
+as_slice-requires g c = grind (arith, common_steps)
+
+pub write_words-requires : goal.write_words-requires
+write_words-requires g c = grind (arith, common_steps)
+
+pub write_mixed-requires : goal.write_mixed-requires
+write_mixed-requires g c = grind (arith, common_steps)

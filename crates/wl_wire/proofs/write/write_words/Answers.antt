@@ -1,5 +1,6 @@
 use Rattle.std.proofs.Common.{◌≡◌, ◌<◌, ◌+◌, ◌*◌, ◌++◌, refl, sym, subst, arith}
 use Rattle.std.specs.List.{AllByRecursion}
+use Rattle.std.proofs.lemmas.Grind.{common_steps}
 use Rattle.wl_wire.specs.Inside.Buffer.{IsWord}
 use Rattle.wl_wire.specs.MapIds.{numbered}
 use Rattle.wl_wire.specs.Message.{word, pieces, size}
@@ -59,3 +60,21 @@ put_words-requires-clause-words g c = subst (AllByRecursion IsWord) (sym c.as_sl
 
 pub size_of_words-requires : goal.size_of_words-requires
 size_of_words-requires g c = subst (AllByRecursion IsWord) (sym c.as_slice-args.ensures) c.requires.words
+
+pub as_slice-args-requires : goal.as_slice-args-requires
+as_slice-args-requires g c = grind (arith, common_steps)
+
+pub returns-in_default-clause-memory : goal.returns-in_default-clause-memory
+returns-in_default-clause-memory g c = grind (arith, common_steps)
+
+pub returns-then-payload-bytes-clause-memory : goal.returns-then-payload-bytes-clause-memory
+returns-then-payload-bytes-clause-memory g c = grind (arith, common_steps)
+
+pub put_header-requires-clause-size : goal.put_header-requires-clause-size
+put_header-requires-clause-size g c = grind (arith, common_steps)
+
+pub put_header-requires-clause-room : goal.put_header-requires-clause-room
+put_header-requires-clause-room g c = grind (arith, common_steps)
+
+pub returns-clause-memory : goal.returns-clause-memory
+returns-clause-memory g c = grind (arith, common_steps)

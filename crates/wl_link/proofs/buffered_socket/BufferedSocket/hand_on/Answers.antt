@@ -1,4 +1,5 @@
 use Rattle.std.proofs.Common.{rules, arith, ap, subst, ◌≡◌, ◌∙◌, ℕ, ◌≤◌, List, length, take, drop}
+use Rattle.std.proofs.lemmas.Grind.{common_steps}
 use Rattle.wl_wire.specs.declared.argument.Token.{Token}
 use Rattle.wl_wire.specs.Parse.{IsWhole, fd_count, length_of}
 use Rattle.wl_link.specs.Exchange.{Queue, joined}
@@ -47,3 +48,6 @@ returns-clause-handed g c =
             (ap (λ (k : ℕ). take k c.self.inside.fds_in.items) count ∙ ap (λ (ts : List Token). take (fd_count c.args.signature.now) ts) tokens_are)),
       ),
     )
+
+pub returns-clause-carried : goal.returns-clause-carried
+returns-clause-carried g c = grind (arith, common_steps)

@@ -1,5 +1,6 @@
-use Rattle.std.proofs.Common.{Ok, Err, Some, refl}
+use Rattle.std.proofs.Common.{Ok, Err, Some, refl, arith}
 use Rattle.std.proofs.lemmas.Result.{err_from_is_err_and}
+use Rattle.std.proofs.lemmas.Grind.{common_steps}
 use Rattle.wl_wire.specs.Message.{content}
 use Rattle.wl_link.specs.Link.{looked_up}
 use Rattle.wl_link.proofs.Streams.StreamLaws.{read_takes}
@@ -23,3 +24,6 @@ returns-in_err-read_under-clause-read g c =
 
 pub returns-clause-first : goal.returns-clause-first
 returns-clause-first g c = read_takes (looked_up ((words g.row.T g.row.F g.F.FnOnce).post c.args.signature)) c.args.self.now _ _ (returns-clause-read g c)
+
+pub returns-clause-fewer : goal.returns-clause-fewer
+returns-clause-fewer g c = grind (arith, common_steps)

@@ -1,5 +1,6 @@
 use Rattle.std.proofs.Common.{◌<◌, ◌≤◌, Ok, Err, Some, refl, inr, arith, ap, length}
 use Rattle.std.proofs.lemmas.Result.{err_from_is_err_and}
+use Rattle.std.proofs.lemmas.Grind.{common_steps}
 use Rattle.wl_wire.specs.declared.error.MessageParseError.TheVariants as errors
 use Rattle.wl_wire.specs.Message.{content}
 use Rattle.wl_wire.specs.Parse.{length_of}
@@ -34,3 +35,6 @@ returns-then-len-header-clause-read g c =
     reads_one (looked_up ((words g.row.T g.row.F g.F.FnOnce).post c.args.signature)) c.args.self.now c.args.self.now (Err errors.MissingData) c.bytes.result.now
     c.in-Some.header.sender_id c.in-Some.header.opcode c.in-Some-signature.signature.now (rw (← c.self.view_is) c.bytes.ensures) c.in-Some.ensures.0 c.in-Some.ensures.1 c.in-Some.ensures.2
     (Some c.in-Some-signature.signature, c.in-Some-signature.ensures, refl) (rw (← c.self.view_is, ← c.bytes.ensures) (inr (c.in-Some.ensures.0, counts, short)), λ _ e. absurd cc, refl)
+
+pub returns-clause-fewer : goal.returns-clause-fewer
+returns-clause-fewer g c = grind (arith, common_steps)

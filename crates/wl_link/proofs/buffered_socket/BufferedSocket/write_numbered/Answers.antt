@@ -3,7 +3,8 @@ use Rattle.wl_wire.specs.declared.error.MessageWriteError.{MessageWriteError}
 use Rattle.wl_link.specs.Inside.WaitingBytes.{Appended, waits}
 use Rattle.wl_link.proofs.Calls.WriteLaws.{wrote_answered}
 use Rattle.wl_link.proofs.Calls.NothingLostLaws.{write_keeps}
-use Rattle.std.proofs.Common.{Result, subst}
+use Rattle.std.proofs.Common.{Result, subst, arith}
+use Rattle.std.proofs.lemmas.Grind.{common_steps}
 use Rattle.wl_link.proofs.buffered_socket.BufferedSocket.write_numbered.Goals as goal
 
 pub returns-in-Some-clause-wrote : goal.returns-in-Some-clause-wrote
@@ -24,3 +25,9 @@ returns-in-None-clause-wrote g c =
 pub returns-in-None-clause-kept : goal.returns-in-None-clause-kept
 returns-in-None-clause-kept g c =
     write_keeps g.T.Transport.sends (record { law = g.met.T.Transport.within_offer }) (numbered (g.N.Numbering.object_number c.args.numbers.now) (g.N.Numbering.new_number c.args.numbers.now) c.args.message.now) _ _ c.args.self.now (returns-in-None-clause-wrote g c)
+
+pub write-requires : goal.write-requires
+write-requires g c = grind (arith, common_steps)
+
+pub make_room_and_write-requires : goal.make_room_and_write-requires
+make_room_and_write-requires g c = grind (arith, common_steps)

@@ -1,4 +1,5 @@
 use Rattle.std.proofs.Common.{arith, length, Some}
+use Rattle.std.proofs.lemmas.Grind.{common_steps}
 use Rattle.wl_link.specs.Inside.FreeTree.{words_of}
 use Rattle.wl_link.specs.Inside.PlaceList.{free_flag}
 use Rattle.wl_link.proofs.Trees.{height_within, few_reads}
@@ -20,3 +21,12 @@ returns-in-Some-clause-few_words g c = λ most some fits.
     let places = c.args.self.now.slots.items in
     few_reads (length places) (words_of c.args.self.now.free.levels.items) (Some c.in-Some.at) most _
     (c.take_least.ensures.height (free_flag places) (length places) c.requires.free.tree) some fits c.in-Some.ensures.reads
+
+pub returns-then-at-end-2-clause-places : goal.returns-then-at-end-2-clause-places
+returns-then-at-end-2-clause-places g c = grind (arith, common_steps)
+
+pub returns-in-Ok-clause-places : goal.returns-in-Ok-clause-places
+returns-in-Ok-clause-places g c = grind (arith, common_steps)
+
+pub returns-in-Err-clause-places : goal.returns-in-Err-clause-places
+returns-in-Err-clause-places g c = grind (arith, common_steps)

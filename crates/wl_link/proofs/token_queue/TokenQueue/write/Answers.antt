@@ -31,3 +31,6 @@ pub returns-clause-unchanged : goal.returns-clause-unchanged
 returns-clause-unchanged g c =
     rw (← c.self.view_is)
     (on_err_weaker c.write_numbered.result (λ same. (same.0, ap (drop c.self.inside.start) same.1)) c.write_numbered.ensures.unchanged)
+
+pub write_numbered-requires : goal.write_numbered-requires
+write_numbered-requires g c = omega arith

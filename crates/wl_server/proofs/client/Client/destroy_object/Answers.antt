@@ -1,4 +1,5 @@
-use Rattle.std.proofs.Common.{◌≡◌, ◌∙◌, None, Option, option_copied, Bor, map, sym, ap, subst, refl, List, ℕ}
+use Rattle.std.proofs.Common.{◌≡◌, ◌∙◌, None, Option, option_copied, Bor, map, sym, ap, subst, refl, List, ℕ, arith}
+use Rattle.std.proofs.lemmas.Grind.{common_steps}
 use Rattle.wl_server.specs.Objects.{destroyable}
 use Rattle.wl_server.specs.declared.notes.Happening.{Happening}
 use Rattle.wl_server.specs.NoteOrder.{GivesNumbers, NotesInTime}
@@ -52,3 +53,6 @@ returns-clause-in_time g c =
     (subst (λ (l : List (ℕ × Happening _)). GivesNumbers (map (λ w. w.0) l) c.args.numbers.now.waiting (map (λ w. w.0) c.take_out_noted.new.waiting.queue.items) c.take_out_noted.new.numbers.waiting)
     c.reserve_note.ensures.items c.take_out_noted.ensures.in_time) refl c.take_out_noted.ensures.made) in
     in_time_both _ _ _ _ _ _ first c.kill_unless_written.ensures.in_time
+
+pub returns-clause-numbered : goal.returns-clause-numbered
+returns-clause-numbered g c = grind (arith, common_steps)

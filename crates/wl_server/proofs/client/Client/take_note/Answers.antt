@@ -1,3 +1,5 @@
+use Rattle.std.proofs.Common.{arith}
+use Rattle.std.proofs.lemmas.Grind.{common_steps}
 use Rattle.wl_server.proofs.client.Client.take_note.Goals as goal
 
 pub invariant_of-self : goal.invariant_of-self
@@ -8,3 +10,21 @@ invariant_of-self-else-waits g c = λ live. c.pop.ensures.room (c.self.invariant
 
 pub invariant_of-self-then-waits : goal.invariant_of-self-then-waits
 invariant_of-self-then-waits g c = λ live. c.pop.ensures.room (c.self.invariant live)
+
+pub returns-in-Some-clause-numbered : goal.returns-in-Some-clause-numbered
+returns-in-Some-clause-numbered g c = grind (arith, common_steps)
+
+pub returns-in-Some-clause-all_numbered : goal.returns-in-Some-clause-all_numbered
+returns-in-Some-clause-all_numbered g c = grind (arith, common_steps)
+
+pub returns-then-waits-clause-numbered : goal.returns-then-waits-clause-numbered
+returns-then-waits-clause-numbered g c = grind (arith, common_steps)
+
+pub returns-then-waits-clause-all_numbered : goal.returns-then-waits-clause-all_numbered
+returns-then-waits-clause-all_numbered g c = grind (arith, common_steps)
+
+pub returns-clause-numbered : goal.returns-clause-numbered
+returns-clause-numbered g c = grind (arith, common_steps)
+
+pub returns-clause-all_numbered : goal.returns-clause-all_numbered
+returns-clause-all_numbered g c = grind (arith, common_steps)

@@ -1,6 +1,7 @@
 use Rattle.std.proofs.lemmas.Result.{err_from_is_err_and}
-use Rattle.std.proofs.Common.{◌<◌, ◌≤◌, List, Option, false, subst, [], map, refl, sym, append-nil}
+use Rattle.std.proofs.Common.{◌<◌, ◌≤◌, List, Option, false, subst, [], map, refl, sym, append-nil, arith}
 use Rattle.std.specs.Vec.{vec_capacity, vec_len}
+use Rattle.std.proofs.lemmas.Grind.{common_steps}
 use Rattle.wl_server.specs.Inside.Gathering.{count_leaving}
 use Rattle.wl_server.specs.NoteOrder.{times_of}
 use Rattle.wl_server.specs.Inside.NoteOrder.{count_places}
@@ -127,3 +128,9 @@ returns-in_err-reserve-clause-in_order g c =
 
 pub returns-in_err-reserve-clause-unchanged : goal.returns-in_err-reserve-clause-unchanged
 returns-in_err-reserve-clause-unchanged g c = on_err c.from_residual-in_err-reserve.result (refl, c.reserve.ensures.items)
+
+pub count_notes-count-requires : goal.count_notes-count-requires
+count_notes-count-requires g c = grind (arith, common_steps)
+
+pub returns-then-count-eq0-clause-quiet : goal.returns-then-count-eq0-clause-quiet
+returns-then-count-eq0-clause-quiet g c = grind (arith, common_steps)

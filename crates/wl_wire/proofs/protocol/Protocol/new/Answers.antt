@@ -1,5 +1,6 @@
-use Rattle.std.proofs.Common.{◌≡◌, List, subst}
+use Rattle.std.proofs.Common.{◌≡◌, List, subst, arith}
 use Rattle.std.proofs.lemmas.Result.{err_from_is_err_and}
+use Rattle.std.proofs.lemmas.Grind.{common_steps}
 use Rattle.wl_wire.specs.declared.interface.Interface.{Interface}
 use Rattle.wl_wire.specs.declared.protocol.TableError.{TableError}
 use Rattle.wl_wire.specs.declared.protocol.TableError.TheVariants.{OutOfMemory}
@@ -29,3 +30,15 @@ pub returns-clause-accepted : goal.returns-clause-accepted
 returns-clause-accepted c =
     IsAcceptedTable-joined c.in_ok-table.table.items c.args.interfaces.items c.append.new.self.items c.in_ok-table.ensures c.in_ok-append.ensures.items
     (subst (λ (xs : List Interface). (e : TableError) → ¬ (HasFault (table_of xs) e)) c.deref.ensures.value c.in_ok-check.ensures.faultless)
+
+pub returns-clause-table : goal.returns-clause-table
+returns-clause-table c = grind (arith, common_steps)
+
+pub returns-clause-display : goal.returns-clause-display
+returns-clause-display c = grind (arith, common_steps)
+
+pub returns-clause-registry : goal.returns-clause-registry
+returns-clause-registry c = grind (arith, common_steps)
+
+pub returns-clause-callback : goal.returns-clause-callback
+returns-clause-callback c = grind (arith, common_steps)
