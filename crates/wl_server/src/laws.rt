@@ -16,7 +16,7 @@
 //! The laws of runs speak of every transport. Over the transport by script a call of that transport is a change of it
 //! (clause `change` of [`calls_over_scripts_are_steps`]).
 
-ghost use Rattle.std.specs.Prelude.{◌≡◌, ◌≢◌, ◌<◌, ◌≤◌, ◌⊎◌, ◌∷◌, ◌++◌, [], ℕ, Bool, false, List, None, Option, Some, Result, Err};
+ghost use Rattle.std.specs.Prelude.{◌≡◌, ◌≢◌, ◌<◌, ◌≤◌, ◌∷◌, ◌++◌, [], ℕ, Bool, false, List, None, Option, Some, Result, Err};
 ghost use Rattle.wl_wire.specs.Table.{AnswersGrowth, InterfaceRow};
 ghost use Rattle.wl_wire.specs.declared.protocol.TableError.{TableError};
 ghost use Rattle.wl_wire.specs.declared.protocol.TableError.TheVariants as table_error;
@@ -53,12 +53,12 @@ ghost use Rattle.wl_server.specs.NotedEnds.Errors.{EachCallCausesItsErrors, Each
 ghost use Rattle.wl_server.specs.NotedOnce.{CleanupNotesAll, EachIsNoted, FinishNotesAtOnce};
 ghost use Rattle.wl_server.specs.NoteOrder.Ordered.{EarlierNotesFirst, EarlierWaitFirst};
 ghost use Rattle.wl_server.specs.Part.{Part};
-ghost use Rattle.wl_server.specs.PartStep.{Call, Changed, around, over, over_scripts, share_of};
+ghost use Rattle.wl_server.specs.PartStep.{Call, around, over, over_scripts, share_of};
 ghost use Rattle.wl_server.specs.Reading.{Around, answered, reads_on, server};
 ghost use Rattle.wl_server.specs.ReadingEnds.{ReadingEnds};
 ghost use Rattle.wl_server.specs.Runs.{Alone, IsIsolated, Leads, Own, Performs, history};
 ghost use Rattle.wl_server.specs.Server.{Seen, ServerState, Stored, new_server};
-ghost use Rattle.wl_server.specs.Steps.{EachStandsFor, RiseBySlot, Entry, InsertsNext, IsCallOfScript, Makes, OneStep, StepOf};
+ghost use Rattle.wl_server.specs.Steps.{EachStandsFor, RiseBySlot, Entry, InsertsNext, OneStep, StandsFor, StepOf};
 ghost use Rattle.wl_server.specs.Stretches.{StretchIsServed, IsStretch, IsStretchWithin, SameLeft, handed_out, arrived, beside_exchanges, finished};
 ghost use Rattle.wl_server.specs.Telling.{Core, Finish, Told, reader_part};
 ghost use Rattle.wl_server.specs.Outcome.Whole.{AnswersAlike, HoldsSame, PerformancesHaveOneOutcome, RunsHaveOneOutcome};
@@ -283,9 +283,9 @@ pub fn registries_announce_what_is_shown<T: Transport, U, G: GlobalHandler<C>, C
 /// one history may be made of calls, changes of transports and runs by `replay`. What is said of calls or of steps over
 /// the transport by script holds of the whole.
 ///
-/// A step over the transport by script is such a call, or one of the transport itself, which is a change of it (clause
-/// `change`). So what is said of runs over every transport is said of steps, too: a run of steps stands, entry for entry,
-/// for one of calls and changes (clause `changes`). What a call of the transport itself answers is not in that.
+/// A step over the transport by script stands for such a call: itself, or a change of the transport of the same client
+/// (clause `change`). So what is said of runs over every transport is said of steps, too: a run of steps stands, entry for
+/// entry, for one of calls and changes (clause `changes`). What a call of the transport itself answers is not in that.
 pub fn calls_over_scripts_are_steps<U, G: GlobalHandler<C>, C>()
     ensures step { (before after : ServerState Script U G C) (call : Step Script U G C) (answer : Reply Script U) (refused : Bool) →
         StepOf (over ScriptSends ScriptReceives G.views) before call answer refused after → StepOf (over_scripts G.views) before call answer refused after }
@@ -294,8 +294,7 @@ pub fn calls_over_scripts_are_steps<U, G: GlobalHandler<C>, C>()
     ensures run { (before after : ServerState Script U G C) (run : List (Entry Script U G C)) →
         Leads (over ScriptSends ScriptReceives G.views) before run after → Leads (over_scripts G.views) before run after }
     ensures change { (before after : ServerState Script U G C) (e : Entry Script U G C) → OneStep (over_scripts G.views) before e after →
-        OneStep (over ScriptSends ScriptReceives G.views) before e after
-        ⊎ (IsCallOfScript e.call × (target : ClientParts) × (t : Script) × Makes (over ScriptSends ScriptReceives G.views) before (Changed target t) false after) }
+        (other : Entry Script U G C) × StandsFor e other × OneStep (over ScriptSends ScriptReceives G.views) before other after }
     ensures changes { (before after : ServerState Script U G C) (run : List (Entry Script U G C)) → Leads (over_scripts G.views) before run after →
         (others : List (Entry Script U G C)) × EachStandsFor run others × Leads (over ScriptSends ScriptReceives G.views) before others after }
 {}
