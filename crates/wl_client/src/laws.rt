@@ -153,7 +153,8 @@ pub fn calls_of_a_script_are_steps<U>()
         History StepOf mid (Changed t ∷ later) after → History StepOf begun (earlier ++ Called e ∷ later) after }
 {}
 
-/// If memory is not refused, each step over the transport by script has one outcome (`step`), and so has each run (`run`).
+/// If memory is not refused, each step over the transport by script has one outcome (`step`), and so has each run (`run`) and
+/// each history of steps (`script`).
 ///
 /// The session before a step, and the step, determine the reply and the session after it. This leaves open only the
 /// addresses of a reply's lists in memory. Over every transport the same holds of a call (`call`) and of a history
@@ -174,6 +175,8 @@ pub fn each_run_has_one_outcome<T: Transport, U>()
         length replies ≡ length steps → length replies' ≡ length steps →
         Leads before (entries steps replies) after → Leads before (entries steps replies') after' →
         SameReplies replies replies' × (after ≡ after') }
+    ensures script { (before after after' : SessionState Script U) (deeds others : List (Deed Script U)) → SameDeeds deeds others →
+        History StepOf before deeds after → History StepOf before others after' → SameAnswers deeds others × (after ≡ after') }
 {}
 
 /// It does not matter how bytes and tokens are cut into receives, for every transport.

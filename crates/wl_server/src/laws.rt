@@ -43,7 +43,7 @@ ghost use Rattle.wl_server.specs.Outcome.Dispatches.{DispatchesHaveOneOutcome, I
 ghost use Rattle.wl_server.specs.GivenOnce.{GivesOnce};
 ghost use Rattle.wl_server.specs.Globals.{CreatesGlobal, Globals, Offer};
 ghost use Rattle.wl_server.specs.Ids.{ClientParts, GlobalParts};
-ghost use Rattle.wl_server.specs.Outcome.{CallsHaveOneOutcome, ClientsHaveOneOutcome, OffersHaveOneOutcome, OwnRunsHaveOneOutcome};
+ghost use Rattle.wl_server.specs.Outcome.{CallsHaveOneOutcome, ClientsHaveOneOutcome, HaveOneOutcome, OffersHaveOneOutcome, OwnRunsHaveOneOutcome};
 ghost use Rattle.wl_server.specs.Identified.{EachHasOwnIds};
 ghost use Rattle.wl_server.specs.Killed.{EachStaysKilled};
 ghost use Rattle.wl_server.specs.Named.{EachKeepsNaming, EachNamesNoneAgain};
@@ -87,11 +87,14 @@ pub fn each_client_is_alone<T: Transport, U, G: GlobalHandler<C>, C>()
 /// same holds of a list of a client's own calls and the shared ones, and of two runs of a server, whatever other clients do
 /// in them. So the definitions of the calls leave no choice except whether memory is refused. The globals and limits that a
 /// client finds at its insertion are determined by the shared calls before it.
+///
+/// All of this holds of steps over the transport by script, what calls of that transport answer included (clause `script`).
 pub fn each_client_has_one_outcome<T: Transport, U, G: GlobalHandler<C>, C>()
     ensures call { IsFunction T.sends → IsReceiveFunction T.receives → CallsHaveOneOutcome U (over T.sends T.receives G.views) }
     ensures alone { IsFunction T.sends → IsReceiveFunction T.receives → OwnRunsHaveOneOutcome U (over T.sends T.receives G.views) }
     ensures client { IsFunction T.sends → IsReceiveFunction T.receives → ClientsHaveOneOutcome U (over T.sends T.receives G.views) }
     ensures offer { OffersHaveOneOutcome U (over T.sends T.receives G.views) }
+    ensures script { HaveOneOutcome U (over_scripts G.views) }
 {}
 
 /// A run of a server has one outcome, over every transport whose answers follow from its value.
@@ -100,7 +103,7 @@ pub fn each_client_has_one_outcome<T: Transport, U, G: GlobalHandler<C>, C>()
 /// Their replies are the same, and the servers look the same afterwards: what is held of each client id, the globals and
 /// limits, how many clients were inserted, and the order of the notes that are not taken yet. A program does not see where
 /// lists lie in memory. The same holds if the order of the notes of different clients is left out (`ordered` is `false`),
-/// before and after.
+/// before and after. It holds of steps over the transport by script, too, whatever else is among them (clause `script`).
 ///
 /// Servers of which the same is held return the same in look-ups (clause `answers`): which clients are live, what is
 /// known of a client, an object and a global, and which handler a global has. What calls return about all clients
@@ -109,6 +112,7 @@ pub fn each_client_has_one_outcome<T: Transport, U, G: GlobalHandler<C>, C>()
 pub fn each_run_of_a_server_has_one_outcome<T: Transport, U, G: GlobalHandler<C>, C>()
     ensures run { IsFunction T.sends → IsReceiveFunction T.receives → RunsHaveOneOutcome U (over T.sends T.receives G.views) }
     ensures steps { IsFunction T.sends → IsReceiveFunction T.receives → PerformancesHaveOneOutcome U (over T.sends T.receives G.views) }
+    ensures script { RunsHaveOneOutcome U (over_scripts G.views) }
     ensures answers { (s t : ServerState T U G C) → HoldsSame s t → AnswersAlike s t }
     ensures client { (last : ℕ) (clients : List (Option (Stored T U C))) (a b : Result ClientParts InsertClientError) →
         a ≢ Err insert.OutOfMemory → b ≢ Err insert.OutOfMemory →
@@ -173,12 +177,15 @@ pub fn each_id_names_its_own_object<T: Transport, U, G: GlobalHandler<C>, C>()
 ///
 /// If an id names an object of a client at some point of a run, it names that very object as long as that is there and
 /// its client is stored, and afterwards none (clause `named`). The changes of objects that show this are the same as
-/// those of the client's whole run, in the law before. If the id names none at a later point, it never names one again
-/// (clause `none`).
+/// those of the client's whole run, in the law before, also in a run of steps over the transport by script (clause
+/// `script`). If the id names none at a later point, it never names one again (clause `none`).
 pub fn each_id_that_names_an_object_keeps_it<T: Transport, U, G: GlobalHandler<C>, C>()
     ensures named { (table : List InterfaceRow) (done later : List (Entry T U G C)) (point after : ServerState T U G C) →
         Leads (over T.sends T.receives G.views) (new_server table) done point → Leads (over T.sends T.receives G.views) point later after →
         EachKeepsNaming (over T.sends T.receives G.views) table done point later after }
+    ensures script { (table : List InterfaceRow) (done later : List (Entry Script U G C)) (point after : ServerState Script U G C) →
+        Leads (over_scripts G.views) (new_server table) done point → Leads (over_scripts G.views) point later after →
+        EachKeepsNaming (over_scripts G.views) table done point later after }
     ensures none { (table : List InterfaceRow) (done between later : List (Entry T U G C)) (point mid after : ServerState T U G C) →
         Leads (over T.sends T.receives G.views) (new_server table) done point → Leads (over T.sends T.receives G.views) point between mid →
         Leads (over T.sends T.receives G.views) mid later after → EachNamesNoneAgain done point mid after }
