@@ -401,6 +401,7 @@ pub fn a_reading_receives_64_times()
 /// - `Pipe`: the last turn took a message, and the client was killed, for whatever reason.
 ///
 /// After `WouldBlock` and `OutOfMemory` the client lives on. After any other fault it was killed in this reading.
+/// Each reading carries this (clause `reason` of `Backend::next_action`).
 pub fn each_reading_ends_for_a_reason<T: Transport, U, G: GlobalHandler<C>, C>()
     ensures { (a : Around G C) (left : ℕ) (before : Part T U C) (turns : List Turn) (out : Gives (Told U)) (end : ReaderState T (Core U C)) →
         before.is_killed ≡ false → before.action ≡ None → Reads T.sends (server a) T.receives left (reader_part before) turns out end →
