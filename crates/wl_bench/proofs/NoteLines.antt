@@ -31,7 +31,7 @@ use Rattle.wl_server.specs.NotedEnds.Errors.{EachCallCausesItsErrors, MayKillFor
 use Rattle.wl_server.specs.PartStep.{Asked, Call, Changed, PartStep, World, over}
 use Rattle.wl_server.specs.Runs.{Performs}
 use Rattle.wl_server.specs.Server.{notes_of, seen, told_of}
-use Rattle.wl_server.specs.Steps.{Entry, IsCallOfScript, Makes as MakesCall, OneStep, offer_after}
+use Rattle.wl_server.specs.Steps.{Entry, IsChangeFor, OneStep, StandsFor, offer_after}
 use Rattle.wl_bench.specs.declared.bench.Open.{Open}
 use Rattle.wl_bench.specs.declared.bench.Open.TheVariants as opened
 use Rattle.wl_bench.specs.declared.bench.Seat.{Seat}
@@ -95,17 +95,24 @@ plain_error table id (step.NextActionWithin target reading) answer e is safe (mi
     of_display table e is (ap (λ (f : ProtocolError). f.object_interface) same)
 plain_error table id s answer e is safe may = absurd may
 
--- A step over scripts is a call, or a change of a client's script, which kills for no error. So the law of calls is one of steps.
+-- a change of a client's script kills for no error
+no_cause : (table : List InterfaceRow) (id : ClientParts) (error : ProtocolError) (call other : BenchCall) → IsChangeFor call other
+    → MayKillFor {C = Unit {0}} table id other error → MayKillFor {C = Unit {0}} table id call error
+no_cause table id error (Asked s answer) (Changed target t) is may = absurd may
+no_cause table id error _ _ is may = absurd is
+
+-- A step over scripts stands for a call, or for such a change. So the law of calls is one of steps.
 pub steps_cause : ((before after : BenchServer) (e : BenchEntry) → OneStep bench_world before e after
-    → OneStep dispatch_world before e after ⊎ (IsCallOfScript e.call × (target : ClientParts) × (t : Script) × MakesCall dispatch_world before (Changed target t) false after))
+    → (other : BenchEntry) × StandsFor e other × OneStep dispatch_world before other after)
     → EachCallCausesItsErrors ℕ dispatch_world → EachCallCausesItsErrors ℕ bench_world
 steps_cause change law before after e one id error tell =
-    elim (change before after e one) [
-      | inl call ↦ law before after e call id error tell
-      | inr (scripted, target, t, (f, is, calm, changed)) ↦ elim (law before after f changed id error tell) [
-        | inl was ↦ inl was
-        | inr may ↦ absurd (subst (λ (c : BenchCall). MayKillFor before.offer.table id c error) is may)
-      ]
+    let (other, stands, made) = change before after e one in
+    elim (law before after other made id error tell) [
+      | inl was ↦ inl was
+      | inr may ↦ inr (elim stands [
+        | inl same ↦ subst (λ (f : BenchEntry). MayKillFor before.offer.table id f.call error) same may
+        | inr (is, calm, did) ↦ no_cause before.offer.table id error e.call other.call is may
+      ])
     ]
 
 module _ (w : World Script ShownToAll (Unit {0})) (law : EachCallCausesItsErrors ℕ w) where

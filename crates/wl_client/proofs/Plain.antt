@@ -4,3 +4,4 @@ pub mod Finishing
 pub mod Sending
 pub mod Opening
 pub mod Reading
+pub mod ReadingEnds

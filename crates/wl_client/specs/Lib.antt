@@ -9,6 +9,7 @@ pub mod Handling
 pub mod Reading
 pub mod Finish
 pub mod Plain
+pub mod ReadingEnds
 pub mod Steps
 pub mod Histories
 pub mod Scripted

@@ -19,7 +19,8 @@ ghost use Rattle.wl_link.specs.Reader.{AllFed, Given, Gives, ReaderState, Reads,
 ghost use Rattle.wl_link.specs.Script.{Script, ScriptReceives, ScriptSends, parcel};
 ghost use Rattle.wl_client.specs.Cutting.{GoesOn, IsCut, IsServed};
 ghost use Rattle.wl_client.specs.Finish.{Finishes};
-ghost use Rattle.wl_client.specs.Reading.{client, reader_state_of};
+ghost use Rattle.wl_client.specs.Reading.{answered, client, reader_state_of};
+ghost use Rattle.wl_client.specs.ReadingEnds.{ReadingEnds};
 ghost use Rattle.wl_client.specs.Requests.{SessionMessage};
 ghost use Rattle.wl_client.specs.declared.step.Reply.{Reply};
 ghost use Rattle.wl_client.specs.declared.step.Reply.TheVariants as reply;
@@ -153,7 +154,8 @@ pub fn calls_of_a_script_are_steps<U>()
         History StepOf mid (Changed t ∷ later) after → History StepOf begun (earlier ++ Called e ∷ later) after }
 {}
 
-/// If memory is not refused, each step over the transport by script has one outcome (`step`), and so has each run (`run`).
+/// If memory is not refused, each step over the transport by script has one outcome (`step`), and so has each run (`run`) and
+/// each history of steps (`script`).
 ///
 /// The session before a step, and the step, determine the reply and the session after it. This leaves open only the
 /// addresses of a reply's lists in memory. Over every transport the same holds of a call (`call`) and of a history
@@ -174,6 +176,8 @@ pub fn each_run_has_one_outcome<T: Transport, U>()
         length replies ≡ length steps → length replies' ≡ length steps →
         Leads before (entries steps replies) after → Leads before (entries steps replies') after' →
         SameReplies replies replies' × (after ≡ after') }
+    ensures script { (before after after' : SessionState Script U) (deeds others : List (Deed Script U)) → SameDeeds deeds others →
+        History StepOf before deeds after → History StepOf before others after' → SameAnswers deeds others × (after ≡ after') }
 {}
 
 /// It does not matter how bytes and tokens are cut into receives, for every transport.
@@ -236,4 +240,28 @@ pub fn cutting_does_not_matter_to_a_run<U>()
 /// The value of a constant of this crate: a reading makes at most 64 receives.
 pub fn a_reading_receives_64_times()
     ensures { READ_TURNS ≡ 64 }
+{}
+
+/// A reading of a session without an error and without an open event ends with an event or for a reason.
+///
+/// An event comes of the message that the last turn found at the front of what was received. That message is to a kept object
+/// that the client had not destroyed. The event has the message's opcode, and its arguments are the message's if each id is
+/// turned back into its number. Each object argument is null, or is the id of an object of that number, whose interface fits
+/// the table's. Else the answer is one of these:
+///
+/// - `WouldBlock`: the last receive answered so; or no receive is left, and the message at the front lacks bytes or tokens.
+/// - `OutOfMemory`: the last receive answered so; or memory was refused, and the message at the front asks for some, or a receive
+///   does.
+/// - `Failed`: the session has an error now, which is the fault that the last receive answered; or what the last turn found at the
+///   front is to blame: bytes that are no message by the table, `wl_display.error`, an event of the display that is neither this
+///   nor `delete_id`, or an event with a wrong argument. A wrong argument is the number of an object that is not there or whose
+///   interface does not fit, or a new number that the server may not use. Then that is the session's error, or `OutOfMemory` if
+///   there was no memory for its texts.
+///
+/// After `WouldBlock` and `OutOfMemory` there is no error and no open event. Each reading carries this (clause `reason` of
+/// `Backend::next_event`).
+pub fn each_reading_ends_for_a_reason<T: Transport, U>()
+    ensures { (left : ℕ) (before after : SessionState T U) (turns : List Turn) (out : Gives SessionMessage) →
+        before.error ≡ None → before.open_event ≡ None → Reads T.sends client T.receives left (reader_state_of before) turns out (reader_state_of after) →
+        ReadingEnds T.sends T.receives (reader_state_of before) turns (answered out.stopped out.gave) out.refused out.left (reader_state_of after) }
 {}

@@ -6,6 +6,7 @@ ghost use Rattle.wl_client.specs.Accounts.{Calls};
 ghost use Rattle.wl_client.specs.Cutting.{CutsReading};
 ghost use Rattle.wl_client.specs.Plain.{ReadsEvent};
 ghost use Rattle.wl_client.specs.Reading.{EndsWithRoom, NextEvent, ReadsTo, event_content};
+ghost use Rattle.wl_client.specs.ReadingEnds.{EndsForAReason};
 ghost use Rattle.wl_client.specs.Requests.{session_content};
 ghost use Rattle.wl_client.specs.Inside.ReadingLoop.{Live, ReceivedTo, Waited, event_answer, event_refused, with_event};
 ghost use Rattle.wl_client.specs.Steps.{CallOf};
@@ -92,9 +93,13 @@ impl<T: Transport + Drop, U: Drop> Backend<T, U> {
     ///
     /// A message does not end the session by a full buffer, if it is no longer than the limit or 65536 bytes, whichever is
     /// less, and its tokens come no later than its last byte.
+    ///
+    /// An event, or the error of a reading that began, comes of what was received last or of the message that was then at the
+    /// front, as `laws::each_reading_ends_for_a_reason` says (clause `reason`).
     pub fn next_event(&mut self) -> Result<Message<ObjectId, Token>, EventError>
         ensures call { Calls (CallOf T.sends T.receives) self.old step.NextEvent (reply.NextEvent result) self.new }
         ensures plain { ReadsEvent self.old.session (event_content result) self.new.session }
+        ensures reason { EndsForAReason T.sends T.receives self.old.session (event_content result) self.new.refused self.new.session }
         ensures read { NextEvent T.sends T.receives self.old.session (event_content result) self.new.refused self.new.session }
         ensures cutting { CutsReading T.sends T.receives self.old.session (event_content result) self.new.refused self.new.session }
         ensures room { EndsWithRoom self.old.session self.new.session }
@@ -145,6 +150,7 @@ impl<T: Transport + Drop, U: Drop> Backend<T, U> {
     ) -> Result<(), EventError>
         ensures call { Calls (CallOf T.sends T.receives) self.old step.NextEvent (reply.NextEvent (result_and result (Ok event.new))) self.new }
         ensures plain { ReadsEvent self.old.session (event_content (result_and result (Ok event.new))) self.new.session }
+        ensures reason { EndsForAReason T.sends T.receives self.old.session (event_content (result_and result (Ok event.new))) self.new.refused self.new.session }
         ensures read { NextEvent T.sends T.receives self.old.session (event_content (result_and result (Ok event.new))) self.new.refused self.new.session }
         ensures cutting { CutsReading T.sends T.receives self.old.session (event_content (result_and result (Ok event.new))) self.new.refused self.new.session }
         ensures room { EndsWithRoom self.old.session self.new.session }

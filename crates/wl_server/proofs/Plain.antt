@@ -15,6 +15,7 @@ pub mod Arguments
 pub mod ReadingEnds
 pub mod ReadingNotes
 pub mod Reading
+pub mod Reasons
 pub mod Insertion
 pub mod Globals
 pub mod Events

@@ -164,3 +164,7 @@ module _ {T G C : Type 0} where
       offer_over (new_offer table) earlier ≡ offer_over (new_offer table) earlier' →
       SameSteps (mine id later) (mine id later') → HasMemory (mine id later) → HasMemory (mine id later') →
       SameRun id (mine id later) (mine id later') × (seen id after ≡ seen id after')
+
+  -- all four
+  abbrev pub HaveOneOutcome : Type 0 → World T G C → Type 0
+  HaveOneOutcome U w = CallsHaveOneOutcome U w × OwnRunsHaveOneOutcome U w × ClientsHaveOneOutcome U w × OffersHaveOneOutcome U w

@@ -15,22 +15,27 @@ use Rattle.wl_wire.specs.Table.{MessageRow, display_id, registry_id}
 use Rattle.wl_link.specs.declared.object.Object.{Object}
 use Rattle.wl_link.specs.Exchange.{Queue, Sending}
 use Rattle.wl_link.specs.Link.{FilledBy, LinkState, ReceiveAsks, count_of, counted_answer}
-use Rattle.wl_link.specs.Reader.{CarriesOut, FrontAsks, Given, Handled, Lacks, Leaves, ReaderState, ReadsAs, Received, Takes, Turn, Unread, Verdict, with_link}
+use Rattle.wl_link.specs.Reader.{CarriesOut, FrontAsks, Given, Gives, Handled, Lacks, Leaves, ReaderState, Reads, ReadsAs, Received, Takes, Turn, Unread, Verdict, handled_in, with_link}
 use Rattle.wl_link.specs.Store.{Store, held}
 use Rattle.wl_server.specs.declared.error.ActionError.{ActionError}
 use Rattle.wl_server.specs.declared.error.ActionError.TheVariants.{ActionOpen, Io}
 use Rattle.wl_server.specs.declared.globals.KeptGlobal.{KeptGlobal}
 use Rattle.wl_server.specs.declared.notes.DisconnectReason.TheVariants.{ConnectionClosed}
 use Rattle.wl_server.specs.declared.objects.Kept.{Kept}
+use Rattle.wl_server.specs.declared.reading.action.Action.{Action}
 use Rattle.wl_server.specs.declared.reading.action.OpenAction.TheVariants as opened
-use Rattle.wl_server.specs.Deeds.{Bind, Handed, Request}
+use Rattle.wl_server.specs.declared.reading.action.Reading.{Reading}
+use Rattle.wl_server.specs.Backend.{BackendState}
+use Rattle.wl_server.specs.Deeds.{Bind, Handed, Request, notes_in}
 use Rattle.wl_server.specs.Events.{wire_argument}
 use Rattle.wl_server.specs.Globals.{global_at}
 use Rattle.wl_server.specs.Ids.{ClientParts, GlobalParts, IdParts}
-use Rattle.wl_server.specs.Part.{fresh_object, id_at, null_id}
-use Rattle.wl_server.specs.Reading.{Around, may_bind, server}
+use Rattle.wl_server.specs.Part.{Part, fresh_object, id_at, null_id}
+use Rattle.wl_server.specs.PartStep.{World, around}
+use Rattle.wl_server.specs.Reading.{Around, action_content, may_bind, read_on, server}
 use Rattle.wl_server.specs.Requests.{allows_null, kinds_after}
-use Rattle.wl_server.specs.Telling.{Core, Told}
+use Rattle.wl_server.specs.Server.{seen}
+use Rattle.wl_server.specs.Telling.{Core, Told, end_deeds, part_of, reader_part}
 
 -- ---- the arguments of a request that is handed out
 
@@ -207,3 +212,17 @@ module _ {T U G C : Type 0} (sends : T → Queue → Result ℕ IoFault → T �
   ReadingEnds start turns (Err ActionOpen) refused left end = ⊥
   ReadingEnds start turns (Err (Io f)) refused left end =
       (LastReceiveFailed f turns ⊎ StopsItself f start turns refused left end) × LeavesClient f end.core
+
+-- ---- a reading of a server
+
+module _ {T U G C : Type 0} (w : World T G C) where
+  -- A reading of a client that was live and had no action open: it was a list of turns (`Reads`), and ended with this answer for a
+  -- reason (`ReadingEnds`). It left so many receives, and so much of the client, of which nothing was noted but its end.
+  abbrev pub EndsForAReason : BackendState T U G C → ClientParts → Reading → Result Action ActionError → Reading → BackendState T U G C → Type 0
+  EndsForAReason before id r answer r' after =
+      (p : Part T U C) → (seen id before.server).part ≡ Some p → p.is_killed ≡ false → p.action ≡ None →
+      (turns : List Turn) × (out : Gives (Told U)) × (end : ReaderState T (Core U C))
+      × Reads w.sends (server (around w id before.server.offer)) w.receives r.turns_left (reader_part p) turns out end
+      × ReadingEnds w.sends w.receives (around w id before.server.offer) (reader_part p) turns (action_content answer) after.refused out.left end
+      × (r' ≡ read_on r out.left (handled_in turns))
+      × (seen id after.server ≡ record { part = Some (part_of end); made = (seen id before.server).made ++ notes_in (end_deeds {U = U} end.core.ended) })

@@ -184,27 +184,30 @@ module _ {T U G C : Type 0} (w : World T G C) where
 
 -- ---- over transports by script, and over every transport
 
--- the step is a call of a transport by script
+-- the client of whose transport by script the step is a call
+abbrev pub scripted_client : {T U G C : Type 0} → Step T U G C → Option ClientParts
+scripted_client (step.Arrive target bytes tokens) = Some target
+scripted_client (step.ArriveFault target f) = Some target
+scripted_client (step.Accept target n) = Some target
+scripted_client (step.AcceptFault target f) = Some target
+scripted_client (step.TakeSent target) = Some target
+scripted_client _ = None
+
 abbrev pub IsOfScript : {T U G C : Type 0} → Step T U G C → Type 0
-IsOfScript (step.Arrive target bytes tokens) = Unit {0}
-IsOfScript (step.ArriveFault target f) = Unit {0}
-IsOfScript (step.Accept target n) = Unit {0}
-IsOfScript (step.AcceptFault target f) = Unit {0}
-IsOfScript (step.TakeSent target) = Unit {0}
-IsOfScript _ = ⊥
+IsOfScript s = IsSome (scripted_client s)
 
-abbrev pub IsCallOfScript : {T U G C : Type 0} → Call T U G C → Type 0
-IsCallOfScript (Asked s answer) = IsOfScript s
-IsCallOfScript _ = ⊥
+-- the second call is a change of the transport by script of which the first is a call
+abbrev pub IsChangeFor : {T U G C : Type 0} → Call T U G C → Call T U G C → Type 0
+IsChangeFor (Asked s answer) (Changed target t) = scripted_client s ≡ Some target
+IsChangeFor _ _ = ⊥
 
--- the call is a change of a client's transport
-abbrev pub IsOfTransport : {T U G C : Type 0} → Call T U G C → Type 0
-IsOfTransport (Changed target t) = Unit {0}
-IsOfTransport _ = ⊥
+-- A call over transports by script stands for one over every transport: a call of a client's transport for a change of that transport,
+-- with the same deeds and no want of memory; each other call for itself.
+abbrev pub StandsFor : {T U G C : Type 0} → Entry T U G C → Entry T U G C → Type 0
+StandsFor e other = (other ≡ e) ⊎ (IsChangeFor e.call other.call × (other.refused ≡ false) × (other.did ≡ e.did))
 
--- A run over transports by script stands for one over every transport, entry for entry: a call of a transport itself for a change
--- of it, and each other call for itself.
+-- so it is with each call of a run
 abbrev pub EachStandsFor : {T U G C : Type 0} → List (Entry T U G C) → List (Entry T U G C) → Type 0
 EachStandsFor [] others = others ≡ []
 EachStandsFor (e ∷ run) [] = ⊥
-EachStandsFor (e ∷ run) (other ∷ others) = ((other ≡ e) ⊎ (IsCallOfScript e.call × IsOfTransport other.call)) × EachStandsFor run others
+EachStandsFor (e ∷ run) (other ∷ others) = StandsFor e other × EachStandsFor run others

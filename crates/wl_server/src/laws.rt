@@ -16,7 +16,7 @@
 //! The laws of runs speak of every transport. Over the transport by script a call of that transport is a change of it
 //! (clause `change` of [`calls_over_scripts_are_steps`]).
 
-ghost use Rattle.std.specs.Prelude.{◌≡◌, ◌≢◌, ◌<◌, ◌≤◌, ◌⊎◌, ◌∷◌, ◌++◌, [], ℕ, Bool, false, List, None, Option, Some, Result, Err};
+ghost use Rattle.std.specs.Prelude.{◌≡◌, ◌≢◌, ◌<◌, ◌≤◌, ◌∷◌, ◌++◌, [], ℕ, Bool, false, List, None, Option, Some, Result, Err};
 ghost use Rattle.wl_wire.specs.Table.{AnswersGrowth, InterfaceRow};
 ghost use Rattle.wl_wire.specs.declared.protocol.TableError.{TableError};
 ghost use Rattle.wl_wire.specs.declared.protocol.TableError.TheVariants as table_error;
@@ -43,7 +43,7 @@ ghost use Rattle.wl_server.specs.Outcome.Dispatches.{DispatchesHaveOneOutcome, I
 ghost use Rattle.wl_server.specs.GivenOnce.{GivesOnce};
 ghost use Rattle.wl_server.specs.Globals.{CreatesGlobal, Globals, Offer};
 ghost use Rattle.wl_server.specs.Ids.{ClientParts, GlobalParts};
-ghost use Rattle.wl_server.specs.Outcome.{CallsHaveOneOutcome, ClientsHaveOneOutcome, OffersHaveOneOutcome, OwnRunsHaveOneOutcome};
+ghost use Rattle.wl_server.specs.Outcome.{CallsHaveOneOutcome, ClientsHaveOneOutcome, HaveOneOutcome, OffersHaveOneOutcome, OwnRunsHaveOneOutcome};
 ghost use Rattle.wl_server.specs.Identified.{EachHasOwnIds};
 ghost use Rattle.wl_server.specs.Killed.{EachStaysKilled};
 ghost use Rattle.wl_server.specs.Named.{EachKeepsNaming, EachNamesNoneAgain};
@@ -53,12 +53,12 @@ ghost use Rattle.wl_server.specs.NotedEnds.Errors.{EachCallCausesItsErrors, Each
 ghost use Rattle.wl_server.specs.NotedOnce.{CleanupNotesAll, EachIsNoted, FinishNotesAtOnce};
 ghost use Rattle.wl_server.specs.NoteOrder.Ordered.{EarlierNotesFirst, EarlierWaitFirst};
 ghost use Rattle.wl_server.specs.Part.{Part};
-ghost use Rattle.wl_server.specs.PartStep.{Call, Changed, around, over, over_scripts, share_of};
+ghost use Rattle.wl_server.specs.PartStep.{Call, around, over, over_scripts, share_of};
 ghost use Rattle.wl_server.specs.Reading.{Around, answered, reads_on, server};
 ghost use Rattle.wl_server.specs.ReadingEnds.{ReadingEnds};
 ghost use Rattle.wl_server.specs.Runs.{Alone, IsIsolated, Leads, Own, Performs, history};
 ghost use Rattle.wl_server.specs.Server.{Seen, ServerState, Stored, new_server};
-ghost use Rattle.wl_server.specs.Steps.{EachStandsFor, RiseBySlot, Entry, InsertsNext, IsCallOfScript, Makes, OneStep, StepOf};
+ghost use Rattle.wl_server.specs.Steps.{EachStandsFor, RiseBySlot, Entry, InsertsNext, OneStep, StandsFor, StepOf};
 ghost use Rattle.wl_server.specs.Stretches.{StretchIsServed, IsStretch, IsStretchWithin, SameLeft, handed_out, arrived, beside_exchanges, finished};
 ghost use Rattle.wl_server.specs.Telling.{Core, Finish, Told, reader_part};
 ghost use Rattle.wl_server.specs.Outcome.Whole.{AnswersAlike, HoldsSame, PerformancesHaveOneOutcome, RunsHaveOneOutcome};
@@ -87,11 +87,14 @@ pub fn each_client_is_alone<T: Transport, U, G: GlobalHandler<C>, C>()
 /// same holds of a list of a client's own calls and the shared ones, and of two runs of a server, whatever other clients do
 /// in them. So the definitions of the calls leave no choice except whether memory is refused. The globals and limits that a
 /// client finds at its insertion are determined by the shared calls before it.
+///
+/// All of this holds of steps over the transport by script, what calls of that transport answer included (clause `script`).
 pub fn each_client_has_one_outcome<T: Transport, U, G: GlobalHandler<C>, C>()
     ensures call { IsFunction T.sends → IsReceiveFunction T.receives → CallsHaveOneOutcome U (over T.sends T.receives G.views) }
     ensures alone { IsFunction T.sends → IsReceiveFunction T.receives → OwnRunsHaveOneOutcome U (over T.sends T.receives G.views) }
     ensures client { IsFunction T.sends → IsReceiveFunction T.receives → ClientsHaveOneOutcome U (over T.sends T.receives G.views) }
     ensures offer { OffersHaveOneOutcome U (over T.sends T.receives G.views) }
+    ensures script { HaveOneOutcome U (over_scripts G.views) }
 {}
 
 /// A run of a server has one outcome, over every transport whose answers follow from its value.
@@ -100,7 +103,7 @@ pub fn each_client_has_one_outcome<T: Transport, U, G: GlobalHandler<C>, C>()
 /// Their replies are the same, and the servers look the same afterwards: what is held of each client id, the globals and
 /// limits, how many clients were inserted, and the order of the notes that are not taken yet. A program does not see where
 /// lists lie in memory. The same holds if the order of the notes of different clients is left out (`ordered` is `false`),
-/// before and after.
+/// before and after. It holds of steps over the transport by script, too, whatever else is among them (clause `script`).
 ///
 /// Servers of which the same is held return the same in look-ups (clause `answers`): which clients are live, what is
 /// known of a client, an object and a global, and which handler a global has. What calls return about all clients
@@ -109,6 +112,7 @@ pub fn each_client_has_one_outcome<T: Transport, U, G: GlobalHandler<C>, C>()
 pub fn each_run_of_a_server_has_one_outcome<T: Transport, U, G: GlobalHandler<C>, C>()
     ensures run { IsFunction T.sends → IsReceiveFunction T.receives → RunsHaveOneOutcome U (over T.sends T.receives G.views) }
     ensures steps { IsFunction T.sends → IsReceiveFunction T.receives → PerformancesHaveOneOutcome U (over T.sends T.receives G.views) }
+    ensures script { RunsHaveOneOutcome U (over_scripts G.views) }
     ensures answers { (s t : ServerState T U G C) → HoldsSame s t → AnswersAlike s t }
     ensures client { (last : ℕ) (clients : List (Option (Stored T U C))) (a b : Result ClientParts InsertClientError) →
         a ≢ Err insert.OutOfMemory → b ≢ Err insert.OutOfMemory →
@@ -173,12 +177,15 @@ pub fn each_id_names_its_own_object<T: Transport, U, G: GlobalHandler<C>, C>()
 ///
 /// If an id names an object of a client at some point of a run, it names that very object as long as that is there and
 /// its client is stored, and afterwards none (clause `named`). The changes of objects that show this are the same as
-/// those of the client's whole run, in the law before. If the id names none at a later point, it never names one again
-/// (clause `none`).
+/// those of the client's whole run, in the law before, also in a run of steps over the transport by script (clause
+/// `script`). If the id names none at a later point, it never names one again (clause `none`).
 pub fn each_id_that_names_an_object_keeps_it<T: Transport, U, G: GlobalHandler<C>, C>()
     ensures named { (table : List InterfaceRow) (done later : List (Entry T U G C)) (point after : ServerState T U G C) →
         Leads (over T.sends T.receives G.views) (new_server table) done point → Leads (over T.sends T.receives G.views) point later after →
         EachKeepsNaming (over T.sends T.receives G.views) table done point later after }
+    ensures script { (table : List InterfaceRow) (done later : List (Entry Script U G C)) (point after : ServerState Script U G C) →
+        Leads (over_scripts G.views) (new_server table) done point → Leads (over_scripts G.views) point later after →
+        EachKeepsNaming (over_scripts G.views) table done point later after }
     ensures none { (table : List InterfaceRow) (done between later : List (Entry T U G C)) (point mid after : ServerState T U G C) →
         Leads (over T.sends T.receives G.views) (new_server table) done point → Leads (over T.sends T.receives G.views) point between mid →
         Leads (over T.sends T.receives G.views) mid later after → EachNamesNoneAgain done point mid after }
@@ -283,9 +290,9 @@ pub fn registries_announce_what_is_shown<T: Transport, U, G: GlobalHandler<C>, C
 /// one history may be made of calls, changes of transports and runs by `replay`. What is said of calls or of steps over
 /// the transport by script holds of the whole.
 ///
-/// A step over the transport by script is such a call, or one of the transport itself, which is a change of it (clause
-/// `change`). So what is said of runs over every transport is said of steps, too: a run of steps stands, entry for entry,
-/// for one of calls and changes (clause `changes`). What a call of the transport itself answers is not in that.
+/// A step over the transport by script stands for such a call: itself, or a change of the transport of the same client
+/// (clause `change`). So what is said of runs over every transport is said of steps, too: a run of steps stands, entry for
+/// entry, for one of calls and changes (clause `changes`). What a call of the transport itself answers is not in that.
 pub fn calls_over_scripts_are_steps<U, G: GlobalHandler<C>, C>()
     ensures step { (before after : ServerState Script U G C) (call : Step Script U G C) (answer : Reply Script U) (refused : Bool) →
         StepOf (over ScriptSends ScriptReceives G.views) before call answer refused after → StepOf (over_scripts G.views) before call answer refused after }
@@ -294,8 +301,7 @@ pub fn calls_over_scripts_are_steps<U, G: GlobalHandler<C>, C>()
     ensures run { (before after : ServerState Script U G C) (run : List (Entry Script U G C)) →
         Leads (over ScriptSends ScriptReceives G.views) before run after → Leads (over_scripts G.views) before run after }
     ensures change { (before after : ServerState Script U G C) (e : Entry Script U G C) → OneStep (over_scripts G.views) before e after →
-        OneStep (over ScriptSends ScriptReceives G.views) before e after
-        ⊎ (IsCallOfScript e.call × (target : ClientParts) × (t : Script) × Makes (over ScriptSends ScriptReceives G.views) before (Changed target t) false after) }
+        (other : Entry Script U G C) × StandsFor e other × OneStep (over ScriptSends ScriptReceives G.views) before other after }
     ensures changes { (before after : ServerState Script U G C) (run : List (Entry Script U G C)) → Leads (over_scripts G.views) before run after →
         (others : List (Entry Script U G C)) × EachStandsFor run others × Leads (over ScriptSends ScriptReceives G.views) before others after }
 {}
@@ -395,6 +401,7 @@ pub fn a_reading_receives_64_times()
 /// - `Pipe`: the last turn took a message, and the client was killed, for whatever reason.
 ///
 /// After `WouldBlock` and `OutOfMemory` the client lives on. After any other fault it was killed in this reading.
+/// Each reading carries this (clause `reason` of `Backend::next_action`).
 pub fn each_reading_ends_for_a_reason<T: Transport, U, G: GlobalHandler<C>, C>()
     ensures { (a : Around G C) (left : ℕ) (before : Part T U C) (turns : List Turn) (out : Gives (Told U)) (end : ReaderState T (Core U C)) →
         before.is_killed ≡ false → before.action ≡ None → Reads T.sends (server a) T.receives left (reader_part before) turns out end →

@@ -301,8 +301,12 @@ module _ {T U : Type 0} (makes : Making T U)
       ((one.0, rest.0), rest.1)
   history_one s x y _ _ same h g = absurd same
 
--- over any such transport
+-- over any such transport, and over that by script
 pub call_history_one : {T U : Type 0} (sends : T → Queue → Result ℕ IoFault → T → Type 0) (receives : T → ℕ → Result Queue IoFault → T → Type 0)
     → IsFunction sends → IsReceiveFunction receives → (s x y : SessionState T U) (deeds others : List (Deed T U)) → SameDeeds deeds others
     → History (CallOf sends receives) s deeds x → History (CallOf sends receives) s others y → SameAnswers deeds others × (x ≡ y)
 call_history_one sends receives function receiving = history_one (CallOf sends receives) (call_one sends receives function receiving)
+
+pub step_history_one : {U : Type 0} (s x y : SessionState Script U) (deeds others : List (Deed Script U)) → SameDeeds deeds others
+    → History StepOf s deeds x → History StepOf s others y → SameAnswers deeds others × (x ≡ y)
+step_history_one = history_one StepOf step_one

@@ -24,7 +24,7 @@ use Rattle.wl_client.specs.Requests.{SessionMessage}
 use Rattle.wl_client.specs.Session.{Core, SessionState, core_of}
 use Rattle.wl_client.proofs.Plain.Opening.{Opens, OpensIn, Stay, had_none, makes_new, opens}
 
-when_true : {P : Type 0} (Q : Type 0) (b : Bool) → b ≡ true → MatchBool b P Q → P
+pub when_true : {P : Type 0} (Q : Type 0) (b : Bool) → b ≡ true → MatchBool b P Q → P
 when_true Q true is h = h
 when_true Q false is h = absurd (true≢false (sym is))
 
@@ -73,17 +73,17 @@ module _ {U : Type 0} where
     kept : KeepsRest c d
     came : CameTo c out.stopped out.gave d
 
-  live_on : (c : Core U) → CanRead c → reads_on c ≡ true
+  pub live_on : (c : Core U) → CanRead c → reads_on c ≡ true
   live_on c live = ap₂ (λ (e : Option WaylandError) (o : Option OpenEvent). is_none e && is_none o) live.0 live.1
 
-  failed_off : (c : Core U) → IsSome c.error → reads_on c ≡ false
+  pub failed_off : (c : Core U) → IsSome c.error → reads_on c ≡ false
   failed_off c failed = at c.error failed
     where
       at : (e : Option WaylandError) → IsSome e → (is_none e && is_none c.open_event) ≡ false
       at None some = absurd (true≢false (sym some))
       at (Some e) some = refl
 
-  opened_off : (c : Core U) (event : OpenEvent) → c.open_event ≡ Some event → reads_on c ≡ false
+  pub opened_off : (c : Core U) (event : OpenEvent) → c.open_event ≡ Some event → reads_on c ≡ false
   opened_off c event is = ap (λ (o : Option OpenEvent). is_none c.error && is_none o) is ∙ never (is_none c.error)
     where
       never : (b : Bool) → (b && false) ≡ false
@@ -98,7 +98,7 @@ module _ {U : Type 0} where
 
 module _ {T U : Type 0} (sends : T → Queue → Result ℕ IoFault → T → Type 0) (receives : T → ℕ → Result Queue IoFault → T → Type 0) where
   -- a reader that no longer reads on stops here
-  stopped : (left : ℕ) (p after : ReaderState T (Core U)) (turns : List Turn) (out : Gives SessionMessage) → Reads sends client receives left p turns out after
+  pub stopped : (left : ℕ) (p after : ReaderState T (Core U)) (turns : List Turn) (out : Gives SessionMessage) → Reads sends client receives left p turns out after
       → reads_on p.core ≡ false → (out ≡ stops None false left) × (after ≡ p)
   stopped left p after [] out (same, ends) off = (when_false _ (reads_on p.core) off ends, same)
   stopped left p after (Received r ∷ turns) out (on, lacks, h) off = absurd (true≢false (sym on ∙ off))

@@ -1,7 +1,7 @@
 -- A call over a transport whose sends and receives are those of a script, as one over the transport by script; and the other way.
 use Rattle.std.proofs.Common.{◌≡◌, ◌+◌, Bool, true, false, List, [], ◌∷◌, ◌++◌, Option, None, Some, Err, refl, sym, ap, subst, ◌∙◌}
 use mathlib.Core.Logic.{inl, inr}
-use Rattle.std.specs.Prelude.{◌⊎◌, MatchOption}
+use Rattle.std.specs.Prelude.{MatchOption}
 use Rattle.std.proofs.lemmas.Bool.{false≢true}
 use Rattle.wl_link.specs.Script.{Script, ScriptReceives, ScriptSends}
 use Rattle.wl_server.specs.declared.error.ScriptError.TheVariants as script
@@ -20,7 +20,7 @@ use Rattle.wl_server.specs.Part.{Part}
 use Rattle.wl_server.specs.PartStep.{Asked, Call, Changed, Grown, MovedFor, OfClient, OnPart, PartCall, PartStep, Quietly, Unfelt, WithTransport, World, lacks_move, over, over_scripts}
 use Rattle.wl_server.specs.Runs.{Leads}
 use Rattle.wl_server.specs.Server.{Seen, ServerState, seen}
-use Rattle.wl_server.specs.Steps.{EachStandsFor, IsCallOfScript, IsOfTransport, Entry, Makes, MakesNotes, OneStep, StepOf}
+use Rattle.wl_server.specs.Steps.{EachStandsFor, Entry, IsChangeFor, MakesNotes, OneStep, StandsFor, StepOf}
 
 module _ {U G C : Type 0} (w : World Script G C) where
   abbrev Moves : Moved → Move → Bool → List (Deed U) → Part Script U C → Part Script U C → Type 0
@@ -101,81 +101,86 @@ abbrev blank : Script
 blank = record { arrivals = []; answers = []; sent = [] }
 
 module _ {U G C : Type 0} (views : G → ClientParts → C → GlobalParts → Bool) (before after : ServerState Script U G C) where
-  abbrev IsSet : ClientParts → Script → Bool → ClientParts → Type 0
-  IsSet target t b id = OfClient b (seen id before) (λ p q. Quietly {U = U} false [] (WithTransport (λ _ t'. t' ≡ t) p q)) (Unit {0}) false [] (seen id after)
+  -- an entry over the transport by script stands for one over every transport
+  abbrev pub Stands : Entry Script U G C → Type 0
+  Stands e = (other : Entry Script U G C) × StandsFor e other × OneStep (by_script views) before other after
 
-  module _ (target : ClientParts) (m : Move) (lacks : ClientParts → Bool) (did : ClientParts → List (Deed U))
-      (moves : (id : ClientParts) → (answer : Moved) × MovedFor (over_scripts views) id before.offer target m answer (seen id before) (lacks id) (did id) (seen id after)) where
+  abbrev IsSet : ClientParts → Script → Bool → ClientParts → List (Deed U) → Type 0
+  IsSet target t b id did = OfClient b (seen id before) (λ p q. Quietly {U = U} false did (WithTransport (λ _ t'. t' ≡ t) p q)) (Unit {0}) false did (seen id after)
+
+  module _ (e : Entry Script U G C) (target : ClientParts) (m : Move)
+      (moves : (id : ClientParts) → (answer : Moved) × MovedFor (over_scripts views) id before.offer target m answer (seen id before) (e.lacks id) (e.did id) (seen id after)) where
     -- what the move makes of the transport of its client, if there is one
-    becomes : (t : Script) × IsSet target t true target
-    becomes = subst (λ (b : Bool). OfMoved (over_scripts views) b (moves target).0 m (seen target before) (lacks target) (did target) (seen target after) → (t : Script) × IsSet target t true target)
+    becomes : (t : Script) × IsSet target t true target (e.did target)
+    becomes = subst (λ (b : Bool). OfMoved (over_scripts views) b (moves target).0 m (seen target before) (e.lacks target) (e.did target) (seen target after) → (t : Script) × IsSet target t true target (e.did target))
         (sym (same_self target)) (on (seen target before) (moves target).0) (moves target).1
       where
-        on : (s : Seen Script U C) (answer : Moved) → OnMoved (over_scripts views) s.part answer m s (lacks target) (did target) (seen target after)
-            → (t : Script) × OnPart s (λ p q. Quietly {U = U} false [] (WithTransport (λ _ t'. t' ≡ t) p q)) (Unit {0}) false [] (seen target after)
+        on : (s : Seen Script U C) (answer : Moved) → OnMoved (over_scripts views) s.part answer m s (e.lacks target) (e.did target) (seen target after)
+            → (t : Script) × OnPart s (λ p q. Quietly {U = U} false (e.did target) (WithTransport (λ _ t'. t' ≡ t) p q)) (Unit {0}) false (e.did target) (seen target after)
         on s answer = of s.part refl
           where
-            of : (o : Option (Part Script U C)) → s.part ≡ o → OnMoved (over_scripts views) o answer m s (lacks target) (did target) (seen target after)
-                → (t : Script) × OnPart s (λ p q. Quietly {U = U} false [] (WithTransport (λ _ t'. t' ≡ t) p q)) (Unit {0}) false [] (seen target after)
-            of None is (missing, (lacked, none, same)) = (blank, rw is (tt, (refl, refl, same ∙ ap (λ (x : Option (Part Script U C)). let r : Seen Script U C = record { part = x; made = s.made } in r) is)))
-            of (Some p) is (q, (lacked, none, (t, by, set)), same) =
-                (t, rw is (q, (refl, refl, (t, refl, set)), same ∙ ap (λ (d : List (Deed U)). record { part = Some q; made = s.made ++ notes_in d }) none))
+            of : (o : Option (Part Script U C)) → s.part ≡ o → OnMoved (over_scripts views) o answer m s (e.lacks target) (e.did target) (seen target after)
+                → (t : Script) × OnPart s (λ p q. Quietly {U = U} false (e.did target) (WithTransport (λ _ t'. t' ≡ t) p q)) (Unit {0}) false (e.did target) (seen target after)
+            of None is (missing, (lacked, none, same)) = (blank, rw is (tt, (refl, none, same ∙ ap (λ (x : Option (Part Script U C)). let r : Seen Script U C = record { part = x; made = s.made } in r) is)))
+            of (Some p) is (q, (lacked, none, (t, by, set)), same) = (t, rw is (q, (refl, none, (t, refl, set)), same))
 
-    each_set : (id : ClientParts) → IsSet target becomes.0 (same_client target id) id
+    each_set : (id : ClientParts) → IsSet target becomes.0 (same_client target id) id (e.did id)
     each_set id = on (same_client target id) refl (moves id).1
       where
-        on : (b : Bool) → same_client target id ≡ b → OfMoved (over_scripts views) b (moves id).0 m (seen id before) (lacks id) (did id) (seen id after)
-            → IsSet target becomes.0 b id
-        on true same h = subst (λ (i : ClientParts). IsSet target becomes.0 true i) (same_is target id same) becomes.1
-        on false other (lacked, none, same) = (refl, refl, same)
+        on : (b : Bool) → same_client target id ≡ b → OfMoved (over_scripts views) b (moves id).0 m (seen id before) (e.lacks id) (e.did id) (seen id after)
+            → IsSet target becomes.0 b id (e.did id)
+        on true same h = subst (λ (i : ClientParts). IsSet target becomes.0 true i (e.did i)) (same_is target id same) becomes.1
+        on false other (lacked, none, same) = (refl, none, same)
 
-    change : after.offer ≡ before.offer → after.last_client ≡ before.last_client + 0 → MakesNotes before after
-        → (target : ClientParts) × (t : Script) × Makes (by_script views) before (Changed target t) false after
-    change offer last notes = (
-      target,
-      becomes.0,
-      (
-        record { call = Changed target becomes.0; refused = false; lacks = λ id. false; did = λ id. [] },
-        refl,
-        refl,
-        record {
-          offer = offer;
-          last = last;
-          client = tt;
-          global = tt;
-          order = tt;
-          room = tt;
-          refused = (λ is. absurd (false≢true is), λ is. elim is [ inl growth ↦ growth | inr (id, lacked) ↦ lacked ]);
-          notes = notes;
-          each = each_set;
-        },
-      ),
+    stands : after.offer ≡ before.offer → after.last_client ≡ before.last_client + 0 → MakesNotes before after → IsChangeFor e.call (Changed target becomes.0) → Stands e
+    stands offer last notes is = (
+      record { call = Changed target becomes.0; refused = false; lacks = λ id. false; did = e.did },
+      inr (is, refl, refl),
+      record {
+        offer = offer;
+        last = last;
+        client = tt;
+        global = tt;
+        order = tt;
+        room = tt;
+        refused = (λ is. absurd (false≢true is), λ is. elim is [ inl growth ↦ growth | inr (id, lacked) ↦ lacked ]);
+        notes = notes;
+        each = each_set;
+      },
     )
 
-  pub call_or_change : (e : Entry Script U G C) → OneStep (over_scripts views) before e after
-      → OneStep (by_script views) before e after
-      ⊎ (IsCallOfScript e.call × (target : ClientParts) × (t : Script) × Makes (by_script views) before (Changed target t) false after)
+  pub call_or_change : (e : Entry Script U G C) → OneStep (over_scripts views) before e after → Stands e
   call_or_change e one = on e.call one
     where
-      on : (call : Call Script U G C) → OneStep (over_scripts views) before (record e { call = call }) after
-          → OneStep (by_script views) before (record e { call = call }) after
-          ⊎ (IsCallOfScript call × (target : ClientParts) × (t : Script) × Makes (by_script views) before (Changed target t) false after)
-      on (Asked (step.Arrive target bytes tokens) answer) one = let c = change target (Arrive (record { bytes = bytes.items; tokens = tokens.items })) e.lacks e.did (λ id. (_, (one.each id).2)) one.offer one.last one.notes in inr (tt, c.0, c.1, c.2)
-      on (Asked (step.ArriveFault target f) answer) one = let c = change target (ArriveFault f) e.lacks e.did (λ id. (_, (one.each id).2)) one.offer one.last one.notes in inr (tt, c.0, c.1, c.2)
-      on (Asked (step.Accept target n) answer) one = let c = change target (Accept n) e.lacks e.did (λ id. (_, (one.each id).2)) one.offer one.last one.notes in inr (tt, c.0, c.1, c.2)
-      on (Asked (step.AcceptFault target f) answer) one = let c = change target (AcceptFault f) e.lacks e.did (λ id. (_, (one.each id).2)) one.offer one.last one.notes in inr (tt, c.0, c.1, c.2)
-      on (Asked (step.TakeSent target) answer) one = let c = change target TakeSent e.lacks e.did (λ id. (_, (one.each id).2)) one.offer one.last one.notes in inr (tt, c.0, c.1, c.2)
-      on call one = inl (record {
-        offer = one.offer;
-        last = one.last;
-        client = one.client;
-        global = one.global;
-        order = one.order;
-        room = one.room;
-        refused = one.refused;
-        notes = one.notes;
-        each = one.each;
-      })
+      with_call : Call Script U G C → Entry Script U G C
+      with_call call = record e { call = call }
+
+      on : (call : Call Script U G C) → OneStep (over_scripts views) before (with_call call) after → Stands (with_call call)
+      on (Asked (step.Arrive target bytes tokens) answer) one =
+          stands (with_call (Asked (step.Arrive target bytes tokens) answer)) target (Arrive (record { bytes = bytes.items; tokens = tokens.items })) (λ id. (_, (one.each id).2)) one.offer one.last one.notes refl
+      on (Asked (step.ArriveFault target f) answer) one =
+          stands (with_call (Asked (step.ArriveFault target f) answer)) target (ArriveFault f) (λ id. (_, (one.each id).2)) one.offer one.last one.notes refl
+      on (Asked (step.Accept target n) answer) one =
+          stands (with_call (Asked (step.Accept target n) answer)) target (Accept n) (λ id. (_, (one.each id).2)) one.offer one.last one.notes refl
+      on (Asked (step.AcceptFault target f) answer) one =
+          stands (with_call (Asked (step.AcceptFault target f) answer)) target (AcceptFault f) (λ id. (_, (one.each id).2)) one.offer one.last one.notes refl
+      on (Asked (step.TakeSent target) answer) one =
+          stands (with_call (Asked (step.TakeSent target) answer)) target TakeSent (λ id. (_, (one.each id).2)) one.offer one.last one.notes refl
+      on call one = (
+        with_call call,
+        inl refl,
+        record {
+          offer = one.offer;
+          last = one.last;
+          client = one.client;
+          global = one.global;
+          order = one.order;
+          room = one.room;
+          refused = one.refused;
+          notes = one.notes;
+          each = one.each;
+        },
+      )
 
 module _ {U G C : Type 0} (views : G → ClientParts → C → GlobalParts → Bool) where
   -- a run over the transport by script stands for one of calls over it, with changes of a client's transport
@@ -184,8 +189,5 @@ module _ {U G C : Type 0} (views : G → ClientParts → C → GlobalParts → B
   run_of_calls before [] after same = ([], refl, same)
   run_of_calls before (e ∷ run) after (mid, one, leads) =
       let (others, stand, behind) = run_of_calls mid run after leads in
-      elim (call_or_change views before mid e one) [
-        | inl asked ↦ (e ∷ others, (inl refl, stand), (mid, asked, behind))
-        | inr (scripted, target, t, made) ↦
-            (made.0 ∷ others, (inr (scripted, subst IsOfTransport (sym made.1) tt), stand), (mid, made.3, behind))
-      ]
+      let (other, stands, made) = call_or_change views before mid e one in
+      (other ∷ others, (stands, stand), (mid, made, behind))

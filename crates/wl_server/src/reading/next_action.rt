@@ -7,6 +7,7 @@ ghost use Rattle.std.specs.Result.{result_and};
 ghost use Rattle.wl_server.specs.NoteOrder.{IsNumbered, NotesInTime};
 ghost use Rattle.wl_server.specs.declared.error.ActionError.{ActionError as ActionErrorOf};
 ghost use Rattle.wl_server.specs.declared.reading.action.Action.{Action as ActionOf};
+ghost use Rattle.wl_server.specs.declared.reading.action.Reading.{Reading as ReadingOf};
 ghost use Rattle.wl_server.specs.declared.runs.step.Reply.TheVariants as reply;
 ghost use Rattle.wl_server.specs.declared.runs.step.Step.TheVariants as step;
 ghost use Rattle.wl_server.specs.Backend.{Calls};
@@ -15,6 +16,7 @@ ghost use Rattle.wl_server.specs.Cutting.{CallIsCut};
 ghost use Rattle.wl_server.specs.PartStep.{Asked, over};
 ghost use Rattle.wl_server.specs.Plain.Reading.{ReadsClient};
 ghost use Rattle.wl_server.specs.Reading.{NextAction, action_content, new_reading};
+ghost use Rattle.wl_server.specs.ReadingEnds.{EndsForAReason};
 ghost use Rattle.wl_server.specs.Room.{HasRoom};
 ghost use Rattle.wl_server.specs.Inside.ReadingLoop.{EndsAs, Fills, Live, Waited, action_of, around_of};
 
@@ -212,11 +214,15 @@ impl<T: Transport + Drop, U: Drop, G: GlobalHandler<C> + Drop, C: Drop> Backend<
     ///
     /// If each receive brings a byte or would block, and memory is not refused, it does not matter how bytes and tokens
     /// were cut into receives.
+    ///
+    /// An action, or the error of a reading that began, comes of what was received last or of the message that was then at
+    /// the front, as `laws::each_reading_ends_for_a_reason` says (clause `reason`).
     pub fn next_action(&mut self, id: &ClientId) -> Result<Action, ActionError>
         ensures call { Calls (over T.sends T.receives G.views) self.old (step.NextAction id.now) (reply.NextAction result) self.new }
         ensures room { HasRoom (over T.sends T.receives G.views) self.old.server (Asked (step.NextAction id.now) (reply.NextAction result)) self.new.server }
         ensures cutting { CallIsCut (over T.sends T.receives G.views) self.old.server (Asked (step.NextAction id.now) (reply.NextAction result)) self.new.refused self.new.server }
         ensures plain { ReadsClient self.old id.now result self.new }
+        ensures reason { (left : ReadingOf) × EndsForAReason (over T.sends T.receives G.views) self.old id.now new_reading result left self.new }
     {
         let mut reading = Reading::new();
         let mut found = Found::none();
@@ -238,6 +244,7 @@ impl<T: Transport + Drop, U: Drop, G: GlobalHandler<C> + Drop, C: Drop> Backend<
         ensures room { HasRoom (over T.sends T.receives G.views) self.old.server (Asked (step.NextActionWithin id.now reading.old) (reply.NextActionWithin result reading.new)) self.new.server }
         ensures cutting { CallIsCut (over T.sends T.receives G.views) self.old.server (Asked (step.NextActionWithin id.now reading.old) (reply.NextActionWithin result reading.new)) self.new.refused self.new.server }
         ensures plain { ReadsClient self.old id.now result self.new }
+        ensures reason { EndsForAReason (over T.sends T.receives G.views) self.old id.now reading.old result reading.new self.new }
     {
         let mut found = Found::none();
         let mut args = SmallVec::new(self.alloc());
@@ -258,6 +265,7 @@ impl<T: Transport + Drop, U: Drop, G: GlobalHandler<C> + Drop, C: Drop> Backend<
         ensures room { HasRoom (over T.sends T.receives G.views) self.old.server (Asked (step.NextAction id.now) (reply.NextAction (result_and result (Ok action.new)))) self.new.server }
         ensures cutting { CallIsCut (over T.sends T.receives G.views) self.old.server (Asked (step.NextAction id.now) (reply.NextAction (result_and result (Ok action.new)))) self.new.refused self.new.server }
         ensures plain { ReadsClient self.old id.now (result_and result (Ok action.new)) self.new }
+        ensures reason { (left : ReadingOf) × EndsForAReason (over T.sends T.receives G.views) self.old id.now new_reading (result_and result (Ok action.new)) left self.new }
         ensures kept { OnErr result (action.new ≡ action.old) }
     {
         let mut reading = Reading::new();
@@ -277,6 +285,7 @@ impl<T: Transport + Drop, U: Drop, G: GlobalHandler<C> + Drop, C: Drop> Backend<
         ensures room { HasRoom (over T.sends T.receives G.views) self.old.server (Asked (step.NextActionWithin id.now reading.old) (reply.NextActionWithin (result_and result (Ok action.new)) reading.new)) self.new.server }
         ensures cutting { CallIsCut (over T.sends T.receives G.views) self.old.server (Asked (step.NextActionWithin id.now reading.old) (reply.NextActionWithin (result_and result (Ok action.new)) reading.new)) self.new.refused self.new.server }
         ensures plain { ReadsClient self.old id.now (result_and result (Ok action.new)) self.new }
+        ensures reason { EndsForAReason (over T.sends T.receives G.views) self.old id.now reading.old (result_and result (Ok action.new)) reading.new self.new }
         ensures kept { OnErr result (action.new ≡ action.old) }
     {
         self.read_client_into(id, reading, action)

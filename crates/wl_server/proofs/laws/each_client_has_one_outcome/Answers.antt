@@ -1,4 +1,4 @@
-use Rattle.wl_server.proofs.OverRuns.Outcome.MoveLaws.{transport_determined}
+use Rattle.wl_server.proofs.OverRuns.Outcome.MoveLaws.{scripts_determined, transport_determined}
 use Rattle.wl_server.proofs.OverRuns.Outcome.OfferLaws.{offers_one}
 use Rattle.wl_server.proofs.OverRuns.Outcome.OutcomeLaws.{same_call_one}
 use Rattle.wl_server.proofs.OverRuns.Outcome.RunOutcome.{alone_one, client_one}
@@ -16,3 +16,12 @@ returns-clause-client g c = λ function receive_function. client_one _ (transpor
 
 pub returns-clause-offer : goal.returns-clause-offer
 returns-clause-offer g c = offers_one _
+
+pub returns-clause-script : goal.returns-clause-script
+returns-clause-script g c =
+    let known = scripts_determined g.G.GlobalHandler.views in (
+      λ id offer before after after' call call' did did'. same_call_one _ known id offer before did did' after after' call call',
+      alone_one _ known,
+      client_one _ known,
+      offers_one _,
+    )

@@ -6,3 +6,6 @@ returns-clause-named g c = λ table done later point after leads others. each_ke
 
 pub returns-clause-none : goal.returns-clause-none
 returns-clause-none g c = λ table done between later point mid after leads then others. each_names_none_again _ table done between later point mid after leads then others
+
+pub returns-clause-script : goal.returns-clause-script
+returns-clause-script g c = λ table done later point after leads others. each_keeps_naming _ table done later point after leads others

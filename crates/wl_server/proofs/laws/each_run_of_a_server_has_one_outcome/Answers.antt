@@ -1,6 +1,6 @@
 use Rattle.wl_wire.proofs.Growth.{AnswersGrowth-unique}
 use Rattle.wl_server.proofs.OverRuns.Outcome.LookupLaws.{answers_alike}
-use Rattle.wl_server.proofs.OverRuns.Outcome.MoveLaws.{transport_determined}
+use Rattle.wl_server.proofs.OverRuns.Outcome.MoveLaws.{scripts_determined, transport_determined}
 use Rattle.wl_server.proofs.OverRuns.Outcome.NumberLaws.{creates_global_one, inserts_next_one}
 use Rattle.wl_server.proofs.OverRuns.Outcome.ShareLaws.{shares_one}
 use Rattle.wl_server.proofs.OverRuns.Outcome.WholeRuns.{performance_one, run_one}
@@ -11,6 +11,9 @@ returns-clause-run g c = λ function receive_function. run_one _ (transport_dete
 
 pub returns-clause-steps : goal.returns-clause-steps
 returns-clause-steps g c = λ function receive_function. performance_one _ (transport_determined _ _ g.G.GlobalHandler.views function receive_function)
+
+pub returns-clause-script : goal.returns-clause-script
+returns-clause-script g c = run_one _ (scripts_determined g.G.GlobalHandler.views)
 
 pub returns-clause-answers : goal.returns-clause-answers
 returns-clause-answers g c = answers_alike

@@ -1,5 +1,6 @@
 use Rattle.wl_server.proofs.OverRuns.Cut.CuttingLaws.{histories_cut}
 use Rattle.wl_server.proofs.OverRuns.Cut.RoomLaws.{next_has_room}
+use Rattle.wl_server.proofs.Plain.Reasons.{next_action_ends}
 use Rattle.wl_server.proofs.Plain.Reading.{next_action_reads}
 use Rattle.wl_server.proofs.backend.Backend.next_action_into.Goals as goal
 
@@ -14,3 +15,6 @@ returns-clause-cutting g c = ((returns-clause-call g c).step, histories_cut _ _ 
 
 pub returns-clause-plain : goal.returns-clause-plain
 returns-clause-plain g c = next_action_reads _ _ _ _ _ (returns-clause-call g c)
+
+pub returns-clause-reason : goal.returns-clause-reason
+returns-clause-reason g c = next_action_ends _ _ _ _ _ (returns-clause-call g c)

@@ -2,6 +2,7 @@ use Rattle.std.proofs.Common.{Ok, refl, ap}
 use Rattle.std.proofs.lemmas.Result.{err_from_is_err_and}
 use Rattle.wl_server.proofs.OverRuns.Cut.CuttingLaws.{histories_cut}
 use Rattle.wl_server.proofs.OverRuns.Cut.RoomLaws.{within_has_room}
+use Rattle.wl_server.proofs.Plain.Reasons.{next_action_within_ends}
 use Rattle.wl_server.proofs.Plain.Reading.{next_action_within_reads}
 use Rattle.wl_server.proofs.backend.Backend.next_action_within.Goals as goal
 
@@ -32,3 +33,9 @@ returns-in_err-read_client-clause-plain g c = next_action_within_reads _ _ _ _ _
 
 pub returns-clause-plain : goal.returns-clause-plain
 returns-clause-plain g c = next_action_within_reads _ _ _ _ _ _ _ (returns-clause-call g c)
+
+pub returns-in_err-read_client-clause-reason : goal.returns-in_err-read_client-clause-reason
+returns-in_err-read_client-clause-reason g c = next_action_within_ends _ _ _ _ _ _ _ (returns-in_err-read_client-clause-call g c)
+
+pub returns-clause-reason : goal.returns-clause-reason
+returns-clause-reason g c = next_action_within_ends _ _ _ _ _ _ _ (returns-clause-call g c)

@@ -1,0 +1,585 @@
+-- How a reading ends, over its turns.
+use Rattle.std.proofs.Common.{◌≡◌, ◌≢◌, ◌⊎◌, ℕ, Bool, true, false, cond, eqb, eqb-true, ◌||◌, List, [], ◌∷◌, ◌++◌, map, append-nil, append_assoc, Option, None, Some, is_some, Result, Ok, Err, MatchResult, refl, sym, ap, ap₂, subst, ◌∙◌, true≢false}
+use mathlib.Core.Logic.{inl, inr}
+use Rattle.std.specs.Prelude.{Contains, length, nat_le, option_map}
+use Rattle.std.proofs.lemmas.List.Elements.{Contains-append_left, Contains-append_right, Contains-push}
+use Rattle.wl_wire.specs.declared.argument.Argument.{Argument}
+use Rattle.wl_wire.specs.declared.argument.Argument.TheVariants as arg
+use Rattle.wl_wire.specs.declared.argument.ArgumentType.{ArgumentType}
+use Rattle.wl_wire.specs.declared.argument.Token.{Token}
+use Rattle.wl_wire.specs.declared.error.IoFault.{IoFault}
+use Rattle.wl_wire.specs.declared.error.IoFault.TheVariants as fault
+use Rattle.wl_wire.specs.declared.error.ProtocolError.{ProtocolError}
+use Rattle.wl_wire.specs.declared.interface.InterfaceId.{InterfaceId}
+use Rattle.wl_wire.specs.Argument.{WireArgument}
+use Rattle.wl_wire.specs.Message.{WireMessage}
+use Rattle.wl_wire.specs.MessageRows.{event_row, fits, next_interface}
+use Rattle.wl_wire.specs.Parse.{opcode_of, sender_of}
+use Rattle.wl_wire.specs.Table.{MessageRow, anonymous_id}
+use Rattle.wl_link.proofs.Calls.Branches.{either_bool, either_option}
+use Rattle.wl_link.specs.declared.object.Object.{Object}
+use Rattle.wl_link.specs.Exchange.{Queue, Sending}
+use Rattle.wl_link.specs.Identity.{Objects}
+use Rattle.wl_link.specs.Link.{FilledBy, LinkState, ReadFound, count_of, counted_answer}
+use Rattle.wl_link.specs.Puts.{Said, lacks_memory}
+use Rattle.wl_link.specs.Reader.{CarriesOut, Given, Gives, Halts, HandedOut, Handled, ReaderState, Reads, ReadsAs, Received, Turn, Unread, Verdict, came_to, given_first, put_and_gave, stops, with_link}
+use Rattle.wl_link.specs.Store.{Store, held}
+use Rattle.wl_client.specs.declared.error.EventError.{EventError}
+use Rattle.wl_client.specs.declared.error.EventError.TheVariants as no_event
+use Rattle.wl_client.specs.declared.error.WaylandError.{WaylandError}
+use Rattle.wl_client.specs.declared.error.WaylandError.TheVariants.{Io, Protocol}
+use Rattle.wl_client.specs.declared.event.OpenEvent.{OpenEvent}
+use Rattle.wl_client.specs.declared.objects.Kept.{Kept}
+use Rattle.wl_client.specs.declared.protocol_error.EventFault.{EventFault}
+use Rattle.wl_client.specs.declared.protocol_error.EventFault.TheVariants as wrong
+use Rattle.wl_client.specs.Events.{Converted, Converting, DisplayEvent, Outcome, Whole, Wrong, convert, convert_one, delete_event, display_event, error_event, error_of, going_on, is_valid_new, object_argument_of, start, with_new_argument, with_new_at, with_object_argument}
+use Rattle.wl_client.specs.Handling.{Breaks, Handling, HandsOut, Swallows, event_of, handed, handling, of_converted, of_display, of_event, opened_of, row_in, signature_in}
+use Rattle.wl_client.specs.ObjectId.{IdParts}
+use Rattle.wl_client.specs.Plain.{CanRead, EventIsOpen}
+use Rattle.wl_client.specs.Reading.{NextEvent, answered, client, core_after, event_in, fails_by, faulted, objects_in, reader_state_of, reads_on, receives_allowed, starved_to, verdict, with_objects}
+use Rattle.wl_client.specs.ReadingEnds.{EndsForAReason, FoundError, FoundEvent, HasFailedBy, IsWrong, LastReceiveFailed, ObjectsFit, OfLast, ReadingEnds, TellsError, TurnLeads, on_the_wire}
+use Rattle.wl_client.specs.Requests.{SessionMessage}
+use Rattle.wl_client.specs.Session.{Core, SessionState, id_at, null_parts}
+use Rattle.wl_client.proofs.Plain.Opening.{Opens, OpensIn, makes_new, opens}
+use Rattle.wl_client.proofs.Plain.Reading.{failed_off, live_on, opened_off, stopped, when_true}
+
+none_some : {A : Type 0} {x : A} → None ≡ Some x → ⊥
+none_some e = true≢false (sym (ap is_some e))
+
+no_error : {A E : Type 0} {x : A} {e : E} → ◌≡◌ {A = Result A E} (Ok x) (Err e) → ⊥
+no_error is = true≢false (ap is_fine is)
+  where
+    is_fine : {A E : Type 0} → Result A E → Bool
+    is_fine (Ok x) = true
+    is_fine (Err e) = false
+
+-- a number that the test told from another one
+other_than : (n k : ℕ) → eqb n k ≡ false → eqb k k ≡ true → n ≢ k
+other_than n k differ same is = true≢false (sym same ∙ ap (λ (i : ℕ). eqb i k) (sym is) ∙ differ)
+
+-- ---- what is wrong with the arguments of an event
+
+module _ {U : Type 0} where
+  -- an argument is wrong, by these objects
+  abbrev WrongAt : EventFault → List WireArgument → Objects (Kept U) → Type 0
+  WrongAt wrong.Malformed args o = ⊥
+  WrongAt (wrong.UnknownObject n) args o = Contains args (arg.Object n) × (n ≢ 0) × (held o.store n ≡ None)
+  WrongAt (wrong.WrongInterface n asked i) args o =
+      Contains args (arg.Object n) × (fits asked i ≡ false) × ((x : Object (Kept U)) × (held o.store n ≡ Some x) × (x.interface ≡ i))
+  WrongAt (wrong.InvalidNewId n i) args o = Contains args (arg.NewId n) × ((is_valid_new o n ≡ false) ⊎ (i ≡ anonymous_id))
+
+  among : (w : EventFault) (xs ys : List WireArgument) (o : Objects (Kept U)) → ((x : WireArgument) → Contains xs x → Contains ys x) → WrongAt w xs o → WrongAt w ys o
+  among wrong.Malformed xs ys o into so = so
+  among (wrong.UnknownObject n) xs ys o into (in_it, not_null, none) = (into _ in_it, not_null, none)
+  among (wrong.WrongInterface n asked i) xs ys o into (in_it, fit, there) = (into _ in_it, fit, there)
+  among (wrong.InvalidNewId n i) xs ys o into (in_it, rest) = (into _ in_it, rest)
+
+  -- so is a message
+  wrong_so : (w : EventFault) (m : WireMessage) (o : Objects (Kept U)) (end : Core U) → end.store ≡ o.store → end.last_serial ≡ o.last_serial → WrongAt w m.args o → IsWrong w m end
+  wrong_so wrong.Malformed m o end same last so = absurd so
+  wrong_so (wrong.UnknownObject n) m o end same last so = (so.0, so.1, ap (λ (s : Store (Kept U)). held s n) same ∙ so.2)
+  wrong_so (wrong.WrongInterface n asked i) m o end same last (in_it, fit, (x, there, is)) = (in_it, fit, (x, ap (λ (s : Store (Kept U)). held s n) same ∙ there, is))
+  wrong_so (wrong.InvalidNewId n i) m o end same last (in_it, inl bad) =
+      (in_it, inl (ap₂ (λ (s : Store (Kept U)) (k : ℕ). is_valid_new (record { store = s; last_serial = k }) n) same last ∙ bad))
+  wrong_so (wrong.InvalidNewId n i) m o end same last (in_it, inr nameless) = (in_it, inr nameless)
+
+module _ {U : Type 0} (version : ℕ) (destroyed : Bool) where
+  abbrev OneWrong : Converting U → WireArgument → Converted U → Type 0
+  OneWrong c a (Ok next) = Unit {0}
+  OneWrong c a (Err w) = WrongAt w (a ∷ []) c.objects
+
+  wrong_one : (c : Converting U) (a : WireArgument) → OneWrong c a (convert_one version destroyed c a)
+  wrong_one c (arg.Object n) = at (eqb n 0) refl
+    where
+      found : n ≢ 0 → (o : Option (Object (Kept U))) → held c.objects.store n ≡ o
+          → OneWrong c (arg.Object n) (with_object_argument c (object_argument_of (next_interface c.asked) n o))
+      found not_null None there = (Contains-push [] (arg.Object n), not_null, there)
+      found not_null (Some x) there = go (fits (next_interface c.asked) x.interface) refl
+        where
+          go : (b : Bool) → fits (next_interface c.asked) x.interface ≡ b
+              → OneWrong c (arg.Object n) (with_object_argument c (cond b (Ok (id_at n x)) (Err (wrong.WrongInterface n (next_interface c.asked) x.interface))))
+          go true fit = tt
+          go false fit = (Contains-push [] (arg.Object n), fit, (x, there, refl))
+
+      at : (b : Bool) → eqb n 0 ≡ b
+          → OneWrong c (arg.Object n) (with_object_argument c (cond b (Ok null_parts) (object_argument_of (next_interface c.asked) n (held c.objects.store n))))
+      at true is = tt
+      at false is = found (other_than n 0 is refl) (held c.objects.store n) refl
+  wrong_one c (arg.NewId n) = new c.child
+    where
+      valid : (i : InterfaceId) (b : Bool) → is_valid_new c.objects n ≡ b
+          → OneWrong c (arg.NewId n) (cond b (Ok (with_new_at version destroyed c n i)) (Err (wrong.InvalidNewId n i)))
+      valid i false is = (Contains-push [] (arg.NewId n), inl is)
+      valid i true is = tt
+
+      new : (o : Option InterfaceId) → OneWrong c (arg.NewId n) (with_new_argument version destroyed c n o)
+      new None = (Contains-push [] (arg.NewId n), inr refl)
+      new (Some i) = valid i (is_valid_new c.objects n) refl
+  wrong_one c _ = tt
+
+  abbrev AllWrong : List WireArgument → Outcome U → Type 0
+  AllWrong args (Whole e all) = Unit {0}
+  AllWrong args (Wrong w o) = WrongAt w args o
+
+  wrong_all : (c : Converting U) (done : List (Argument IdParts Token)) (args : List WireArgument) → AllWrong args (convert version destroyed c done args)
+  wrong_all c done [] = tt
+  wrong_all c done (a ∷ args) = at (convert_one version destroyed c a) (wrong_one c a) (λ next all. wrong_all next all args)
+    where
+      behind : (o : Outcome U) → AllWrong args o → AllWrong (a ∷ args) o
+      behind (Whole e all) so = tt
+      behind (Wrong w o) so = among w args (a ∷ args) o (λ x is. Contains-append_right (a ∷ []) args x is) so
+
+      at : (r : Converted U) → OneWrong c a r
+          → ((next : Converting U) (all : List (Argument IdParts Token)) → AllWrong args (convert version destroyed next all args))
+          → AllWrong (a ∷ args) (going_on r c.objects (λ b next. convert version destroyed next (done ++ b ∷ []) args))
+      at (Ok next) so rest = behind (convert version destroyed next.1 (done ++ next.0 ∷ []) args) (rest next.1 (done ++ next.0 ∷ []))
+      at (Err w) so rest = among w (a ∷ []) (a ∷ args) c.objects (λ x is. Contains-append_left (a ∷ []) args x is) so
+
+-- ---- the arguments of an event that is handed out
+
+module _ {U : Type 0} (version : ℕ) (destroyed : Bool) (first : Store (Kept U)) where
+  -- no object was made yet, or none will be
+  abbrev Settled : Converting U → Type 0
+  Settled c = (c.objects.store ≡ first) ⊎ (c.child ≡ None)
+
+  abbrev EndsIn : Converting U → Store (Kept U) → Type 0
+  EndsIn c s = c.child ≡ None → s ≡ c.objects.store
+
+  abbrev One : Converting U → WireArgument → Converted U → Type 0
+  One c x (Ok next) =
+      (on_the_wire next.0 ≡ x) × (Settled c → Settled next.1) × ((s : Store (Kept U)) → EndsIn next.1 s → EndsIn c s)
+      × ((s : Store (Kept U)) (more : List (Argument IdParts Token)) → Settled c → EndsIn c s → ObjectsFit first s next.1.asked more
+      → ObjectsFit first s c.asked (next.0 ∷ more))
+  One c x (Err w) = Unit {0}
+
+  one : (c : Converting U) (x : WireArgument) → One c x (convert_one version destroyed c x)
+  one c (arg.Int z) = (refl, λ h. h, λ s h. h, λ s more settled ends fit. fit)
+  one c (arg.Uint n) = (refl, λ h. h, λ s h. h, λ s more settled ends fit. fit)
+  one c (arg.Fixed z) = (refl, λ h. h, λ s h. h, λ s more settled ends fit. fit)
+  one c (arg.Str text) = (refl, λ h. h, λ s h. h, λ s more settled ends fit. fit)
+  one c (arg.Array bytes) = (refl, λ h. h, λ s h. h, λ s more settled ends fit. fit)
+  one c (arg.Fd token) = (refl, λ h. h, λ s h. h, λ s more settled ends fit. fit)
+  one c (arg.Object n) = at (eqb n 0) refl
+    where
+      found : (o : Option (Object (Kept U))) → held c.objects.store n ≡ o
+          → One c (arg.Object n) (with_object_argument c (object_argument_of (next_interface c.asked) n o))
+      found None there = tt
+      found (Some x) there = go (fits (next_interface c.asked) x.interface) refl
+        where
+          kept : (s : Store (Kept U)) → Settled c → EndsIn c s → (held first n ≡ Some x) ⊎ (held s n ≡ Some x)
+          kept s (inl same) ends = inl (ap (λ (k : Store (Kept U)). held k n) (sym same) ∙ there)
+          kept s (inr none) ends = inr (ap (λ (k : Store (Kept U)). held k n) (ends none) ∙ there)
+
+          go : (b : Bool) → fits (next_interface c.asked) x.interface ≡ b
+              → One c (arg.Object n) (with_object_argument c (cond b (Ok (id_at n x)) (Err (wrong.WrongInterface n (next_interface c.asked) x.interface))))
+          go true fit = (refl, λ h. h, λ s h. h, λ s more settled ends rest. (inr (x, kept s settled ends, refl, fit), rest))
+          go false fit = tt
+
+      at : (b : Bool) → eqb n 0 ≡ b
+          → One c (arg.Object n) (with_object_argument c (cond b (Ok null_parts) (object_argument_of (next_interface c.asked) n (held c.objects.store n))))
+      at true is = (ap (λ (k : ℕ). let x : WireArgument = arg.Object k in x) (sym (eqb-true n 0 is)), λ h. h, λ s h. h, λ s more settled ends rest. (inl refl, rest))
+      at false is = found (held c.objects.store n) refl
+  one c (arg.NewId n) = new c.child refl
+    where
+      valid : (i : InterfaceId) → c.child ≡ Some i → (b : Bool)
+          → One c (arg.NewId n) (cond b (Ok (with_new_at version destroyed c n i)) (Err (wrong.InvalidNewId n i)))
+      valid i is false = tt
+      valid i is true = (refl, λ h. inr refl, λ s h none. absurd (none_some (sym none ∙ is)), λ s more settled ends fit. fit)
+
+      new : (o : Option InterfaceId) → c.child ≡ o → One c (arg.NewId n) (with_new_argument version destroyed c n o)
+      new None is = tt
+      new (Some i) is = valid i is (is_valid_new c.objects n)
+
+  -- what the arguments became: behind those that were gone through stand theirs
+  abbrev Came : Converting U → List (Argument IdParts Token) → List WireArgument → Outcome U → Type 0
+  Came c done args (Whole e all) =
+      (more : List (Argument IdParts Token)) × (all ≡ done ++ more) × (map on_the_wire more ≡ args) × EndsIn c e.objects.store
+      × (Settled c → ObjectsFit first e.objects.store c.asked more)
+  Came c done args (Wrong w o) = Unit {0}
+
+  came_then : (c next : Converting U) (done : List (Argument IdParts Token)) (b : Argument IdParts Token) (x : WireArgument) (args : List WireArgument) → One c x (Ok (b, next))
+      → (o : Outcome U) → Came next (done ++ b ∷ []) args o → Came c done (x ∷ args) o
+  came_then c next done b x args (is, settles, ends, fit) (Whole e all) (more, all_is, numbers, end, rest) = (
+    b ∷ more,
+    all_is ∙ append_assoc done (b ∷ []) more,
+    ap (λ (y : WireArgument). y ∷ map on_the_wire more) is ∙ ap (λ (ys : List WireArgument). x ∷ ys) numbers,
+    ends e.objects.store end,
+    λ settled. fit e.objects.store more settled (ends e.objects.store end) (rest (settles settled)),
+  )
+  came_then c next done b x args so (Wrong w o) h = tt
+
+  converts : (c : Converting U) (done : List (Argument IdParts Token)) (args : List WireArgument) → Came c done args (convert version destroyed c done args)
+  converts c done [] = ([], sym (append-nil done), refl, λ none. refl, λ settled. tt)
+  converts c done (x ∷ args) = at (convert_one version destroyed c x) (one c x) (λ next all. converts next all args)
+    where
+      at : (r : Converted U) → One c x r
+          → ((next : Converting U) (all : List (Argument IdParts Token)) → Came next all args (convert version destroyed next all args))
+          → Came c done (x ∷ args) (going_on r c.objects (λ b next. convert version destroyed next (done ++ b ∷ []) args))
+      at (Ok (b, next)) so rest = came_then c next done b x args so (convert version destroyed next (done ++ b ∷ []) args) (rest next (done ++ b ∷ []))
+      at (Err w) so rest = tt
+
+-- ---- what a message is
+
+module _ {U : Type 0} (c : Core U) (m : WireMessage) where
+  -- this is its event
+  record IsEvent (event : SessionMessage) (store : Store (Kept U)) : Type 0 where
+    receiver : Object (Kept U)
+    row : MessageRow
+    was_held : held c.store m.sender ≡ Some receiver
+    live : receiver.value.client_destroyed ≡ false
+    by_table : event_row c.table receiver.interface m.opcode ≡ Some row
+    sender_is : event.sender ≡ id_at m.sender receiver
+    opcode_is : event.opcode ≡ m.opcode
+    args_are : map on_the_wire event.args ≡ m.args
+    objects_fit : ObjectsFit c.store store row.arg_interfaces event.args
+
+  abbrev So : Handling U → Type 0
+  So (Swallows o) = Unit {0}
+  So (HandsOut event opened o) = IsEvent event o.store
+  So (Breaks e o) =
+      (end : Core U) → end.store ≡ o.store → end.last_serial ≡ o.last_serial
+      → TellsError c m e ⊎ ((w : EventFault) × IsWrong w m end × (e ≡ error_of c.table w))
+
+  -- ---- an event of the display
+
+  unreadable : m.sender ≡ 1 → ((n code : ℕ) (text : List ℕ) → m.opcode ≡ 0 → ¬ (m.args ≡ arg.Object n ∷ arg.Uint code ∷ arg.Str (Some text) ∷ []))
+      → ((n : ℕ) → m.opcode ≡ 1 → ¬ (m.args ≡ arg.Uint n ∷ [])) → (e : ProtocolError) → e ≡ error_of c.table wrong.Malformed
+      → (end : Core U) → TellsError c m e ⊎ ((w : EventFault) × IsWrong w m end × (e ≡ error_of c.table w))
+  unreadable sender no_error' no_deletion e is end = inr (wrong.Malformed, (sender, no_error', no_deletion), is)
+
+  told_so : m.sender ≡ 1 → m.opcode ≡ 0 → (args : List WireArgument) → m.args ≡ args → So (of_display c.table (objects_in c) (error_event args))
+  told_so sender zero (arg.Object n ∷ arg.Uint code ∷ arg.Str (Some text) ∷ []) is = λ end same last. inl (sender, zero, (n, code, text, is, refl))
+  told_so sender zero _ is = λ end same last.
+      unreadable sender
+      (λ n code text first found. true≢false (sym (ap tells (sym is ∙ found))))
+      (λ n one found. true≢false (ap (λ (k : ℕ). eqb k 0) (sym zero ∙ one)))
+      _ refl end
+    where
+      tells : List WireArgument → Bool
+      tells (arg.Object n ∷ arg.Uint code ∷ arg.Str (Some text) ∷ []) = true
+      tells _ = false
+
+  deleted_so : m.sender ≡ 1 → m.opcode ≡ 1 → (args : List WireArgument) → m.args ≡ args → So (of_display c.table (objects_in c) (delete_event args))
+  deleted_so sender one (arg.Uint n ∷ []) is = tt
+  deleted_so sender one _ is = λ end same last.
+      unreadable sender
+      (λ n code text zero found. true≢false (ap (λ (k : ℕ). eqb k 0) (sym zero ∙ one)))
+      (λ n first found. true≢false (sym (ap deletes (sym is ∙ found))))
+      _ refl end
+    where
+      deletes : List WireArgument → Bool
+      deletes (arg.Uint n ∷ []) = true
+      deletes _ = false
+
+  display_so : m.sender ≡ 1 → So (of_display c.table (objects_in c) (display_event m.opcode m.args))
+  display_so sender = at (eqb m.opcode 0) (eqb m.opcode 1) refl refl
+    where
+      at : (a b : Bool) → eqb m.opcode 0 ≡ a → eqb m.opcode 1 ≡ b
+          → So (of_display c.table (objects_in c) (cond a (error_event m.args) (cond b (delete_event m.args) DisplayEvent.Unreadable)))
+      at true b zero one = told_so sender (eqb-true m.opcode 0 zero) m.args refl
+      at false true zero one = deleted_so sender (eqb-true m.opcode 1 one) m.args refl
+      at false false zero one = λ end same last.
+          unreadable sender
+          (λ n code text is found. other_than m.opcode 0 zero refl is)
+          (λ n is found. other_than m.opcode 1 one refl is)
+          _ refl end
+
+  -- ---- an event of another object
+
+  converted_so : (x : Object (Kept U)) (row : MessageRow) → held c.store m.sender ≡ Some x → event_row c.table x.interface m.opcode ≡ Some row → (o : Outcome U)
+      → AllWrong x.version x.value.client_destroyed m.args o → Came x.version x.value.client_destroyed c.store (start (objects_in c) row) [] m.args o
+      → So (of_converted c.table (objects_in c) m x row o)
+  converted_so x row there has (Wrong w o) bad came = λ end same last. inr (w, wrong_so w m o end same last bad, refl)
+  converted_so x row there has (Whole e args) bad (more, is, numbers, ends, fit) = at x.value.client_destroyed refl
+    where
+      at : (b : Bool) → x.value.client_destroyed ≡ b → So (cond b (Swallows e.objects) (HandsOut (event_of m x args) (opened_of m x row e.created) e.objects))
+      at true over = tt
+      at false live = record {
+        receiver = x;
+        row = row;
+        was_held = there;
+        live = live;
+        by_table = has;
+        sender_is = refl;
+        opcode_is = refl;
+        args_are = ap (map on_the_wire) is ∙ numbers;
+        objects_fit = subst (λ (xs : List (Argument IdParts Token)). ObjectsFit c.store e.objects.store row.arg_interfaces xs) (sym is) (fit (inl refl));
+      }
+
+  event_so : (signature : List ArgumentType) → signature_in c.table c.store m.sender m.opcode ≡ Some signature
+      → (o : Option (Object (Kept U))) → held c.store m.sender ≡ o → (r : Option MessageRow) → row_in c.table o m.opcode ≡ r → So (of_event c.table (objects_in c) m o r)
+  event_so signature signed None there r has = absurd (none_some (sym (ap (λ (o : Option (Object (Kept U))). option_map (λ (row : MessageRow). row.signature) (row_in c.table o m.opcode)) there) ∙ signed))
+  event_so signature signed (Some x) there None has =
+      absurd (none_some (sym (ap (λ (o : Option (Object (Kept U))). option_map (λ (row : MessageRow). row.signature) (row_in c.table o m.opcode)) there
+      ∙ ap (option_map (λ (row : MessageRow). row.signature)) has) ∙ signed))
+  event_so signature signed (Some x) there (Some row) has =
+      converted_so x row there has _ (wrong_all x.version x.value.client_destroyed (start (objects_in c) row) [] m.args)
+      (converts x.version x.value.client_destroyed c.store (start (objects_in c) row) [] m.args)
+
+  handling_so : (signature : List ArgumentType) → signature_in c.table c.store m.sender m.opcode ≡ Some signature → So (handling c.table (objects_in c) m)
+  handling_so signature signed = at (eqb m.sender 1) refl
+    where
+      at : (b : Bool) → eqb m.sender 1 ≡ b
+          → So (cond b (of_display c.table (objects_in c) (display_event m.opcode m.args))
+          (of_event c.table (objects_in c) m (held c.store m.sender) (row_in c.table (held c.store m.sender) m.opcode)))
+      at true is = display_so (eqb-true m.sender 1 is)
+      at false is = event_so signature signed (held c.store m.sender) refl (row_in c.table (held c.store m.sender) m.opcode) refl
+
+-- ---- turns
+
+later_turn : (f : IoFault) (t : Turn) (turns : List Turn) → LastReceiveFailed f turns → LastReceiveFailed f (t ∷ turns)
+later_turn f t [] (r, is, failed) = absurd (none_some is)
+later_turn f t (u ∷ turns) last = last
+
+or_true : (a b : Bool) → b ≡ true → (a || b) ≡ true
+or_true true b is = refl
+or_true false b is = is
+
+or_first : (a b : Bool) → a ≡ true → (a || b) ≡ true
+or_first true b is = refl
+or_first false b is = absurd (true≢false (sym is))
+
+split_result : {A E : Type 0} {P : A → Type 0} {Q : E → Type 0} (r : Result A E) → MatchResult r P Q → ((x : A) × (r ≡ Ok x) × P x) ⊎ ((e : E) × (r ≡ Err e) × Q e)
+split_result (Ok x) p = inl (x, refl, p)
+split_result (Err e) q = inr (e, refl, q)
+
+module _ {T U : Type 0} (sends : T → Queue → Result ℕ IoFault → T → Type 0) (receives : T → ℕ → Result Queue IoFault → T → Type 0) where
+  -- a message that was read has its signature from the table
+  signed : (p : ReaderState T (Core U)) (m : WireMessage) (link : LinkState T) → ReadsAs sends client p (Ok m) link
+      → (signature : List ArgumentType) × (signature_in p.core.table p.core.store m.sender m.opcode ≡ Some signature)
+  signed p m link read =
+      elim (either_bool (nat_le 8 (length p.link.incoming.bytes)) read) [
+        | inl (found, is, h) ↦ at found is h
+        | inr (none, same) ↦ absurd (no_error none)
+      ]
+    where
+      at : (found : Option (List ArgumentType))
+          → found ≡ signature_in p.core.table p.core.store (sender_of p.link.incoming.bytes) (opcode_of p.link.incoming.bytes)
+          → ReadFound found p.link (Ok m) link → (signature : List ArgumentType) × (signature_in p.core.table p.core.store m.sender m.opcode ≡ Some signature)
+      at None is (none, same) = absurd (no_error none)
+      at (Some signature) is (message, after) =
+          (signature, ap₂ (λ (n opcode : ℕ). signature_in p.core.table p.core.store n opcode) message.sender message.opcode ∙ sym is)
+
+  -- what a message gives, and what the core is then, with memory or without
+  carries : (c : Core U) (h : Handling U) (link : LinkState T) (es : List Sending) (first : List (Given SessionMessage)) (lacked : Bool) (mid : ReaderState T (Core U))
+      → CarriesOut sends client (verdict c h) link es first lacked mid
+      → (first ≡ map HandedOut (handed h)) × ((mid.core ≡ core_after c h) ⊎ ((mid.core ≡ starved_to c h) × (lacked ≡ true)))
+  carries c h link es first lacked mid (inl (begun, others, put, wrote, between, short, puts, flushes, split, end, is, was)) = (
+    is ∙ ap (λ (ms : List Said). put_and_gave ms (handed h)) puts.1,
+    inl (end ∙ ap (λ (w : Result (Unit {0}) IoFault). came_to client (verdict c h) w) puts.2),
+  )
+  carries c h link es first lacked mid (inr (asks, was, none, is, same)) = (is, inr (ap (λ (p : ReaderState T (Core U)). p.core) same, was))
+
+  abbrev Of : Turn → ReaderState T (Core U) → Handling U → Type 0
+  Of t before (Swallows o) = Unit {0}
+  Of t before (HandsOut event opened o) = (end : ReaderState T (Core U)) → end.core ≡ core_after before.core (HandsOut event opened o) → FoundEvent sends receives event end t before
+  Of t before (Breaks e o) =
+      (end : ReaderState T (Core U)) → end.core.store ≡ o.store → end.core.last_serial ≡ o.last_serial → FoundError sends receives e end t before
+
+  -- what a turn came to: it gave nothing, and the session is read on; or the reading ends here
+  abbrev Turned : Turn → ReaderState T (Core U) → List (Given SessionMessage) → Bool → ReaderState T (Core U) → Type 0
+  Turned t before first lacked mid =
+      (CanRead mid.core × (first ≡ []))
+      ⊎ ((reads_on mid.core ≡ false) × ((left : ℕ) (refused : Bool) → (lacked ≡ true → refused ≡ true) → ReadingEnds sends receives before (t ∷ []) (event_in first) refused left mid))
+
+  module _ (t : Turn) (before : ReaderState T (Core U)) (live : CanRead before.core) (first : List (Given SessionMessage)) (lacked : Bool) (mid : ReaderState T (Core U)) where
+    of_last : (P : Turn → ReaderState T (Core U) → Type 0) → P t before → OfLast sends receives P before (t ∷ [])
+    of_last P so = ([], t, before, refl, refl, so)
+
+    broke : (e : ProtocolError) (o : Objects (Kept U)) (why : WaylandError) → Of t before (Breaks e o) → first ≡ [] → mid.core ≡ fails_by (with_objects before.core o) why
+        → ((refused : Bool) → (lacked ≡ true → refused ≡ true) → FoundError sends receives e mid t before → HasFailedBy sends receives why before (t ∷ []) refused mid)
+        → Turned t before first lacked mid
+    broke e o why found none is by = inr (
+      failed_off mid.core (ap (λ (d : Core U). is_some d.error) is),
+      λ left refused lacks.
+          subst (λ (g : List (Given SessionMessage)). ReadingEnds sends receives before (t ∷ []) (event_in g) refused left mid) (sym none) (
+            why,
+            ap (λ (d : Core U). d.error) is,
+            ap (λ (d : Core U). d.open_event) is ∙ live.1,
+            by refused lacks (found mid (ap (λ (d : Core U). d.store) is) (ap (λ (d : Core U). d.last_serial) is)),
+          ),
+    )
+
+    turned : (h : Handling U) → Of t before h → first ≡ map HandedOut (handed h) → (mid.core ≡ core_after before.core h) ⊎ ((mid.core ≡ starved_to before.core h) × (lacked ≡ true))
+        → Turned t before first lacked mid
+    turned (Swallows o) found none (inl is) = inl ((ap (λ (d : Core U). d.error) is ∙ live.0, ap (λ (d : Core U). d.open_event) is ∙ live.1), none)
+    turned (Swallows o) found none (inr (is, was)) = inl ((ap (λ (d : Core U). d.error) is ∙ live.0, ap (λ (d : Core U). d.open_event) is ∙ live.1), none)
+    turned (HandsOut event opened o) found one' came = hands (at came)
+      where
+        at : (mid.core ≡ core_after before.core (HandsOut event opened o)) ⊎ ((mid.core ≡ starved_to before.core (HandsOut event opened o)) × (lacked ≡ true))
+            → mid.core ≡ core_after before.core (HandsOut event opened o)
+        at (inl is) = is
+        at (inr (is, was)) = is
+
+        hands : mid.core ≡ core_after before.core (HandsOut event opened o) → Turned t before first lacked mid
+        hands is = inr (
+          opened_off mid.core opened (ap (λ (d : Core U). d.open_event) is),
+          λ left refused lacks.
+              subst (λ (g : List (Given SessionMessage)). ReadingEnds sends receives before (t ∷ []) (event_in g) refused left mid) (sym one')
+              (of_last (FoundEvent sends receives event mid) (found mid is)),
+        )
+    turned (Breaks e o) found none (inl is) = broke e o (Protocol e) found none is (λ refused lacks so. of_last (FoundError sends receives e mid) so)
+    turned (Breaks e o) found none (inr (is, was)) =
+        broke e o (Io fault.OutOfMemory) found none is (λ refused lacks so. (lacks was, (e, of_last (FoundError sends receives e mid) so)))
+
+  -- the event is open then
+  is_open : (c d : Core U) (event : SessionMessage) (opened : OpenEvent) (o : Objects (Kept U)) → CanRead c → Opens c.table c.store event opened o
+      → d ≡ core_after c (HandsOut event opened o) → EventIsOpen c event d
+  is_open c d event opened o live so is =
+      subst (λ (e : Core U). EventIsOpen c event e) (sym is)
+      (record {
+        sender = so.sender;
+        row = so.row;
+        holds = so.holds;
+        sender_is = so.sender_is;
+        live = so.live;
+        event = so.has;
+        opened = ap Some so.event_is;
+        makes = so.makes;
+        made = so.made;
+        error = live.0;
+      })
+
+  -- a message that was taken
+  handled_of : (es : List Sending) (before : ReaderState T (Core U)) → CanRead before.core → (m : WireMessage) (link : LinkState T) → ReadsAs sends client before (Ok m) link
+      → (h : Handling U) → OpensIn before.core.table before.core.store h → So before.core m h → Of (Handled es) before h
+  handled_of es before live m link read (Swallows o) open' so = tt
+  handled_of es before live m link read (HandsOut event opened o) open' so = λ end is. (
+    m,
+    link,
+    read,
+    record {
+      receiver = so.receiver;
+      row = so.row;
+      was_held = so.was_held;
+      live = so.live;
+      by_table = so.by_table;
+      sender_is = so.sender_is;
+      opcode_is = so.opcode_is;
+      args_are = so.args_are;
+      objects_fit =
+          subst (λ (s : Store (Kept U)). ObjectsFit before.core.store s so.row.arg_interfaces event.args) (sym (ap (λ (d : Core U). d.store) is)) so.objects_fit;
+      opens = is_open before.core end.core event opened o live open' is;
+    },
+  )
+  handled_of es before live m link read (Breaks e o) open' so = λ end same last. (m, link, read, so end.core same last)
+
+  -- ---- over the turns of a reading
+
+  last_later : (P : Turn → ReaderState T (Core U) → Type 0) (t : Turn) (turns : List Turn) (start mid : ReaderState T (Core U)) → TurnLeads sends receives t start mid
+      → OfLast sends receives P mid turns → OfLast sends receives P start (t ∷ turns)
+  last_later P t turns start mid leads (earlier, u, before, split, led, so) = (t ∷ earlier, u, before, ap (λ (us : List Turn). t ∷ us) split, (mid, leads, led), so)
+
+  failed_later : (why : WaylandError) (t : Turn) (turns : List Turn) (lacked refused : Bool) (end start mid : ReaderState T (Core U)) → TurnLeads sends receives t start mid
+      → HasFailedBy sends receives why mid turns refused end → HasFailedBy sends receives why start (t ∷ turns) (lacked || refused) end
+  failed_later (Io fault.OutOfMemory) t turns lacked refused end start mid leads (was, (e, so)) =
+      (or_true lacked refused was, (e, last_later (FoundError sends receives e end) t turns start mid leads so))
+  failed_later (Io fault.WouldBlock) t turns lacked refused end start mid leads so = so
+  failed_later (Io f) t turns lacked refused end start mid leads so = later_turn f t turns so
+  failed_later (Protocol e) t turns lacked refused end start mid leads so = last_later (FoundError sends receives e end) t turns start mid leads so
+
+  -- another turn stands before
+  ends_later : (t : Turn) (turns : List Turn) (answer : Result SessionMessage EventError) (lacked refused : Bool) (left : ℕ) (end start mid : ReaderState T (Core U)) → TurnLeads sends receives t start mid
+      → ReadingEnds sends receives mid turns answer refused left end → ReadingEnds sends receives start (t ∷ turns) answer (lacked || refused) left end
+  ends_later t turns (Ok event) lacked refused left end start mid leads so = last_later (FoundEvent sends receives event end) t turns start mid leads so
+  ends_later t turns (Err no_event.EventOpen) lacked refused left end start mid leads so = so
+  ends_later t turns (Err no_event.WouldBlock) lacked refused left end start mid leads (can, inl last) = (can, inl (later_turn _ t turns last))
+  ends_later t turns (Err no_event.WouldBlock) lacked refused left end start mid leads (can, inr so) = (can, inr so)
+  ends_later t turns (Err no_event.OutOfMemory) lacked refused left end start mid leads (can, inl last) = (can, inl (later_turn _ t turns last))
+  ends_later t turns (Err no_event.OutOfMemory) lacked refused left end start mid leads (can, inr (was, so)) = (can, inr (or_true lacked refused was, so))
+  ends_later t turns (Err no_event.Failed) lacked refused left end start mid leads (why, is, idle, by) = (why, is, idle, failed_later why t turns lacked refused end start mid leads by)
+
+  abbrev Done : ReaderState T (Core U) → List Turn → Gives SessionMessage → ReaderState T (Core U) → Type 0
+  Done start turns out end = ReadingEnds sends receives start turns (answered out.stopped out.gave) out.refused out.left end
+
+  done_at : (start : ReaderState T (Core U)) (turns : List Turn) (out out' : Gives SessionMessage) (end end' : ReaderState T (Core U)) → out ≡ out' → end ≡ end' → Done start turns out' end'
+      → Done start turns out end
+  done_at start turns out out' end end' is same so =
+      subst (λ (o : Gives SessionMessage). Done start turns o end) (sym is) (subst (λ (e : ReaderState T (Core U)). Done start turns out' e) (sym same) so)
+
+  -- the reading stops here
+  halts_end : (left : ℕ) (before : ReaderState T (Core U)) (out : Gives SessionMessage) → CanRead before.core → Halts sends client left before out → Done before [] out before
+  halts_end left before out can (inl (lacks, none, is)) = done_at before [] out _ before before is refl (can, inr (none, lacks))
+  halts_end left before out can (inr (inl (asks, is))) = done_at before [] out _ before before is refl (can, inr (refl, inl asks))
+  halts_end left before out can (inr (inr (lacks, (n, one', is)))) = done_at before [] out _ before before is refl (can, inr (refl, inr lacks))
+
+  -- a receive failed
+  receive_ends : (start : ReaderState T (Core U)) → CanRead start.core → (got : Result Queue IoFault) (link : LinkState T) (n : ℕ) (f : IoFault) → counted_answer (count_of got) ≡ Err f
+      → Done start (Received got ∷ []) (stops (Some f) (lacks_memory (Err f)) n) (record { core = faulted start.core f; link = link })
+  receive_ends start can got link n fault.WouldBlock failed = (can, inl (got, refl, failed))
+  receive_ends start can got link n fault.OutOfMemory failed = (can, inl (got, refl, failed))
+  receive_ends start can got link n fault.Pipe failed = (Io fault.Pipe, refl, can.1, (got, refl, failed))
+  receive_ends start can got link n fault.TooBig failed = (Io fault.TooBig, refl, can.1, (got, refl, failed))
+  receive_ends start can got link n fault.Proto failed = (Io fault.Proto, refl, can.1, (got, refl, failed))
+  receive_ends start can got link n fault.InvalidInput failed = (Io fault.InvalidInput, refl, can.1, (got, refl, failed))
+  receive_ends start can got link n (fault.Other k) failed = (Io (fault.Other k), refl, can.1, (got, refl, failed))
+
+  then_ends : (t : Turn) (start : ReaderState T (Core U)) (left : ℕ) (mid end : ReaderState T (Core U)) (turns : List Turn) (first : List (Given SessionMessage)) (lacked : Bool)
+      (rest out : Gives SessionMessage) → out ≡ given_first first lacked rest → TurnLeads sends receives t start mid → Turned t start first lacked mid
+      → Reads sends client receives left mid turns rest end → (CanRead mid.core → Done mid turns rest end) → Done start (t ∷ turns) out end
+  then_ends t start left mid end turns first lacked rest out split leads (inl (can, none)) reads more =
+      done_at start (t ∷ turns) out (given_first [] lacked rest) end end (split ∙ ap (λ (f : List (Given SessionMessage)). given_first f lacked rest) none) refl
+      (ends_later t turns (answered rest.stopped rest.gave) lacked rest.refused rest.left end start mid leads (more can))
+  then_ends t start left mid end turns first lacked rest out split leads (inr (off, so)) reads more =
+      let (over, rest_is, same) = ends_here turns reads in
+      subst (λ (ts : List Turn). Done start (t ∷ ts) out end) (sym over)
+      (done_at start (t ∷ []) out (given_first first lacked (stops None false left)) end mid (split ∙ ap (λ (r : Gives SessionMessage). given_first first lacked r) rest_is) same
+      (subst (λ (g : List (Given SessionMessage)). ReadingEnds sends receives start (t ∷ []) (event_in g) (lacked || false) left mid) (sym (append-nil first))
+      (so left (lacked || false) (λ was. or_first lacked false was))))
+    where
+      ends_here : (turns : List Turn) → Reads sends client receives left mid turns rest end → (turns ≡ []) × (rest ≡ stops None false left) × (end ≡ mid)
+      ends_here [] reads = let (is, same) = stopped sends receives left mid end [] rest reads off in (refl, is, same)
+      ends_here (Received r ∷ turns) h = absurd (true≢false (sym h.0 ∙ off))
+      ends_here (Handled es ∷ turns) h = absurd (true≢false (sym h.0 ∙ off))
+      ends_here (Unread es ∷ turns) h = absurd (true≢false (sym h.0 ∙ off))
+
+  read_ends : (left : ℕ) (before : ReaderState T (Core U)) (turns : List Turn) (out : Gives SessionMessage) (end : ReaderState T (Core U)) → CanRead before.core
+      → Reads sends client receives left before turns out end → Done before turns out end
+  read_ends left before [] out end can (same, stops') =
+      done_at before [] out out end before refl same (halts_end left before out can (when_true _ (reads_on before.core) (live_on before.core can) stops'))
+  read_ends left before (Received got ∷ turns) out end can (on, lacks, (n, is, (link, filled, room, h))) =
+      elim (split_result (counted_answer (count_of got)) h) [
+        | inl (u, ok, more) ↦
+            ends_later (Received got) turns (answered out.stopped out.gave) false out.refused out.left end before (with_link before link)
+            (link, subst (λ (c : Result (Unit {0}) IoFault). FilledBy receives before.link got c link) ok filled, refl)
+            (read_ends n (with_link before link) turns out end can more)
+        | inr (f, failed, (over, is_out, same)) ↦
+            subst (λ (ts : List Turn). Done before (Received got ∷ ts) out end) (sym over)
+            (done_at before (Received got ∷ []) out _ end _ is_out same (receive_ends before can got link n f failed))
+      ]
+  read_ends left before (Handled es ∷ turns) out end can (on, (v, link, first, lacked, mid, rest, (m, read, is), by, split, more)) =
+      let h = handling before.core.table (objects_in before.core) m in
+      let so = carries before.core h link es first lacked mid (subst (λ (w : Verdict (Core U) SessionMessage). CarriesOut sends client w link es first lacked mid) is by) in
+      let (signature, has) = signed before m link read in
+      let of' = handled_of es before can m link read h (opens before.core.table (objects_in before.core) m (makes_new sends before m link read)) (handling_so before.core m signature has) in
+      then_ends (Handled es) before left mid end turns first lacked rest out split (v, link, first, lacked, (m, read, is), by)
+      (turned (Handled es) before can first lacked mid h of' so.0 so.1) more (λ can'. read_ends left mid turns rest end can' more)
+  read_ends left before (Unread es ∷ turns) out end can (on, (v, link, first, lacked, mid, rest, (read, same, is), by, split, more)) =
+      let h : Handling U = Breaks (error_of before.core.table wrong.Malformed) (objects_in before.core) in
+      let so = carries before.core h link es first lacked mid (subst (λ (w : Verdict (Core U) SessionMessage). CarriesOut sends client w link es first lacked mid) is by) in
+      then_ends (Unread es) before left mid end turns first lacked rest out split (v, link, first, lacked, (read, same, is), by)
+      (turned (Unread es) before can first lacked mid h (λ e store last. (read, refl)) so.0 so.1) more (λ can'. read_ends left mid turns rest end can' more)
+
+  -- a reading of a session that can be read
+  pub reading_ends : (left : ℕ) (before after : SessionState T U) (turns : List Turn) (out : Gives SessionMessage) → before.error ≡ None → before.open_event ≡ None
+      → Reads sends client receives left (reader_state_of before) turns out (reader_state_of after)
+      → ReadingEnds sends receives (reader_state_of before) turns (answered out.stopped out.gave) out.refused out.left (reader_state_of after)
+  reading_ends left before after turns out fine idle reads = read_ends left (reader_state_of before) turns out (reader_state_of after) (fine, idle) reads
+
+  pub ends_for_a_reason : (before : SessionState T U) (answer : Result SessionMessage EventError) (refused : Bool) (after : SessionState T U) → NextEvent sends receives before answer refused after
+      → EndsForAReason sends receives before answer refused after
+  ends_for_a_reason before answer refused after h fine idle =
+      elim (either_option before.error h) [
+        | inr (e, some, g) ↦ absurd (none_some (sym fine ∙ some))
+        | inl (none, g) ↦ elim (either_option before.open_event g) [
+          | inr (event, some, k) ↦ absurd (none_some (sym idle ∙ some))
+          | inl (unopened, (turns, out, reads, is, gave, calm)) ↦ (
+            turns,
+            out,
+            reads,
+            subst (λ (a : Result SessionMessage EventError). ReadingEnds sends receives (reader_state_of before) turns a refused out.left (reader_state_of after)) (sym is)
+                (subst (λ (b : Bool). ReadingEnds sends receives (reader_state_of before) turns (answered out.stopped out.gave) b out.left (reader_state_of after)) (sym calm)
+                (reading_ends receives_allowed before after turns out fine idle reads)),
+          )
+        ]
+      ]

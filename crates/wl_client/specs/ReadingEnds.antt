@@ -1,0 +1,182 @@
+-- How a reading of a session ends: with an event of the message that its last turn found at the front, or for one of a few
+-- reasons. If the server is to blame, that message tells of it, or breaks the protocol.
+use Rattle.std.specs.Prelude.{◌≡◌, ◌≢◌, ◌⊎◌, ℕ, List, [], ◌∷◌, ◌++◌, map, Bool, true, false, Option, None, Some, Result, Ok, Err, Contains}
+use Rattle.wl_wire.specs.declared.argument.Argument.{Argument}
+use Rattle.wl_wire.specs.declared.argument.Argument.TheVariants as arg
+use Rattle.wl_wire.specs.declared.argument.Token.{Token}
+use Rattle.wl_wire.specs.declared.error.IoFault.{IoFault}
+use Rattle.wl_wire.specs.declared.error.IoFault.TheVariants as fault
+use Rattle.wl_wire.specs.declared.error.MessageParseError.TheVariants as parse
+use Rattle.wl_wire.specs.declared.error.ProtocolError.{ProtocolError}
+use Rattle.wl_wire.specs.declared.interface.InterfaceId.{InterfaceId}
+use Rattle.wl_wire.specs.Argument.{WireArgument}
+use Rattle.wl_wire.specs.Message.{WireMessage}
+use Rattle.wl_wire.specs.MessageRows.{event_row, fits, next_interface, rest_of}
+use Rattle.wl_wire.specs.Table.{MessageRow, anonymous_id}
+use Rattle.wl_link.specs.declared.object.Object.{Object}
+use Rattle.wl_link.specs.Exchange.{Queue}
+use Rattle.wl_link.specs.Link.{FilledBy, LinkState, ReceiveAsks, count_of, counted_answer}
+use Rattle.wl_link.specs.Reader.{CarriesOut, FrontAsks, Given, Gives, Handled, Lacks, Leaves, ReaderState, Reads, ReadsAs, Received, Takes, Turn, Unread, Verdict, with_link}
+use Rattle.wl_link.specs.Store.{Store, held}
+use Rattle.wl_client.specs.declared.error.EventError.{EventError}
+use Rattle.wl_client.specs.declared.error.EventError.TheVariants as no_event
+use Rattle.wl_client.specs.declared.error.WaylandError.{WaylandError}
+use Rattle.wl_client.specs.declared.error.WaylandError.TheVariants.{Io, Protocol}
+use Rattle.wl_client.specs.declared.objects.Kept.{Kept}
+use Rattle.wl_client.specs.declared.protocol_error.EventFault.{EventFault}
+use Rattle.wl_client.specs.declared.protocol_error.EventFault.TheVariants as wrong
+use Rattle.wl_client.specs.Events.{error_of, is_valid_new, told_error}
+use Rattle.wl_client.specs.ObjectId.{IdParts}
+use Rattle.wl_client.specs.Plain.{CanRead, EventIsOpen}
+use Rattle.wl_client.specs.Reading.{client, objects_in, reader_state_of, receives_allowed}
+use Rattle.wl_client.specs.Requests.{SessionMessage}
+use Rattle.wl_client.specs.Session.{Core, SessionState, id_at, null_parts}
+
+-- ---- the event of a message
+
+-- an argument as it stands in a message, with a number for an id
+abbrev pub on_the_wire : Argument IdParts Token → WireArgument
+on_the_wire (arg.Int z) = arg.Int z
+on_the_wire (arg.Uint n) = arg.Uint n
+on_the_wire (arg.Fixed z) = arg.Fixed z
+on_the_wire (arg.Str text) = arg.Str text
+on_the_wire (arg.Object id) = arg.Object id.number
+on_the_wire (arg.NewId id) = arg.NewId id.number
+on_the_wire (arg.Array bytes) = arg.Array bytes
+on_the_wire (arg.Fd token) = arg.Fd token
+
+module _ {U : Type 0} (before after : Store (Kept U)) where
+  -- the id is the null one; or that of the object that its number has before the message or after it, whose interface fits
+  abbrev pub IsFit : InterfaceId → IdParts → Type 0
+  IsFit asked id =
+      (id ≡ null_parts)
+      ⊎ ((x : Object (Kept U)) × ((held before id.number ≡ Some x) ⊎ (held after id.number ≡ Some x))
+      × (id ≡ id_at id.number x) × (fits asked x.interface ≡ true))
+
+  -- so is each object argument, by the interfaces that the table has for the event
+  abbrev pub ObjectsFit : List InterfaceId → List (Argument IdParts Token) → Type 0
+  ObjectsFit asked [] = Unit {0}
+  ObjectsFit asked (arg.Object id ∷ args) = IsFit (next_interface asked) id × ObjectsFit (rest_of asked) args
+  ObjectsFit asked (_ ∷ args) = ObjectsFit asked args
+
+module _ {U : Type 0} where
+  -- The message is to a kept object that the client had not destroyed, and this is its event, open from now on: it has the
+  -- message's opcode, and its arguments turned back to the wire are the message's.
+  pub record IsItsEvent (event : SessionMessage) (before : Core U) (m : WireMessage) (end : Core U) : Type 0 where
+    pub receiver : Object (Kept U)
+    pub row : MessageRow
+    pub was_held : held before.store m.sender ≡ Some receiver
+    pub live : receiver.value.client_destroyed ≡ false
+    pub by_table : event_row before.table receiver.interface m.opcode ≡ Some row
+    pub sender_is : event.sender ≡ id_at m.sender receiver
+    pub opcode_is : event.opcode ≡ m.opcode
+    pub args_are : map on_the_wire event.args ≡ m.args
+    pub objects_fit : ObjectsFit before.store end.store row.arg_interfaces event.args
+    pub opens : EventIsOpen before event end
+
+-- ---- what is wrong with a message
+
+module _ {U : Type 0} where
+  -- the message is `wl_display.error`, and tells of this error
+  abbrev pub TellsError : Core U → WireMessage → ProtocolError → Type 0
+  TellsError c m e =
+      (m.sender ≡ 1) × (m.opcode ≡ 0)
+      × ((n code : ℕ) × (text : List ℕ) × (m.args ≡ arg.Object n ∷ arg.Uint code ∷ arg.Str (Some text) ∷ [])
+      × (e ≡ told_error c.table c.store code n text))
+
+  -- The message is to the display, and neither an error with a text nor a `delete_id`. Or one of its arguments is wrong, by the
+  -- objects that are kept when it is found: the number of an object has none, or one whose interface does not fit; or a new
+  -- number may not be used, or the table has no interface for it.
+  abbrev pub IsWrong : EventFault → WireMessage → Core U → Type 0
+  IsWrong wrong.Malformed m end =
+      (m.sender ≡ 1)
+      × ((n code : ℕ) (text : List ℕ) → m.opcode ≡ 0 → ¬ (m.args ≡ arg.Object n ∷ arg.Uint code ∷ arg.Str (Some text) ∷ []))
+      × ((n : ℕ) → m.opcode ≡ 1 → ¬ (m.args ≡ arg.Uint n ∷ []))
+  IsWrong (wrong.UnknownObject n) m end = Contains m.args (arg.Object n) × (n ≢ 0) × (held end.store n ≡ None)
+  IsWrong (wrong.WrongInterface n asked i) m end =
+      Contains m.args (arg.Object n) × (fits asked i ≡ false) × ((x : Object (Kept U)) × (held end.store n ≡ Some x) × (x.interface ≡ i))
+  IsWrong (wrong.InvalidNewId n i) m end = Contains m.args (arg.NewId n) × ((is_valid_new (objects_in end) n ≡ false) ⊎ (i ≡ anonymous_id))
+
+-- ---- the last turn
+
+-- the last turn of a reading, if it has any
+abbrev pub last_turn : List Turn → Option Turn
+last_turn [] = None
+last_turn (t ∷ []) = Some t
+last_turn (_ ∷ t ∷ turns) = last_turn (t ∷ turns)
+
+-- the last turn was a receive that answered this fault; one without a byte answers `Pipe`
+abbrev pub LastReceiveFailed : IoFault → List Turn → Type 0
+LastReceiveFailed f turns = (r : Result Queue IoFault) × (last_turn turns ≡ Some (Received r)) × (counted_answer (count_of r) ≡ Err f)
+
+module _ {T U : Type 0} (sends : T → Queue → Result ℕ IoFault → T → Type 0) (receives : T → ℕ → Result Queue IoFault → T → Type 0) where
+  -- What a turn does: bytes were received; or the message at the front was taken, or its bytes were malformed, and what
+  -- follows from it was carried out.
+  abbrev pub TurnLeads : Turn → ReaderState T (Core U) → ReaderState T (Core U) → Type 0
+  TurnLeads (Received r) before after =
+      (link : LinkState T) × FilledBy receives before.link r (Ok tt) link × (after ≡ with_link before link)
+  TurnLeads (Handled es) before after =
+      (v : Verdict (Core U) SessionMessage) × (link : LinkState T) × (gave : List (Given SessionMessage)) × (refused : Bool)
+      × Takes sends client before v link × CarriesOut sends client v link es gave refused after
+  TurnLeads (Unread es) before after =
+      (v : Verdict (Core U) SessionMessage) × (link : LinkState T) × (gave : List (Given SessionMessage)) × (refused : Bool)
+      × Leaves sends client before v link × CarriesOut sends client v link es gave refused after
+
+  -- the turns lead from one state to the other, one after another
+  abbrev pub TurnsLead : List Turn → ReaderState T (Core U) → ReaderState T (Core U) → Type 0
+  TurnsLead [] before after = after ≡ before
+  TurnsLead (t ∷ turns) before after = (mid : ReaderState T (Core U)) × TurnLeads t before mid × TurnsLead turns mid after
+
+  -- it holds of the last turn, and of the state to which the turns before it led
+  abbrev pub OfLast : (Turn → ReaderState T (Core U) → Type 0) → ReaderState T (Core U) → List Turn → Type 0
+  OfLast P start turns =
+      (earlier : List Turn) × (t : Turn) × (before : ReaderState T (Core U))
+      × (turns ≡ earlier ++ t ∷ []) × TurnsLead earlier start before × P t before
+
+  -- ---- what a turn found at the front
+
+  -- the message of this event
+  abbrev pub FoundEvent : SessionMessage → ReaderState T (Core U) → Turn → ReaderState T (Core U) → Type 0
+  FoundEvent event end (Handled es) before =
+      (m : WireMessage) × (link : LinkState T) × ReadsAs sends client before (Ok m) link × IsItsEvent event before.core m end.core
+  FoundEvent event end _ before = ⊥
+
+  -- bytes that are no message, a message that tells of the error, or one that is wrong
+  abbrev pub FoundError : ProtocolError → ReaderState T (Core U) → Turn → ReaderState T (Core U) → Type 0
+  FoundError e end (Received r) before = ⊥
+  FoundError e end (Handled es) before =
+      (m : WireMessage) × (link : LinkState T) × ReadsAs sends client before (Ok m) link
+      × (TellsError before.core m e ⊎ ((w : EventFault) × IsWrong w m end.core × (e ≡ error_of before.core.table w)))
+  FoundError e end (Unread es) before = ReadsAs sends client before (Err parse.Malformed) before.link × (e ≡ error_of before.core.table wrong.Malformed)
+
+  -- ---- how a reading ends
+
+  -- why the session has this error now: the last receive answered the fault; or of the error that the last turn found there are
+  -- the texts, or there was no memory for them
+  abbrev pub HasFailedBy : WaylandError → ReaderState T (Core U) → List Turn → Bool → ReaderState T (Core U) → Type 0
+  HasFailedBy (Io fault.OutOfMemory) start turns refused end = (refused ≡ true) × ((e : ProtocolError) × OfLast (FoundError e end) start turns)
+  HasFailedBy (Io fault.WouldBlock) start turns refused end = ⊥
+  HasFailedBy (Io f) start turns refused end = LastReceiveFailed f turns
+  HasFailedBy (Protocol e) start turns refused end = OfLast (FoundError e end) start turns
+
+  -- what a reading comes to that begins without an error and without an open event: with these turns and this answer, it ends so
+  abbrev pub ReadingEnds : ReaderState T (Core U) → List Turn → Result SessionMessage EventError → Bool → ℕ → ReaderState T (Core U) → Type 0
+  ReadingEnds start turns (Ok event) refused left end = OfLast (FoundEvent event end) start turns
+  ReadingEnds start turns (Err no_event.EventOpen) refused left end = ⊥
+  ReadingEnds start turns (Err no_event.WouldBlock) refused left end =
+      CanRead end.core × (LastReceiveFailed fault.WouldBlock turns ⊎ ((left ≡ 0) × Lacks sends client end))
+  ReadingEnds start turns (Err no_event.OutOfMemory) refused left end =
+      CanRead end.core
+      × (LastReceiveFailed fault.OutOfMemory turns
+      ⊎ ((refused ≡ true) × (FrontAsks sends client end ⊎ (Lacks sends client end × ReceiveAsks end.link))))
+  ReadingEnds start turns (Err no_event.Failed) refused left end =
+      (why : WaylandError) × (end.core.error ≡ Some why) × (end.core.open_event ≡ None) × HasFailedBy why start turns refused end
+
+  -- A reading of a session without an error and without an open event: it was a list of turns (`Reads`), and ended with this answer
+  -- for a reason (`ReadingEnds`).
+  abbrev pub EndsForAReason : SessionState T U → Result SessionMessage EventError → Bool → SessionState T U → Type 0
+  EndsForAReason before answer refused after =
+      before.error ≡ None → before.open_event ≡ None →
+      (turns : List Turn) × (out : Gives SessionMessage)
+      × Reads sends client receives receives_allowed (reader_state_of before) turns out (reader_state_of after)
+      × ReadingEnds (reader_state_of before) turns answer refused out.left (reader_state_of after)
