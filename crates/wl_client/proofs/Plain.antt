@@ -3,4 +3,6 @@ pub mod Naming
 pub mod Finishing
 pub mod Sending
 pub mod Opening
+pub mod Staying
 pub mod Reading
+pub mod Calls
