@@ -4,7 +4,8 @@
 -- The clause `plain` of `finish_event`, of `send_request` and of `next_event`, and of their variants, cites one of these. Another
 -- clause beside it, `call`, says all that the call does, as a step. What stands here follows from that clause, and can be used
 -- without it.
-use Rattle.std.specs.Prelude.{◌≡◌, ◌⊎◌, ℕ, List, [], ◌∷◌, Bool, true, false, ◌==◌, ◌&&◌, if◌then◌else◌, Option, None, Some, IsSome, is_some, Result, Ok, Err, MatchOption}
+pub mod Calls
+use Rattle.std.specs.Prelude.{◌≡◌, ◌⊎◌, ◌≤◌, ℕ, List, [], ◌∷◌, Bool, true, false, ◌==◌, ◌&&◌, if◌then◌else◌, Option, None, Some, IsSome, is_some, Result, Ok, Err, MatchBool, MatchOption}
 use Rattle.wl_wire.specs.declared.argument.Argument.{Argument}
 use Rattle.wl_wire.specs.declared.argument.Argument.TheVariants as arg
 use Rattle.wl_wire.specs.declared.argument.Token.{Token}
@@ -12,6 +13,7 @@ use Rattle.wl_wire.specs.declared.error.IoFault.{IoFault}
 use Rattle.wl_wire.specs.MessageRows.{creates, event_row, matches, request_row}
 use Rattle.wl_wire.specs.Table.{MessageRow}
 use Rattle.wl_link.specs.declared.object.Object.{Object}
+use Rattle.wl_link.specs.Identity.{Objects}
 use Rattle.wl_link.specs.Store.{Store, held}
 use Rattle.wl_client.specs.declared.error.EventError.{EventError}
 use Rattle.wl_client.specs.declared.error.EventError.TheVariants as no_event
@@ -26,8 +28,9 @@ use Rattle.wl_client.specs.declared.objects.Kept.{Kept}
 use Rattle.wl_client.specs.declared.objects.Note.{Note}
 use Rattle.wl_client.specs.ObjectId.{IdParts}
 use Rattle.wl_client.specs.Objects.{info_of, user_data_of}
+use Rattle.wl_client.specs.Reading.{objects_in}
 use Rattle.wl_client.specs.Requests.{SessionMessage, Spec, child_of}
-use Rattle.wl_client.specs.Session.{Core, SessionState, alive, core_of, fresh_object, id_at, named, noted, null_parts}
+use Rattle.wl_client.specs.Session.{Core, SessionState, alive, core_of, fresh_object, id_at, named, noted, null_parts, with_flags}
 
 -- the ids have the same number and serial
 abbrev pub same_object : IdParts → IdParts → Bool
@@ -152,9 +155,25 @@ module _ {U : Type 0} where
   abbrev pub HasFailed : Core U → Type 0
   HasFailed c = IsSome c.error × (c.open_event ≡ None)
 
-  -- the table and the notes are as before
+  -- the id names an object that the client has not destroyed, or its serial was given out
+  abbrev pub IsOld : Objects (Kept U) → IdParts → Type 0
+  IsOld objects id = IsSome (alive (named objects.store id)) ⊎ (id.serial ≤ objects.last_serial)
+
+  -- The object that an id named is as it was; only whether the server has given up its number may differ. One that the client
+  -- has destroyed may be gone.
+  abbrev pub StaysAs : Option (Object (Kept U)) → Option (Object (Kept U)) → Type 0
+  StaysAs None after = after ≡ None
+  StaysAs (Some x) after =
+      MatchBool x.value.client_destroyed ((after ≡ Some x) ⊎ (after ≡ None)) ((given_up : Bool) × (after ≡ Some (with_flags false given_up x)))
+
+  -- so it is of each id but those that were made since
+  pub record IdsStay (before after : Objects (Kept U)) : Type 0 where
+    pub serials : before.last_serial ≤ after.last_serial
+    pub ids : (id : IdParts) → IsOld before id → StaysAs (named before.store id) (named after.store id)
+
+  -- the table and the notes are as before, and each id but those that were made since names what it named
   abbrev pub KeepsRest : Core U → Core U → Type 0
-  KeepsRest before after = (after.table ≡ before.table) × (after.notes ≡ before.notes)
+  KeepsRest before after = (after.table ≡ before.table) × (after.notes ≡ before.notes) × IdsStay (objects_in before) (objects_in after)
 
 module _ {T U : Type 0} where
   -- An event is handed out, and open. Or there is none: the session had an error before or has one now, an event was open

@@ -7,6 +7,7 @@ ghost use Rattle.wl_wire.specs.Table.{AnswersGrowth, IsAcceptedTable, display_id
 ghost use Rattle.wl_link.specs.Link.{LinkState, LimitSet};
 ghost use Rattle.wl_link.specs.Store.{empty_store, stored};
 ghost use Rattle.wl_client.specs.Accounts.{CallsLocally, IsGrowth};
+ghost use Rattle.wl_client.specs.Plain.Calls.{AddsInterfaces, SetsLimit, TakesNotes};
 ghost use Rattle.wl_client.specs.Session.{IsConnected, display_object};
 ghost use Rattle.wl_client.specs.Steps.{CallOf};
 ghost use Rattle.wl_client.specs.declared.step.Reply.TheVariants as reply;
@@ -194,6 +195,7 @@ impl<T: Drop, U: Drop> Backend<T, U> {
     /// nothing.
     pub fn take_notes(&mut self) -> Vec<Note>
         ensures call { CallsLocally self.old step.TakeNotes (reply.TakeNotes result) self.new }
+        ensures plain { TakesNotes self.old.session result.items self.new.session }
         ensures taken { result.items ≡ self.old.session.notes }
         ensures left { self.new.session ≡ record self.old.session { notes = [] } }
         ensures refused { self.new.refused ≡ false }
@@ -210,6 +212,7 @@ impl<T: Drop, U: Drop> Backend<T, U> {
     /// received never grows beyond 65536 bytes.
     pub fn set_max_buffer_size(&mut self, max_buffer_size: Option<usize>)
         ensures call { CallsLocally self.old (step.SetMaxBufferSize max_buffer_size) reply.SetMaxBufferSize self.new }
+        ensures plain { SetsLimit self.old.session max_buffer_size self.new.session }
         ensures set { (link : LinkState T) × LimitSet self.old.session.link max_buffer_size link
             × (self.new.session ≡ record self.old.session { link = link }) }
         ensures refused { self.new.refused ≡ false }
@@ -221,6 +224,7 @@ impl<T: Drop, U: Drop> Backend<T, U> {
     /// Does nothing and returns `Ok(0)`: there is no inner queue.
     pub fn dispatch_inner_queue(&mut self) -> Result<usize, WaylandError>
         ensures call { CallsLocally self.old step.DispatchInnerQueue (reply.DispatchInnerQueue result) self.new }
+        ensures plain { (result ≡ Ok 0) × (self.new.session ≡ self.old.session) }
         ensures answer { result ≡ Ok 0 }
         ensures session { self.new.session ≡ self.old.session }
         ensures refused { self.new.refused ≡ false }
@@ -235,6 +239,7 @@ impl<T: Transport + Drop, U: Drop> Backend<T, U> {
     /// are there keep their ids, and nothing else of the session changes. After an error the table is as it was.
     pub fn add_interfaces(&mut self, interfaces: Vec<Interface>) -> Result<(), TableError>
         ensures call { IsGrowth (CallOf T.sends T.receives) self.old (interface_rows interfaces.items) result self.new }
+        ensures plain { AddsInterfaces self.old.session (interface_rows interfaces.items) result self.new.session }
         ensures answer { AnswersGrowth self.old.session.table (interface_rows interfaces.items) result }
         ensures session { self.new.session
             ≡ record self.old.session { table = grown self.old.session.table (interface_rows interfaces.items) result } }

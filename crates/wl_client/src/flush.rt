@@ -3,6 +3,7 @@
 ghost use Rattle.std.specs.Prelude.{◌≡◌};
 ghost use Rattle.wl_client.specs.Accounts.{Calls};
 ghost use Rattle.wl_client.specs.Finish.{SessionFlushed};
+ghost use Rattle.wl_client.specs.Plain.Calls.{FlushesSession};
 ghost use Rattle.wl_client.specs.Steps.{CallOf, refused_flush};
 ghost use Rattle.wl_client.specs.declared.step.Reply.TheVariants as reply;
 ghost use Rattle.wl_client.specs.declared.step.Step.TheVariants as step;
@@ -29,6 +30,7 @@ impl<T: Transport + Drop, U: Drop> Backend<T, U> {
     /// - `OutOfMemory` if the transport had no memory. What was not sent still waits.
     pub fn flush(&mut self) -> Result<(), FlushError>
         ensures call { Calls (CallOf T.sends T.receives) self.old step.Flush (reply.Flush result) self.new }
+        ensures plain { FlushesSession T.sends self.old.session result self.new.session }
         ensures flushed { SessionFlushed T.sends self.old.session result self.new.session }
         ensures refused { self.new.refused ≡ refused_flush result }
     {

@@ -8,6 +8,7 @@ ghost use Rattle.wl_client.specs.Objects.{info_of, user_data_of, DataSet, Destro
 ghost use Rattle.wl_client.specs.Finish.{data_given};
 ghost use Rattle.wl_client.specs.Inside.Sending.{given_up_at};
 ghost use Rattle.wl_client.specs.Accounts.{CallsLocally, LendsAsCall};
+ghost use Rattle.wl_client.specs.Plain.Calls.{DestroysObject, SetsData, SetsWhatIsLeft};
 ghost use Rattle.wl_client.specs.Steps.{refused_destroy};
 ghost use Rattle.wl_client.specs.declared.step.Reply.TheVariants as reply;
 ghost use Rattle.wl_client.specs.declared.step.Step.TheVariants as step;
@@ -215,6 +216,7 @@ impl<T: Drop, U: Drop> Backend<T, U> {
     /// the given data are dropped.
     pub fn set_data(&mut self, id: &ObjectId, user_data: U) -> Result<(), InvalidId>
         ensures call { CallsLocally self.old (step.SetData id.now user_data) (reply.SetData result) self.new }
+        ensures plain { SetsData self.old.session id.now user_data result self.new.session }
         ensures set { DataSet self.old.session id.now user_data result self.new.session }
         ensures refused { self.new.refused ≡ false }
     {
@@ -234,6 +236,7 @@ impl<T: Drop, U: Drop> Backend<T, U> {
     ) -> Result<R, InvalidId>
         requires { F.IsAlwaysCallable f }
         ensures call { LendsAsCall (FnOnceReturnsAtMut F.FnOnce f) self.old id.now result self.new }
+        ensures plain { SetsWhatIsLeft (FnOnceReturnsAtMut F.FnOnce f) self.old.session id.now result self.new.session }
         ensures lent { LendsData (FnOnceReturnsAtMut F.FnOnce f) self.old.session id.now result self.new.session }
         ensures refused { self.new.refused ≡ false }
     {
@@ -249,6 +252,7 @@ impl<T: Drop, U: Drop> Backend<T, U> {
     /// error changes nothing.
     pub fn destroy_object(&mut self, id: &ObjectId) -> Result<(), DestroyError>
         ensures call { CallsLocally self.old (step.DestroyObject id.now) (reply.DestroyObject result) self.new }
+        ensures plain { DestroysObject self.old.session id.now result self.new.session }
         ensures destroyed { DestroyedBy self.old.session id.now result self.new.session }
         ensures refused { self.new.refused ≡ refused_destroy result }
     {

@@ -14,9 +14,11 @@ pub mod Cleanup
 pub mod Arguments
 pub mod ReadingEnds
 pub mod ReadingNotes
+pub mod Staying
 pub mod Reading
 pub mod Reasons
 pub mod Insertion
 pub mod Globals
 pub mod Events
 pub mod Errors
+pub mod Dispatch

@@ -9,6 +9,7 @@ ghost use Rattle.std.specs.Prelude.{◌≡◌, false};
 ghost use Rattle.wl_server.specs.Dispatch.{DispatchesAll, DispatchesClient, answering, after_cleanup, total_with};
 ghost use Rattle.wl_server.specs.Inside.Dispatching.{CleansUp};
 ghost use Rattle.wl_server.specs.PartStep.{over};
+ghost use Rattle.wl_server.specs.Plain.Dispatch.{DispatchLeaves, DispatchesLeave};
 
 mod request_handler;
 mod serve;
@@ -74,7 +75,8 @@ impl<T: Transport + Drop, U: Drop, G: GlobalHandler<C> + Drop, C: Drop> Backend<
         handler: &mut H,
         client: &ClientId,
     ) -> Result<usize, IoFault>
-        ensures { DispatchesClient (over T.sends T.receives G.views) (answering H.requests H.binds) client.now handler.old self.old.server result handler.new self.new }
+        ensures call { DispatchesClient (over T.sends T.receives G.views) (answering H.requests H.binds) client.now handler.old self.old.server result handler.new self.new }
+        ensures plain { DispatchLeaves client.now result self.new }
     {
         self.begin_dispatch();
         let answer = self.serve(handler, client);
@@ -95,7 +97,8 @@ impl<T: Transport + Drop, U: Drop, G: GlobalHandler<C> + Drop, C: Drop> Backend<
         handler: &mut H,
         clients: &[ClientId],
     ) -> Result<usize, IoFault>
-        ensures { DispatchesAll (over T.sends T.receives G.views) (answering H.requests H.binds) clients.now handler.old self.old.server result handler.new self.new }
+        ensures call { DispatchesAll (over T.sends T.receives G.views) (answering H.requests H.binds) clients.now handler.old self.old.server result handler.new self.new }
+        ensures plain { DispatchesLeave result self.new }
     {
         self.begin_dispatch();
         let mut total = 0;

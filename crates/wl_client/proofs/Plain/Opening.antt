@@ -146,7 +146,7 @@ module _ {U : Type 0} where
   had_none s t n stay none = none_unless (alive (held s n)) (λ is. true≢false (sym (stay n is) ∙ ap is_some none))
 
   -- a number that is vacated is another one's
-  vacated_elsewhere : (store : Store (Kept U)) (k n : ℕ) → k ≢ n → held (vacated store n) k ≡ held store k
+  pub vacated_elsewhere : (store : Store (Kept U)) (k n : ℕ) → k ≢ n → held (vacated store n) k ≡ held store k
   vacated_elsewhere store k n differ = at (is_destroyed (held store n))
     where
       at : (b : Bool) → held (cond b (removed store n) store) k ≡ held store k
@@ -175,7 +175,7 @@ module _ {U : Type 0} where
       stays = ap (λ (b : Bool). cond b (removed objects.store k) objects.store) (ap is_destroyed holds ∙ live)
 
   -- a new object takes a number that had none
-  new_number : (objects : Objects (Kept U)) (n : ℕ) → is_valid_new objects n ≡ true → alive (held objects.store n) ≡ None
+  pub new_number : (objects : Objects (Kept U)) (n : ℕ) → is_valid_new objects n ≡ true → alive (held objects.store n) ≡ None
   new_number objects n valid =
       none_unless (alive (held objects.store n))
       (λ is. let (x, there, live) = alive_is (held objects.store n) is in other_number objects n n x live there valid refl)

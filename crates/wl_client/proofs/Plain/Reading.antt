@@ -17,12 +17,13 @@ use Rattle.wl_client.specs.declared.objects.Kept.{Kept}
 use Rattle.wl_client.specs.declared.protocol_error.EventFault.TheVariants as wrong
 use Rattle.wl_client.specs.Events.{error_of}
 use Rattle.wl_client.specs.Handling.{Breaks, Handling, HandsOut, Swallows, handed, handling}
-use Rattle.wl_client.specs.Plain.{CanRead, EventIsOpen, HasFailed, IsMade, KeepsRest, ReadsEvent, new_id_in}
+use Rattle.wl_client.specs.Plain.{CanRead, EventIsOpen, HasFailed, IdsStay, IsMade, KeepsRest, ReadsEvent, new_id_in}
 use Rattle.wl_client.specs.Reading.{NextEvent, answered, client, core_after, event_in, faulted, objects_in, reader_state_of, reads_on, receives_allowed, starved_to, verdict}
 use Rattle.wl_client.specs.ObjectId.{IdParts}
 use Rattle.wl_client.specs.Requests.{SessionMessage}
 use Rattle.wl_client.specs.Session.{Core, SessionState, core_of}
 use Rattle.wl_client.proofs.Plain.Opening.{Opens, OpensIn, Stay, had_none, makes_new, opens}
+use Rattle.wl_client.proofs.Plain.Staying.{IdsStayIn, ids_same, ids_stay, ids_then}
 
 pub when_true : {P : Type 0} (Q : Type 0) (b : Bool) → b ≡ true → MatchBool b P Q → P
 when_true Q true is h = h
@@ -92,9 +93,9 @@ module _ {U : Type 0} where
 
   -- a receive that failed
   faulted_so : (c : Core U) → CanRead c → (f : IoFault) → CameTo c (Some f) [] (faulted c f) × KeepsRest c (faulted c f)
-  faulted_so c live fault.WouldBlock = ((refl, live), (refl, refl))
-  faulted_so c live fault.OutOfMemory = ((refl, live), (refl, refl))
-  faulted_so c live _ = ((refl, (refl, live.1)), (refl, refl))
+  faulted_so c live fault.WouldBlock = ((refl, live), (refl, refl, ids_same (objects_in c)))
+  faulted_so c live fault.OutOfMemory = ((refl, live), (refl, refl, ids_same (objects_in c)))
+  faulted_so c live _ = ((refl, (refl, live.1)), (refl, refl, ids_same (objects_in c)))
 
 module _ {T U : Type 0} (sends : T → Queue → Result ℕ IoFault → T → Type 0) (receives : T → ℕ → Result Queue IoFault → T → Type 0) where
   -- a reader that no longer reads on stops here
@@ -118,13 +119,21 @@ module _ {T U : Type 0} (sends : T → Queue → Result ℕ IoFault → T → Ty
   module _ (c : Core U) (live : CanRead c) (left : ℕ) (first : List (Given SessionMessage)) (lacked : Bool) (mid after : ReaderState T (Core U)) (turns : List Turn)
       (out rest : Gives SessionMessage) (split : out ≡ given_first first lacked rest) (more : Reads sends client receives left mid turns rest after)
       (again : CanRead mid.core → Ended mid.core rest after.core) where
+    -- each id but those that were made names what it named
+    stayed : (d : Core U) → IdsStay (objects_in c) (objects_in d) → mid.core ≡ d → IdsStay (objects_in c) (objects_in mid.core)
+    stayed d ids is = subst (λ (e : Core U). IdsStay (objects_in c) (objects_in e)) (sym is) ids
+
     -- the message did nothing more, and the reading goes on
-    goes_on : (o : Objects (Kept U)) → Stay c.store o.store → first ≡ [] → mid.core ≡ core_after c (Swallows o) → Ended c out after.core
-    goes_on o stay none is =
+    goes_on : (o : Objects (Kept U)) → Stay c.store o.store → IdsStay (objects_in c) o → first ≡ [] → mid.core ≡ core_after c (Swallows o) → Ended c out after.core
+    goes_on o stay ids none is =
         let rec = again (ap (λ (d : Core U). d.error) is ∙ live.0, ap (λ (d : Core U). d.open_event) is ∙ live.1) in
         subst (λ (g : Gives SessionMessage). Ended c g after.core) (sym (split ∙ ap (λ (f : List (Given SessionMessage)). given_first f lacked rest) none))
         (record {
-          kept = (rec.kept.0 ∙ ap (λ (d : Core U). d.table) is, rec.kept.1 ∙ ap (λ (d : Core U). d.notes) is);
+          kept = (
+            rec.kept.0 ∙ ap (λ (d : Core U). d.table) is,
+            rec.kept.1 ∙ ap (λ (d : Core U). d.notes) is,
+            ids_then (objects_in c) (objects_in mid.core) (objects_in after.core) (stayed _ ids is) rec.kept.2,
+          );
           came =
               came_before c mid.core after.core rest.stopped rest.gave
               (subst (λ (s : Store (Kept U)). Stay c.store s) (sym (ap (λ (d : Core U). d.store) is)) stay) rec.came;
@@ -140,16 +149,18 @@ module _ {T U : Type 0} (sends : T → Queue → Result ℕ IoFault → T → Ty
         (sym (split ∙ ap₂ (λ (f : List (Given SessionMessage)) (r : Gives SessionMessage). given_first f lacked r) is rest_is))
         (record { kept = kept; came = came }))
 
-    fails : (o : Objects (Kept U)) (w : WaylandError) → first ≡ [] → mid.core ≡ record c { store = o.store; last_serial = o.last_serial; error = Some w } → Ended c out after.core
-    fails o w none is =
+    fails : (o : Objects (Kept U)) (w : WaylandError) → IdsStay (objects_in c) o → first ≡ []
+        → mid.core ≡ record c { store = o.store; last_serial = o.last_serial; error = Some w } → Ended c out after.core
+    fails o w ids none is =
         let failed : IsSome mid.core.error = ap (λ (d : Core U). is_some d.error) is in
-        ends_at [] none (failed_off mid.core failed) (ap (λ (d : Core U). d.table) is, ap (λ (d : Core U). d.notes) is)
+        ends_at [] none (failed_off mid.core failed) (ap (λ (d : Core U). d.table) is, ap (λ (d : Core U). d.notes) is, stayed _ ids is)
         (inr (refl, (failed, ap (λ (d : Core U). d.open_event) is ∙ live.1)))
 
-    hands : (m : SessionMessage) (event : OpenEvent) (o : Objects (Kept U)) → Opens c.table c.store m event o → first ≡ HandedOut m ∷ []
+    hands : (m : SessionMessage) (event : OpenEvent) (o : Objects (Kept U)) → Opens c.table c.store m event o → IdsStay (objects_in c) o → first ≡ HandedOut m ∷ []
         → mid.core ≡ record c { store = o.store; last_serial = o.last_serial; open_event = Some event } → Ended c out after.core
-    hands m event o so is same =
-        ends_at (HandedOut m ∷ []) is (opened_off mid.core event (ap (λ (d : Core U). d.open_event) same)) (ap (λ (d : Core U). d.table) same, ap (λ (d : Core U). d.notes) same)
+    hands m event o so ids is same =
+        ends_at (HandedOut m ∷ []) is (opened_off mid.core event (ap (λ (d : Core U). d.open_event) same))
+        (ap (λ (d : Core U). d.table) same, ap (λ (d : Core U). d.notes) same, stayed _ ids same)
         (inl (
           m,
           refl,
@@ -168,14 +179,14 @@ module _ {T U : Type 0} (sends : T → Queue → Result ℕ IoFault → T → Ty
               }),
         ))
 
-    handled : (h : Handling U) → OpensIn c.table c.store h → first ≡ map HandedOut (handed h)
+    handled : (h : Handling U) → OpensIn c.table c.store h → IdsStayIn (objects_in c) h → first ≡ map HandedOut (handed h)
         → (mid.core ≡ core_after c h) ⊎ (mid.core ≡ starved_to c h) → Ended c out after.core
-    handled (Swallows o) so is (inl came) = goes_on o so is came
-    handled (Swallows o) so is (inr came) = goes_on o so is came
-    handled (HandsOut m event o) so is (inl came) = hands m event o so is came
-    handled (HandsOut m event o) so is (inr came) = hands m event o so is came
-    handled (Breaks e o) so is (inl came) = fails o _ is came
-    handled (Breaks e o) so is (inr came) = fails o _ is came
+    handled (Swallows o) so ids is (inl came) = goes_on o so ids is came
+    handled (Swallows o) so ids is (inr came) = goes_on o so ids is came
+    handled (HandsOut m event o) so ids is (inl came) = hands m event o so ids is came
+    handled (HandsOut m event o) so ids is (inr came) = hands m event o so ids is came
+    handled (Breaks e o) so ids is (inl came) = fails o _ ids is came
+    handled (Breaks e o) so ids is (inr came) = fails o _ ids is came
 
   reads_end : (left : ℕ) (p after : ReaderState T (Core U)) (turns : List Turn) (out : Gives SessionMessage) → Reads sends client receives left p turns out after
       → CanRead p.core → Ended p.core out after.core
@@ -183,10 +194,10 @@ module _ {T U : Type 0} (sends : T → Queue → Result ℕ IoFault → T → Ty
       subst (λ (q : ReaderState T (Core U)). Ended p.core out q.core) (sym same) (halts (when_true _ (reads_on p.core) (live_on p.core live) ends))
     where
       blocks : (n : ℕ) → out ≡ stops (Some fault.WouldBlock) false n → Ended p.core out p.core
-      blocks n is = subst (λ (g : Gives SessionMessage). Ended p.core g p.core) (sym is) (record { kept = (refl, refl); came = (refl, live) })
+      blocks n is = subst (λ (g : Gives SessionMessage). Ended p.core g p.core) (sym is) (record { kept = (refl, refl, ids_same (objects_in p.core)); came = (refl, live) })
 
       starves : (n : ℕ) → out ≡ stops (Some fault.OutOfMemory) true n → Ended p.core out p.core
-      starves n is = subst (λ (g : Gives SessionMessage). Ended p.core g p.core) (sym is) (record { kept = (refl, refl); came = (refl, live) })
+      starves n is = subst (λ (g : Gives SessionMessage). Ended p.core g p.core) (sym is) (record { kept = (refl, refl, ids_same (objects_in p.core)); came = (refl, live) })
 
       halts : Halts sends client left p out → Ended p.core out p.core
       halts (inl (lacks, none, is)) = blocks left is
@@ -208,11 +219,11 @@ module _ {T U : Type 0} (sends : T → Queue → Result ℕ IoFault → T → Ty
       let h = handling p.core.table (objects_in p.core) m in
       let so = carries p.core h link es first lacked mid (subst (λ (w : Verdict (Core U) SessionMessage). CarriesOut sends client w link es first lacked mid) is carried) in
       handled p.core live left first lacked mid after turns out rest split more (λ on. reads_end left mid after turns rest more on) h
-      (opens p.core.table (objects_in p.core) m (makes_new sends p m link read)) so.0 so.1
+      (opens p.core.table (objects_in p.core) m (makes_new sends p m link read)) (ids_stay p.core.table (objects_in p.core) m) so.0 so.1
   reads_end left p after (Unread es ∷ turns) out (on, (v, link, first, lacked, mid, rest, (read, same, is), carried, split, more)) live =
       let h : Handling U = Breaks (error_of p.core.table wrong.Malformed) (objects_in p.core) in
       let so = carries p.core h link es first lacked mid (subst (λ (w : Verdict (Core U) SessionMessage). CarriesOut sends client w link es first lacked mid) is carried) in
-      handled p.core live left first lacked mid after turns out rest split more (λ on. reads_end left mid after turns rest more on) h tt so.0 so.1
+      handled p.core live left first lacked mid after turns out rest split more (λ on. reads_end left mid after turns rest more on) h tt (ids_same (objects_in p.core)) so.0 so.1
 
   -- the answer, by how the reading ended
   answers_so : (s after : SessionState T U) → CanRead (core_of s) → KeepsRest (core_of s) (core_of after) → (stopped : Option IoFault) (gave : List (Given SessionMessage))

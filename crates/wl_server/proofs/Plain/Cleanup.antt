@@ -41,13 +41,13 @@ module _ {T U G C : Type 0} (w : World T G C) (id : ClientParts) (offer : Offer 
             (one_value s.part here there) found
       ]
 
-  cleaned_killed : (p : Part T U C) → s.part ≡ Some p → p.is_killed ≡ true → CleanedAs w id offer (Ok out) s lacked did t → HandsOut w.sends p (share_of id out.items) t.part
+  pub cleaned_killed : (p : Part T U C) → s.part ≡ Some p → p.is_killed ≡ true → CleanedAs w id offer (Ok out) s lacked did t → HandsOut w.sends p (share_of id out.items) t.part
   cleaned_killed p there killed h =
       let (q, cleans, same) = cleaned p there h in
       let (sent, answer, end, (es, link, by, memory, did_so, is), did_all, handed, gone) = when_true _ p.is_killed killed cleans in
       (answer, link, (es, by), handed ∙ ap (λ (x : Part T U C). x.link.transport ∷ []) is, ap (λ (x : Seen T U C). x.part) same ∙ gone)
 
-  cleaned_live : (p : Part T U C) → s.part ≡ Some p → p.is_killed ≡ false → CleanedAs w id offer (Ok out) s lacked did t
+  pub cleaned_live : (p : Part T U C) → s.part ≡ Some p → p.is_killed ≡ false → CleanedAs w id offer (Ok out) s lacked did t
       → (share_of id out.items ≡ []) × (t.part ≡ Some (record p { waiting = [] })) × (t.made ≡ s.made ++ p.waiting)
   cleaned_live p there live h =
       let (q, cleans, same) = cleaned p there h in
@@ -57,7 +57,7 @@ module _ {T U G C : Type 0} (w : World T G C) (id : ClientParts) (offer : Offer 
         ap (λ (x : Seen T U C). x.made) same ∙ ap (λ (d : List (Deed U)). s.made ++ notes_in d) did_so ∙ ap (λ (n : List (Happening U)). s.made ++ n) (all_noted p.waiting),
       )
 
-  cleaned_none : s.part ≡ None → CleanedAs w id offer (Ok out) s lacked did t → (share_of id out.items ≡ []) × (t ≡ s)
+  pub cleaned_none : s.part ≡ None → CleanedAs w id offer (Ok out) s lacked did t → (share_of id out.items ≡ []) × (t ≡ s)
   cleaned_none none h =
       elim (either_option s.part h) [
         | inl (absent, (nothing, (memory, nobody, same))) ↦ (nothing, same)

@@ -12,11 +12,12 @@ use Rattle.wl_server.specs.Backend.{BackendState, Calls}
 use Rattle.wl_server.specs.Deeds.{Deed, notes_in}
 use Rattle.wl_server.specs.Identified.{named_of}
 use Rattle.wl_server.specs.Ids.{ClientParts, IdParts, same_client}
-use Rattle.wl_server.specs.Lookups.{and_then}
+use Rattle.wl_server.specs.Lookups.{and_then, object_data_of}
 use Rattle.wl_server.specs.Objects.{DataSet}
 use Rattle.wl_server.specs.Part.{Part, id_of, named, same_id, with_user_data}
 use Rattle.wl_server.specs.PartStep.{OfClient, Quietly, World}
 use Rattle.wl_server.specs.Plain.{IsUnchanged, SetsObjectData}
+use Rattle.wl_server.specs.Plain.DataInPlace.{LendsObjectData, SetsWhatIsLeft}
 use Rattle.wl_server.specs.Server.{Seen, seen}
 use Rattle.wl_server.proofs.Plain.Base.{calm, ids_differ, keeps, never, notes_stay, nothing_new, of_each, other_stays, own, unchanged}
 use Rattle.wl_server.proofs.Plain.Naming.{names_so, rewritten_named, rewritten_others}
@@ -119,3 +120,14 @@ module _ {T U G C : Type 0} {w : World T G C} {before after : BackendState T U G
         none,
         unchanged call refl refl (λ id. let (lacked, did, h) = set_each o u (Err e) call id in set_refused o u (Err e) refl (same_client o.client id) lacked did _ _ h),
       )
+
+-- ---- data that are lent
+
+module _ {T U G C R : Type 0} (lend : U → R → U → Type 0) (w : World T G C) where
+  pub sets_what_is_left : (before : BackendState T U G C) (o : IdParts) (answer : Result R InvalidId) (after : BackendState T U G C) → LendsObjectData lend w before o answer after
+      → SetsWhatIsLeft lend before o answer after
+  sets_what_is_left before o answer after h =
+      elim (either_option (object_data_of before.server o) h) [
+        | inl (none, (is, same)) ↦ rw none (is, same)
+        | inr (u, some, (r, left, called, is, call, sets)) ↦ rw some (r, left, called, is, sets)
+      ]

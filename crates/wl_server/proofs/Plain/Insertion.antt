@@ -1,20 +1,24 @@
--- A client that is inserted, and limits.
-use Rattle.std.proofs.Common.{◌≡◌, ℕ, Bool, false, List, [], ◌++◌, Option, None, Some, Result, Ok, Err, MatchOption, refl, ap, subst, ◌∙◌}
+-- A client that is inserted, limits, and interfaces that are added.
+use Rattle.std.proofs.Common.{◌≡◌, ℕ, Bool, true, false, List, [], ◌++◌, Option, None, Some, Result, Ok, Err, MatchOption, refl, sym, ap, subst, ◌∙◌, true≢false}
+use mathlib.Core.Logic.{inl, inr}
+use Rattle.wl_wire.specs.declared.protocol.TableError.{TableError}
+use Rattle.wl_wire.specs.declared.protocol.TableError.TheVariants as table_error
+use Rattle.wl_wire.specs.Table.{InterfaceRow, refused_growth}
 use Rattle.wl_link.specs.Link.{LimitSet, LinkState}
 use Rattle.wl_server.specs.declared.error.InsertClientError.{InsertClientError}
 use Rattle.wl_server.specs.declared.runs.step.Reply.{Reply}
 use Rattle.wl_server.specs.declared.runs.step.Reply.TheVariants as reply
 use Rattle.wl_server.specs.declared.runs.step.Step.{Step}
 use Rattle.wl_server.specs.declared.runs.step.Step.TheVariants as step
-use Rattle.wl_server.specs.Backend.{BackendState, Calls}
+use Rattle.wl_server.specs.Backend.{BackendState, Calls, IsGrowth}
 use Rattle.wl_server.specs.Deeds.{Deed, notes_in}
 use Rattle.wl_server.specs.Ids.{ClientParts, same_client}
 use Rattle.wl_server.specs.Lookups.{and_then}
 use Rattle.wl_server.specs.Part.{Part, named, with_link}
-use Rattle.wl_server.specs.PartStep.{Asked, Call, InsertedAs, OfClient, Quietly, World}
-use Rattle.wl_server.specs.Plain.Calls.{InsertsClient, NewClientAs, SetsDefaultLimit, SetsLimit}
+use Rattle.wl_server.specs.PartStep.{Asked, Call, Grown, InsertedAs, OfClient, PartCall, Quietly, Unfelt, World}
+use Rattle.wl_server.specs.Plain.Calls.{AddsInterfaces, InsertsClient, NewClientAs, SetsDefaultLimit, SetsLimit}
 use Rattle.wl_server.specs.Server.{Seen, seen}
-use Rattle.wl_server.specs.Steps.{offer_after}
+use Rattle.wl_server.specs.Steps.{AnswersShared, Entry, OneStep, lacks_growth, offer_after}
 use Rattle.wl_server.proofs.CallSteps.Slots.{same_self}
 use Rattle.wl_server.proofs.Plain.Base.{calm, keeps, never, notes_stay, of_each, other_stays, own, when_false, when_true}
 
@@ -87,3 +91,42 @@ module _ {T U G C : Type 0} {w : World T G C} {before after : BackendState T U G
     clients = λ id. let (lacked, did, (is, (calm', none, same))) = of_each call id in same;
     memory = calm call refl (λ other lacked did (is, (calm', none, same)). calm');
   }
+
+-- ---- interfaces
+
+lacks_as : (T U G C : Type 0) (rows : List InterfaceRow) (answer : Result (Unit {0}) TableError)
+    → lacks_growth {T = T} {U = U} {G = G} {C = C} (Grown rows answer) ≡ refused_growth answer
+lacks_as T U G C rows (Err table_error.OutOfMemory) = refl
+lacks_as T U G C rows _ = refl
+
+module _ {T U G C : Type 0} (w : World T G C) (before after : BackendState T U G C) (rows : List InterfaceRow) (answer : Result (Unit {0}) TableError) where
+  -- what the call is of each client
+  unfelt : (e : Entry T U G C) → e.call ≡ Grown rows answer → OneStep w before.server e after.server → (id : ClientParts)
+      → Unfelt (seen id before.server) (e.lacks id) (e.did id) (seen id after.server)
+  unfelt e is by id =
+      subst (λ (c : Call T U G C). PartCall w id before.server.offer c (seen id before.server) (e.lacks id) (e.did id) (seen id after.server)) is (by.each id)
+
+  refused_as : (e : Entry T U G C) → e.call ≡ Grown rows answer → OneStep w before.server e after.server → e.refused ≡ refused_growth answer
+  refused_as e is by = at e.refused (refused_growth answer) refl refl
+    where
+      for_table : lacks_growth e.call ≡ refused_growth answer
+      for_table = ap lacks_growth is ∙ lacks_as T U G C rows answer
+
+      at : (b d : Bool) → e.refused ≡ b → refused_growth answer ≡ d → b ≡ d
+      at true true refused lacks = refl
+      at false false refused lacks = refl
+      at false true refused lacks = sym refused ∙ by.refused.1 (inl (for_table ∙ lacks))
+      at true false refused lacks =
+          elim (by.refused.0 refused) [
+            | inl growth ↦ absurd (true≢false (sym growth ∙ for_table ∙ lacks))
+            | inr (id, lacking) ↦ absurd (true≢false (sym lacking ∙ (unfelt e is by id).0))
+          ]
+
+  pub adds_interfaces : IsGrowth w before rows answer after → AddsInterfaces before rows answer after
+  adds_interfaces growth =
+      let (e, is, refused, by) = growth.step in record {
+        answered = subst (λ (c : Call T U G C). AnswersShared before.server.offer c) is by.global;
+        offer = subst (λ (c : Call T U G C). after.server.offer ≡ offer_after before.server.offer c) is by.offer;
+        clients = λ id. (unfelt e is by id).2;
+        memory = sym refused ∙ refused_as e is by;
+      }

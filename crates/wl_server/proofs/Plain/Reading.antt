@@ -24,9 +24,10 @@ use Rattle.wl_server.specs.Backend.{BackendState, Calls}
 use Rattle.wl_server.specs.Deeds.{Bind, Deed, Handed, Request, notes_in}
 use Rattle.wl_server.specs.Globals.{Offer}
 use Rattle.wl_server.specs.Ids.{ClientParts, IdParts, same_client}
-use Rattle.wl_server.specs.Part.{Part, fresh_object, id_at}
+use Rattle.wl_server.specs.Lookups.{and_then}
+use Rattle.wl_server.specs.Part.{Part, fresh_object, id_at, named}
 use Rattle.wl_server.specs.PartStep.{ReadsFor, World, around}
-use Rattle.wl_server.specs.Plain.Reading.{IsHandedOut, IsKilledOnce, LivesOn, OpenReadAs, ReadAs, ReadsClient}
+use Rattle.wl_server.specs.Plain.Reading.{IsHandedOut, IsKilledOnce, IsOld, LivesOn, OpenReadAs, ReadAs, ReadsClient}
 use Rattle.wl_server.specs.Reading.{Around, NextAction, action_content, answered, new_reading}
 use Rattle.wl_server.specs.ReadingEnds.{ComesOfLast, ReadingEnds}
 use Rattle.wl_server.specs.Server.{Seen, seen}
@@ -34,8 +35,9 @@ use Rattle.wl_server.specs.Telling.{Core, end_deeds, part_of, reader_part}
 use Rattle.wl_server.proofs.Plain.Base.{keeps, nothing_new, of_each, other_stays, own}
 use Rattle.wl_server.proofs.Plain.ReadingEnds.{reading_ends}
 use Rattle.wl_server.proofs.Plain.ReadingNotes.{notes_of_reading}
+use Rattle.wl_server.proofs.Plain.Staying.{reads_keep}
 
-split_bool : {P Q : Type 0} (b : Bool) → MatchBool b P Q → ((b ≡ true) × P) ⊎ ((b ≡ false) × Q)
+pub split_bool : {P Q : Type 0} (b : Bool) → MatchBool b P Q → ((b ≡ true) × P) ⊎ ((b ≡ false) × Q)
 split_bool true p = inl (refl, p)
 split_bool false q = inr (refl, q)
 
@@ -133,6 +135,37 @@ module _ {T U G C : Type 0} (sends : T → Queue → Result ℕ IoFault → T �
             ]
       ]
 
+  -- what an id of the client names, if it was not made by this reading
+  next_stays : (p q : Part T U C) (r r' : Reading) (answer : Result Handed ActionError) (lacked : Bool) (did : List (Deed U)) → NextAction sends receives a r p answer r' lacked did q
+      → (other : IdParts) → IsOld (Some p) other → named q.store other ≡ named p.store other
+  next_stays p q r r' answer lacked did h other old =
+      elim (either_option p.action h) [
+        | inr (action, is_open, (says, same, calm, none, stays)) ↦ ap (λ (x : Part T U C). named x.store other) stays
+        | inl (idle, g) ↦
+            elim (split_bool p.is_killed g) [
+              | inl (dead, (says, same, calm, none, stays)) ↦ ap (λ (x : Part T U C). named x.store other) stays
+              | inr (live, (turns, out, end, reads, says, same, calm, did_so, after)) ↦
+                  ap (λ (x : Part T U C). named x.store other) after ∙ (reads_keep sends receives a r.turns_left (reader_part p) turns out end reads).ids other old
+            ]
+      ]
+
+module _ {T U G C : Type 0} (w : World T G C) (id target : ClientParts) (offer : Offer G) (r r' : Reading) (answer : Result Handed ActionError) (s t : Seen T U C) (lacked : Bool)
+    (did : List (Deed U)) where
+  pub stays_named : ReadsFor w id offer target r answer r' s lacked did t → (other : IdParts) → IsOld s.part other
+      → and_then t.part (λ p. named p.store other) ≡ and_then s.part (λ p. named p.store other)
+  stays_named h other old =
+      elim (split_bool (same_client target id) h) [
+        | inr (about, (calm, nothing, same)) ↦ ap (λ (x : Seen T U C). and_then x.part (λ p. named p.store other)) same
+        | inl (about, g) ↦
+            elim (either_option s.part g) [
+              | inl (none, (says, (calm, nothing, same))) ↦ ap (λ (x : Seen T U C). and_then x.part (λ p. named p.store other)) same
+              | inr (p, there, (q, next, same)) ↦
+                  ap (λ (x : Seen T U C). and_then x.part (λ p. named p.store other)) same
+                  ∙ next_stays w.sends w.receives (around w id offer) p q r r' answer lacked did next other (subst (λ (o : Option (Part T U C)). IsOld o other) there old)
+                  ∙ ap (λ (o : Option (Part T U C)). and_then o (λ p. named p.store other)) (sym there)
+            ]
+      ]
+
 module _ {T U G C : Type 0} (w : World T G C) (id : ClientParts) (offer : Offer G) (r r' : Reading) (answer : Result Handed ActionError) (s t : Seen T U C) (lacked : Bool) (did : List (Deed U)) where
   pub reads_as : ReadsFor w id offer id r answer r' s lacked did t → ReadAs offer.table id answer s t
   reads_as h =
@@ -152,6 +185,9 @@ module _ {T U G C : Type 0} (w : World T G C) (before after : BackendState T U G
   reads_all : (r : Reading) (answer : Result Action ActionError) → Each r answer → ReadsClient before id answer after
   reads_all r answer each = record {
     client = (let (lacked, did, r', h) = each id in reads_as w id before.server.offer r r' (action_content answer) _ _ lacked did h);
+    objects = λ other old.
+        let (lacked, did, r', h) = each other.client in
+        stays_named w other.client id before.server.offer r r' (action_content answer) _ _ lacked did h other old;
     clients = λ other differ. let (lacked, did, r', h) = each other in other_stays (same_client id other) _ _ _ lacked did _ differ h;
     stored = λ other.
         let (lacked, did, r', h) = each other in

@@ -325,7 +325,7 @@ module _ {T U C : Type 0} (sends : T → Queue → Result ℕ IoFault → T → 
       ]
 
   -- whether memory is refused is told by the answer
-  own_lacks : (s t : Seen T U C) (lacked : Bool) (did : List (Deed U)) → lacks_finish answer ≡ true → Of (same_client client client) s lacked did t → lacked ≡ true
+  pub own_lacks : (s t : Seen T U C) (lacked : Bool) (did : List (Deed U)) → lacks_finish answer ≡ true → Of (same_client client client) s lacked did t → lacked ≡ true
   own_lacks s t lacked did lacks h =
       elim (either_option s.part (own client s (Does sends client u answer lacked did) (Unknown u answer) lacked did t h)) [
         | inl (none, (is, rest)) ↦ absurd (true≢false (sym lacks ∙ ap (λ (a : Answer U). lacks_finish a) is))

@@ -1,11 +1,15 @@
--- What a program finds after an insertion of a client, and after a limit was set, in the words of the look-ups.
+-- What a program finds after an insertion of a client, after a limit was set, and after interfaces were added, in the words of the
+-- look-ups.
 --
 -- A contract that cites one of these has another clause beside it, `call`, from which it follows.
-use Rattle.std.specs.Prelude.{◌≡◌, ℕ, ◌∷◌, [], ◌++◌, false, None, Some, Result, Ok, Err, MatchOption}
+use Rattle.std.specs.Prelude.{◌≡◌, ℕ, List, ◌∷◌, [], ◌++◌, false, None, Some, Result, Ok, Err, MatchOption}
+use Rattle.wl_wire.specs.declared.protocol.TableError.{TableError}
+use Rattle.wl_wire.specs.Table.{AnswersGrowth, InterfaceRow, grown, refused_growth}
 use Rattle.wl_link.specs.Link.{IsFresh, LimitSet, LinkState}
 use Rattle.wl_server.specs.declared.error.InsertClientError.{InsertClientError}
 use Rattle.wl_server.specs.declared.notes.Happening.TheVariants.{Initialized}
 use Rattle.wl_server.specs.Backend.{BackendState}
+use Rattle.wl_server.specs.Globals.{with_table}
 use Rattle.wl_server.specs.Ids.{ClientParts}
 use Rattle.wl_server.specs.Part.{fresh_part, with_link}
 use Rattle.wl_server.specs.Plain.{ObjectsStay, OtherClientsStay, client_in, notes_made_in}
@@ -46,3 +50,11 @@ module _ {T U G C : Type 0} where
     pub offer : after.server.offer ≡ record before.server.offer { default_limit = limit }
     pub clients : ClientsStay before after
     pub memory : after.refused ≡ false
+
+  -- The table has the new rows behind the others. Or it answers why not, and is as before. No client has changed, and no global.
+  pub record AddsInterfaces (before : BackendState T U G C) (rows : List InterfaceRow) (answer : Result (Unit {0}) TableError) (after : BackendState T U G C)
+      : Type 0 where
+    pub answered : AnswersGrowth before.server.offer.table rows answer
+    pub offer : after.server.offer ≡ with_table before.server.offer (grown before.server.offer.table rows answer)
+    pub clients : ClientsStay before after
+    pub memory : after.refused ≡ refused_growth answer

@@ -1,4 +1,4 @@
--- User data of an object that are lent to a closure.
+-- User data of an object that are lent to a closure, and what a program finds then.
 use Rattle.std.specs.Prelude.{◌≡◌, false, Option, None, Some, Result, Ok, Err, MatchOption}
 use Rattle.wl_link.specs.declared.object.Object.{Object}
 use Rattle.wl_link.specs.Store.{Store, rewritten}
@@ -35,3 +35,10 @@ module _ {U R : Type 0} (call : U → R → U → Type 0) where
       MatchOption (object_data_of before.server id) ((answer ≡ Err _) × (after ≡ record before { refused = false }))
       (λ u. (r : R) × (left : U) × call u r left × (answer ≡ Ok r)
       × Calls w before (step.SetObjectData id left) (reply.SetObjectData (Ok tt)) after × SetsObjectData before id left (Ok tt) after)
+
+  -- The closure is called once with the user data of the object that the id names, which has what the call left. Without such
+  -- data it is not called, and nothing has changed.
+  abbrev pub SetsWhatIsLeft : {T G C : Type 0} → BackendState T U G C → IdParts → Result R InvalidId → BackendState T U G C → Type 0
+  SetsWhatIsLeft before id answer after =
+      MatchOption (object_data_of before.server id) ((answer ≡ Err _) × (after ≡ record before { refused = false }))
+      (λ u. (r : R) × (left : U) × call u r left × (answer ≡ Ok r) × SetsObjectData before id left (Ok tt) after)

@@ -1,7 +1,7 @@
 -- What a program finds of a client after a reading: what is handed out, and whether the client lives.
 --
 -- A contract that cites `ReadsClient` has another clause beside it, `call`, from which it follows.
-use Rattle.std.specs.Prelude.{◌≡◌, ◌⊎◌, ℕ, List, ◌∷◌, [], ◌++◌, true, false, None, Some, IsSome, is_some, Result, Ok, Err}
+use Rattle.std.specs.Prelude.{◌≡◌, ◌⊎◌, ◌≤◌, ℕ, List, ◌∷◌, [], ◌++◌, true, false, Option, None, Some, IsSome, is_some, Result, Ok, Err}
 use Rattle.wl_wire.specs.declared.error.IoFault.{IoFault}
 use Rattle.wl_wire.specs.declared.error.IoFault.TheVariants as fault
 use Rattle.wl_wire.specs.MessageRows.{request_row}
@@ -17,9 +17,9 @@ use Rattle.wl_server.specs.declared.reading.action.Action.{Action}
 use Rattle.wl_server.specs.declared.reading.action.OpenAction.TheVariants as opened
 use Rattle.wl_server.specs.Backend.{BackendState}
 use Rattle.wl_server.specs.Deeds.{Bind, Handed, Request}
-use Rattle.wl_server.specs.Ids.{ClientParts}
-use Rattle.wl_server.specs.Part.{Part, fresh_object, id_at}
-use Rattle.wl_server.specs.Plain.{OtherClientsStay, client_in}
+use Rattle.wl_server.specs.Ids.{ClientParts, IdParts}
+use Rattle.wl_server.specs.Part.{Part, fresh_object, id_at, named}
+use Rattle.wl_server.specs.Plain.{OtherClientsStay, client_in, object_in}
 use Rattle.wl_server.specs.Reading.{action_content}
 use Rattle.wl_server.specs.ReadingEnds.{MakesItsObject, ObjectsFit}
 use Rattle.wl_server.specs.Server.{Seen, seen}
@@ -71,9 +71,17 @@ module _ {T U C : Type 0} (table : List InterfaceRow) (id : ClientParts) where
       ⊎ (((p.action ≡ None) × (p.is_killed ≡ true) × (answer ≡ Err (Io fault.Pipe)) × (after ≡ before))
       ⊎ ((p.action ≡ None) × (p.is_killed ≡ false) × ((q : Part T U C) × OpenReadAs answer before q after)))))
 
+module _ {T U C : Type 0} where
+  -- the id names an object of the client, or its serial was given out
+  abbrev pub IsOld : Option (Part T U C) → IdParts → Type 0
+  IsOld None id = Unit {0}
+  IsOld (Some p) id = IsSome (named p.store id) ⊎ (id.serial ≤ p.last_serial)
+
 module _ {T U G C : Type 0} where
-  -- A reading: what it answers and leaves of its client, and that the others are as before.
+  -- A reading: what it answers and leaves of its client. Each id but those that it made names what it named, and the other
+  -- clients are as before.
   pub record ReadsClient (before : BackendState T U G C) (id : ClientParts) (answer : Result Action ActionError) (after : BackendState T U G C) : Type 0 where
     pub client : ReadAs before.server.offer.table id (action_content answer) (seen id before.server) (seen id after.server)
+    pub objects : (other : IdParts) → IsOld (client_in before other.client) other → object_in after other ≡ object_in before other
     pub clients : OtherClientsStay before id after
     pub stored : (other : ClientParts) → is_some (client_in after other) ≡ is_some (client_in before other)

@@ -38,10 +38,10 @@ impl<T: Transport + Drop, U: Drop, G: GlobalHandler<C> + Drop, C: Drop> Backend<
     ///
     /// The error is `InvalidId` if the client is not stored.
     pub fn transport_mut(&mut self, id: &ClientId) -> Result<&mut T, InvalidId>
+        ensures call { OnOk result ((t : _) → IsChange (over T.sends T.receives G.views) self.old.server id.now t (server_over self.old.server id.now t)) }
         ensures* lends { sem 𝓛 (LendsServerTransport T.row U.row G.row C.row self.entry id.now result) }
         ensures value { MatchResult result (λ transport. transport_of self.old.server id.now ≡ Some transport.now)
             (λ _. transport_of self.old.server id.now ≡ None) }
-        ensures step { OnOk result ((t : _) → IsChange (over T.sends T.receives G.views) self.old.server id.now t (server_over self.old.server id.now t)) }
     {
         let Some(client) = lend_stored(&mut self.clients, id) else {
             return Err(InvalidId);

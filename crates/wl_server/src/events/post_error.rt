@@ -129,8 +129,8 @@ impl<T: Transport + Drop, U: Drop, G: GlobalHandler<C> + Drop, C: Drop> Backend<
     /// told, and what waits is flushed. If the id is null or its client is not stored, nothing happens.
     pub fn post_error(&mut self, id: &ObjectId, code: u32, text: CString)
         ensures call { Calls (over T.sends T.receives G.views) self.old (step.PostError id.now code text) reply.PostError self.new }
-        ensures exactly { PostsExactly T.sends self.old id.now code text self.new }
         ensures plain { KillsForError self.old id.now code text self.new }
+        ensures exactly { PostsExactly T.sends self.old id.now code text self.new }
     {
         self.refused = false;
         let client = id.client();

@@ -5,6 +5,7 @@ ghost use Rattle.wl_wire.specs.Table.{AnswersGrowth, IsAcceptedTable, grown, int
 ghost use Rattle.wl_server.specs.Backend.{IsGrowth};
 ghost use Rattle.wl_server.specs.Globals.{with_table};
 ghost use Rattle.wl_server.specs.PartStep.{over};
+ghost use Rattle.wl_server.specs.Plain.Calls.{AddsInterfaces};
 
 use crate::backend::Backend;
 use crate::globals::handler::GlobalHandler;
@@ -24,6 +25,7 @@ impl<T: Transport + Drop, U: Drop, G: GlobalHandler<C> + Drop, C: Drop> Backend<
     /// is as it was.
     pub fn add_interfaces(&mut self, interfaces: Vec<Interface>) -> Result<(), TableError>
         ensures call { IsGrowth (over T.sends T.receives G.views) self.old (interface_rows interfaces.items) result self.new }
+        ensures plain { AddsInterfaces self.old (interface_rows interfaces.items) result self.new }
         ensures answer { AnswersGrowth self.old.server.offer.table (interface_rows interfaces.items) result }
         ensures server { self.new.server ≡ record self.old.server {
           offer = with_table self.old.server.offer (grown self.old.server.offer.table (interface_rows interfaces.items) result);

@@ -5,7 +5,7 @@
 ghost use Rattle.std.specs.Fn.{FnOnceReturnsAtMut};
 ghost use Rattle.std.specs.Prelude.{◌≡◌, ◌<◌, false, Err, None, Ok, Some, MatchOption};
 ghost use Rattle.wl_server.specs.Backend.{Calls};
-ghost use Rattle.wl_server.specs.Plain.DataInPlace.{LendsDataIn, LendsDataOf, LendsObjectData};
+ghost use Rattle.wl_server.specs.Plain.DataInPlace.{LendsDataIn, LendsDataOf, LendsObjectData, SetsWhatIsLeft};
 ghost use Rattle.wl_server.specs.Finish.{data_given};
 ghost use Rattle.wl_server.specs.Part.{named};
 ghost use Rattle.wl_server.specs.PartStep.{over};
@@ -115,6 +115,7 @@ impl<T: Transport + Drop, U: Drop, G: GlobalHandler<C> + Drop, C: Drop> Backend<
     ) -> Result<R, InvalidId>
         requires { F.IsAlwaysCallable f }
         ensures call { LendsObjectData (FnOnceReturnsAtMut F.FnOnce f) (over T.sends T.receives G.views) self.old id.now result self.new }
+        ensures plain { SetsWhatIsLeft (FnOnceReturnsAtMut F.FnOnce f) self.old id.now result self.new }
     {
         self.refused = false;
         let client = id.client();

@@ -276,9 +276,9 @@ impl<T: Transport + Drop, U: Drop, G: GlobalHandler<C> + Drop, C: Drop> Backend<
         client: &ClientId,
         user_data: Option<U>,
     ) -> Result<(), FinishRefused<Option<U>>>
-        ensures cutting { CallIsCut (over T.sends T.receives G.views) self.old.server (Asked (step.FinishRequest client.now user_data) (reply.FinishRequest result)) self.new.refused self.new.server }
         ensures call { Calls (over T.sends T.receives G.views) self.old (step.FinishRequest client.now user_data) (reply.FinishRequest result) self.new }
         ensures plain { EndsOpenRequest self.old client.now user_data result self.new }
+        ensures cutting { CallIsCut (over T.sends T.receives G.views) self.old.server (Asked (step.FinishRequest client.now user_data) (reply.FinishRequest result)) self.new.refused self.new.server }
     {
         match self.finish_request_returning(client, user_data) {
             Ok(_) => Ok(()),
@@ -295,9 +295,9 @@ impl<T: Transport + Drop, U: Drop, G: GlobalHandler<C> + Drop, C: Drop> Backend<
         client: &ClientId,
         user_data: Option<U>,
     ) -> Result<Option<U>, FinishRefused<Option<U>>>
-        ensures cutting { CallIsCut (over T.sends T.receives G.views) self.old.server (Asked (step.FinishRequest client.now user_data) (reply.FinishRequest (result_and result (Ok tt)))) self.new.refused self.new.server }
         ensures call { Calls (over T.sends T.receives G.views) self.old (step.FinishRequest client.now user_data) (reply.FinishRequest (result_and result (Ok tt))) self.new }
         ensures plain { EndsOpenRequest self.old client.now user_data (result_and result (Ok tt)) self.new }
+        ensures cutting { CallIsCut (over T.sends T.receives G.views) self.old.server (Asked (step.FinishRequest client.now user_data) (reply.FinishRequest (result_and result (Ok tt)))) self.new.refused self.new.server }
         ensures data { ReturnsRequestData self.old client.now user_data result self.new }
     {
         self.refused = false;
@@ -323,9 +323,9 @@ impl<T: Transport + Drop, U: Drop, G: GlobalHandler<C> + Drop, C: Drop> Backend<
     ///
     /// An error gives the user data back and changes nothing.
     pub fn finish_bind(&mut self, client: &ClientId, user_data: U) -> Result<(), FinishRefused<U>>
-        ensures cutting { CallIsCut (over T.sends T.receives G.views) self.old.server (Asked (step.FinishBind client.now user_data) (reply.FinishBind result)) self.new.refused self.new.server }
         ensures call { Calls (over T.sends T.receives G.views) self.old (step.FinishBind client.now user_data) (reply.FinishBind result) self.new }
         ensures plain { EndsBind self.old client.now user_data result self.new }
+        ensures cutting { CallIsCut (over T.sends T.receives G.views) self.old.server (Asked (step.FinishBind client.now user_data) (reply.FinishBind result)) self.new.refused self.new.server }
     {
         match self.finish_bind_returning(client, user_data) {
             Ok(_) => Ok(()),
@@ -342,9 +342,9 @@ impl<T: Transport + Drop, U: Drop, G: GlobalHandler<C> + Drop, C: Drop> Backend<
         client: &ClientId,
         user_data: U,
     ) -> Result<Option<U>, FinishRefused<U>>
-        ensures cutting { CallIsCut (over T.sends T.receives G.views) self.old.server (Asked (step.FinishBind client.now user_data) (reply.FinishBind (result_and result (Ok tt)))) self.new.refused self.new.server }
         ensures call { Calls (over T.sends T.receives G.views) self.old (step.FinishBind client.now user_data) (reply.FinishBind (result_and result (Ok tt))) self.new }
         ensures plain { EndsBind self.old client.now user_data (result_and result (Ok tt)) self.new }
+        ensures cutting { CallIsCut (over T.sends T.receives G.views) self.old.server (Asked (step.FinishBind client.now user_data) (reply.FinishBind (result_and result (Ok tt)))) self.new.refused self.new.server }
         ensures data { ReturnsBindData self.old client.now user_data result self.new }
     {
         self.refused = false;

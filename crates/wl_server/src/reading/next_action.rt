@@ -219,10 +219,10 @@ impl<T: Transport + Drop, U: Drop, G: GlobalHandler<C> + Drop, C: Drop> Backend<
     /// the front, as `laws::each_reading_ends_for_a_reason` says (clause `reason`).
     pub fn next_action(&mut self, id: &ClientId) -> Result<Action, ActionError>
         ensures call { Calls (over T.sends T.receives G.views) self.old (step.NextAction id.now) (reply.NextAction result) self.new }
-        ensures room { HasRoom (over T.sends T.receives G.views) self.old.server (Asked (step.NextAction id.now) (reply.NextAction result)) self.new.server }
-        ensures cutting { CallIsCut (over T.sends T.receives G.views) self.old.server (Asked (step.NextAction id.now) (reply.NextAction result)) self.new.refused self.new.server }
         ensures plain { ReadsClient self.old id.now result self.new }
         ensures reason { (left : ReadingOf) × EndsForAReason (over T.sends T.receives G.views) self.old id.now new_reading result left self.new }
+        ensures cutting { CallIsCut (over T.sends T.receives G.views) self.old.server (Asked (step.NextAction id.now) (reply.NextAction result)) self.new.refused self.new.server }
+        ensures room { HasRoom (over T.sends T.receives G.views) self.old.server (Asked (step.NextAction id.now) (reply.NextAction result)) self.new.server }
     {
         let mut reading = Reading::new();
         let mut found = Found::none();
@@ -241,10 +241,10 @@ impl<T: Transport + Drop, U: Drop, G: GlobalHandler<C> + Drop, C: Drop> Backend<
         reading: &mut Reading,
     ) -> Result<Action, ActionError>
         ensures call { Calls (over T.sends T.receives G.views) self.old (step.NextActionWithin id.now reading.old) (reply.NextActionWithin result reading.new) self.new }
-        ensures room { HasRoom (over T.sends T.receives G.views) self.old.server (Asked (step.NextActionWithin id.now reading.old) (reply.NextActionWithin result reading.new)) self.new.server }
-        ensures cutting { CallIsCut (over T.sends T.receives G.views) self.old.server (Asked (step.NextActionWithin id.now reading.old) (reply.NextActionWithin result reading.new)) self.new.refused self.new.server }
         ensures plain { ReadsClient self.old id.now result self.new }
         ensures reason { EndsForAReason (over T.sends T.receives G.views) self.old id.now reading.old result reading.new self.new }
+        ensures cutting { CallIsCut (over T.sends T.receives G.views) self.old.server (Asked (step.NextActionWithin id.now reading.old) (reply.NextActionWithin result reading.new)) self.new.refused self.new.server }
+        ensures room { HasRoom (over T.sends T.receives G.views) self.old.server (Asked (step.NextActionWithin id.now reading.old) (reply.NextActionWithin result reading.new)) self.new.server }
     {
         let mut found = Found::none();
         let mut args = SmallVec::new(self.alloc());
@@ -262,10 +262,10 @@ impl<T: Transport + Drop, U: Drop, G: GlobalHandler<C> + Drop, C: Drop> Backend<
         action: &mut Action,
     ) -> Result<(), ActionError>
         ensures call { Calls (over T.sends T.receives G.views) self.old (step.NextAction id.now) (reply.NextAction (result_and result (Ok action.new))) self.new }
-        ensures room { HasRoom (over T.sends T.receives G.views) self.old.server (Asked (step.NextAction id.now) (reply.NextAction (result_and result (Ok action.new)))) self.new.server }
-        ensures cutting { CallIsCut (over T.sends T.receives G.views) self.old.server (Asked (step.NextAction id.now) (reply.NextAction (result_and result (Ok action.new)))) self.new.refused self.new.server }
         ensures plain { ReadsClient self.old id.now (result_and result (Ok action.new)) self.new }
         ensures reason { (left : ReadingOf) × EndsForAReason (over T.sends T.receives G.views) self.old id.now new_reading (result_and result (Ok action.new)) left self.new }
+        ensures cutting { CallIsCut (over T.sends T.receives G.views) self.old.server (Asked (step.NextAction id.now) (reply.NextAction (result_and result (Ok action.new)))) self.new.refused self.new.server }
+        ensures room { HasRoom (over T.sends T.receives G.views) self.old.server (Asked (step.NextAction id.now) (reply.NextAction (result_and result (Ok action.new)))) self.new.server }
         ensures kept { OnErr result (action.new ≡ action.old) }
     {
         let mut reading = Reading::new();
@@ -282,10 +282,10 @@ impl<T: Transport + Drop, U: Drop, G: GlobalHandler<C> + Drop, C: Drop> Backend<
         action: &mut Action,
     ) -> Result<(), ActionError>
         ensures call { Calls (over T.sends T.receives G.views) self.old (step.NextActionWithin id.now reading.old) (reply.NextActionWithin (result_and result (Ok action.new)) reading.new) self.new }
-        ensures room { HasRoom (over T.sends T.receives G.views) self.old.server (Asked (step.NextActionWithin id.now reading.old) (reply.NextActionWithin (result_and result (Ok action.new)) reading.new)) self.new.server }
-        ensures cutting { CallIsCut (over T.sends T.receives G.views) self.old.server (Asked (step.NextActionWithin id.now reading.old) (reply.NextActionWithin (result_and result (Ok action.new)) reading.new)) self.new.refused self.new.server }
         ensures plain { ReadsClient self.old id.now (result_and result (Ok action.new)) self.new }
         ensures reason { EndsForAReason (over T.sends T.receives G.views) self.old id.now reading.old (result_and result (Ok action.new)) reading.new self.new }
+        ensures cutting { CallIsCut (over T.sends T.receives G.views) self.old.server (Asked (step.NextActionWithin id.now reading.old) (reply.NextActionWithin (result_and result (Ok action.new)) reading.new)) self.new.refused self.new.server }
+        ensures room { HasRoom (over T.sends T.receives G.views) self.old.server (Asked (step.NextActionWithin id.now reading.old) (reply.NextActionWithin (result_and result (Ok action.new)) reading.new)) self.new.server }
         ensures kept { OnErr result (action.new ≡ action.old) }
     {
         self.read_client_into(id, reading, action)

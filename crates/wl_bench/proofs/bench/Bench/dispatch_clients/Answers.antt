@@ -9,4 +9,4 @@ returns-clause-done c =
     let refused : c.dispatch_all_clients-answer.new.self.refused ≡ false = cc in
     subst (λ (s : BenchServer). Dispatches s c.args.number c.args.clients.now c.in-Ok.count c.dispatch_all_clients-answer.new.self.server)
     (ap (λ (b : BenchState). b.server) c.self.view_is)
-    (dispatched _ c.args.number c.args.clients.now c.in-Ok.count _ _ _ c.dispatch_all_clients-answer.ensures is refused)
+    (dispatched _ c.args.number c.args.clients.now c.in-Ok.count _ _ _ c.dispatch_all_clients-answer.ensures.call is refused)

@@ -7,3 +7,16 @@ returns-clause-call g c =
     rw (← c.self.view_is)
     (is_growth g.T.Transport.sends g.T.Transport.receives _ _ _ _ (c.extend-answer.ensures.answer, rw c.extend-answer.ensures.table refl)
     c.lacks_memory-self-inside.ensures)
+
+pub returns-clause-plain : goal.returns-clause-plain
+returns-clause-plain g c =
+    rw (← c.self.view_is)
+    (record {
+      answered = c.extend-answer.ensures.answer;
+      table = c.extend-answer.ensures.table;
+      objects = λ id. refl;
+      notes = refl;
+      link = refl;
+      open_event = refl;
+      error = refl;
+    })

@@ -7,6 +7,7 @@ use Rattle.wl_client.specs.Finish.{data_given}
 use Rattle.wl_client.specs.ObjectId.{IdParts}
 use Rattle.wl_client.specs.Objects.{DataSet}
 use Rattle.wl_client.specs.Session.{SessionState, named, with_user_data}
+use Rattle.wl_client.proofs.Plain.Calls.{sets_data}
 use Rattle.wl_client.proofs.backend.Backend.set_data.Goals as goal
 
 -- data that are given to an object of a session are set
@@ -28,3 +29,9 @@ pub returns-clause-call : goal.returns-clause-call
 returns-clause-call g c =
     rw (← c.self.view_is)
     (c.give_data.result, refl, refl, data_set _ c.args.id.now c.args.user_data c.give_data.result c.give_data.new.objects.store c.give_data.ensures.answer c.give_data.ensures.given)
+
+pub returns-clause-plain : goal.returns-clause-plain
+returns-clause-plain g c =
+    rw (← c.self.view_is)
+    (sets_data _ c.args.id.now c.args.user_data c.give_data.result _
+    (data_set _ c.args.id.now c.args.user_data c.give_data.result c.give_data.new.objects.store c.give_data.ensures.answer c.give_data.ensures.given))

@@ -6,3 +6,7 @@ returns-clause-set g c = rw (← c.self.view_is) (c.set_max_buffer_size.new.self
 
 pub returns-clause-call : goal.returns-clause-call
 returns-clause-call g c = rw (← c.self.view_is) (refl, refl, (c.set_max_buffer_size.new.self, c.set_max_buffer_size.ensures, refl))
+
+pub returns-clause-plain : goal.returns-clause-plain
+returns-clause-plain g c =
+    rw (← c.self.view_is) (record { link = c.set_max_buffer_size.ensures; objects = λ id. refl; notes = refl; rest = (refl, refl, refl) })

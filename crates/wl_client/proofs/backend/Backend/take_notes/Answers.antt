@@ -10,3 +10,14 @@ returns-clause-call g c =
       ap (λ (v : Vec _ _). v.items) c.replace.ensures.value,
       rw (ap (λ (v : Vec _ _). v.items) c.replace.ensures.after ∙ c.new-none.ensures.items) refl,
     )
+
+pub returns-clause-plain : goal.returns-clause-plain
+returns-clause-plain g c =
+    rw (← c.self.view_is)
+    (record {
+      taken = ap (λ (v : Vec _ _). v.items) c.replace.ensures.value;
+      left = ap (λ (v : Vec _ _). v.items) c.replace.ensures.after ∙ c.new-none.ensures.items;
+      objects = λ id. refl;
+      link = refl;
+      rest = (refl, refl, refl);
+    })

@@ -1,4 +1,4 @@
-use Rattle.std.proofs.Common.{◌≡◌, ℕ, false, Option, None, Some, Result, Ok, Err, MatchOption, refl, ap}
+use Rattle.std.proofs.Common.{◌≡◌, false, Option, None, Some, Result, Ok, Err, MatchOption, refl, ap}
 use Rattle.wl_link.specs.declared.object.Object.{Object}
 use Rattle.wl_link.specs.Store.{Store, rewritten}
 use Rattle.wl_client.specs.declared.error.InvalidId.{InvalidId}
@@ -9,6 +9,7 @@ use Rattle.wl_client.specs.Accounts.{CallsLocally, LendsAsCall}
 use Rattle.wl_client.specs.ObjectId.{IdParts}
 use Rattle.wl_client.specs.Session.{ClientState, SessionState, named, with_user_data}
 use Rattle.wl_client.specs.Objects.{DataSet, LendsData, LendsDataIn, user_data_in, user_data_of}
+use Rattle.wl_client.proofs.Plain.Calls.{sets_what_is_left}
 use Rattle.wl_client.proofs.backend.Backend.with_data.Goals as goal
 
 -- what is done to the objects of a session is done to the session
@@ -65,4 +66,10 @@ pub returns-clause-call : goal.returns-clause-call
 returns-clause-call g c =
     rw (← c.self.view_is)
     (lends_as_call _ (record { session = _; refused = c.self.inside.refused }) c.args.id.now c.lend_data.result _
+    (lends_of_session _ _ c.args.id.now c.lend_data.result c.lend_data.new.objects.store c.lend_data.ensures))
+
+pub returns-clause-plain : goal.returns-clause-plain
+returns-clause-plain g c =
+    rw (← c.self.view_is)
+    (sets_what_is_left _ c.args.id.now _ c.lend_data.result _
     (lends_of_session _ _ c.args.id.now c.lend_data.result c.lend_data.new.objects.store c.lend_data.ensures))

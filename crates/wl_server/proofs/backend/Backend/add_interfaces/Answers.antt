@@ -7,6 +7,7 @@ use Rattle.wl_server.specs.PartStep.{Grown}
 use Rattle.wl_server.specs.Steps.{lacks_growth}
 use Rattle.wl_server.proofs.CallSteps.Feeling.{IsFelt, makes_unfelt}
 use Rattle.wl_server.proofs.OverRuns.Alone.AccountLaws.{is_growth}
+use Rattle.wl_server.proofs.Plain.Insertion.{adds_interfaces}
 use Rattle.wl_server.proofs.backend.Backend.add_interfaces.Goals as goal
 
 felt : {T U G C : Type 0} (rows : List InterfaceRow) (r : Result (Unit {0}) TableError) → IsFelt {T = T} {U = U} {G = G} {C = C} (Grown rows r)
@@ -36,3 +37,6 @@ returns-clause-answer g c = rw (← c.self.view_is) c.extend-answer.ensures.answ
 
 pub returns-clause-server : goal.returns-clause-server
 returns-clause-server g c = rw (← c.self.view_is, c.extend-answer.ensures.table) refl
+
+pub returns-clause-plain : goal.returns-clause-plain
+returns-clause-plain g c = adds_interfaces _ _ _ _ _ (returns-clause-call g c)

@@ -2,6 +2,7 @@ use Rattle.std.proofs.Common.{arith}
 use Rattle.wl_server.specs.Dispatch.{answering}
 use Rattle.wl_server.specs.PartStep.{over}
 use Rattle.wl_server.proofs.Dispatches.Serving.{all_served, dispatches_all, each_begun, one_more}
+use Rattle.wl_server.proofs.Plain.Dispatch.{dispatches_leave}
 use Rattle.wl_server.proofs.backend.Backend.dispatch_all_clients.Goals as goal
 
 pub loop-client-init : goal.loop-client-init
@@ -14,8 +15,13 @@ loop-client-preserved g c =
     one_more (over g.T.Transport.sends g.T.Transport.receives g.G.GlobalHandler.views) (answering g.H.Handler.requests g.H.Handler.binds) c.args.clients.now c.loop-client.client-index
     c.client-item.result c.loop-client-test.true c.client-item.is c.loop-client.invariant c.serve.ensures c.total_with-total.ensures
 
-pub returns : goal.returns
-returns g c =
+pub returns-clause-call : goal.returns-clause-call
+returns-clause-call g c =
     dispatches_all (over g.T.Transport.sends g.T.Transport.receives g.G.GlobalHandler.views) (answering g.H.Handler.requests g.H.Handler.binds) c.args.self.now
     (all_served (over g.T.Transport.sends g.T.Transport.receives g.G.GlobalHandler.views) (answering g.H.Handler.requests g.H.Handler.binds) c.args.clients.now c.loop-client.client-index
     (omega (arith, c.loop-client-test.false)) c.loop-client.invariant) c.end_dispatch.ensures
+
+pub returns-clause-plain : goal.returns-clause-plain
+returns-clause-plain g c =
+    dispatches_leave (over g.T.Transport.sends g.T.Transport.receives g.G.GlobalHandler.views) (answering g.H.Handler.requests g.H.Handler.binds) c.args.clients.now _ _ _ _ _
+    (returns-clause-call g c)

@@ -39,16 +39,16 @@ lent_step w before id s t is all =
 pub returns-in_default : goal.returns-in_default
 returns-in_default g c = (
   ap inr c.self.view_is,
-  record { lends = tt; value = rw (← c.self.view_is) (ap transport_in (sym c.in_default.ensures.value)); step = tt },
+  record { call = tt; lends = tt; value = rw (← c.self.view_is) (ap transport_in (sym c.in_default.ensures.value)) },
 )
 
 pub returns : goal.returns
 returns g c = (
   ap (λ f. inl (c.transport_mut.result.ghost_name, f)) (fun_ext (λ w. rw (← c.self.view_is) (lent_over _ c.args.id.now c.in-Some.client.now w c.in-Some.ensures.value))),
   record {
+    call = λ t. rw (← c.self.view_is) (lent_step _ _ c.args.id.now c.in-Some.client.now t c.in-Some.ensures.value c.self.invariant.2);
     lends = tt;
     value = rw (← c.self.view_is) (ap transport_in (sym c.in-Some.ensures.value) ∙ ap Some (sym c.transport_mut.ensures.value));
-    step = λ t. rw (← c.self.view_is) (lent_step _ _ c.args.id.now c.in-Some.client.now t c.in-Some.ensures.value c.self.invariant.2);
   },
 )
 

@@ -3,6 +3,7 @@ use Rattle.wl_server.specs.Server.{Stored}
 use Rattle.wl_server.proofs.CallSteps.Numbering.{numbered_at, numbers_stay}
 use Rattle.wl_server.proofs.CleanupSteps.Taken.{slots_set}
 use Rattle.wl_server.proofs.ObjectCalls.LendingData.{lends_none, lends_stored}
+use Rattle.wl_server.proofs.Plain.Data.{sets_what_is_left}
 use Rattle.wl_server.proofs.backend.Backend.with_object_data.Goals as goal
 
 pub invariant_of-self : goal.invariant_of-self
@@ -19,14 +20,18 @@ invariant_of-self-2 g c = (
   c.in-Some.ensures.touched c.self.invariant.3 _,
 )
 
-pub returns-in_default : goal.returns-in_default
-returns-in_default g c = record {
-  call = rw (← c.self.view_is) (lends_none _ _ _ _ c.args.id.now _ c.client-client.result c.client-client.ensures c.in_default.ensures.value refl);
-}
+pub returns-in_default-clause-call : goal.returns-in_default-clause-call
+returns-in_default-clause-call g c =
+    rw (← c.self.view_is) (lends_none _ _ _ _ c.args.id.now _ c.client-client.result c.client-client.ensures c.in_default.ensures.value refl)
 
-pub returns : goal.returns
-returns g c = record {
-  call = rw (← c.self.view_is)
-      (lends_stored _ _ _ _ c.args.id.now c.lend_data.result c.client-client.result _ c.client-client.ensures (ap Some c.stored.view_is ∙ c.in-Some.ensures.value) c.self.invariant.2 _
-      c.lend_data.ensures);
-}
+pub returns-clause-call : goal.returns-clause-call
+returns-clause-call g c =
+    rw (← c.self.view_is)
+    (lends_stored _ _ _ _ c.args.id.now c.lend_data.result c.client-client.result _ c.client-client.ensures (ap Some c.stored.view_is ∙ c.in-Some.ensures.value) c.self.invariant.2 _
+    c.lend_data.ensures)
+
+pub returns-in_default-clause-plain : goal.returns-in_default-clause-plain
+returns-in_default-clause-plain g c = sets_what_is_left _ _ _ c.args.id.now _ _ (returns-in_default-clause-call g c)
+
+pub returns-clause-plain : goal.returns-clause-plain
+returns-clause-plain g c = sets_what_is_left _ _ _ c.args.id.now _ _ (returns-clause-call g c)

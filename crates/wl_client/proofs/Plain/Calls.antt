@@ -1,0 +1,142 @@
+-- The calls that are about neither a request nor an event.
+use Rattle.std.proofs.Common.{◌≡◌, ℕ, Bool, true, false, cond, eqb, Option, None, Some, is_some, Result, Ok, Err, refl, sym, ap, subst, true≢false}
+use mathlib.Core.Logic.{inl, inr}
+use Rattle.wl_wire.specs.declared.error.IoFault.{IoFault}
+use Rattle.wl_wire.specs.declared.error.IoFault.TheVariants as fault
+use Rattle.wl_link.proofs.Calls.Branches.{either_option}
+use Rattle.wl_link.specs.declared.object.Object.{Object}
+use Rattle.wl_link.specs.Exchange.{Queue}
+use Rattle.wl_link.specs.Link.{Flushed, LinkState}
+use Rattle.wl_link.specs.Store.{rewritten}
+use Rattle.wl_client.specs.declared.error.DestroyError.{DestroyError}
+use Rattle.wl_client.specs.declared.error.DestroyError.TheVariants as destroy
+use Rattle.wl_client.specs.declared.error.FlushError.{FlushError}
+use Rattle.wl_client.specs.declared.error.FlushError.TheVariants as flush
+use Rattle.wl_client.specs.declared.error.InvalidId.{InvalidId}
+use Rattle.wl_client.specs.declared.error.WaylandError.TheVariants.{Io}
+use Rattle.wl_client.specs.declared.objects.Kept.{Kept}
+use Rattle.wl_client.specs.Finish.{FlushEnds, SessionFlushed}
+use Rattle.wl_client.specs.ObjectId.{IdParts}
+use Rattle.wl_client.specs.Objects.{DataSet, DestroyedBy, LendsData, destroyable, given_up, user_data_of}
+use Rattle.wl_client.specs.Plain.Calls.{DestroysObject, EndsSession, FlushesSession, SetsData, SetsWhatIsLeft}
+use Rattle.wl_client.specs.Session.{SessionState, alive, id_at, named, noted, with_flags, with_user_data}
+use Rattle.wl_client.proofs.Plain.Naming.{names_so, rewritten_named, rewritten_others}
+
+-- ---- objects
+
+alive_some : {U : Type 0} (o : Option (Object (Kept U))) (x : Object (Kept U)) → alive o ≡ Some x → o ≡ Some x
+alive_some None x is = absurd (true≢false (sym (ap is_some is)))
+alive_some (Some y) x is = at y.value.client_destroyed is
+  where
+    at : (b : Bool) → cond b None (Some y) ≡ Some x → Some y ≡ Some x
+    at true none = absurd (true≢false (sym (ap is_some none)))
+    at false some = some
+
+module _ {T U : Type 0} (s : SessionState T U) (id : IdParts) where
+  -- ---- data
+
+  unset : (u : U) → named s.store id ≡ None → SetsData s id u (Err _) s
+  unset u none = record { object = (none, refl); objects = λ other differ. refl; notes = refl; link = refl; rest = (refl, refl, refl) }
+
+  set : (u : U) (x : Object (Kept U)) → named s.store id ≡ Some x
+      → SetsData s id u (Ok tt) (record s { store = rewritten s.store id.number (with_user_data u x) })
+  set u x found = record {
+    object = (x, found, rewritten_named s.store id x (with_user_data u x) (names_so s.store id x found) refl);
+    objects = λ other differ. rewritten_others s.store id x (with_user_data u x) (names_so s.store id x found) refl other differ;
+    notes = refl;
+    link = refl;
+    rest = (refl, refl, refl);
+  }
+
+  pub sets_data : (u : U) (answer : Result (Unit {0}) InvalidId) (after : SessionState T U) → DataSet s id u answer after → SetsData s id u answer after
+  sets_data u answer after h =
+      elim (either_option (named s.store id) h) [
+        | inl (none, (is, same)) ↦
+            subst (λ (a : Result (Unit {0}) InvalidId). SetsData s id u a after) (sym is) (subst (λ (t : SessionState T U). SetsData s id u (Err _) t) (sym same) (unset u none))
+        | inr (x, found, (is, same)) ↦
+            subst (λ (a : Result (Unit {0}) InvalidId). SetsData s id u a after) (sym is) (subst (λ (t : SessionState T U). SetsData s id u (Ok tt) t) (sym same) (set u x found))
+      ]
+
+  pub sets_what_is_left : {R : Type 0} (call : U → R → U → Type 0) (answer : Result R InvalidId) (after : SessionState T U) → LendsData call s id answer after
+      → SetsWhatIsLeft call s id answer after
+  sets_what_is_left {R} call answer after h =
+      elim (either_option (user_data_of s id) h) [
+        | inl (none, (is, same)) ↦ rw none (is, same)
+        | inr (u, some, (r, left, called, is, done)) ↦ rw some (r, left, called, is, sets_data left (Ok tt) after done)
+      ]
+
+  -- ---- an end
+
+  named_destroyable : (x : Object (Kept U)) → destroyable s id ≡ Some x → named s.store id ≡ Some x
+  named_destroyable x is = at (eqb id.number 1) is
+    where
+      at : (b : Bool) → cond b None (alive (named s.store id)) ≡ Some x → named s.store id ≡ Some x
+      at true none = absurd (true≢false (sym (ap is_some none)))
+      at false some = alive_some (named s.store id) x some
+
+  destroyed : (x : Object (Kept U)) → destroyable s id ≡ Some x
+      → DestroysObject s id (Ok tt) (record s { store = given_up s.store id.number x; notes = noted s.notes x.value.user_data (id_at id.number x) })
+  destroyed x may =
+      let by = names_so s.store id x (named_destroyable x may) in record {
+        object = (x, may, rewritten_named s.store id x (with_flags true x.value.server_destroyed x) by refl, refl);
+        objects = λ other differ. rewritten_others s.store id x (with_flags true x.value.server_destroyed x) by refl other differ;
+        link = refl;
+        rest = (refl, refl, refl);
+      }
+
+  pub destroys_object : (answer : Result (Unit {0}) DestroyError) (after : SessionState T U) → DestroyedBy s id answer after → DestroysObject s id answer after
+  destroys_object answer after h =
+      elim (either_option (destroyable s id) h) [
+        | inl (none, (is, same)) ↦
+            to (Err destroy.InvalidId) s is same (record { object = (none, refl); objects = λ other differ. refl; link = refl; rest = (refl, refl, refl) })
+        | inr (x, may, inl (is, same)) ↦ to (Ok tt) _ is same (destroyed x may)
+        | inr (x, may, inr (is, same, has)) ↦
+            to (Err destroy.OutOfMemory) s is same (record { object = (x, may, has, refl); objects = λ other differ. refl; link = refl; rest = (refl, refl, refl) })
+      ]
+    where
+      to : (a : Result (Unit {0}) DestroyError) (t : SessionState T U) → answer ≡ a → after ≡ t → DestroysObject s id a t → DestroysObject s id answer after
+      to a t is same so =
+          subst (λ (b : Result (Unit {0}) DestroyError). DestroysObject s id b after) (sym is) (subst (λ (r : SessionState T U). DestroysObject s id a r) (sym same) so)
+
+-- ---- a flush
+
+module _ {T U : Type 0} (sends : T → Queue → Result ℕ IoFault → T → Type 0) (s : SessionState T U) where
+  to : (answer a : Result (Unit {0}) FlushError) (after t : SessionState T U) → answer ≡ a → after ≡ t → FlushesSession sends s a t → FlushesSession sends s answer after
+  to answer a after t is same so =
+      subst (λ (b : Result (Unit {0}) FlushError). FlushesSession sends s b after) (sym is) (subst (λ (r : SessionState T U). FlushesSession sends s a r) (sym same) so)
+
+  module _ (none : s.error ≡ None) (link : LinkState T) where
+    abbrev over : SessionState T U
+    over = record s { link = link }
+
+    fails : (f : IoFault) → EndsSession f → Flushed sends s.link (Err f) link → FlushesSession sends s (Err flush.Failed) (record over { error = Some (Io f) })
+    fails f ends by = record {
+      answered = inr (none, (f, ends, by, refl));
+      objects = λ id. refl;
+      open_event = refl;
+      notes = refl;
+      table = refl;
+    }
+
+    ended : (flushed : Result (Unit {0}) IoFault) (answer : Result (Unit {0}) FlushError) (after : SessionState T U) → Flushed sends s.link flushed link
+        → FlushEnds over flushed answer after → FlushesSession sends s answer after
+    ended (Ok u) answer after by (is, same) =
+        to answer (Ok tt) after over is same (record { answered = (none, by, none); objects = λ id. refl; open_event = refl; notes = refl; table = refl })
+    ended (Err fault.WouldBlock) answer after by (is, same) =
+        to answer (Err flush.WouldBlock) after over is same (record { answered = (none, by, none); objects = λ id. refl; open_event = refl; notes = refl; table = refl })
+    ended (Err fault.OutOfMemory) answer after by (is, same) =
+        to answer (Err flush.OutOfMemory) after over is same (record { answered = (none, by, none); objects = λ id. refl; open_event = refl; notes = refl; table = refl })
+    ended (Err fault.Pipe) answer after by (is, same) = to answer (Err flush.Failed) after _ is same (fails fault.Pipe tt by)
+    ended (Err fault.TooBig) answer after by (is, same) = to answer (Err flush.Failed) after _ is same (fails fault.TooBig tt by)
+    ended (Err fault.Proto) answer after by (is, same) = to answer (Err flush.Failed) after _ is same (fails fault.Proto tt by)
+    ended (Err fault.InvalidInput) answer after by (is, same) = to answer (Err flush.Failed) after _ is same (fails fault.InvalidInput tt by)
+    ended (Err (fault.Other n)) answer after by (is, same) = to answer (Err flush.Failed) after _ is same (fails (fault.Other n) tt by)
+
+  pub flushes_session : (answer : Result (Unit {0}) FlushError) (after : SessionState T U) → SessionFlushed sends s answer after → FlushesSession sends s answer after
+  flushes_session answer after h =
+      elim (either_option s.error h) [
+        | inl (none, (flushed, link, by, ends)) ↦ ended none link flushed answer after by ends
+        | inr (e, some, (is, same)) ↦
+            to answer (Err flush.Failed) after s is same
+            (record { answered = inl (ap is_some some, refl); objects = λ id. refl; open_event = refl; notes = refl; table = refl })
+      ]

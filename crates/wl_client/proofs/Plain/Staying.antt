@@ -1,0 +1,268 @@
+-- What ids name after a message was handled: what they named, but for those that it made.
+use Rattle.std.proofs.Common.{◌≡◌, ◌≤◌, ◌+◌, ℕ, Bool, true, false, cond, eqb, eqb-true, List, [], ◌∷◌, ◌++◌, Option, None, Some, IsSome, is_some, Result, Ok, Err, MatchBool, refl, sym, ap, subst, ◌∙◌, arith, true≢false}
+use mathlib.Core.Logic.{inl, inr}
+use Rattle.std.proofs.lemmas.Bool.{eq-eqb, ne_eqb}
+use Rattle.std.specs.Prelude.{◌==◌, ◌⊎◌}
+use Rattle.wl_wire.specs.declared.argument.Argument.{Argument}
+use Rattle.wl_wire.specs.declared.argument.Argument.TheVariants as arg
+use Rattle.wl_wire.specs.declared.argument.Token.{Token}
+use Rattle.wl_wire.specs.declared.interface.InterfaceId.{InterfaceId}
+use Rattle.wl_wire.specs.Argument.{WireArgument}
+use Rattle.wl_wire.specs.Message.{WireMessage}
+use Rattle.wl_wire.specs.MessageRows.{next_interface}
+use Rattle.wl_wire.specs.Table.{InterfaceRow, MessageRow}
+use Rattle.wl_link.proofs.Calls.Branches.{at_false, at_true}
+use Rattle.wl_link.proofs.Ids.StoreLaws.{held_removed, held_rewritten, held_stored}
+use Rattle.wl_link.specs.declared.object.Object.{Object}
+use Rattle.wl_link.specs.Identity.{Objects, named_in}
+use Rattle.wl_link.specs.Store.{Store, held, removed, rewritten, stored}
+use Rattle.wl_client.specs.declared.objects.Kept.{Kept}
+use Rattle.wl_client.specs.declared.protocol_error.EventFault.{EventFault}
+use Rattle.wl_client.specs.declared.protocol_error.EventFault.TheVariants as wrong
+use Rattle.wl_client.specs.Events.{Converted, Converting, Deletes, DisplayEvent, Fails, Outcome, Unreadable, Whole, Wrong, after_delete, convert, convert_one, deleted, display_event, going_on, is_valid_new, made_object, object_argument, start, vacated, with_made_object, with_new_argument, with_new_at, with_object_argument}
+use Rattle.wl_client.specs.Handling.{Breaks, Handling, HandsOut, Swallows, event_of, handling, of_converted, of_display, of_event, opened_of, row_in}
+use Rattle.wl_client.specs.ObjectId.{IdParts}
+use Rattle.wl_client.specs.Plain.{IdsStay, IsOld, StaysAs}
+use Rattle.wl_client.specs.Session.{alive, id_of, named, serial_of, with_flags}
+use Rattle.wl_client.proofs.Plain.Naming.{both_none}
+use Rattle.wl_client.proofs.Plain.Opening.{new_number, vacated_elsewhere}
+
+module _ {U : Type 0} where
+  -- ---- what an object stays as
+
+  stays_same : (o : Option (Object (Kept U))) → StaysAs o o
+  stays_same None = refl
+  stays_same (Some x) = at x.value.client_destroyed refl
+    where
+      at : (b : Bool) → x.value.client_destroyed ≡ b
+          → MatchBool b ((Some x ≡ Some x) ⊎ (Some x ≡ None)) ((given_up : Bool) × (Some x ≡ Some (with_flags false given_up x)))
+      at true is = inl refl
+      at false is = (x.value.server_destroyed, ap (λ (b : Bool). Some (with_flags b x.value.server_destroyed x)) is)
+
+  stays_then : (a b c : Option (Object (Kept U))) → StaysAs a b → StaysAs b c → StaysAs a c
+  stays_then None b c first second = subst (λ (o : Option (Object (Kept U))). StaysAs o c) first second
+  stays_then (Some x) b c first second = at x.value.client_destroyed refl first
+    where
+      at : (d : Bool) → x.value.client_destroyed ≡ d
+          → MatchBool d ((b ≡ Some x) ⊎ (b ≡ None)) ((given_up : Bool) × (b ≡ Some (with_flags false given_up x)))
+          → MatchBool d ((c ≡ Some x) ⊎ (c ≡ None)) ((given_up : Bool) × (c ≡ Some (with_flags false given_up x)))
+      at true is (inl same) =
+          subst (λ (d : Bool). MatchBool d ((c ≡ Some x) ⊎ (c ≡ None)) ((given_up : Bool) × (c ≡ Some (with_flags false given_up x)))) is
+          (subst (λ (o : Option (Object (Kept U))). StaysAs o c) same second)
+      at true is (inr none) = inr (subst (λ (o : Option (Object (Kept U))). StaysAs o c) none second)
+      at false is (given_up, same) = subst (λ (o : Option (Object (Kept U))). StaysAs o c) same second
+
+  -- one that was not destroyed is not destroyed
+  live_still : (a b : Option (Object (Kept U))) → IsSome (alive a) → StaysAs a b → IsSome (alive b)
+  live_still None b live stays = absurd (true≢false (sym live))
+  live_still (Some x) b live stays = at x.value.client_destroyed live stays
+    where
+      at : (d : Bool) → IsSome (cond d None (Some x))
+          → MatchBool d ((b ≡ Some x) ⊎ (b ≡ None)) ((given_up : Bool) × (b ≡ Some (with_flags false given_up x))) → IsSome (alive b)
+      at true none stays = absurd (true≢false (sym none))
+      at false some (given_up, same) = subst (λ (o : Option (Object (Kept U))). IsSome (alive o)) (sym same) refl
+
+  -- ---- what ids name
+
+  pub ids_same : (a : Objects (Kept U)) → IdsStay a a
+  ids_same a = record { serials = omega arith; ids = λ id old. stays_same (named a.store id) }
+
+  old_still : (a b : Objects (Kept U)) → IdsStay a b → (id : IdParts) → IsOld a id → IsOld b id
+  old_still a b stay id (inl live) = inl (live_still (named a.store id) (named b.store id) live (stay.ids id (inl live)))
+  old_still a b stay id (inr given) = let more = stay.serials in inr (omega (arith, given, more))
+
+  pub ids_then : (a b c : Objects (Kept U)) → IdsStay a b → IdsStay b c → IdsStay a c
+  ids_then a b c first second =
+      let more = first.serials in
+      let most = second.serials in record {
+        serials = omega (arith, more, most);
+        ids = λ id old. stays_then (named a.store id) (named b.store id) (named c.store id) (first.ids id old) (second.ids id (old_still a b first id old));
+      }
+
+  -- what the id names where its number holds this
+  abbrev names_at : IdParts → Option (Object (Kept U)) → Option (Object (Kept U))
+  names_at id o = cond (id.number == 0) None (named_in serial_of (id_of id) o)
+
+  -- one number of a store was changed
+  module _ (before after : Store (Kept U)) (n : ℕ) (new : Option (Object (Kept U)))
+      (holds : (m : ℕ) → held after m ≡ cond (eqb m n) new (held before m)) (id : IdParts) where
+    by_number : (id.number ≡ n → StaysAs (names_at id (held before n)) (names_at id new)) → StaysAs (named before id) (named after id)
+    by_number there = at (eqb id.number n) refl
+      where
+        at : (b : Bool) → eqb id.number n ≡ b → StaysAs (named before id) (named after id)
+        at false is =
+            subst (λ (o : Option (Object (Kept U))). StaysAs (named before id) o)
+            (sym (ap (names_at id) (holds id.number ∙ ap (λ (b : Bool). cond b new (held before id.number)) is))) (stays_same (named before id))
+        at true is =
+            let same : id.number ≡ n = eqb-true id.number n is in
+            subst (λ (o : Option (Object (Kept U))). StaysAs (named before id) o)
+            (sym (ap (names_at id) (holds id.number ∙ ap (λ (b : Bool). cond b new (held before id.number)) is)))
+            (subst (λ (o : Option (Object (Kept U))). StaysAs o (names_at id new)) (sym (ap (λ (k : ℕ). names_at id (held before k)) same)) (there same))
+
+  -- ---- a number that the server gave up
+
+  gone_from : (y : Object (Kept U)) → y.value.client_destroyed ≡ true → (z t : Bool) → StaysAs (cond z None (cond t (Some y) None)) (cond z None None)
+  gone_from y over true t = refl
+  gone_from y over false true = at_true _ y.value.client_destroyed over (inr refl)
+  gone_from y over false false = refl
+
+  flagged_from : (y : Object (Kept U)) → y.value.client_destroyed ≡ false → (z t : Bool)
+      → StaysAs (cond z None (cond t (Some y) None)) (cond z None (cond t (Some (with_flags false true y)) None))
+  flagged_from y live true t = refl
+  flagged_from y live false true = at_false _ y.value.client_destroyed live (true, refl)
+  flagged_from y live false false = refl
+
+  ids_by_deletion : (a : Objects (Kept U)) (n : ℕ) → IdsStay a (record a { store = deleted a.store n })
+  ids_by_deletion a n = record { serials = omega arith; ids = λ id old. at (held a.store n) refl id }
+    where
+      at : (o : Option (Object (Kept U))) → held a.store n ≡ o → (id : IdParts) → StaysAs (named a.store id) (named (after_delete a.store n o) id)
+      at None none id = stays_same (named a.store id)
+      at (Some y) there id = go y.value.client_destroyed refl
+        where
+          go : (b : Bool) → y.value.client_destroyed ≡ b
+              → StaysAs (named a.store id) (named (cond b (removed a.store n) (rewritten a.store n (with_flags false true y))) id)
+          go true over =
+              by_number a.store (removed a.store n) n None (held_removed a.store n) id
+              (λ same. subst (λ (o : Option (Object (Kept U))). StaysAs (names_at id o) (names_at id None)) (sym there)
+              (gone_from y over (id.number == 0) (y.value.serial == id.serial)))
+          go false live =
+              by_number a.store (rewritten a.store n (with_flags false true y)) n (Some (with_flags false true y)) (held_rewritten a.store n (with_flags false true y)) id
+              (λ same. subst (λ (o : Option (Object (Kept U))). StaysAs (names_at id o) (names_at id (Some (with_flags false true y)))) (sym there)
+              (flagged_from y live (id.number == 0) (y.value.serial == id.serial)))
+
+  -- ---- a new object
+
+  destroyed_is : (y : Object (Kept U)) → alive (Some y) ≡ None → y.value.client_destroyed ≡ true
+  destroyed_is y none = at y.value.client_destroyed none
+    where
+      at : (b : Bool) → cond b None (Some y) ≡ None → b ≡ true
+      at true is = refl
+      at false is = absurd (true≢false (ap is_some is))
+
+  left_by : (id : IdParts) (o : Option (Object (Kept U))) → alive o ≡ None → (z : Bool) → StaysAs (cond z None (named_in serial_of (id_of id) o)) None
+  left_by id o none true = refl
+  left_by id None none false = refl
+  left_by id (Some y) none false = at (y.value.serial == id.serial)
+    where
+      at : (t : Bool) → StaysAs (cond t (Some y) None) None
+      at true = at_true _ y.value.client_destroyed (destroyed_is y none) (inr refl)
+      at false = refl
+
+  unnamed_by : (id : IdParts) (o : Option (Object (Kept U))) → alive o ≡ None → (z : Bool) → alive (cond z None (named_in serial_of (id_of id) o)) ≡ None
+  unnamed_by id o none true = refl
+  unnamed_by id None none false = refl
+  unnamed_by id (Some y) none false = at (y.value.serial == id.serial)
+    where
+      at : (t : Bool) → alive (cond t (Some y) None) ≡ None
+      at true = none
+      at false = refl
+
+  ids_by_new : (a : Objects (Kept U)) (n : ℕ) (y : Object (Kept U)) → is_valid_new a n ≡ true → y.value.serial ≡ a.last_serial + 1 → IdsStay a (with_made_object a n y)
+  ids_by_new a n y valid next = record {
+    serials = omega arith;
+    ids = λ id old. by_number a.store (stored (vacated a.store n) n y) n (Some y) holds id (λ same. there id same old);
+  }
+    where
+      free : alive (held a.store n) ≡ None
+      free = new_number a n valid
+
+      holds : (m : ℕ) → held (stored (vacated a.store n) n y) m ≡ cond (eqb m n) (Some y) (held a.store m)
+      holds m = held_stored (vacated a.store n) n y m ∙ at (eqb m n) refl
+        where
+          at : (b : Bool) → eqb m n ≡ b → cond b (Some y) (held (vacated a.store n) m) ≡ cond b (Some y) (held a.store m)
+          at true is = refl
+          at false is = vacated_elsewhere a.store m n (λ same. true≢false (sym (eq-eqb m n same) ∙ is))
+
+      unnamed : (id : IdParts) → id.serial ≤ a.last_serial → names_at id (Some y) ≡ None
+      unnamed id given =
+          ap (λ (b : Bool). cond (id.number == 0) None (cond b (Some y) None)) (ne_eqb y.value.serial id.serial (λ same. absurd (omega (arith, given, next, same))))
+          ∙ both_none (id.number == 0)
+
+      there : (id : IdParts) → id.number ≡ n → IsOld a id → StaysAs (names_at id (held a.store n)) (names_at id (Some y))
+      there id same (inr given) =
+          subst (λ (o : Option (Object (Kept U))). StaysAs (names_at id (held a.store n)) o) (sym (unnamed id given)) (left_by id (held a.store n) free (id.number == 0))
+      there id same (inl live) =
+          absurd (true≢false (sym live
+          ∙ ap (λ (k : ℕ). is_some (alive (names_at id (held a.store k)))) same
+          ∙ ap is_some (unnamed_by id (held a.store n) free (id.number == 0))))
+
+-- ---- the arguments of an event
+
+module _ {U : Type 0} (version : ℕ) (destroyed : Bool) (first : Objects (Kept U)) where
+  abbrev ByOne : Converted U → Type 0
+  ByOne (Ok next) = IdsStay first next.1.objects
+  ByOne (Err w) = Unit {0}
+
+  abbrev By : Outcome U → Type 0
+  By (Whole c args) = IdsStay first c.objects
+  By (Wrong w objects) = IdsStay first objects
+
+  by_one : (c : Converting U) (a : WireArgument) → IdsStay first c.objects → ByOne (convert_one version destroyed c a)
+  by_one c (arg.Object n) so = at (object_argument c.objects.store (next_interface c.asked) n)
+    where
+      at : (r : Result IdParts EventFault) → ByOne (with_object_argument c r)
+      at (Ok id) = so
+      at (Err w) = tt
+  by_one c (arg.NewId n) so = new c.child
+    where
+      valid : (i : InterfaceId) (b : Bool) → is_valid_new c.objects n ≡ b
+          → ByOne (cond b (Ok (with_new_at version destroyed c n i)) (Err (wrong.InvalidNewId n i)))
+      valid i false free = tt
+      valid i true free =
+          ids_then first c.objects _ so (ids_by_new c.objects n (made_object version destroyed i (c.objects.last_serial + 1)) free refl)
+
+      new : (o : Option InterfaceId) → ByOne (with_new_argument version destroyed c n o)
+      new None = tt
+      new (Some i) = valid i (is_valid_new c.objects n) refl
+  by_one c _ so = so
+
+  by_all : (c : Converting U) (done : List (Argument IdParts Token)) (args : List WireArgument) → IdsStay first c.objects → By (convert version destroyed c done args)
+  by_all c done [] so = so
+  by_all c done (a ∷ args) so =
+      at (convert_one version destroyed c a) (by_one c a so) (λ next holds. by_all next.1 (done ++ next.0 ∷ []) args holds)
+    where
+      at : (r : Converted U) → ByOne r
+          → ((next : Argument IdParts Token × Converting U) → IdsStay first next.1.objects → By (convert version destroyed next.1 (done ++ next.0 ∷ []) args))
+          → By (going_on r c.objects (λ b next. convert version destroyed next (done ++ b ∷ []) args))
+      at (Ok next) holds again = again next holds
+      at (Err w) holds again = so
+
+-- ---- a message
+
+-- each id but those that are made names what it named
+abbrev pub IdsStayIn : {U : Type 0} → Objects (Kept U) → Handling U → Type 0
+IdsStayIn first (Swallows objects) = IdsStay first objects
+IdsStayIn first (HandsOut m event objects) = IdsStay first objects
+IdsStayIn first (Breaks e objects) = IdsStay first objects
+
+module _ {U : Type 0} (table : List InterfaceRow) (objects : Objects (Kept U)) (m : WireMessage) where
+  by_display : (d : DisplayEvent) → IdsStayIn objects (of_display table objects d)
+  by_display (Fails code n text) = ids_same objects
+  by_display (Deletes n) = ids_by_deletion objects n
+  by_display Unreadable = ids_same objects
+
+  by_converted : (x : Object (Kept U)) (row : MessageRow) (outcome : Outcome U) → By x.version x.value.client_destroyed objects outcome
+      → IdsStayIn objects (of_converted table objects m x row outcome)
+  by_converted x row (Wrong w after) so = so
+  by_converted x row (Whole c args) so = at x.value.client_destroyed
+    where
+      at : (b : Bool) → IdsStayIn objects (cond b (Swallows c.objects) (HandsOut (event_of m x args) (opened_of m x row c.created) c.objects))
+      at true = so
+      at false = so
+
+  by_event : (o : Option (Object (Kept U))) (r : Option MessageRow) → IdsStayIn objects (of_event table objects m o r)
+  by_event (Some x) (Some row) =
+      by_converted x row (convert x.version x.value.client_destroyed (start objects row) [] m.args)
+      (by_all x.version x.value.client_destroyed objects (start objects row) [] m.args (ids_same objects))
+  by_event None None = ids_same objects
+  by_event None (Some row) = ids_same objects
+  by_event (Some x) None = ids_same objects
+
+  pub ids_stay : IdsStayIn objects (handling table objects m)
+  ids_stay = at (m.sender == 1)
+    where
+      at : (b : Bool)
+          → IdsStayIn objects (cond b (of_display table objects (display_event m.opcode m.args))
+          (of_event table objects m (held objects.store m.sender) (row_in table (held objects.store m.sender) m.opcode)))
+      at true = by_display (display_event m.opcode m.args)
+      at false = by_event (held objects.store m.sender) (row_in table (held objects.store m.sender) m.opcode)

@@ -1,0 +1,452 @@
+-- A dispatch: what it leaves of its client, and of the others.
+use Rattle.std.proofs.Common.{◌≡◌, ℕ, Bool, true, false, cond, eqb, List, [], ◌∷◌, Option, None, Some, Result, Ok, Err, refl, sym, ap, subst, ◌∙◌, true≢false}
+use mathlib.Core.Logic.{inl, inr}
+use Rattle.std.proofs.lemmas.Bool.{eq-eqb}
+use Rattle.std.specs.Prelude.{◌⊎◌, ◌||◌, Vec}
+use Rattle.std.specs.Global.{Global}
+use Rattle.wl_wire.specs.declared.error.IoFault.{IoFault}
+use Rattle.wl_wire.specs.declared.error.IoFault.TheVariants as fault
+use Rattle.wl_wire.specs.declared.error.OutOfMemory.{OutOfMemory}
+use Rattle.wl_wire.specs.Table.{InterfaceRow}
+use Rattle.wl_link.proofs.Calls.Branches.{either_option}
+use Rattle.wl_link.specs.Exchange.{Queue}
+use Rattle.wl_link.specs.Link.{count_of, counted_answer}
+use Rattle.wl_link.specs.Puts.{lacks_memory}
+use Rattle.wl_link.specs.Reader.{Gives, Handled, ReaderState, Reads, Received, Turn, Unread, with_link}
+use Rattle.wl_server.specs.declared.error.ActionError.{ActionError}
+use Rattle.wl_server.specs.declared.error.ActionError.TheVariants.{ActionOpen, Io}
+use Rattle.wl_server.specs.declared.error.FinishError.{FinishError}
+use Rattle.wl_server.specs.declared.error.FinishError.TheVariants as finish
+use Rattle.wl_server.specs.declared.error.FinishRefused.{FinishRefused}
+use Rattle.wl_server.specs.declared.reading.action.Action.{Action}
+use Rattle.wl_server.specs.declared.reading.action.Action.TheVariants as action
+use Rattle.wl_server.specs.declared.reading.action.OpenAction.{OpenAction}
+use Rattle.wl_server.specs.declared.reading.action.OpenAction.TheVariants as opened
+use Rattle.wl_server.specs.declared.reading.action.Reading.{Reading}
+use Rattle.wl_server.specs.declared.runs.step.Reply.{Reply}
+use Rattle.wl_server.specs.declared.runs.step.Reply.TheVariants as reply
+use Rattle.wl_server.specs.declared.runs.step.Step.{Step}
+use Rattle.wl_server.specs.declared.runs.step.Step.TheVariants as step
+use Rattle.wl_server.specs.Backend.{BackendState}
+use Rattle.wl_server.specs.Deeds.{Deed, Handed}
+use Rattle.wl_server.specs.Dispatch.{Answering, Answers, DispatchesAll, DispatchesClient, Handles, Last, after_cleanup, cleaned, dispatched, fault_of_end, fault_of_reading, no_action, not_ended, refusal_in}
+use Rattle.wl_server.specs.Finish.{FinishesBind, FinishesOpenBind}
+use Rattle.wl_server.specs.Globals.{Offer}
+use Rattle.wl_server.specs.Inside.Finishing.{is_out_of_memory, lacks_finish}
+use Rattle.wl_server.specs.Ids.{ClientParts}
+use Rattle.wl_server.specs.Part.{Part}
+use Rattle.wl_server.specs.PartStep.{Asked, Call, CleanedAs, OnPart, PartCall, ReadsFor, World, around}
+use Rattle.wl_server.specs.Plain.Dispatch.{AllLive, DispatchLeaves, DispatchesLeave, IsIdle, LeftBy}
+use Rattle.wl_server.specs.Plain.Reading.{FaultLeaves, IsKilledOnce, ReadAs}
+use Rattle.wl_server.specs.Reading.{Around, NextAction, action_content, server}
+use Rattle.wl_server.specs.ReadingEnds.{LastReceiveFailed, ReadingEnds, StopsItself}
+use Rattle.wl_server.specs.Server.{Seen, ServerState, seen}
+use Rattle.wl_server.specs.Steps.{Entry, OneStep, lacks_growth}
+use Rattle.wl_server.specs.Telling.{Core, Told, reader_part}
+use Rattle.wl_server.proofs.Plain.Base.{none_and_some, one_value, own}
+use Rattle.wl_server.proofs.Plain.Cleanup.{cleaned_killed, cleaned_live, cleaned_none}
+use Rattle.wl_server.proofs.Plain.Reading.{reads_as, split_bool}
+use Rattle.wl_server.proofs.Plain.ReadingEnds.{reading_ends, split_result}
+use Rattle.wl_server.proofs.Plain.Requests.{own_lacks}
+
+-- ---- the cleanup
+
+split : (b : Bool) → (b ≡ true) ⊎ (b ≡ false)
+split true = inl refl
+split false = inr refl
+
+module _ {T U G C : Type 0} (w : World T G C) (id : ClientParts) (offer : Offer G) (out : Vec (ClientParts × T) Global) (s t : Seen T U C) (lacked : Bool) (did : List (Deed U))
+    (h : CleanedAs w id offer (Ok out) s lacked did t) where
+  left_live : (p : Part T U C) → t.part ≡ Some p → (p.is_killed ≡ false) × (p.waiting ≡ [])
+  left_live p there =
+      elim (found s.part refl) [
+        | inl none ↦ let (nothing, same) = cleaned_none w id offer out s t lacked did none h in
+            absurd (none_and_some t.part (ap (λ (x : Seen T U C). x.part) same ∙ none) there)
+        | inr (q, was) ↦ elim (split q.is_killed) [
+          | inl dead ↦
+              let (answer, link, by, handed, gone) = cleaned_killed w id offer out s t lacked did q was dead h in absurd (none_and_some t.part gone there)
+          | inr live ↦
+              let (handed, is, made) = cleaned_live w id offer out s t lacked did q was live h in
+              let same : record q { waiting = [] } ≡ p = one_value t.part is there in
+              (ap (λ (x : Part T U C). x.is_killed) (sym same) ∙ live, ap (λ (x : Part T U C). x.waiting) (sym same))
+        ]
+      ]
+    where
+      found : (o : Option (Part T U C)) → s.part ≡ o → (s.part ≡ None) ⊎ ((q : Part T U C) × (s.part ≡ Some q))
+      found None is = inl is
+      found (Some q) is = inr (q, is)
+
+  -- a live client without an open action stays so
+  idle_still : IsIdle s.part → IsIdle t.part
+  idle_still (p, was, live, idle) =
+      let (handed, is, made) = cleaned_live w id offer out s t lacked did p was live h in (record p { waiting = [] }, is, live, idle)
+
+  -- nor is one that was not stored, or killed
+  gone_then : (s.part ≡ None) ⊎ ((p : Part T U C) × (s.part ≡ Some p) × (p.is_killed ≡ true)) → t.part ≡ None
+  gone_then (inl none) = let (nothing, same) = cleaned_none w id offer out s t lacked did none h in ap (λ (x : Seen T U C). x.part) same ∙ none
+  gone_then (inr (p, was, dead)) = let (answer, link, by, handed, gone) = cleaned_killed w id offer out s t lacked did p was dead h in gone
+
+module _ {T U G C : Type 0} (w : World T G C) (mid : ServerState T U G C) (after : BackendState T U G C) (e : Entry T U G C) (out : Reply T U) (by : OneStep w mid e after.server)
+    (is : e.call ≡ Asked step.Cleanup out) where
+  -- what the cleanup answered, and what it is of a client
+  pub record Cleans (id : ClientParts) : Type 0 where
+    pub r : Result (Vec (ClientParts × T) Global) OutOfMemory
+    pub answer_is : out ≡ reply.Cleanup r
+    pub cleans : CleanedAs w id mid.offer r (seen id mid) (e.lacks id) (e.did id) (seen id after.server)
+
+  of_client : (id : ClientParts) → Cleans id
+  of_client id =
+      let (r, answer_is, h) = subst (λ (c : Call T U G C). PartCall w id mid.offer c (seen id mid) (e.lacks id) (e.did id) (seen id after.server)) is (by.each id) in
+      record { r = r; answer_is = answer_is; cleans = h }
+
+  all_live : (o : Vec (ClientParts × T) Global) → out ≡ reply.Cleanup (Ok o) → AllLive after
+  all_live o fine id p there =
+      let c = of_client id in
+      let same : c.r ≡ Ok o = inside c.r o (sym c.answer_is ∙ fine) in
+      left_live w id mid.offer o (seen id mid) (seen id after.server) (e.lacks id) (e.did id)
+      (subst (λ (r : Result (Vec (ClientParts × T) Global) OutOfMemory). CleanedAs w id mid.offer r (seen id mid) (e.lacks id) (e.did id) (seen id after.server)) same c.cleans) p there
+    where
+      inside : (r : Result (Vec (ClientParts × T) Global) OutOfMemory) (o : Vec (ClientParts × T) Global) → ◌≡◌ {A = Reply T U} (reply.Cleanup r) (reply.Cleanup (Ok o)) → r ≡ Ok o
+      inside r o is = cc
+
+  refused_as : (l : OutOfMemory) → out ≡ reply.Cleanup (Err l) → e.refused ≡ true
+  refused_as l failed = by.refused.1 (inl (ap lacks_growth (is ∙ ap (λ (o : Reply T U). Asked step.Cleanup o) failed)))
+
+-- ---- what the last round leaves of the client
+
+module _ {T U C : Type 0} where
+  -- it is not stored, or killed
+  abbrev IsGone : Option (Part T U C) → Type 0
+  IsGone found = (found ≡ None) ⊎ ((p : Part T U C) × (found ≡ Some p) × (p.is_killed ≡ true))
+
+  -- before the cleanup
+  abbrev EndedBy : IoFault → Option (Part T U C) → Type 0
+  EndedBy fault.WouldBlock found = IsIdle found
+  EndedBy fault.InvalidInput found = Unit {0}
+  EndedBy fault.OutOfMemory found = Unit {0}
+  EndedBy _ found = IsGone found
+
+not_open : {f : IoFault} → ◌≡◌ {A = Result Handed ActionError} (Err (Io f)) (Err ActionOpen) → ⊥
+not_open is = absurd cc
+
+module _ {T U C : Type 0} (table : List InterfaceRow) (id : ClientParts) (s t : Seen T U C) where
+  read_blocked : ReadAs table id (Err (Io fault.WouldBlock)) s t → IsIdle t.part
+  read_blocked (inl (none, is, same)) = absurd (differ is)
+    where
+      differ : ◌≡◌ {A = Result Handed ActionError} (Err (Io fault.WouldBlock)) (Err (Io fault.InvalidInput)) → ⊥
+      differ is = absurd cc
+  read_blocked (inr (p, was, inl (some, is, same))) = absurd (not_open is)
+  read_blocked (inr (p, was, inr (inl (idle, dead, is, same)))) = absurd (differ is)
+    where
+      differ : ◌≡◌ {A = Result Handed ActionError} (Err (Io fault.WouldBlock)) (Err (Io fault.Pipe)) → ⊥
+      differ is = absurd cc
+  read_blocked (inr (p, was, inr (inr (idle, live, (q, (closed, (lives, is))))))) = (q, ap (λ (x : Seen T U C). x.part) is, lives, closed)
+
+  -- a fault by which a client is killed
+  read_killed : (f : IoFault) → ((q : Part T U C) → FaultLeaves table id f s q t → IsKilledOnce table id s q t) → ReadAs table id (Err (Io f)) s t → IsGone t.part
+  read_killed f kills (inl (none, is, same)) = inl (ap (λ (x : Seen T U C). x.part) same ∙ none)
+  read_killed f kills (inr (p, was, inl (some, is, same))) = absurd (not_open is)
+  read_killed f kills (inr (p, was, inr (inl (idle, dead, is, same)))) = inr (p, ap (λ (x : Seen T U C). x.part) same ∙ was, dead)
+  read_killed f kills (inr (p, was, inr (inr (idle, live, (q, (closed, left)))))) =
+      let (dead, (reason, is)) = kills q left in inr (q, ap (λ (x : Seen T U C). x.part) is, dead)
+
+  ended_by : (error : ActionError) → ReadAs table id (Err error) s t → EndedBy (fault_of_reading error) t.part
+  ended_by ActionOpen h = tt
+  ended_by (Io fault.WouldBlock) h = read_blocked h
+  ended_by (Io fault.OutOfMemory) h = tt
+  ended_by (Io fault.InvalidInput) h = tt
+  ended_by (Io fault.Pipe) h = read_killed fault.Pipe (λ q k. k) h
+  ended_by (Io fault.TooBig) h = read_killed fault.TooBig (λ q k. k) h
+  ended_by (Io fault.Proto) h = read_killed fault.Proto (λ q k. k) h
+  ended_by (Io (fault.Other n)) h = read_killed (fault.Other n) (λ q k. k) h
+
+ended_finish : {T U C : Type 0} (why : FinishError) (found : Option (Part T U C)) → EndedBy (fault_of_end why) found
+ended_finish finish.OutOfMemory found = tt
+ended_finish _ found = tt
+
+-- ---- whether memory was refused
+
+or_first : (a b : Bool) → a ≡ true → (a || b) ≡ true
+or_first true b is = refl
+or_first false b is = absurd (true≢false (sym is))
+
+or_then : (a b : Bool) → b ≡ true → (a || b) ≡ true
+or_then true b is = refl
+or_then false b is = is
+
+not_both : {A E : Type 0} {r : Result A E} {x : A} {e : E} → r ≡ Ok x → r ≡ Err e → ⊥
+not_both ok err = absurd cc
+
+module _ {T U G C : Type 0} (sends : T → Queue → Result ℕ IoFault → T → Type 0) (receives : T → ℕ → Result Queue IoFault → T → Type 0) (a : Around G C) where
+  -- the last receive lacked memory
+  receive_starves : (left : ℕ) (before : ReaderState T (Core U C)) (turns : List Turn) (out : Gives (Told U)) (end : ReaderState T (Core U C))
+      → Reads sends (server a) receives left before turns out end → LastReceiveFailed fault.OutOfMemory turns → out.refused ≡ true
+  receive_starves left before [] out end h (r, last, failed) = absurd (none_and_some None refl last)
+  receive_starves left before (Received got ∷ []) out end (on, lacks, (n, is, (link, filled, room, h))) (r, last, failed) =
+      elim (split_result (counted_answer (count_of got)) h) [
+        | inl (u, ok, more) ↦ absurd (not_both ok (ap (λ (x : Result Queue IoFault). counted_answer (count_of x)) (got_is last) ∙ failed))
+        | inr (f, bad, (over, stopped, same)) ↦
+            ap (λ (o : Gives (Told U)). o.refused) stopped
+            ∙ ap lacks_memory (sym bad ∙ ap (λ (x : Result Queue IoFault). counted_answer (count_of x)) (got_is last) ∙ failed)
+      ]
+    where
+      got_is : Some (Received got) ≡ Some (Received r) → got ≡ r
+      got_is is = cc
+  receive_starves left before (Received got ∷ t ∷ turns) out end (on, lacks, (n, is, (link, filled, room, h))) last =
+      elim (split_result (counted_answer (count_of got)) h) [
+        | inl (u, ok, more) ↦ receive_starves n (with_link before link) (t ∷ turns) out end more last
+        | inr (f, bad, (over, stopped, same)) ↦ absurd (none_left over)
+      ]
+    where
+      none_left : t ∷ turns ≡ [] → ⊥
+      none_left is = absurd cc
+  receive_starves left before (Handled es ∷ []) out end h (r, last, failed) = absurd (not_received last)
+    where
+      not_received : Some (Handled es) ≡ Some (Received r) → ⊥
+      not_received is = absurd cc
+  receive_starves left before (Handled es ∷ t ∷ turns) out end (on, (v, link, first, lacked, mid, rest, found, by, split', more)) last =
+      ap (λ (o : Gives (Told U)). o.refused) split' ∙ or_then lacked rest.refused (receive_starves left mid (t ∷ turns) rest end more last)
+  receive_starves left before (Unread es ∷ []) out end h (r, last, failed) = absurd (not_received last)
+    where
+      not_received : Some (Unread es) ≡ Some (Received r) → ⊥
+      not_received is = absurd cc
+  receive_starves left before (Unread es ∷ t ∷ turns) out end (on, (v, link, first, lacked, mid, rest, found, by, split', more)) last =
+      ap (λ (o : Gives (Told U)). o.refused) split' ∙ or_then lacked rest.refused (receive_starves left mid (t ∷ turns) rest end more last)
+
+  next_starves : (p q : Part T U C) (r r' : Reading) (lacked : Bool) (did : List (Deed U)) → NextAction sends receives a r p (Err (Io fault.OutOfMemory)) r' lacked did q → lacked ≡ true
+  next_starves p q r r' lacked did h =
+      elim (either_option p.action h) [
+        | inr (action, is_open, (says, same, calm, none, stays)) ↦ absurd (not_open says)
+        | inl (idle, g) ↦ elim (split_bool p.is_killed g) [
+          | inl (dead, (says, same, calm, none, stays)) ↦ absurd (not_pipe says)
+          | inr (live, (turns, out, end, reads, says, same, calm, did_so, after)) ↦
+              calm
+              ∙ starved turns out end reads
+              (subst (λ (x : Result Handed ActionError). ReadingEnds sends receives a (reader_part p) turns x out.refused out.left end) (sym says)
+              (reading_ends sends receives a r.turns_left p turns out end live idle reads)).0
+        ]
+      ]
+    where
+      not_pipe : ◌≡◌ {A = Result Handed ActionError} (Err (Io fault.OutOfMemory)) (Err (Io fault.Pipe)) → ⊥
+      not_pipe is = absurd cc
+
+      starved : (turns : List Turn) (out : Gives (Told U)) (end : ReaderState T (Core U C)) → Reads sends (server a) receives r.turns_left (reader_part p) turns out end
+          → LastReceiveFailed fault.OutOfMemory turns ⊎ StopsItself sends receives a fault.OutOfMemory (reader_part p) turns out.refused out.left end → out.refused ≡ true
+      starved turns out end reads (inl last) = receive_starves r.turns_left (reader_part p) turns out end reads last
+      starved turns out end reads (inr (refused, why)) = refused
+
+module _ {T U G C : Type 0} (w : World T G C) (id : ClientParts) (s s' : ServerState T U G C) (e : Entry T U G C) (by : OneStep w s e s') where
+  reading_starved : (r r' : Reading) → e.call ≡ Asked (step.NextActionWithin id r) (reply.NextActionWithin (Err (Io fault.OutOfMemory)) r') → e.refused ≡ true
+  reading_starved r r' is =
+      let (got, left, same, h) = subst (λ (c : Call T U G C). PartCall w id s.offer c (seen id s) (e.lacks id) (e.did id) (seen id s')) is (by.each id) in
+      by.refused.1 (inr (
+        id,
+        lacks left
+            (subst (λ (x : Result Action ActionError). ReadsFor w id s.offer id r (action_content x) left (seen id s) (e.lacks id) (e.did id) (seen id s')) (inside got left same) h),
+      ))
+    where
+      inside : (got : Result Action ActionError) (left : Reading)
+          → ◌≡◌ {A = Reply T U} (reply.NextActionWithin (Err (Io fault.OutOfMemory)) r') (reply.NextActionWithin got left) → got ≡ Err (Io fault.OutOfMemory)
+      inside got left is = cc
+
+      unknown : ◌≡◌ {A = Result Handed ActionError} (Err (Io fault.OutOfMemory)) (Err (Io fault.InvalidInput)) → ⊥
+      unknown is = absurd cc
+
+      lacks : (left : Reading) → ReadsFor w id s.offer id r (Err (Io fault.OutOfMemory)) left (seen id s) (e.lacks id) (e.did id) (seen id s') → e.lacks id ≡ true
+      lacks left h =
+          elim (either_option (seen id s).part (own id (seen id s) (λ p q. NextAction w.sends w.receives (around w id s.offer) r p (Err (Io fault.OutOfMemory)) left (e.lacks id) (e.did id) q)
+          ((◌≡◌ {A = Result Handed ActionError} (Err (Io fault.OutOfMemory)) (Err (Io fault.InvalidInput))) × (left ≡ r)) (e.lacks id) (e.did id) (seen id s') h)) [
+            | inl (none, ((says, same), rest)) ↦ absurd (unknown says)
+            | inr (p, there, (q, next, is)) ↦ next_starves w.sends w.receives (around w id s.offer) p q r left (e.lacks id) (e.did id) next
+          ]
+
+  request_starved : (u : Option U) (answer : Reply T U) → e.call ≡ Asked (step.FinishRequest id u) answer → Some finish.OutOfMemory ≡ refusal_in answer → e.refused ≡ true
+  request_starved u answer is why =
+      let (r, answer_is, h) = subst (λ (c : Call T U G C). PartCall w id s.offer c (seen id s) (e.lacks id) (e.did id) (seen id s')) is (by.each id) in
+      by.refused.1 (inr (id, own_lacks w.sends id u r (seen id s) (seen id s') (e.lacks id) (e.did id) (lacks r (why ∙ ap refusal_in answer_is)) h))
+    where
+      lacks : (r : Result (Unit {0}) (FinishRefused (Option U))) → Some finish.OutOfMemory ≡ refusal_in {T = T} (reply.FinishRequest r) → lacks_finish r ≡ true
+      lacks (Ok ok) is = absurd (none_and_some None refl (sym is))
+      lacks (Err x) is = ap is_out_of_memory (sym (one is))
+        where
+          one : Some finish.OutOfMemory ≡ Some x.error → finish.OutOfMemory ≡ x.error
+          one is = cc
+
+  abbrev BindAnswer : Type 0
+  BindAnswer = Result (Unit {0}) (FinishRefused U)
+
+  abbrev IsStarved : BindAnswer → Type 0
+  IsStarved r = Some finish.OutOfMemory ≡ refusal_in {T = T} (reply.FinishBind r)
+
+  bind_starved : (u : U) (answer : Reply T U) → e.call ≡ Asked (step.FinishBind id u) answer → Some finish.OutOfMemory ≡ refusal_in answer → e.refused ≡ true
+  bind_starved u answer is why =
+      let (r, answer_is, h) = subst (λ (c : Call T U G C). PartCall w id s.offer c (seen id s) (e.lacks id) (e.did id) (seen id s')) is (by.each id) in
+      absurd (never r (why ∙ ap refusal_in answer_is)
+      (own id (seen id s) (λ p q. FinishesBind p u r (e.lacks id) (e.did id) q) (r ≡ Err (record { error = finish.InvalidId; user_data = u })) (e.lacks id) (e.did id) (seen id s') h))
+    where
+      not_for : (r : BindAnswer) (f : FinishError) → IsStarved r → r ≡ Err (record { error = f; user_data = u }) → finish.OutOfMemory ≡ f
+      not_for r f starved is = one (subst IsStarved is starved)
+        where
+          one : Some finish.OutOfMemory ≡ Some f → finish.OutOfMemory ≡ f
+          one is = cc
+
+      open_bind : (r : BindAnswer) → IsStarved r → (p q : Part T U C) (a : OpenAction) → FinishesOpenBind p a u r (e.lacks id) (e.did id) q → ⊥
+      open_bind r starved p q (opened.Request sender is_destructor created) (is, calm, none, same) = absurd (other (not_for r finish.WrongKind starved is))
+        where
+          other : finish.OutOfMemory ≡ finish.WrongKind → ⊥
+          other is = absurd cc
+      open_bind r starved p q (opened.Bind object) (is, calm, none, same) = absurd (none_and_some None refl (sym (subst IsStarved is starved)))
+
+      never : (r : BindAnswer) → IsStarved r
+          → OnPart (seen id s) (λ p q. FinishesBind p u r (e.lacks id) (e.did id) q) (r ≡ Err (record { error = finish.InvalidId; user_data = u })) (e.lacks id) (e.did id) (seen id s') → ⊥
+      never r starved h =
+          elim (either_option (seen id s).part h) [
+            | inl (none, (is, rest)) ↦ unknown (not_for r finish.InvalidId starved is)
+            | inr (p, there, (q, does, same)) ↦ elim (either_option p.action does) [
+              | inl (idle, (is, calm, none, stays)) ↦ shut (not_for r finish.NoOpenAction starved is)
+              | inr (a, is_open, ends) ↦ open_bind r starved p q a ends
+            ]
+          ]
+        where
+          unknown : finish.OutOfMemory ≡ finish.InvalidId → ⊥
+          unknown is = absurd cc
+
+          shut : finish.OutOfMemory ≡ finish.NoOpenAction → ⊥
+          shut is = absurd cc
+
+module _ {H T U G C : Type 0} (w : World T G C) (answers : Answering H T U G C) (id : ClientParts) where
+  no_more : (r r' : Reading) (s s' : ServerState T U G C) (e : Entry T U G C) (error : ActionError) → OneStep w s e s'
+      → e.call ≡ Asked (step.NextActionWithin id r) (reply.NextActionWithin (Err error) r') → EndedBy (fault_of_reading error) (seen id s').part
+  no_more r r' s s' e error by is =
+      let (got, left, same, h) = subst (λ (c : Call T U G C). PartCall w id s.offer c (seen id s) (e.lacks id) (e.did id) (seen id s')) is (by.each id) in
+      ended_by s.offer.table id (seen id s) (seen id s') error
+      (reads_as w id s.offer r left (Err error) (seen id s) (seen id s') (e.lacks id) (e.did id)
+      (subst (λ (x : Result Action ActionError). ReadsFor w id s.offer id r (action_content x) left (seen id s) (e.lacks id) (e.did id) (seen id s')) (inside got left same) h))
+    where
+      inside : (got : Result Action ActionError) (left : Reading) → ◌≡◌ {A = Reply T U} (reply.NextActionWithin (Err error) r') (reply.NextActionWithin got left) → got ≡ Err error
+      inside got left is = cc
+
+  last_leaves : {h h' : H} {r r' : Reading} {s s' : ServerState T U G C} {run : List (Entry T U G C)} {lacked : Bool} {f : IoFault}
+      → Last w answers id h r s run lacked f h' r' s' → EndedBy f (seen id s').part
+  last_leaves {r = r} {r' = r'} {s = s} {s' = s'} (no_action e error by is run_is lacked_is f_is same) =
+      subst (λ (f : IoFault). EndedBy f (seen id s').part) (sym f_is) (no_more r r' s s' e error by is)
+  last_leaves {s' = s'} (not_ended why round f_is) = subst (λ (f : IoFault). EndedBy f (seen id s').part) (sym f_is) (ended_finish why (seen id s').part)
+
+  -- ---- memory
+
+  end_starved : {h h' : H} {before : BackendState T U G C} {a : Action} {run : List (Entry T U G C)} {lacked : Bool} {after : ServerState T U G C}
+      → Handles w answers id h before a run lacked (Some finish.OutOfMemory) h' after → lacked ≡ true
+  end_starved {h} {h'} {before} {a} {after = after} x = x.lacked_is ∙ at a x.answers_so
+    where
+      at : (a : Action) → Answers w answers id h before a x.end h' x.left → x.ended.refused ≡ true
+      at (action.Request sender opcode args is_destructor created) (u, so, is) =
+          request_starved w id x.left.server after x.ended x.ends u x.answer (x.ended_is ∙ ap (λ (s : Step T U G C). Asked s x.answer) is) x.why_is
+      at (action.Bind global object) (u, so, is) =
+          bind_starved w id x.left.server after x.ended x.ends u x.answer (x.ended_is ∙ ap (λ (s : Step T U G C). Asked s x.answer) is) x.why_is
+
+  last_starved : {h h' : H} {r r' : Reading} {s s' : ServerState T U G C} {run : List (Entry T U G C)} {lacked : Bool} {f : IoFault}
+      → Last w answers id h r s run lacked f h' r' s' → f ≡ fault.OutOfMemory → lacked ≡ true
+  last_starved {r = r} {r' = r'} {s = s} {s' = s'} (no_action e error by is run_is lacked_is f_is same) lacks = lacked_is ∙ at error is (sym f_is ∙ lacks)
+    where
+      at : (error : ActionError) → e.call ≡ Asked (step.NextActionWithin id r) (reply.NextActionWithin (Err error) r') → fault_of_reading error ≡ fault.OutOfMemory → e.refused ≡ true
+      at ActionOpen is lacks = absurd (other lacks)
+        where
+          other : fault.InvalidInput ≡ fault.OutOfMemory → ⊥
+          other is = absurd cc
+      at (Io f) is lacks =
+          reading_starved w id s s' e by r r' (is ∙ ap (λ (f : IoFault). Asked (step.NextActionWithin id r) (reply.NextActionWithin (Err (Io f)) r')) lacks)
+  last_starved {h = h} {h' = h'} {s' = s'} (not_ended why round f_is) lacks =
+      round.lacked_is ∙ or_then round.read.refused round.end_lacked (at why (sym f_is ∙ lacks) round.handles)
+    where
+      other : fault.InvalidInput ≡ fault.OutOfMemory → ⊥
+      other is = absurd cc
+
+      at : (why : FinishError) → fault_of_end why ≡ fault.OutOfMemory → Handles w answers id h round.found round.handed round.rest round.end_lacked (Some why) h' s' → round.end_lacked ≡ true
+      at finish.OutOfMemory lacks x = end_starved x
+      at _ lacks x = absurd (other lacks)
+
+  -- ---- a client
+
+  -- the cleanup was made
+  swept : (offer : Offer G) (out : Vec (ClientParts × T) Global) (s t : Seen T U C) (lacked : Bool) (did : List (Deed U)) → CleanedAs w id offer (Ok out) s lacked did t
+      → (f : IoFault) (read : ℕ) → EndedBy f s.part → LeftBy t.part (dispatched f read)
+  swept offer out s t lacked did h fault.WouldBlock read idle = at (eqb read 0) refl
+    where
+      still : IsIdle t.part
+      still = idle_still w id offer out s t lacked did h idle
+
+      at : (b : Bool) → eqb read 0 ≡ b → LeftBy t.part (cond b (Err fault.WouldBlock) (Ok read))
+      at true is = still
+      at false is = (λ none. true≢false (sym (eq-eqb read 0 none) ∙ is), still)
+  swept offer out s t lacked did h fault.InvalidInput read ended = tt
+  swept offer out s t lacked did h fault.OutOfMemory read ended = tt
+  swept offer out s t lacked did h fault.Pipe read gone = gone_then w id offer out s t lacked did h gone
+  swept offer out s t lacked did h fault.TooBig read gone = gone_then w id offer out s t lacked did h gone
+  swept offer out s t lacked did h fault.Proto read gone = gone_then w id offer out s t lacked did h gone
+  swept offer out s t lacked did h (fault.Other n) read gone = gone_then w id offer out s t lacked did h gone
+
+  pub dispatch_leaves : (h h' : H) (before : ServerState T U G C) (result : Result ℕ IoFault) (after : BackendState T U G C) → DispatchesClient w answers id h before result h' after
+      → DispatchLeaves id result after
+  dispatch_leaves h h' before result after (calls, lacked, answer, mid, rounds, ends) =
+      let c = of_client w mid after ends.cleanup ends.out ends.cleans ends.cleanup_is id in
+      let was : EndedBy rounds.fault (seen id mid).part = last_leaves rounds.rounds_end.end in
+      at c.r c.answer_is c.cleans was
+    where
+      result_as : (r : Result (Vec (ClientParts × T) Global) OutOfMemory) → ends.out ≡ reply.Cleanup r → result ≡ after_cleanup r (dispatched rounds.fault rounds.left.read)
+      result_as r is = ends.result_is ∙ ap (λ (o : Reply T U). cleaned o answer) is ∙ ap (λ (a : Result ℕ IoFault). after_cleanup r a) rounds.answer_is
+
+      of_fault : (f : IoFault) (read : ℕ) → dispatched f read ≡ Err fault.OutOfMemory → f ≡ fault.OutOfMemory
+      of_fault fault.OutOfMemory read is = refl
+      of_fault fault.WouldBlock read is = absurd (blocked (eqb read 0) is)
+        where
+          blocked : (b : Bool) → ◌≡◌ {A = Result ℕ IoFault} (cond b (Err fault.WouldBlock) (Ok read)) (Err fault.OutOfMemory) → ⊥
+          blocked true is = absurd cc
+          blocked false is = absurd cc
+      of_fault fault.InvalidInput read is = absurd cc
+      of_fault fault.Pipe read is = absurd cc
+      of_fault fault.TooBig read is = absurd cc
+      of_fault fault.Proto read is = absurd cc
+      of_fault (fault.Other n) read is = absurd cc
+
+      at : (r : Result (Vec (ClientParts × T) Global) OutOfMemory) → ends.out ≡ reply.Cleanup r
+          → CleanedAs w id mid.offer r (seen id mid) (ends.cleanup.lacks id) (ends.cleanup.did id) (seen id after.server) → EndedBy rounds.fault (seen id mid).part
+          → DispatchLeaves id result after
+      at (Ok out) is h was = record {
+        client = subst (λ (a : Result ℕ IoFault). LeftBy (seen id after.server).part a) (sym (result_as (Ok out) is))
+            (swept mid.offer out (seen id mid) (seen id after.server) (ends.cleanup.lacks id) (ends.cleanup.did id) h rounds.fault rounds.left.read was);
+        all = λ fine. all_live w mid after ends.cleanup ends.out ends.cleans ends.cleanup_is out is;
+        memory = λ lacks.
+            ends.refused
+            ∙ or_first lacked ends.cleanup.refused
+            (rounds.rounds_end.lacked_is
+            ∙ or_then rounds.rounds_end.first_lacked rounds.rounds_end.last_lacked
+            (last_starved rounds.rounds_end.end (of_fault rounds.fault rounds.left.read (sym (result_as (Ok out) is) ∙ lacks))));
+      }
+      at (Err l) is h was = record {
+        client = subst (λ (a : Result ℕ IoFault). LeftBy (seen id after.server).part a) (sym (result_as (Err l) is)) tt;
+        all = λ fine. absurd (fine (result_as (Err l) is));
+        memory = λ lacks.
+            ends.refused ∙ or_then lacked ends.cleanup.refused (refused_as w mid after ends.cleanup ends.out ends.cleans ends.cleanup_is l is);
+      }
+
+-- ---- several clients
+
+module _ {H T U G C : Type 0} (w : World T G C) (answers : Answering H T U G C) where
+  pub dispatches_leave : (ids : List ClientParts) (h h' : H) (before : ServerState T U G C) (result : Result ℕ IoFault) (after : BackendState T U G C)
+      → DispatchesAll w answers ids h before result h' after → DispatchesLeave result after
+  dispatches_leave ids h h' before result after (calls, lacked, total, mid, each, ends) =
+      let c = of_client w mid after ends.cleanup ends.out ends.cleans ends.cleanup_is (record { slot = 0; serial = 0 }) in at c.r c.answer_is
+    where
+      result_as : (r : Result (Vec (ClientParts × T) Global) OutOfMemory) → ends.out ≡ reply.Cleanup r → result ≡ after_cleanup r (Ok total)
+      result_as r is = ends.result_is ∙ ap (λ (o : Reply T U). cleaned o (Ok total)) is
+
+      at : (r : Result (Vec (ClientParts × T) Global) OutOfMemory) → ends.out ≡ reply.Cleanup r → DispatchesLeave result after
+      at (Ok out) is = subst (λ (a : Result ℕ IoFault). DispatchesLeave a after) (sym (result_as (Ok out) is))
+          (record { all = all_live w mid after ends.cleanup ends.out ends.cleans ends.cleanup_is out is })
+      at (Err l) is = subst (λ (a : Result ℕ IoFault). DispatchesLeave a after) (sym (result_as (Err l) is))
+          (record {
+            all = (
+              refl,
+              ends.refused ∙ or_then lacked ends.cleanup.refused (refused_as w mid after ends.cleanup ends.out ends.cleans ends.cleanup_is l is),
+            );
+          })
