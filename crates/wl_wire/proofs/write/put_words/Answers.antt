@@ -1,4 +1,5 @@
 use Rattle.std.proofs.Common.{length, map, take, refl, sym, ap, arith, length-append}
+use Rattle.std.proofs.lemmas.Grind.{common_steps}
 use Rattle.wl_wire.specs.Inside.Buffer.{IsWord}
 use Rattle.wl_wire.specs.MapIds.{with_ids}
 use Rattle.wl_wire.specs.Message.{IsArgument, piece, pieces}
@@ -35,3 +36,9 @@ loop-arg-preserved g c =
           (omega (arith, c.requires.room, words_len object_number new_number c.args.args.now c.requires.words)) c.loop-arg.invariant.0 c.loop-arg.invariant.1 c.put_word-at.ensures.bytes,
       all-more IsArgument args i a got.0 got.1 c.loop-arg.invariant.2 c.word_of.ensures.value,
     )
+
+pub returns-clause-bytes : goal.returns-clause-bytes
+returns-clause-bytes g c = grind (arith, common_steps)
+
+pub returns-clause-values : goal.returns-clause-values
+returns-clause-values g c = grind (arith, common_steps)

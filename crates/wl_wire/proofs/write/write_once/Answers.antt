@@ -1,4 +1,5 @@
 use Rattle.std.proofs.Common.{refl, ◌≡◌, ◌+◌, ◌*◌, ◌++◌, arith}
+use Rattle.std.proofs.lemmas.Grind.{common_steps}
 use Rattle.wl_wire.specs.MapIds.{numbered}
 use Rattle.wl_wire.specs.Message.{word, pieces, size}
 use Rattle.wl_wire.proofs.Pieces.{length-header, overwritten-header-last}
@@ -35,3 +36,6 @@ returns-clause-tokens g c = rw c.as_slice.ensures at c.in_ok-bytes.ensures.token
 
 pub returns-clause-none : goal.returns-clause-none
 returns-clause-none g c = λ e. absurd cc
+
+pub as_slice-requires : goal.as_slice-requires
+as_slice-requires g c = grind (arith, common_steps)

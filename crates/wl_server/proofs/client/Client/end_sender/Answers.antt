@@ -1,4 +1,5 @@
-use Rattle.std.proofs.Common.{ap, map, rules, subst, refl, List, ℕ}
+use Rattle.std.proofs.Common.{ap, map, rules, subst, refl, List, ℕ, arith}
+use Rattle.std.proofs.lemmas.Grind.{common_steps}
 use Rattle.wl_server.specs.declared.notes.Happening.{Happening}
 use Rattle.wl_server.specs.NoteOrder.{GivesNumbers}
 use Rattle.wl_server.proofs.CallSteps.Numbering.{made_in_time, still_made}
@@ -27,3 +28,6 @@ returns-clause-in_time g c =
     (made_in_time _ _ _ _ _ _
     (subst (λ (l : List (ℕ × Happening _)). GivesNumbers (map (λ m. m.0) l) c.args.numbers.now.made (map (λ m. m.0) c.take_out_made.new.made.queue.items) c.take_out_made.new.numbers.made)
     c.reserve_end.ensures.items c.take_out_made.ensures.in_time) refl c.take_out_made.ensures.waiting)
+
+pub returns-clause-numbered : goal.returns-clause-numbered
+returns-clause-numbered g c = grind (arith, common_steps)

@@ -1,4 +1,5 @@
-use Rattle.std.proofs.Common.{refl}
+use Rattle.std.proofs.Common.{refl, arith}
+use Rattle.std.proofs.lemmas.Grind.{common_steps}
 use Rattle.wl_server.specs.declared.reading.response.Response.TheVariants as response
 use Rattle.wl_server.specs.Inside.ReadingLoop.{around_of}
 use Rattle.wl_server.proofs.Readings.Handling.{handed_out}
@@ -34,3 +35,15 @@ returns-in-HandsOut-clause-handles g c = rw (← c.self.view_is, c.open_action.e
     (message_taken g.T.Transport.sends g.T.Transport.receives (around_of g.G.GlobalHandler.views c.args.around.now) _ c.args.reading.now _ c.take_request-taken.new.socket
     c.self.inside.objects c.take_request-taken.new.objects response.HandsOut c.take_request-taken.new.found c.take_request-taken.new.args.items _ _
     (rw (← c.self.view_is) at c.requires.live) refl (rw c.in-HandsOut.is at c.in-Ok.ensures.took) (handed_out g.T.Transport.sends _ _ _) c.in-Ok.ensures.fewer refl c.saturating_add-reading.ensures)
+
+pub returns-in-Err-clause-handles : goal.returns-in-Err-clause-handles
+returns-in-Err-clause-handles g c = grind (arith, common_steps)
+
+pub returns-in-Garbled-clause-in_time : goal.returns-in-Garbled-clause-in_time
+returns-in-Garbled-clause-in_time g c = grind (arith, common_steps)
+
+pub returns-in-Syncs-clause-in_time : goal.returns-in-Syncs-clause-in_time
+returns-in-Syncs-clause-in_time g c = grind (arith, common_steps)
+
+pub returns-in-Registers-clause-in_time : goal.returns-in-Registers-clause-in_time
+returns-in-Registers-clause-in_time g c = grind (arith, common_steps)

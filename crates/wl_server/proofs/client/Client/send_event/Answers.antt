@@ -1,6 +1,7 @@
-use Rattle.std.proofs.Common.{◌≡◌, ◌∙◌, true, Result, Ok, Err, map, refl, sym, subst, ap, List, ℕ}
+use Rattle.std.proofs.Common.{◌≡◌, ◌∙◌, true, Result, Ok, Err, map, refl, sym, subst, ap, List, ℕ, arith}
 use Rattle.std.proofs.lemmas.Bool.{false≢true}
 use Rattle.std.specs.Prelude.{is_err, OnErr, ◌++◌}
+use Rattle.std.proofs.lemmas.Grind.{common_steps}
 use Rattle.wl_link.specs.Link.{Wrote}
 use Rattle.wl_wire.specs.Message.{WireMessage}
 use Rattle.wl_server.specs.Inside.Ending.{notes_ending, registries_ending}
@@ -108,3 +109,6 @@ returns-then-is_err-clause-numbered g c = rw (← c.self.view_is, c.make_room.en
 
 pub returns-then-self-clause-numbered : goal.returns-then-self-clause-numbered
 returns-then-self-clause-numbered g c = λ numbered. numbered
+
+pub returns-clause-numbered : goal.returns-clause-numbered
+returns-clause-numbered g c = grind (arith, common_steps)

@@ -1,6 +1,7 @@
 use Rattle.std.proofs.Common.{◌∙◌, ◌≤◌, length, arith, refl, sym}
 use Rattle.std.proofs.lemmas.List.{length-set}
 use Rattle.std.proofs.lemmas.Option.{slice_get_read}
+use Rattle.std.proofs.lemmas.Grind.{common_steps}
 use Rattle.wl_server.specs.Inside.Leaving.{ends_at, given_at}
 use Rattle.wl_server.proofs.CleanupSteps.Outgoing.{leave_begins, leave_ends, leave_one, leave_room}
 use Rattle.wl_server.proofs.notes.cleanup.leave_all.Goals as goal
@@ -39,3 +40,9 @@ pub returns-clause-stay : goal.returns-clause-stay
 returns-clause-stay g c =
     let past : length c.args.clients.now.items ≤ c.loop-slot.slot = omega (arith, c.loop-slot-test.false, c.loop-slot.invariant.ends, c.loop-slot.invariant.len) in
     (leave_ends c.loop-slot.slot c.args.clients.now.items c.loop-slot.clients.items _ _ _ _ c.loop-slot.invariant.leave past c.loop-slot.invariant.len).0
+
+pub returns-clause-noted : goal.returns-clause-noted
+returns-clause-noted g c = grind (arith, common_steps)
+
+pub returns-clause-given : goal.returns-clause-given
+returns-clause-given g c = grind (arith, common_steps)

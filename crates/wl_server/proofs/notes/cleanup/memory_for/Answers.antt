@@ -1,6 +1,7 @@
 use Rattle.std.proofs.lemmas.Result.{err_from_is_err_and}
-use Rattle.std.proofs.Common.{length, true, map}
+use Rattle.std.proofs.Common.{length, true, map, arith}
 use Rattle.std.specs.Vec.{vec_capacity, vec_len}
+use Rattle.std.proofs.lemmas.Grind.{common_steps}
 use Rattle.wl_server.specs.Inside.Gathering.{count_leaving}
 use Rattle.wl_server.specs.Inside.Leaving.{collected, ends_at, given_at}
 use Rattle.wl_server.specs.NoteOrder.{times_of}
@@ -155,3 +156,6 @@ returns-in_err-order-clause-quiet g c = c.count_work-work.ensures.quiet
 
 pub returns-then-count-eq0-clause-quiet : goal.returns-then-count-eq0-clause-quiet
 returns-then-count-eq0-clause-quiet g c = c.count_work-work.ensures.quiet
+
+pub returns-clause-given : goal.returns-clause-given
+returns-clause-given g c = grind (arith, common_steps)

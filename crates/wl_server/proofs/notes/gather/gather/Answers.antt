@@ -1,5 +1,6 @@
 use Rattle.std.proofs.Common.{◌∙◌, [], arith, drop, sym, append-nil, refl}
 use Rattle.std.proofs.lemmas.Option.{slice_get_read}
+use Rattle.std.proofs.lemmas.Grind.{common_steps}
 use Rattle.wl_server.proofs.CallSteps.Numbering.{all_take_both, all_take_none, numbered_set, take_set}
 use Rattle.wl_server.proofs.CleanupSteps.Gathering.{gathers_at, gathers_more, gathers_none, room_at}
 use Rattle.wl_server.proofs.CleanupSteps.Ordering.{along_more, drop_past, none_numbered, order_numbered, place_left, place_some, place_within, set_numbered, slots_after}
@@ -62,3 +63,9 @@ pub returns-clause-no_numbers : goal.returns-clause-no_numbers
 returns-clause-no_numbers g c =
     none_numbered c.args.waits c.loop-place.clients.items (drop c.loop-place.place-index c.args.order.now)
     (drop_past c.args.order.now c.loop-place.place-index (omega (arith, c.loop-place-test.false))) c.loop-place.invariant.left c.loop-place.invariant.numbered
+
+pub returns-clause-ended : goal.returns-clause-ended
+returns-clause-ended g c = grind (arith, common_steps)
+
+pub returns-clause-along : goal.returns-clause-along
+returns-clause-along g c = grind (arith, common_steps)
