@@ -17,6 +17,7 @@ use Rattle.wl_wire.specs.declared.interface.InterfaceId.{InterfaceId}
 use Rattle.wl_link.specs.declared.object.Object.{Object}
 use Rattle.wl_link.specs.Exchange.{Queue}
 use Rattle.wl_link.specs.Link.{Flushed, LinkState}
+use Rattle.wl_link.specs.Store.{empty_store}
 use Rattle.wl_server.specs.declared.error.CreateError.{CreateError}
 use Rattle.wl_server.specs.declared.error.DestroyError.{DestroyError}
 use Rattle.wl_server.specs.declared.error.DestroyError.TheVariants as destroy
@@ -70,6 +71,10 @@ module _ {T U C : Type 0} where
   abbrev pub as_killed : Part T U C → Part T U C
   as_killed p = record p { is_killed = true }
 
+  -- all of a client but its objects
+  abbrev pub without_objects : Part T U C → Part T U C
+  without_objects p = record p { store = empty_store }
+
   -- the note that a client is killed; only one that is stored and live gets it
   abbrev pub end_note_of : Option (Part T U C) → DisconnectReason → List (Happening U)
   end_note_of None reason = []
@@ -118,12 +123,14 @@ module _ {T U G C : Type 0} where
 
   -- ---- the calls on objects
 
-  -- The object that the id names has the data, and is otherwise as it was. Or the id names none, and nothing has changed.
+  -- The object that the id names has the data, and is otherwise as it was. Or the id names none, and nothing has changed. All
+  -- else of the client is as before.
   pub record SetsObjectData (before : BackendState T U G C) (id : IdParts) (u : U) (answer : Result (Unit {0}) InvalidId) (after : BackendState T U G C) : Type 0 where
     pub object : MatchResult answer
         (λ _. (x : Object (Kept U)) × (object_in before id ≡ Some x) × (object_in after id ≡ Some (with_user_data u x)))
         (λ _. (object_in before id ≡ None) × IsUnchanged before after)
     pub objects : OtherObjectsStay before id after
+    pub rest : option_map without_objects (client_in after id.client) ≡ option_map without_objects (client_in before id.client)
     pub clients : OtherClientsStay before id.client after
     pub notes : (client : ClientParts) → notes_made_in after client ≡ notes_made_in before client
     pub memory : after.refused ≡ false

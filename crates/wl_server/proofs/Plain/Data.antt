@@ -1,5 +1,5 @@
 -- An object that gets data.
-use Rattle.std.proofs.Common.{◌≡◌, Bool, true, false, List, Option, None, Some, Result, Ok, Err, MatchResult, refl, sym, ap, subst, ◌∙◌}
+use Rattle.std.proofs.Common.{◌≡◌, Bool, true, false, List, Option, None, Some, Result, Ok, Err, MatchResult, option_map, refl, sym, ap, subst, ◌∙◌}
 use mathlib.Core.Logic.{inl, inr}
 use Rattle.wl_link.proofs.Calls.Branches.{either_option}
 use Rattle.wl_link.specs.declared.object.Object.{Object}
@@ -16,7 +16,7 @@ use Rattle.wl_server.specs.Lookups.{and_then, object_data_of}
 use Rattle.wl_server.specs.Objects.{DataSet}
 use Rattle.wl_server.specs.Part.{Part, id_of, named, same_id, with_user_data}
 use Rattle.wl_server.specs.PartStep.{OfClient, Quietly, World}
-use Rattle.wl_server.specs.Plain.{IsUnchanged, SetsObjectData}
+use Rattle.wl_server.specs.Plain.{IsUnchanged, SetsObjectData, without_objects}
 use Rattle.wl_server.specs.Plain.DataInPlace.{LendsObjectData, SetsWhatIsLeft}
 use Rattle.wl_server.specs.Server.{Seen, seen}
 use Rattle.wl_server.proofs.Plain.Base.{calm, ids_differ, keeps, never, notes_stay, nothing_new, of_each, other_stays, own, unchanged}
@@ -41,6 +41,14 @@ module _ {T U C : Type 0} (o : IdParts) (u : U) (answer : Result (Unit {0}) Inva
         | inr (x, is, (ok, same)) ↦
             ap (λ (x : Part T U C). named x.store other) same
             ∙ rewritten_others p.store o x (with_user_data u x) (names_so p.store o x is) refl other differ
+      ]
+
+  -- all of the client but its objects
+  set_rest : (lacked : Bool) (did : List (Deed U)) (p q : Part T U C) → Sets lacked did p q → without_objects q ≡ without_objects p
+  set_rest lacked did p q (calm, none, h) =
+      elim (either_option (named p.store o) h) [
+        | inl (unknown, (is, same)) ↦ ap without_objects same
+        | inr (x, is, (ok, same)) ↦ ap without_objects same
       ]
 
   -- the object of the id
@@ -103,6 +111,11 @@ module _ {T U G C : Type 0} {w : World T G C} {before after : BackendState T U G
         let (lacked, did, h) = set_each o u answer call other.client in
         keeps (same_client o.client other.client) _ _ _ lacked did _ (λ x. and_then x (λ p. named p.store other))
         (λ about p q r. set_others o u answer lacked did p q r other (ids_differ (same_client o.client other.client) about differ)) h;
+    rest = (
+      let (lacked, did, h) = set_each o u answer call o.client in
+      keeps (same_client o.client o.client) _ _ _ lacked did _ (λ x. option_map without_objects x)
+      (λ about p q r. ap Some (set_rest o u answer lacked did p q r)) h
+    );
     clients = λ other differ. let (lacked, did, h) = set_each o u answer call other in other_stays (same_client o.client other) _ _ _ lacked did _ differ h;
     notes = λ client.
         let (lacked, did, h) = set_each o u answer call client in
