@@ -1,4 +1,5 @@
-use Rattle.std.proofs.Common.{◌≡◌, ◌+◌, ◌∷◌, pos, get_or, drop, add-one, drop-cons}
+use Rattle.std.proofs.Common.{◌≡◌, ◌+◌, ◌∷◌, pos, get_or, drop, add-one, drop-cons, arith}
+use Rattle.std.proofs.lemmas.Grind.{common_steps}
 use Rattle.wl_host.proofs.Flattening.{err_is, longer_put, put_more, read_more, room_more, unread}
 use Rattle.wl_host.specs.Flat.{flat_number}
 use Rattle.wl_host.proofs.arguments.fill_arguments.Goals as goal
@@ -27,3 +28,18 @@ loop-arg-preserved g c =
       room = room_more l.args _ c.in_ok-argument.argument (drop l.arg-index args) (drop (l.arg-index + 1) args) x l.invariant.room d c.push_reserved.ensures.items c.push_reserved.ensures.capacity;
       longer = rw e.put_in (longer_put c.args.descriptors.now l.descriptors _ l.invariant.longer);
     }
+
+pub returns-then-is_err-clause-longer : goal.returns-then-is_err-clause-longer
+returns-then-is_err-clause-longer g c = grind (arith, common_steps)
+
+pub loop-arg-init : goal.loop-arg-init
+loop-arg-init g c = grind (arith, common_steps)
+
+pub push_reserved-requires : goal.push_reserved-requires
+push_reserved-requires g c = grind (arith, common_steps)
+
+pub returns-clause-ok : goal.returns-clause-ok
+returns-clause-ok g c = grind (arith, common_steps)
+
+pub returns-clause-put_in : goal.returns-clause-put_in
+returns-clause-put_in g c = grind (arith, common_steps)

@@ -1,4 +1,5 @@
 use Rattle.std.proofs.Common.{◌≡◌, ◌+◌, ◌<◌, ◌≤◌, ◌∷◌, length, drop, ap, arith, add-one, drop-cons}
+use Rattle.std.proofs.lemmas.Grind.{common_steps}
 use Rattle.wl_host.specs.Arguments.{bytes_of}
 use Rattle.wl_host.proofs.Flattening.{argument_more, behind_more, bytes_behind, bytes_more, length_more, queue_more}
 use Rattle.wl_host.proofs.arguments.write_arguments.Goals as goal
@@ -23,3 +24,18 @@ loop-arg-preserved g c =
       place = let p = l.invariant.place in omega arith;
       queue = queue_more l.descriptors c.flat_argument.new.descriptors _ (drop l.arg-index args) (drop (l.arg-index + 1) args) a d e.descriptors l.invariant.queue;
     }
+
+pub flat_argument-requires : goal.flat_argument-requires
+flat_argument-requires g c = grind (arith, common_steps)
+
+pub overflow_add-at : goal.overflow_add-at
+overflow_add-at g c = grind (arith, common_steps)
+
+pub returns-clause-arguments : goal.returns-clause-arguments
+returns-clause-arguments g c = grind (arith, common_steps)
+
+pub returns-clause-bytes : goal.returns-clause-bytes
+returns-clause-bytes g c = grind (arith, common_steps)
+
+pub returns-clause-descriptors : goal.returns-clause-descriptors
+returns-clause-descriptors g c = grind (arith, common_steps)

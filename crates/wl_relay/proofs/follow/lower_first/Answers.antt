@@ -1,6 +1,7 @@
 -- That the message that is written is the lowered one.
 use Rattle.std.specs.Prelude.{◌≡◌, ℕ, List, [], ◌∷◌, ◌++◌, ◌-◌, length, take, Ok}
-use Rattle.std.proofs.Common.{ap, refl, subst, ◌∙◌}
+use Rattle.std.proofs.Common.{ap, refl, subst, ◌∙◌, arith}
+use Rattle.std.proofs.lemmas.Grind.{common_steps}
 use Rattle.wl_wire.specs.declared.argument.Argument.TheVariants as arg
 use Rattle.wl_wire.specs.Argument.{WireArgument}
 use Rattle.wl_wire.specs.Message.{WireMessage, content}
@@ -31,3 +32,6 @@ returns-in-Ok-clause-way_back c =
     (c.in_ok-push.ensures.ok ∙ ap (λ (xs : List WireArgument). xs ++ arg.Uint c.args.version ∷ []) c.pop-old.ensures.rest) c.in-Ok.ensures.wrote in
     let taken = c.in_ok-take_first.ensures.taken.1 in
     (ap (λ (l : LinkState MailboxState). l.transport) taken, ap (λ (l : LinkState MailboxState). l.outgoing) taken, adds.1)
+
+pub returns-clause-settings : goal.returns-clause-settings
+returns-clause-settings c = grind (arith, common_steps)

@@ -1,5 +1,6 @@
 -- That what came is read behind what was there.
-use Rattle.std.proofs.Common.{◌≡◌, ap, subst, sym, ◌∙◌}
+use Rattle.std.proofs.Common.{◌≡◌, ap, subst, sym, ◌∙◌, arith}
+use Rattle.std.proofs.lemmas.Grind.{common_steps}
 use Rattle.wl_link.specs.Exchange.{Queue, joined}
 use Rattle.wl_link.specs.Link.{LinkState}
 use Rattle.wl_link.specs.Mailbox.{MailboxState}
@@ -56,3 +57,6 @@ returns-in-Ok-clause-logged c =
           (ap (λ (r : RelayState). still_to_send r.client) w.self-is ∙ ap (λ (r : RelayState). still_to_send r.client) c.self.view_is)
     ] in
     arrives_logged c.args.side came before mid c.receive_from.new.self same_known same_table behind arrived same_out c.in-Ok.ensures.logged
+
+pub returns-in-Ok-clause-arrived : goal.returns-in-Ok-clause-arrived
+returns-in-Ok-clause-arrived c = grind (arith, common_steps)

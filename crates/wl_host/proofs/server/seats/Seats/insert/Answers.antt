@@ -1,4 +1,5 @@
 use Rattle.std.proofs.Common.{◌∙◌, ◌<◌, ◌^◌, ap, arith, refl, rules, sym}
+use Rattle.std.proofs.lemmas.Grind.{common_steps}
 use Rattle.wl_server.specs.Ids.{ClientParts}
 use Rattle.wl_host.proofs.Inserting.{as_told, none_passed, seats_put}
 use Rattle.wl_host.specs.declared.server.ledger.Ledger.{Ledger}
@@ -33,3 +34,18 @@ invariant_of-self-in_default-put_ledger c =
     seats_put c.self.inside _ c.slot-slot.result _ c.new-ledger.result c.make_all_room.new.ledgers c.make_all_room.new.gone c.make_all_room.new.left c.self.invariant
     (none_passed _ _ _ c.new-ledger.ensures) below at m.ledgers c.in_ok-make_all_room.ensures.room m.gone m.left p.after p.len
     (omega arith) refl (omega arith) refl w.1 r.0 k.1 r.1 k.0
+
+pub invariant_of-self : goal.invariant_of-self
+invariant_of-self c = grind (arith, common_steps)
+
+pub invariant_of-self-in_err-id : goal.invariant_of-self-in_err-id
+invariant_of-self-in_err-id c = grind (arith, common_steps)
+
+pub returns-in_err-id-clause-ok : goal.returns-in_err-id-clause-ok
+returns-in_err-id-clause-ok c = grind (arith, common_steps)
+
+pub returns-in_err-id-clause-err : goal.returns-in_err-id-clause-err
+returns-in_err-id-clause-err c = grind (arith, common_steps)
+
+pub let_go-requires-clause-gone : goal.let_go-requires-clause-gone
+let_go-requires-clause-gone c = grind (arith, common_steps)
