@@ -1,7 +1,7 @@
 -- That no line which a command prints has a line feed, lines of notes included: the interface that an error names is the display.
 use Rattle.std.proofs.Common.{◌≡◌, ◌≢◌, ◌∙◌, ℕ, Bool, true, false, List, [], ◌∷◌, ◌++◌, map, codes, Option, None, Some, Result, Ok, Err, Vec, Global, refl, sym, ap, subst, arith}
 use mathlib.Core.Logic.{inl, inr}
-use Rattle.std.specs.Prelude.{⊤, ◌⊎◌, if◌then◌else◌, Contains, MatchOption}
+use Rattle.std.specs.Prelude.{⊤, if◌then◌else◌, Contains, MatchOption}
 use Rattle.std.specs.Fmt.{decimal}
 use Rattle.std.specs.List.{All}
 use Rattle.std.proofs.lemmas.Bool.{eq-eqb, true≢false}

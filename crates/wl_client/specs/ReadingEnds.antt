@@ -151,8 +151,8 @@ module _ {T U : Type 0} (sends : T → Queue → Result ℕ IoFault → T → Ty
 
   -- ---- how a reading ends
 
-  -- why the session has this error now: the last receive answered the fault; or of the error that the last turn found there are
-  -- the texts, or there was no memory for them
+  -- why the session has this error now: it is the fault that the last receive answered, or the error that the last turn found; or
+  -- there was no memory for the texts of such an error
   abbrev pub HasFailedBy : WaylandError → ReaderState T (Core U) → List Turn → Bool → ReaderState T (Core U) → Type 0
   HasFailedBy (Io fault.OutOfMemory) start turns refused end = (refused ≡ true) × ((e : ProtocolError) × OfLast (FoundError e end) start turns)
   HasFailedBy (Io fault.WouldBlock) start turns refused end = ⊥

@@ -217,7 +217,7 @@ module _ {T U G C : Type 0} (sends : T → Queue → Result ℕ IoFault → T �
 
 module _ {T U G C : Type 0} (w : World T G C) where
   -- A reading of a client that was live and had no action open: it was a list of turns (`Reads`), and ended with this answer for a
-  -- reason (`ReadingEnds`). It left so many receives, and so much of the client, of which nothing was noted but its end.
+  -- reason (`ReadingEnds`). After it so many receives are left, and this is held of the client, of which only its end was noted.
   abbrev pub EndsForAReason : BackendState T U G C → ClientParts → Reading → Result Action ActionError → Reading → BackendState T U G C → Type 0
   EndsForAReason before id r answer r' after =
       (p : Part T U C) → (seen id before.server).part ≡ Some p → p.is_killed ≡ false → p.action ≡ None →
