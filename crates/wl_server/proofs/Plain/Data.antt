@@ -112,10 +112,10 @@ module _ {T U G C : Type 0} {w : World T G C} {before after : BackendState T U G
         keeps (same_client o.client other.client) _ _ _ lacked did _ (λ x. and_then x (λ p. named p.store other))
         (λ about p q r. set_others o u answer lacked did p q r other (ids_differ (same_client o.client other.client) about differ)) h;
     rest = (
-      let (lacked, did, h) = set_each o u answer call o.client in
-      keeps (same_client o.client o.client) _ _ _ lacked did _ (λ x. option_map without_objects x)
-      (λ about p q r. ap Some (set_rest o u answer lacked did p q r)) h
-    );
+        let (lacked, did, h) = set_each o u answer call o.client in
+        keeps (same_client o.client o.client) _ _ _ lacked did _ (λ x. option_map without_objects x)
+        (λ about p q r. ap Some (set_rest o u answer lacked did p q r)) h
+        );
     clients = λ other differ. let (lacked, did, h) = set_each o u answer call other in other_stays (same_client o.client other) _ _ _ lacked did _ differ h;
     notes = λ client.
         let (lacked, did, h) = set_each o u answer call client in
