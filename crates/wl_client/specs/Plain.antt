@@ -5,7 +5,7 @@
 -- clause beside it, `call`, says all that the call does, as a step. What stands here follows from that clause, and can be used
 -- without it.
 pub mod Calls
-use Rattle.std.specs.Prelude.{◌≡◌, ◌⊎◌, ◌≤◌, ℕ, List, [], ◌∷◌, Bool, true, false, ◌==◌, ◌&&◌, if◌then◌else◌, Option, None, Some, IsSome, is_some, Result, Ok, Err, MatchBool, MatchOption}
+use Rattle.std.specs.Prelude.{◌≡◌, ◌≢◌, ◌⊎◌, ◌≤◌, ℕ, List, [], ◌∷◌, Bool, true, false, ◌==◌, ◌&&◌, if◌then◌else◌, Option, None, Some, IsSome, is_some, Result, Ok, Err, MatchBool, MatchOption}
 use Rattle.wl_wire.specs.declared.argument.Argument.{Argument}
 use Rattle.wl_wire.specs.declared.argument.Argument.TheVariants as arg
 use Rattle.wl_wire.specs.declared.argument.Token.{Token}
@@ -132,12 +132,13 @@ module _ {U : Type 0} where
       (alive (held before id.number) ≡ None) × (row.child_interface ≡ Some id.interface)
       × (held after id.number ≡ Some (fresh_object id.interface version id.serial None))
 
-  -- The event is open from now on. Its sender is a kept object that the client has not destroyed, and the table has the event
-  -- for the interface of that object. It has a new id among its arguments exactly if it makes an object by the table, and then
+  -- The event is open from now on. Its sender is a kept object that is not the display and that the client has not destroyed, and
+  -- the table has the event for the interface of that object. It has a new id among its arguments exactly if it makes an object by the table, and then
   -- that is the id of the object, which is new and of the sender's version.
   pub record EventIsOpen (before : Core U) (m : SessionMessage) (after : Core U) : Type 0 where
     pub sender : Object (Kept U)
     pub row : MessageRow
+    pub not_display : m.sender.number ≢ 1
     pub holds : held after.store m.sender.number ≡ Some sender
     pub sender_is : m.sender ≡ id_at m.sender.number sender
     pub live : sender.value.client_destroyed ≡ false

@@ -28,7 +28,7 @@ use Rattle.wl_client.specs.declared.protocol_error.EventFault.TheVariants as wro
 use Rattle.wl_client.specs.Events.{error_of, is_valid_new, told_error}
 use Rattle.wl_client.specs.ObjectId.{IdParts}
 use Rattle.wl_client.specs.Plain.{CanRead, EventIsOpen}
-use Rattle.wl_client.specs.Reading.{client, objects_in, reader_state_of, receives_allowed}
+use Rattle.wl_client.specs.Reading.{answered, client, handed_by, objects_in, reader_state_of, receives_allowed}
 use Rattle.wl_client.specs.Requests.{SessionMessage}
 use Rattle.wl_client.specs.Session.{Core, SessionState, id_at, null_parts}
 
@@ -60,11 +60,12 @@ module _ {U : Type 0} (before after : Store (Kept U)) where
   ObjectsFit asked (_ ∷ args) = ObjectsFit asked args
 
 module _ {U : Type 0} where
-  -- The message is to a kept object that the client had not destroyed, and this is its event, open from now on: it has the
-  -- message's opcode, and its arguments turned back to the wire are the message's.
+  -- The message is to a kept object that is not the display and that the client had not destroyed, and this is its event, open
+  -- from now on: it has the message's opcode, and its arguments turned back to the wire are the message's.
   pub record IsItsEvent (event : SessionMessage) (before : Core U) (m : WireMessage) (end : Core U) : Type 0 where
     pub receiver : Object (Kept U)
     pub row : MessageRow
+    pub not_display : m.sender ≢ 1
     pub was_held : held before.store m.sender ≡ Some receiver
     pub live : receiver.value.client_destroyed ≡ false
     pub by_table : event_row before.table receiver.interface m.opcode ≡ Some row
@@ -172,11 +173,12 @@ module _ {T U : Type 0} (sends : T → Queue → Result ℕ IoFault → T → Ty
   ReadingEnds start turns (Err no_event.Failed) refused left end =
       (why : WaylandError) × (end.core.error ≡ Some why) × (end.core.open_event ≡ None) × HasFailedBy why start turns refused end
 
-  -- A reading of a session without an error and without an open event: it was a list of turns (`Reads`), and ended with this answer
-  -- for a reason (`ReadingEnds`).
+  -- A reading of a session without an error and without an open event: it was a list of turns (`Reads`), whose answer this is, and
+  -- ended with it for a reason (`ReadingEnds`).
   abbrev pub EndsForAReason : SessionState T U → Result SessionMessage EventError → Bool → SessionState T U → Type 0
   EndsForAReason before answer refused after =
       before.error ≡ None → before.open_event ≡ None →
       (turns : List Turn) × (out : Gives SessionMessage)
       × Reads sends client receives receives_allowed (reader_state_of before) turns out (reader_state_of after)
+      × (answer ≡ answered out.stopped out.gave) × (out.gave ≡ handed_by answer) × (refused ≡ out.refused)
       × ReadingEnds (reader_state_of before) turns answer refused out.left (reader_state_of after)

@@ -225,6 +225,7 @@ module _ {U : Type 0} (c : Core U) (m : WireMessage) where
   record IsEvent (event : SessionMessage) (store : Store (Kept U)) : Type 0 where
     receiver : Object (Kept U)
     row : MessageRow
+    not_display : m.sender ≢ 1
     was_held : held c.store m.sender ≡ Some receiver
     live : receiver.value.client_destroyed ≡ false
     by_table : event_row c.table receiver.interface m.opcode ≡ Some row
@@ -286,17 +287,18 @@ module _ {U : Type 0} (c : Core U) (m : WireMessage) where
 
   -- ---- an event of another object
 
-  converted_so : (x : Object (Kept U)) (row : MessageRow) → held c.store m.sender ≡ Some x → event_row c.table x.interface m.opcode ≡ Some row → (o : Outcome U)
+  converted_so : m.sender ≢ 1 → (x : Object (Kept U)) (row : MessageRow) → held c.store m.sender ≡ Some x → event_row c.table x.interface m.opcode ≡ Some row → (o : Outcome U)
       → AllWrong x.version x.value.client_destroyed m.args o → Came x.version x.value.client_destroyed c.store (start (objects_in c) row) [] m.args o
       → So (of_converted c.table (objects_in c) m x row o)
-  converted_so x row there has (Wrong w o) bad came = λ end same last. inr (w, wrong_so w m o end same last bad, refl)
-  converted_so x row there has (Whole e args) bad (more, is, numbers, ends, fit) = at x.value.client_destroyed refl
+  converted_so other x row there has (Wrong w o) bad came = λ end same last. inr (w, wrong_so w m o end same last bad, refl)
+  converted_so other x row there has (Whole e args) bad (more, is, numbers, ends, fit) = at x.value.client_destroyed refl
     where
       at : (b : Bool) → x.value.client_destroyed ≡ b → So (cond b (Swallows e.objects) (HandsOut (event_of m x args) (opened_of m x row e.created) e.objects))
       at true over = tt
       at false live = record {
         receiver = x;
         row = row;
+        not_display = other;
         was_held = there;
         live = live;
         by_table = has;
@@ -306,14 +308,14 @@ module _ {U : Type 0} (c : Core U) (m : WireMessage) where
         objects_fit = subst (λ (xs : List (Argument IdParts Token)). ObjectsFit c.store e.objects.store row.arg_interfaces xs) (sym is) (fit (inl refl));
       }
 
-  event_so : (signature : List ArgumentType) → signature_in c.table c.store m.sender m.opcode ≡ Some signature
+  event_so : m.sender ≢ 1 → (signature : List ArgumentType) → signature_in c.table c.store m.sender m.opcode ≡ Some signature
       → (o : Option (Object (Kept U))) → held c.store m.sender ≡ o → (r : Option MessageRow) → row_in c.table o m.opcode ≡ r → So (of_event c.table (objects_in c) m o r)
-  event_so signature signed None there r has = absurd (none_some (sym (ap (λ (o : Option (Object (Kept U))). option_map (λ (row : MessageRow). row.signature) (row_in c.table o m.opcode)) there) ∙ signed))
-  event_so signature signed (Some x) there None has =
+  event_so other signature signed None there r has = absurd (none_some (sym (ap (λ (o : Option (Object (Kept U))). option_map (λ (row : MessageRow). row.signature) (row_in c.table o m.opcode)) there) ∙ signed))
+  event_so other signature signed (Some x) there None has =
       absurd (none_some (sym (ap (λ (o : Option (Object (Kept U))). option_map (λ (row : MessageRow). row.signature) (row_in c.table o m.opcode)) there
       ∙ ap (option_map (λ (row : MessageRow). row.signature)) has) ∙ signed))
-  event_so signature signed (Some x) there (Some row) has =
-      converted_so x row there has _ (wrong_all x.version x.value.client_destroyed (start (objects_in c) row) [] m.args)
+  event_so other signature signed (Some x) there (Some row) has =
+      converted_so other x row there has _ (wrong_all x.version x.value.client_destroyed (start (objects_in c) row) [] m.args)
       (converts x.version x.value.client_destroyed c.store (start (objects_in c) row) [] m.args)
 
   handling_so : (signature : List ArgumentType) → signature_in c.table c.store m.sender m.opcode ≡ Some signature → So (handling c.table (objects_in c) m)
@@ -323,7 +325,7 @@ module _ {U : Type 0} (c : Core U) (m : WireMessage) where
           → So (cond b (of_display c.table (objects_in c) (display_event m.opcode m.args))
           (of_event c.table (objects_in c) m (held c.store m.sender) (row_in c.table (held c.store m.sender) m.opcode)))
       at true is = display_so (eqb-true m.sender 1 is)
-      at false is = event_so signature signed (held c.store m.sender) refl (row_in c.table (held c.store m.sender) m.opcode) refl
+      at false is = event_so (other_than m.sender 1 is refl) signature signed (held c.store m.sender) refl (row_in c.table (held c.store m.sender) m.opcode) refl
 
 -- ---- turns
 
@@ -430,6 +432,7 @@ module _ {T U : Type 0} (sends : T → Queue → Result ℕ IoFault → T → Ty
       (record {
         sender = so.sender;
         row = so.row;
+        not_display = so.not_display;
         holds = so.holds;
         sender_is = so.sender_is;
         live = so.live;
@@ -451,6 +454,7 @@ module _ {T U : Type 0} (sends : T → Queue → Result ℕ IoFault → T → Ty
     record {
       receiver = so.receiver;
       row = so.row;
+      not_display = so.not_display;
       was_held = so.was_held;
       live = so.live;
       by_table = so.by_table;
@@ -577,6 +581,9 @@ module _ {T U : Type 0} (sends : T → Queue → Result ℕ IoFault → T → Ty
             turns,
             out,
             reads,
+            is,
+            gave,
+            calm,
             subst (λ (a : Result SessionMessage EventError). ReadingEnds sends receives (reader_state_of before) turns a refused out.left (reader_state_of after)) (sym is)
                 (subst (λ (b : Bool). ReadingEnds sends receives (reader_state_of before) turns (answered out.stopped out.gave) b out.left (reader_state_of after)) (sym calm)
                 (reading_ends receives_allowed before after turns out fine idle reads)),
