@@ -120,7 +120,13 @@ module _ {U : Type 0} where
       × (((behind_new ≡ false) × (makes ≡ Some i) × (is_valid_new before n ≡ false))
       ⊎ ((i ≡ anonymous_id) × ((makes ≡ None) ⊎ (behind_new ≡ true))))
 
-  -- The message is to a kept object that is not the display, and the table has the event. This is wrong with one of its arguments.
+  -- what is wrong with an argument that stands behind these in an event
+  abbrev pub IsWrongBehind : MessageRow → Objects (Kept U) → Objects (Kept U) → List WireArgument → EventFault → WireArgument → Type 0
+  IsWrongBehind row before end earlier w a =
+      IsWrongArgument (next_interface (left_behind row.arg_interfaces earlier)) row.child_interface (has_new earlier) before end w a
+
+  -- The message is to a kept object that is not the display, and the table has the event. This is wrong with the first of its
+  -- arguments that is wrong.
   pub record HasWrongArgument (w : EventFault) (before : Core U) (m : WireMessage) (end : Core U) : Type 0 where
     pub receiver : Object (Kept U)
     pub row : MessageRow
@@ -131,7 +137,9 @@ module _ {U : Type 0} where
     pub argument : WireArgument
     pub later : List WireArgument
     pub args_are : m.args ≡ earlier ++ argument ∷ later
-    pub is_wrong : IsWrongArgument (next_interface (left_behind row.arg_interfaces earlier)) row.child_interface (has_new earlier) (objects_in before) (objects_in end) w argument
+    pub is_wrong : IsWrongBehind row (objects_in before) (objects_in end) earlier w argument
+    pub is_first : (others between : List WireArgument) (a : WireArgument) (fault : EventFault) → earlier ≡ others ++ a ∷ between
+        → ¬ IsWrongBehind row (objects_in before) (objects_in end) others fault a
 
   -- what is wrong with a message of the display, or of another object
   abbrev pub IsWrong : EventFault → Core U → WireMessage → Core U → Type 0

@@ -256,11 +256,11 @@ pub fn a_reading_receives_64_times()
 /// - `Failed`: the session has an error now. This is the fault that the last receive answered, or comes of what the last turn found
 ///   at the front. That is `wl_display.error` with a text: the session's error is the one that it tells. Else the session's error
 ///   says what is wrong: bytes that are no message by the table; an event of the display that is neither an error with a text nor
-///   a `delete_id`; or an event of another object with a wrong argument. Or it is `Io(OutOfMemory)`, if there was no memory for the
-///   texts of such an error.
+///   a `delete_id`; or, in an event of another object, the first argument that is wrong. Or it is `Io(OutOfMemory)`, if there was no
+///   memory for the texts of such an error.
 ///
-/// A wrong argument is the number of an object that is not there or whose interface does not fit the table's; or a new number
-/// that the server may not use, or for which the table names no interface, as for a second one.
+/// An argument is wrong if it is the number of an object that is not there or whose interface does not fit the table's; or a new
+/// number that the server may not use, or for which the table names no interface, as for a second one.
 ///
 /// After `WouldBlock` and `OutOfMemory` there is no error and no open event. Each reading carries this (clause `reason` of
 /// `Backend::next_event`).

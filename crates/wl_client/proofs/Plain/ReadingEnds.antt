@@ -38,7 +38,7 @@ use Rattle.wl_client.specs.Handling.{Breaks, Handling, HandsOut, Swallows, event
 use Rattle.wl_client.specs.ObjectId.{IdParts}
 use Rattle.wl_client.specs.Plain.{CanRead, EventIsOpen}
 use Rattle.wl_client.specs.Reading.{NextEvent, answered, client, core_after, event_in, fails_by, faulted, objects_in, reader_state_of, reads_on, receives_allowed, starved_to, verdict, with_objects}
-use Rattle.wl_client.specs.ReadingEnds.{EndsForAReason, FoundError, FoundEvent, HasFailedBy, HasWrongArgument, IsWrong, IsWrongArgument, LastReceiveFailed, ObjectsFit, OfLast, ReadingEnds, TellsError, TurnLeads, has_new, left_behind, on_the_wire}
+use Rattle.wl_client.specs.ReadingEnds.{EndsForAReason, FoundError, FoundEvent, HasFailedBy, HasWrongArgument, IsWrong, IsWrongArgument, IsWrongBehind, LastReceiveFailed, ObjectsFit, OfLast, ReadingEnds, TellsError, TurnLeads, has_new, left_behind, on_the_wire}
 use Rattle.wl_client.specs.Requests.{SessionMessage}
 use Rattle.wl_client.specs.Session.{Core, SessionState, id_at, null_parts}
 use Rattle.wl_client.proofs.Plain.Opening.{Opens, OpensIn, makes_new, opens, vacated_elsewhere}
@@ -60,6 +60,40 @@ other_than n k differ same is = true≢false (sym same ∙ ap (λ (i : ℕ). eqb
 
 -- ---- what is wrong with the arguments of an event
 
+-- the argument is a number of an object, or a new one
+abbrev means_object : WireArgument → Bool
+means_object (arg.Object n) = true
+means_object (arg.NewId n) = true
+means_object _ = false
+
+abbrev is_new : WireArgument → Bool
+is_new (arg.NewId n) = true
+is_new _ = false
+
+abbrev number_in : WireArgument → ℕ
+number_in (arg.Object n) = n
+number_in (arg.NewId n) = n
+number_in _ = 0
+
+abbrev has_none : List WireArgument → Bool
+has_none [] = true
+has_none (x ∷ xs) = false
+
+no_split : (xs ys : List WireArgument) (a : WireArgument) → [] ≡ xs ++ a ∷ ys → ⊥
+no_split [] ys a is = true≢false (ap has_none is)
+no_split (x ∷ xs) ys a is = true≢false (ap has_none is)
+
+of_cons : (x y : WireArgument) (xs ys : List WireArgument) → x ∷ xs ≡ y ∷ ys → (x ≡ y) × (xs ≡ ys)
+of_cons x y xs ys is = (ap first is, ap rest is)
+  where
+    first : List WireArgument → WireArgument
+    first [] = x
+    first (z ∷ zs) = z
+
+    rest : List WireArgument → List WireArgument
+    rest [] = xs
+    rest (z ∷ zs) = zs
+
 module _ {U : Type 0} (version : ℕ) (destroyed : Bool) where
   -- this is wrong with an argument behind these, once the arguments were gone through so far
   abbrev WrongBehind : Converting U → Objects (Kept U) → List WireArgument → EventFault → WireArgument → Type 0
@@ -74,6 +108,9 @@ module _ {U : Type 0} (version : ℕ) (destroyed : Bool) where
       ((o : Objects (Kept U)) → EndsAs next.1 o → EndsAs c o)
       × ((o : Objects (Kept U)) (earlier : List WireArgument) (w : EventFault) (b : WireArgument) → EndsAs next.1 o → WrongBehind next.1 o earlier w b
       → WrongBehind c o (a ∷ earlier) w b)
+      × ((o : Objects (Kept U)) (earlier : List WireArgument) (w : EventFault) (b : WireArgument) → EndsAs next.1 o → WrongBehind c o (a ∷ earlier) w b
+      → WrongBehind next.1 o earlier w b)
+      × ((o : Objects (Kept U)) (w : EventFault) → WrongBehind c o [] w a → ⊥)
   OneWrong c a (Err w) = WrongBehind c c.objects [] w a
 
   -- an object was made at the number
@@ -102,6 +139,63 @@ module _ {U : Type 0} (version : ℕ) (destroyed : Bool) where
   behind_made c next n i makes made asks none_then o earlier (wrong.InvalidNewId k j) b ends (is, inl (first, names, bad)) = absurd (none_some (sym made ∙ names))
   behind_made c next n i makes made asks none_then o earlier (wrong.InvalidNewId k j) b ends (is, inr (nameless, why)) = (is, inr (nameless, inr refl))
 
+  before_made : (c next : Converting U) (n : ℕ) → next.child ≡ None → next.asked ≡ c.asked
+      → (o : Objects (Kept U)) (earlier : List WireArgument) (w : EventFault) (b : WireArgument) → EndsAs next o → WrongBehind c o (arg.NewId n ∷ earlier) w b
+      → WrongBehind next o earlier w b
+  before_made c next n made asks o earlier wrong.Malformed b ends so = so
+  before_made c next n made asks o earlier (wrong.UnknownObject k) b ends (is, not_null, none, gone) =
+      (is, not_null, ap (λ (objects : Objects (Kept U)). held objects.store k) (sym (ends.0 made)) ∙ gone, gone)
+  before_made c next n made asks o earlier (wrong.WrongInterface k asked j) b ends (is, not_null, by_table, fit, (x, there, same)) =
+      (is, not_null, by_table ∙ sym (ap (λ (l : List InterfaceId). next_interface (left_behind l earlier)) asks), fit, (x, at (has_new earlier), same))
+    where
+      at : (new : Bool) → held (cond new o.store next.objects.store) k ≡ Some x
+      at true = there
+      at false = ap (λ (objects : Objects (Kept U)). held objects.store k) (sym (ends.0 made)) ∙ there
+  before_made c next n made asks o earlier (wrong.InvalidNewId k j) b ends (is, inl (first, names, bad)) = absurd (true≢false first)
+  before_made c next n made asks o earlier (wrong.InvalidNewId k j) b ends (is, inr (nameless, why)) = (is, inr (nameless, inl made))
+
+  -- nothing is wrong with an argument that means no object, with null, with an object that fits, and with a new number that is valid
+  right_value : (c : Converting U) (a : WireArgument) → means_object a ≡ false → (o : Objects (Kept U)) (w : EventFault) → WrongBehind c o [] w a → ⊥
+  right_value c a off o wrong.Malformed so = so
+  right_value c a off o (wrong.UnknownObject k) so = true≢false (sym (ap means_object so.0) ∙ off)
+  right_value c a off o (wrong.WrongInterface k asked j) so = true≢false (sym (ap means_object so.0) ∙ off)
+  right_value c a off o (wrong.InvalidNewId k j) so = true≢false (sym (ap means_object so.0) ∙ off)
+
+  right_null : (c : Converting U) (n : ℕ) → n ≡ 0 → (o : Objects (Kept U)) (w : EventFault) → WrongBehind c o [] w (arg.Object n) → ⊥
+  right_null c n zero o wrong.Malformed so = so
+  right_null c n zero o (wrong.UnknownObject k) so = so.1 (sym (ap number_in so.0) ∙ zero)
+  right_null c n zero o (wrong.WrongInterface k asked j) so = so.1 (sym (ap number_in so.0) ∙ zero)
+  right_null c n zero o (wrong.InvalidNewId k j) so = true≢false (sym (ap is_new so.0))
+
+  right_object : (c : Converting U) (n : ℕ) (x : Object (Kept U)) → held c.objects.store n ≡ Some x → fits (next_interface c.asked) x.interface ≡ true
+      → (o : Objects (Kept U)) (w : EventFault) → WrongBehind c o [] w (arg.Object n) → ⊥
+  right_object c n x there fit o wrong.Malformed so = so
+  right_object c n x there fit o (wrong.UnknownObject k) (is, not_null, none, gone) =
+      none_some (sym none ∙ ap (λ (i : ℕ). held c.objects.store i) (sym (ap number_in is)) ∙ there)
+  right_object c n x there fit o (wrong.WrongInterface k asked j) (is, not_null, by_table, bad, (y, other, same)) =
+      true≢false (sym fit ∙ ap₂ (λ (i l : InterfaceId). fits i l) (sym by_table) (sym interface_is ∙ same) ∙ bad)
+    where
+      both : Some y ≡ Some x
+      both = sym other ∙ ap (λ (i : ℕ). held c.objects.store i) (sym (ap number_in is)) ∙ there
+
+      interface_in : Option (Object (Kept U)) → InterfaceId
+      interface_in None = asked
+      interface_in (Some z) = z.interface
+
+      interface_is : y.interface ≡ x.interface
+      interface_is = ap interface_in both
+  right_object c n x there fit o (wrong.InvalidNewId k j) so = true≢false (sym (ap is_new so.0))
+
+  right_new : (c : Converting U) (n : ℕ) (i : InterfaceId) → c.child ≡ Some i → is_valid_new c.objects n ≡ true
+      → (o : Objects (Kept U)) (w : EventFault) → WrongBehind c o [] w (arg.NewId n) → ⊥
+  right_new c n i makes valid o wrong.Malformed so = so
+  right_new c n i makes valid o (wrong.UnknownObject k) so = true≢false (ap is_new so.0)
+  right_new c n i makes valid o (wrong.WrongInterface k asked j) so = true≢false (ap is_new so.0)
+  right_new c n i makes valid o (wrong.InvalidNewId k j) (is, inl (first, names, bad)) =
+      true≢false (sym valid ∙ ap (λ (l : ℕ). is_valid_new c.objects l) (ap number_in is) ∙ bad)
+  right_new c n i makes valid o (wrong.InvalidNewId k j) (is, inr (nameless, inl none)) = none_some (sym none ∙ makes)
+  right_new c n i makes valid o (wrong.InvalidNewId k j) (is, inr (nameless, inr behind)) = true≢false (sym behind)
+
   wrong_one : (c : Converting U) (a : WireArgument) → OneWrong c a (convert_one version destroyed c a)
   wrong_one c (arg.Object n) = at (eqb n 0) refl
     where
@@ -112,12 +206,12 @@ module _ {U : Type 0} (version : ℕ) (destroyed : Bool) where
         where
           go : (b : Bool) → fits (next_interface c.asked) x.interface ≡ b
               → OneWrong c (arg.Object n) (with_object_argument c (cond b (Ok (id_at n x)) (Err (wrong.WrongInterface n (next_interface c.asked) x.interface))))
-          go true fit = (λ o ends. ends, λ o earlier w b ends so. so)
+          go true fit = (λ o ends. ends, λ o earlier w b ends so. so, λ o earlier w b ends so. so, right_object c n x there fit)
           go false fit = (refl, not_null, refl, fit, (x, there, refl))
 
       at : (b : Bool) → eqb n 0 ≡ b
           → OneWrong c (arg.Object n) (with_object_argument c (cond b (Ok null_parts) (object_argument_of (next_interface c.asked) n (held c.objects.store n))))
-      at true is = (λ o ends. ends, λ o earlier w b ends so. so)
+      at true is = (λ o ends. ends, λ o earlier w b ends so. so, λ o earlier w b ends so. so, right_null c n (eqb-true n 0 is))
       at false is = found (other_than n 0 is refl) (held c.objects.store n) refl
   wrong_one c (arg.NewId n) = new c.child refl
     where
@@ -130,23 +224,38 @@ module _ {U : Type 0} (version : ℕ) (destroyed : Bool) where
           λ k none. none_before c.objects.store n (made_object version destroyed i (c.objects.last_serial + 1)) k none in (
             λ o ends. (λ none. absurd (none_some (sym none ∙ makes)), λ k none. none_then k (ends.1 k none)),
             behind_made c next n i makes refl refl none_then,
+            before_made c next n refl refl,
+            right_new c n i makes is,
           )
 
       new : (o : Option InterfaceId) → c.child ≡ o → OneWrong c (arg.NewId n) (with_new_argument version destroyed c n o)
       new None makes = (refl, inr (refl, inl makes))
       new (Some i) makes = valid i makes (is_valid_new c.objects n) refl
-  wrong_one c (arg.Int z) = (λ o ends. ends, λ o earlier w b ends so. so)
-  wrong_one c (arg.Uint n) = (λ o ends. ends, λ o earlier w b ends so. so)
-  wrong_one c (arg.Fixed z) = (λ o ends. ends, λ o earlier w b ends so. so)
-  wrong_one c (arg.Str text) = (λ o ends. ends, λ o earlier w b ends so. so)
-  wrong_one c (arg.Array bytes) = (λ o ends. ends, λ o earlier w b ends so. so)
-  wrong_one c (arg.Fd token) = (λ o ends. ends, λ o earlier w b ends so. so)
+  wrong_one c (arg.Int z) = (λ o ends. ends, λ o earlier w b ends so. so, λ o earlier w b ends so. so, right_value c (arg.Int z) refl)
+  wrong_one c (arg.Uint n) = (λ o ends. ends, λ o earlier w b ends so. so, λ o earlier w b ends so. so, right_value c (arg.Uint n) refl)
+  wrong_one c (arg.Fixed z) = (λ o ends. ends, λ o earlier w b ends so. so, λ o earlier w b ends so. so, right_value c (arg.Fixed z) refl)
+  wrong_one c (arg.Str text) = (λ o ends. ends, λ o earlier w b ends so. so, λ o earlier w b ends so. so, right_value c (arg.Str text) refl)
+  wrong_one c (arg.Array bytes) = (λ o ends. ends, λ o earlier w b ends so. so, λ o earlier w b ends so. so, right_value c (arg.Array bytes) refl)
+  wrong_one c (arg.Fd token) = (λ o ends. ends, λ o earlier w b ends so. so, λ o earlier w b ends so. so, right_value c (arg.Fd token) refl)
+
+  -- nothing is wrong with each of these arguments
+  abbrev RightBefore : Converting U → Objects (Kept U) → List WireArgument → Type 0
+  RightBefore c o earlier = (xs ys : List WireArgument) (a : WireArgument) (w : EventFault) → earlier ≡ xs ++ a ∷ ys → ¬ WrongBehind c o xs w a
+
+  right_first : (c next : Converting U) (b : Argument IdParts Token) (a : WireArgument) (o : Objects (Kept U)) (earlier : List WireArgument) → EndsAs next o → OneWrong c a (Ok (b, next))
+      → RightBefore next o earlier → RightBefore c o (a ∷ earlier)
+  right_first c next b a o earlier ends so right [] ys x w split bad =
+      so.3 o w (subst (λ (y : WireArgument). WrongBehind c o [] w y) (sym (of_cons a x earlier ys split).0) bad)
+  right_first c next b a o earlier ends so right (z ∷ xs) ys x w split bad =
+      let (same, others) = of_cons a z earlier (xs ++ x ∷ ys) split in
+      right xs ys x w others (so.2 o xs w x ends (subst (λ (y : WireArgument). WrongBehind c o (y ∷ xs) w x) (sym same) bad))
 
   abbrev AllWrong : Converting U → List WireArgument → Outcome U → Type 0
   AllWrong c args (Whole e all) = Unit {0}
   AllWrong c args (Wrong w o) =
       EndsAs c o
-      × ((earlier : List WireArgument) × (a : WireArgument) × (later : List WireArgument) × (args ≡ earlier ++ a ∷ later) × WrongBehind c o earlier w a)
+      × ((earlier : List WireArgument) × (a : WireArgument) × (later : List WireArgument) × (args ≡ earlier ++ a ∷ later) × WrongBehind c o earlier w a
+      × RightBefore c o earlier)
 
   wrong_all : (c : Converting U) (done : List (Argument IdParts Token)) (args : List WireArgument) → AllWrong c args (convert version destroyed c done args)
   wrong_all c done [] = tt
@@ -154,14 +263,23 @@ module _ {U : Type 0} (version : ℕ) (destroyed : Bool) where
     where
       behind : (b : Argument IdParts Token) (next : Converting U) → OneWrong c a (Ok (b, next)) → (o : Outcome U) → AllWrong next args o → AllWrong c (a ∷ args) o
       behind b next so (Whole e all) h = tt
-      behind b next so (Wrong w o) (ends, (earlier, x, later, split, bad)) =
-          (so.0 o ends, (a ∷ earlier, x, later, ap (λ (xs : List WireArgument). a ∷ xs) split, so.1 o earlier w x ends bad))
+      behind b next so (Wrong w o) (ends, (earlier, x, later, split, bad, right)) = (
+        so.0 o ends,
+        (
+          a ∷ earlier,
+          x,
+          later,
+          ap (λ (xs : List WireArgument). a ∷ xs) split,
+          so.1 o earlier w x ends bad,
+          right_first c next b a o earlier ends so right,
+        ),
+      )
 
       at : (r : Converted U) → OneWrong c a r
           → ((next : Converting U) (all : List (Argument IdParts Token)) → AllWrong next args (convert version destroyed next all args))
           → AllWrong c (a ∷ args) (going_on r c.objects (λ b next. convert version destroyed next (done ++ b ∷ []) args))
       at (Ok (b, next)) so rest = behind b next so (convert version destroyed next (done ++ b ∷ []) args) (rest next (done ++ b ∷ []))
-      at (Err w) so rest = ((λ none. refl, λ n none. none), ([], a, args, refl, so))
+      at (Err w) so rest = ((λ none. refl, λ n none. none), ([], a, args, refl, so, λ xs ys x f split bad. no_split xs ys x split))
 
 -- ---- the arguments of an event that is handed out
 
@@ -322,7 +440,7 @@ module _ {U : Type 0} (c : Core U) (m : WireMessage) where
   converted_so : m.sender ≢ 1 → (x : Object (Kept U)) (row : MessageRow) → held c.store m.sender ≡ Some x → event_row c.table x.interface m.opcode ≡ Some row → (o : Outcome U)
       → AllWrong x.version x.value.client_destroyed (start (objects_in c) row) m.args o → Came x.version x.value.client_destroyed (start (objects_in c) row) [] m.args o
       → So (of_converted c.table (objects_in c) m x row o)
-  converted_so other x row there has (Wrong w o) (ends, (earlier, a, later, split, bad)) came = λ end same last. inr (
+  converted_so other x row there has (Wrong w o) (ends, (earlier, a, later, split, bad, right)) came = λ end same last. inr (
     w,
     wrong_so w end
         (record {
@@ -335,13 +453,15 @@ module _ {U : Type 0} (c : Core U) (m : WireMessage) where
           argument = a;
           later = later;
           args_are = split;
-          is_wrong =
-              subst
-              (λ (objects : Objects (Kept U)). IsWrongArgument (next_interface (left_behind row.arg_interfaces earlier)) row.child_interface (has_new earlier) (objects_in c) objects w a)
-              (sym (ap₂ (λ (s : Store (Kept U)) (k : ℕ). let objects : Objects (Kept U) = record { store = s; last_serial = k } in objects) same last)) bad;
+          is_wrong = subst (λ (objects : Objects (Kept U)). IsWrongBehind row (objects_in c) objects earlier w a) (sym (at_end end same last)) bad;
+          is_first = λ xs ys x f found wrong'.
+              right xs ys x f found (subst (λ (objects : Objects (Kept U)). IsWrongBehind row (objects_in c) objects xs f x) (at_end end same last) wrong');
         }),
     refl,
   )
+    where
+      at_end : (end : Core U) → end.store ≡ o.store → end.last_serial ≡ o.last_serial → objects_in end ≡ o
+      at_end end same last = ap₂ (λ (s : Store (Kept U)) (k : ℕ). let objects : Objects (Kept U) = record { store = s; last_serial = k } in objects) same last
   converted_so other x row there has (Whole e args) bad (more, is, numbers, ends, fit) = at x.value.client_destroyed refl
     where
       at : (b : Bool) → x.value.client_destroyed ≡ b → So (cond b (Swallows e.objects) (HandsOut (event_of m x args) (opened_of m x row e.created) e.objects))
