@@ -111,7 +111,7 @@ module _ {U : Type 0} where
   abbrev pub IsWrongArgument : InterfaceId → Option InterfaceId → Bool → Objects (Kept U) → Objects (Kept U) → EventFault → WireArgument → Type 0
   IsWrongArgument asks makes behind_new before end wrong.Malformed a = ⊥
   IsWrongArgument asks makes behind_new before end (wrong.UnknownObject n) a =
-      (a ≡ arg.Object n) × (n ≢ 0) × (held before.store n ≡ None) × (held end.store n ≡ None)
+      (a ≡ arg.Object n) × (n ≢ 0) × (held before.store n ≡ None) × (behind_new ≡ true → held end.store n ≡ None)
   IsWrongArgument asks makes behind_new before end (wrong.WrongInterface n asked i) a =
       (a ≡ arg.Object n) × (n ≢ 0) × (asked ≡ asks) × (fits asked i ≡ false)
       × ((x : Object (Kept U)) × (held (if behind_new then end.store else before.store) n ≡ Some x) × (x.interface ≡ i))

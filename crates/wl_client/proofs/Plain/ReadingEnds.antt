@@ -99,9 +99,9 @@ module _ {U : Type 0} (version : ℕ) (destroyed : Bool) where
   abbrev WrongBehind : Converting U → Objects (Kept U) → List WireArgument → EventFault → WireArgument → Type 0
   WrongBehind c o earlier w a = IsWrongArgument (next_interface (left_behind c.asked earlier)) c.child (has_new earlier) c.objects o w a
 
-  -- the objects are these at the end: once an object was made they stay, and a number that has none then had none
+  -- the objects are these at the end: once an object was made they stay
   abbrev EndsAs : Converting U → Objects (Kept U) → Type 0
-  EndsAs c o = (c.child ≡ None → o ≡ c.objects) × ((n : ℕ) → held o.store n ≡ None → held c.objects.store n ≡ None)
+  EndsAs c o = c.child ≡ None → o ≡ c.objects
 
   abbrev OneWrong : Converting U → WireArgument → Converted U → Type 0
   OneWrong c a (Ok next) =
@@ -129,13 +129,17 @@ module _ {U : Type 0} (version : ℕ) (destroyed : Bool) where
       → WrongBehind c o (arg.NewId n ∷ earlier) w b
   behind_made c next n i makes made asks none_then o earlier wrong.Malformed b ends so = so
   behind_made c next n i makes made asks none_then o earlier (wrong.UnknownObject k) b ends (is, not_null, none, gone) =
-      (is, not_null, none_then k none, gone)
+      (is, not_null, none_then k none, λ behind. at (has_new earlier) gone)
+    where
+      at : (new : Bool) → (new ≡ true → held o.store k ≡ None) → held o.store k ≡ None
+      at true there = there refl
+      at false there = ap (λ (objects : Objects (Kept U)). held objects.store k) (ends made) ∙ none
   behind_made c next n i makes made asks none_then o earlier (wrong.WrongInterface k asked j) b ends (is, not_null, by_table, fit, (x, there, same)) =
       (is, not_null, by_table ∙ ap (λ (l : List InterfaceId). next_interface (left_behind l earlier)) asks, fit, (x, at (has_new earlier) there, same))
     where
       at : (new : Bool) → held (cond new o.store next.objects.store) k ≡ Some x → held o.store k ≡ Some x
       at true there = there
-      at false there = ap (λ (objects : Objects (Kept U)). held objects.store k) (ends.0 made) ∙ there
+      at false there = ap (λ (objects : Objects (Kept U)). held objects.store k) (ends made) ∙ there
   behind_made c next n i makes made asks none_then o earlier (wrong.InvalidNewId k j) b ends (is, inl (first, names, bad)) = absurd (none_some (sym made ∙ names))
   behind_made c next n i makes made asks none_then o earlier (wrong.InvalidNewId k j) b ends (is, inr (nameless, why)) = (is, inr (nameless, inr refl))
 
@@ -144,13 +148,13 @@ module _ {U : Type 0} (version : ℕ) (destroyed : Bool) where
       → WrongBehind next o earlier w b
   before_made c next n made asks o earlier wrong.Malformed b ends so = so
   before_made c next n made asks o earlier (wrong.UnknownObject k) b ends (is, not_null, none, gone) =
-      (is, not_null, ap (λ (objects : Objects (Kept U)). held objects.store k) (sym (ends.0 made)) ∙ gone, gone)
+      (is, not_null, ap (λ (objects : Objects (Kept U)). held objects.store k) (sym (ends made)) ∙ gone refl, λ behind. gone refl)
   before_made c next n made asks o earlier (wrong.WrongInterface k asked j) b ends (is, not_null, by_table, fit, (x, there, same)) =
       (is, not_null, by_table ∙ sym (ap (λ (l : List InterfaceId). next_interface (left_behind l earlier)) asks), fit, (x, at (has_new earlier), same))
     where
       at : (new : Bool) → held (cond new o.store next.objects.store) k ≡ Some x
       at true = there
-      at false = ap (λ (objects : Objects (Kept U)). held objects.store k) (sym (ends.0 made)) ∙ there
+      at false = ap (λ (objects : Objects (Kept U)). held objects.store k) (sym (ends made)) ∙ there
   before_made c next n made asks o earlier (wrong.InvalidNewId k j) b ends (is, inl (first, names, bad)) = absurd (true≢false first)
   before_made c next n made asks o earlier (wrong.InvalidNewId k j) b ends (is, inr (nameless, why)) = (is, inr (nameless, inl made))
 
@@ -201,7 +205,7 @@ module _ {U : Type 0} (version : ℕ) (destroyed : Bool) where
     where
       found : n ≢ 0 → (o : Option (Object (Kept U))) → held c.objects.store n ≡ o
           → OneWrong c (arg.Object n) (with_object_argument c (object_argument_of (next_interface c.asked) n o))
-      found not_null None there = (refl, not_null, there, there)
+      found not_null None there = (refl, not_null, there, λ behind. there)
       found not_null (Some x) there = go (fits (next_interface c.asked) x.interface) refl
         where
           go : (b : Bool) → fits (next_interface c.asked) x.interface ≡ b
@@ -222,7 +226,7 @@ module _ {U : Type 0} (version : ℕ) (destroyed : Bool) where
           let next = (with_new_at version destroyed c n i).1 in
           let none_then : (k : ℕ) → held next.objects.store k ≡ None → held c.objects.store k ≡ None =
           λ k none. none_before c.objects.store n (made_object version destroyed i (c.objects.last_serial + 1)) k none in (
-            λ o ends. (λ none. absurd (none_some (sym none ∙ makes)), λ k none. none_then k (ends.1 k none)),
+            λ o ends none. absurd (none_some (sym none ∙ makes)),
             behind_made c next n i makes refl refl none_then,
             before_made c next n refl refl,
             right_new c n i makes is,
@@ -279,7 +283,7 @@ module _ {U : Type 0} (version : ℕ) (destroyed : Bool) where
           → ((next : Converting U) (all : List (Argument IdParts Token)) → AllWrong next args (convert version destroyed next all args))
           → AllWrong c (a ∷ args) (going_on r c.objects (λ b next. convert version destroyed next (done ++ b ∷ []) args))
       at (Ok (b, next)) so rest = behind b next so (convert version destroyed next (done ++ b ∷ []) args) (rest next (done ++ b ∷ []))
-      at (Err w) so rest = ((λ none. refl, λ n none. none), ([], a, args, refl, so, λ xs ys x f split bad. no_split xs ys x split))
+      at (Err w) so rest = (λ none. refl, ([], a, args, refl, so, λ xs ys x f split bad. no_split xs ys x split))
 
 -- ---- the arguments of an event that is handed out
 
