@@ -17,7 +17,6 @@ use Rattle.wl_wire.specs.Parse.{IsWhole, fd_count, is_fd, length_of, opcode_of, 
 use Rattle.wl_wire.specs.Reading.{IsPiece, IsWord, Reads}
 use Rattle.wl_wire.specs.Table.{InterfaceRow, MessageRow}
 use Rattle.wl_link.specs.Exchange.{Queue}
-use Rattle.wl_link.specs.Identity.{Objects}
 use Rattle.wl_link.specs.Link.{LinkState, after_first, with_incoming}
 use Rattle.wl_link.specs.Store.{Store, held}
 use Rattle.wl_client.specs.declared.event.OpenEvent.{OpenEvent}

@@ -5,7 +5,7 @@
 -- clause beside it, `call`, says all that the call does, as a step. What stands here follows from that clause, and can be used
 -- without it.
 pub mod Calls
-use Rattle.std.specs.Prelude.{◌≡◌, ◌⊎◌, ◌≤◌, ℕ, List, [], ◌∷◌, Bool, true, false, ◌==◌, ◌&&◌, if◌then◌else◌, Option, None, Some, IsSome, is_some, Result, Ok, Err, MatchBool, MatchOption}
+use Rattle.std.specs.Prelude.{◌≡◌, ◌≢◌, ◌⊎◌, ◌≤◌, ℕ, List, [], ◌∷◌, Bool, true, false, ◌==◌, ◌&&◌, if◌then◌else◌, Option, None, Some, IsSome, is_some, Result, Ok, Err, MatchBool, MatchOption}
 use Rattle.wl_wire.specs.declared.argument.Argument.{Argument}
 use Rattle.wl_wire.specs.declared.argument.Argument.TheVariants as arg
 use Rattle.wl_wire.specs.declared.argument.Token.{Token}
@@ -132,12 +132,13 @@ module _ {U : Type 0} where
       (alive (held before id.number) ≡ None) × (row.child_interface ≡ Some id.interface)
       × (held after id.number ≡ Some (fresh_object id.interface version id.serial None))
 
-  -- The event is open from now on. Its sender is a kept object that the client has not destroyed, and the table has the event
-  -- for the interface of that object. It has a new id among its arguments exactly if it makes an object by the table, and then
+  -- The event is open from now on. Its sender is a kept object that is not the display and that the client has not destroyed, and
+  -- the table has the event for the interface of that object. It has a new id among its arguments exactly if it makes an object by the table, and then
   -- that is the id of the object, which is new and of the sender's version.
   pub record EventIsOpen (before : Core U) (m : SessionMessage) (after : Core U) : Type 0 where
     pub sender : Object (Kept U)
     pub row : MessageRow
+    pub not_display : m.sender.number ≢ 1
     pub holds : held after.store m.sender.number ≡ Some sender
     pub sender_is : m.sender ≡ id_at m.sender.number sender
     pub live : sender.value.client_destroyed ≡ false
@@ -155,23 +156,24 @@ module _ {U : Type 0} where
   abbrev pub HasFailed : Core U → Type 0
   HasFailed c = IsSome c.error × (c.open_event ≡ None)
 
-  -- the id names an object that the client has not destroyed, or its serial was given out
+  -- The id names an object that the client has not destroyed, or its serial was given out. (A session that is not from `connect`
+  -- on may keep a destroyed object with a serial that was not: a new object may take its number, and the same id.)
   abbrev pub IsOld : Objects (Kept U) → IdParts → Type 0
   IsOld objects id = IsSome (alive (named objects.store id)) ⊎ (id.serial ≤ objects.last_serial)
 
-  -- The object that an id named is as it was; only whether the server has given up its number may differ. One that the client
-  -- has destroyed may be gone.
+  -- The object that an id named is as it was, but that the server may have given up its number. One that the client has destroyed
+  -- may be gone.
   abbrev pub StaysAs : Option (Object (Kept U)) → Option (Object (Kept U)) → Type 0
   StaysAs None after = after ≡ None
   StaysAs (Some x) after =
-      MatchBool x.value.client_destroyed ((after ≡ Some x) ⊎ (after ≡ None)) ((given_up : Bool) × (after ≡ Some (with_flags false given_up x)))
+      MatchBool x.value.client_destroyed ((after ≡ Some x) ⊎ (after ≡ None)) ((after ≡ Some x) ⊎ (after ≡ Some (with_flags false true x)))
 
   -- so it is of each id but those that were made since
   pub record IdsStay (before after : Objects (Kept U)) : Type 0 where
     pub serials : before.last_serial ≤ after.last_serial
     pub ids : (id : IdParts) → IsOld before id → StaysAs (named before.store id) (named after.store id)
 
-  -- the table and the notes are as before, and each id but those that were made since names what it named
+  -- the table and the notes are as before, and each older id names what it named, or none if the client had destroyed that
   abbrev pub KeepsRest : Core U → Core U → Type 0
   KeepsRest before after = (after.table ≡ before.table) × (after.notes ≡ before.notes) × IdsStay (objects_in before) (objects_in after)
 

@@ -1,6 +1,7 @@
 -- How a reading of a session ends: with an event of the message that its last turn found at the front, or for one of a few
 -- reasons. If the server is to blame, that message tells of it, or breaks the protocol.
-use Rattle.std.specs.Prelude.{◌≡◌, ◌≢◌, ◌⊎◌, ℕ, List, [], ◌∷◌, ◌++◌, map, Bool, true, false, Option, None, Some, Result, Ok, Err, Contains}
+use Rattle.std.specs.List.{list_any}
+use Rattle.std.specs.Prelude.{◌≡◌, ◌≢◌, ◌⊎◌, ℕ, List, [], ◌∷◌, ◌++◌, map, Bool, true, false, if◌then◌else◌, Option, None, Some, Result, Ok, Err}
 use Rattle.wl_wire.specs.declared.argument.Argument.{Argument}
 use Rattle.wl_wire.specs.declared.argument.Argument.TheVariants as arg
 use Rattle.wl_wire.specs.declared.argument.Token.{Token}
@@ -9,12 +10,13 @@ use Rattle.wl_wire.specs.declared.error.IoFault.TheVariants as fault
 use Rattle.wl_wire.specs.declared.error.MessageParseError.TheVariants as parse
 use Rattle.wl_wire.specs.declared.error.ProtocolError.{ProtocolError}
 use Rattle.wl_wire.specs.declared.interface.InterfaceId.{InterfaceId}
-use Rattle.wl_wire.specs.Argument.{WireArgument}
+use Rattle.wl_wire.specs.Argument.{WireArgument, type_of}
 use Rattle.wl_wire.specs.Message.{WireMessage}
-use Rattle.wl_wire.specs.MessageRows.{event_row, fits, next_interface, rest_of}
-use Rattle.wl_wire.specs.Table.{MessageRow, anonymous_id}
+use Rattle.wl_wire.specs.MessageRows.{event_row, fits, left_after, next_interface, rest_of}
+use Rattle.wl_wire.specs.Table.{MessageRow, anonymous_id, is_new_id}
 use Rattle.wl_link.specs.declared.object.Object.{Object}
 use Rattle.wl_link.specs.Exchange.{Queue}
+use Rattle.wl_link.specs.Identity.{Objects}
 use Rattle.wl_link.specs.Link.{FilledBy, LinkState, ReceiveAsks, count_of, counted_answer}
 use Rattle.wl_link.specs.Reader.{CarriesOut, FrontAsks, Given, Gives, Handled, Lacks, Leaves, ReaderState, Reads, ReadsAs, Received, Takes, Turn, Unread, Verdict, with_link}
 use Rattle.wl_link.specs.Store.{Store, held}
@@ -28,7 +30,7 @@ use Rattle.wl_client.specs.declared.protocol_error.EventFault.TheVariants as wro
 use Rattle.wl_client.specs.Events.{error_of, is_valid_new, told_error}
 use Rattle.wl_client.specs.ObjectId.{IdParts}
 use Rattle.wl_client.specs.Plain.{CanRead, EventIsOpen}
-use Rattle.wl_client.specs.Reading.{client, objects_in, reader_state_of, receives_allowed}
+use Rattle.wl_client.specs.Reading.{answered, client, handed_by, objects_in, reader_state_of, receives_allowed}
 use Rattle.wl_client.specs.Requests.{SessionMessage}
 use Rattle.wl_client.specs.Session.{Core, SessionState, id_at, null_parts}
 
@@ -45,26 +47,28 @@ on_the_wire (arg.NewId id) = arg.NewId id.number
 on_the_wire (arg.Array bytes) = arg.Array bytes
 on_the_wire (arg.Fd token) = arg.Fd token
 
-module _ {U : Type 0} (before after : Store (Kept U)) where
-  -- the id is the null one; or that of the object that its number has before the message or after it, whose interface fits
-  abbrev pub IsFit : InterfaceId → IdParts → Type 0
-  IsFit asked id =
+module _ {U : Type 0} where
+  -- the id is the null one; or that of the object that its number has in this store, whose interface fits
+  abbrev pub IsFit : Store (Kept U) → InterfaceId → IdParts → Type 0
+  IsFit store asked id =
       (id ≡ null_parts)
-      ⊎ ((x : Object (Kept U)) × ((held before id.number ≡ Some x) ⊎ (held after id.number ≡ Some x))
-      × (id ≡ id_at id.number x) × (fits asked x.interface ≡ true))
+      ⊎ ((x : Object (Kept U)) × (held store id.number ≡ Some x) × (id ≡ id_at id.number x) × (fits asked x.interface ≡ true))
 
-  -- so is each object argument, by the interfaces that the table has for the event
-  abbrev pub ObjectsFit : List InterfaceId → List (Argument IdParts Token) → Type 0
-  ObjectsFit asked [] = Unit {0}
-  ObjectsFit asked (arg.Object id ∷ args) = IsFit (next_interface asked) id × ObjectsFit (rest_of asked) args
-  ObjectsFit asked (_ ∷ args) = ObjectsFit asked args
+  -- So is each object argument, by the interfaces that the table has for the event. The store is the first one up to the new id, and
+  -- the second one behind it.
+  abbrev pub ObjectsFit : Store (Kept U) → Store (Kept U) → List InterfaceId → List (Argument IdParts Token) → Type 0
+  ObjectsFit before after asked [] = Unit {0}
+  ObjectsFit before after asked (arg.Object id ∷ args) = IsFit before (next_interface asked) id × ObjectsFit before after (rest_of asked) args
+  ObjectsFit before after asked (arg.NewId id ∷ args) = ObjectsFit after after asked args
+  ObjectsFit before after asked (_ ∷ args) = ObjectsFit before after asked args
 
 module _ {U : Type 0} where
-  -- The message is to a kept object that the client had not destroyed, and this is its event, open from now on: it has the
-  -- message's opcode, and its arguments turned back to the wire are the message's.
+  -- The message is to a kept object that is not the display and that the client had not destroyed, and this is its event, open
+  -- from now on: it has the message's opcode, and its arguments turned back to the wire are the message's.
   pub record IsItsEvent (event : SessionMessage) (before : Core U) (m : WireMessage) (end : Core U) : Type 0 where
     pub receiver : Object (Kept U)
     pub row : MessageRow
+    pub not_display : m.sender ≢ 1
     pub was_held : held before.store m.sender ≡ Some receiver
     pub live : receiver.value.client_destroyed ≡ false
     pub by_table : event_row before.table receiver.interface m.opcode ≡ Some row
@@ -76,6 +80,22 @@ module _ {U : Type 0} where
 
 -- ---- what is wrong with a message
 
+-- one of the arguments is a new number
+abbrev pub has_new : List WireArgument → Bool
+has_new args = list_any (λ a. is_new_id (type_of a)) args
+
+-- each object argument takes the next of the table's interfaces: those that are left behind these arguments
+abbrev pub left_behind : List InterfaceId → List WireArgument → List InterfaceId
+left_behind asked [] = asked
+left_behind asked (a ∷ args) = left_behind (left_after a asked) args
+
+-- the message is to the display, and neither an error with a text nor a `delete_id`
+abbrev pub IsUnreadable : WireMessage → Type 0
+IsUnreadable m =
+    (m.sender ≡ 1)
+    × ((n code : ℕ) (text : List ℕ) → m.opcode ≡ 0 → ¬ (m.args ≡ arg.Object n ∷ arg.Uint code ∷ arg.Str (Some text) ∷ []))
+    × ((n : ℕ) → m.opcode ≡ 1 → ¬ (m.args ≡ arg.Uint n ∷ []))
+
 module _ {U : Type 0} where
   -- the message is `wl_display.error`, and tells of this error
   abbrev pub TellsError : Core U → WireMessage → ProtocolError → Type 0
@@ -84,18 +104,47 @@ module _ {U : Type 0} where
       × ((n code : ℕ) × (text : List ℕ) × (m.args ≡ arg.Object n ∷ arg.Uint code ∷ arg.Str (Some text) ∷ [])
       × (e ≡ told_error c.table c.store code n text))
 
-  -- The message is to the display, and neither an error with a text nor a `delete_id`. Or one of its arguments is wrong, by the
-  -- objects that are kept when it is found: the number of an object has none, or one whose interface does not fit; or a new
-  -- number may not be used, or the table has no interface for it.
-  abbrev pub IsWrong : EventFault → WireMessage → Core U → Type 0
-  IsWrong wrong.Malformed m end =
-      (m.sender ≡ 1)
-      × ((n code : ℕ) (text : List ℕ) → m.opcode ≡ 0 → ¬ (m.args ≡ arg.Object n ∷ arg.Uint code ∷ arg.Str (Some text) ∷ []))
-      × ((n : ℕ) → m.opcode ≡ 1 → ¬ (m.args ≡ arg.Uint n ∷ []))
-  IsWrong (wrong.UnknownObject n) m end = Contains m.args (arg.Object n) × (n ≢ 0) × (held end.store n ≡ None)
-  IsWrong (wrong.WrongInterface n asked i) m end =
-      Contains m.args (arg.Object n) × (fits asked i ≡ false) × ((x : Object (Kept U)) × (held end.store n ≡ Some x) × (x.interface ≡ i))
-  IsWrong (wrong.InvalidNewId n i) m end = Contains m.args (arg.NewId n) × ((is_valid_new (objects_in end) n ≡ false) ⊎ (i ≡ anonymous_id))
+  -- What is wrong with an argument. It is the number of an object, and there is none; or one whose interface does not fit what the
+  -- table asks for there. Or it is a new number, and may not be used for an object of the interface that the table names; or the
+  -- table names none, or it is the second. Behind a new number the objects are those at the end, among them the one that it made;
+  -- else they are those before the message.
+  abbrev pub IsWrongArgument : InterfaceId → Option InterfaceId → Bool → Objects (Kept U) → Objects (Kept U) → EventFault → WireArgument → Type 0
+  IsWrongArgument asks makes behind_new before end wrong.Malformed a = ⊥
+  IsWrongArgument asks makes behind_new before end (wrong.UnknownObject n) a =
+      (a ≡ arg.Object n) × (n ≢ 0) × (held before.store n ≡ None) × (behind_new ≡ true → held end.store n ≡ None)
+  IsWrongArgument asks makes behind_new before end (wrong.WrongInterface n asked i) a =
+      (a ≡ arg.Object n) × (n ≢ 0) × (asked ≡ asks) × (fits asked i ≡ false)
+      × ((x : Object (Kept U)) × (held (if behind_new then end.store else before.store) n ≡ Some x) × (x.interface ≡ i))
+  IsWrongArgument asks makes behind_new before end (wrong.InvalidNewId n i) a =
+      (a ≡ arg.NewId n)
+      × (((behind_new ≡ false) × (makes ≡ Some i) × (is_valid_new before n ≡ false))
+      ⊎ ((i ≡ anonymous_id) × ((makes ≡ None) ⊎ (behind_new ≡ true))))
+
+  -- what is wrong with an argument that stands behind these in an event
+  abbrev pub IsWrongBehind : MessageRow → Objects (Kept U) → Objects (Kept U) → List WireArgument → EventFault → WireArgument → Type 0
+  IsWrongBehind row before end earlier w a =
+      IsWrongArgument (next_interface (left_behind row.arg_interfaces earlier)) row.child_interface (has_new earlier) before end w a
+
+  -- The message is to a kept object that is not the display, and the table has the event. This is wrong with the first of its
+  -- arguments that is wrong.
+  pub record HasWrongArgument (w : EventFault) (before : Core U) (m : WireMessage) (end : Core U) : Type 0 where
+    pub receiver : Object (Kept U)
+    pub row : MessageRow
+    pub not_display : m.sender ≢ 1
+    pub was_held : held before.store m.sender ≡ Some receiver
+    pub by_table : event_row before.table receiver.interface m.opcode ≡ Some row
+    pub earlier : List WireArgument
+    pub argument : WireArgument
+    pub later : List WireArgument
+    pub args_are : m.args ≡ earlier ++ argument ∷ later
+    pub is_wrong : IsWrongBehind row (objects_in before) (objects_in end) earlier w argument
+    pub is_first : (others between : List WireArgument) (a : WireArgument) (fault : EventFault) → earlier ≡ others ++ a ∷ between
+        → ¬ IsWrongBehind row (objects_in before) (objects_in end) others fault a
+
+  -- what is wrong with a message of the display, or of another object
+  abbrev pub IsWrong : EventFault → Core U → WireMessage → Core U → Type 0
+  IsWrong wrong.Malformed before m end = IsUnreadable m
+  IsWrong w before m end = HasWrongArgument w before m end
 
 -- ---- the last turn
 
@@ -146,7 +195,7 @@ module _ {T U : Type 0} (sends : T → Queue → Result ℕ IoFault → T → Ty
   FoundError e end (Received r) before = ⊥
   FoundError e end (Handled es) before =
       (m : WireMessage) × (link : LinkState T) × ReadsAs sends client before (Ok m) link
-      × (TellsError before.core m e ⊎ ((w : EventFault) × IsWrong w m end.core × (e ≡ error_of before.core.table w)))
+      × (TellsError before.core m e ⊎ ((w : EventFault) × IsWrong w before.core m end.core × (e ≡ error_of before.core.table w)))
   FoundError e end (Unread es) before = ReadsAs sends client before (Err parse.Malformed) before.link × (e ≡ error_of before.core.table wrong.Malformed)
 
   -- ---- how a reading ends
@@ -172,11 +221,12 @@ module _ {T U : Type 0} (sends : T → Queue → Result ℕ IoFault → T → Ty
   ReadingEnds start turns (Err no_event.Failed) refused left end =
       (why : WaylandError) × (end.core.error ≡ Some why) × (end.core.open_event ≡ None) × HasFailedBy why start turns refused end
 
-  -- A reading of a session without an error and without an open event: it was a list of turns (`Reads`), and ended with this answer
-  -- for a reason (`ReadingEnds`).
+  -- A reading of a session without an error and without an open event: it was a list of turns (`Reads`), whose answer this is, and
+  -- ended with it for a reason (`ReadingEnds`).
   abbrev pub EndsForAReason : SessionState T U → Result SessionMessage EventError → Bool → SessionState T U → Type 0
   EndsForAReason before answer refused after =
       before.error ≡ None → before.open_event ≡ None →
       (turns : List Turn) × (out : Gives SessionMessage)
       × Reads sends client receives receives_allowed (reader_state_of before) turns out (reader_state_of after)
+      × (answer ≡ answered out.stopped out.gave) × (out.gave ≡ handed_by answer) × (refused ≡ out.refused)
       × ReadingEnds (reader_state_of before) turns answer refused out.left (reader_state_of after)

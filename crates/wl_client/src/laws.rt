@@ -245,18 +245,22 @@ pub fn a_reading_receives_64_times()
 /// A reading of a session without an error and without an open event ends with an event or for a reason.
 ///
 /// An event comes of the message that the last turn found at the front of what was received. That message is to a kept object
-/// that the client had not destroyed. The event has the message's opcode, and its arguments are the message's if each id is
-/// turned back into its number. Each object argument is null, or is the id of an object of that number, whose interface fits
-/// the table's. Else the answer is one of these:
+/// that is not the display and that the client had not destroyed. The event has the message's opcode, and its arguments are the
+/// message's if each id is turned back into its number. Each object argument is null, or is the id of the object that its number
+/// has, whose interface fits the table's: before the message, or after it if the argument stands behind the new id. Else the
+/// answer is one of these:
 ///
 /// - `WouldBlock`: the last receive answered so; or no receive is left, and the message at the front lacks bytes or tokens.
 /// - `OutOfMemory`: the last receive answered so; or memory was refused, and the message at the front asks for some, or a receive
 ///   does.
-/// - `Failed`: the session has an error now, which is the fault that the last receive answered; or what the last turn found at the
-///   front is to blame: bytes that are no message by the table, `wl_display.error`, an event of the display that is neither this
-///   nor `delete_id`, or an event with a wrong argument. A wrong argument is the number of an object that is not there or whose
-///   interface does not fit, or a new number that the server may not use. Then that is the session's error, or `OutOfMemory` if
-///   there was no memory for its texts.
+/// - `Failed`: the session has an error now. This is the fault that the last receive answered, or comes of what the last turn found
+///   at the front. That is `wl_display.error` with a text: the session's error is the one that it tells. Else the session's error
+///   says what is wrong: bytes that are no message by the table; an event of the display that is neither an error with a text nor
+///   a `delete_id`; or, in an event of another object, the first argument that is wrong. Or it is `Io(OutOfMemory)`, if there was no
+///   memory for the texts of such an error.
+///
+/// An argument is wrong if it is the number of an object that is not there or whose interface does not fit the table's; or a new
+/// number that the server may not use, or for which the table names no interface, as for a second one.
 ///
 /// After `WouldBlock` and `OutOfMemory` there is no error and no open event. Each reading carries this (clause `reason` of
 /// `Backend::next_event`).

@@ -13,20 +13,20 @@
 //!
 //! | Calls | Code | Relations, in `specs/` |
 //! |---|---|---|
-//! | `connect`, `take_notes`, the limit, `transport_mut`, .. | `backend`: read it first | `Session`, `Lending` |
-//! | `send_request`, `send_request_lent`, `flush` | `request`, `send_request`, `flush` | `Requests`, `Steps`, `Finish` |
-//! | `next_event`, `next_event_into` | `next_event`, `message`, `in_place`, `event`, `arguments`, `display` | `Reading`, `Handling`, `Events`, `Cutting` |
+//! | `connect`, `take_notes`, the limit, `transport_mut`, .. | `backend`: read it first | `Session`, `Lending`, `Plain/Calls` |
+//! | `send_request`, `send_request_lent`, `flush` | `request`, `send_request`, `flush` | `Requests`, `Steps`, `Finish`, `Plain/Calls` |
+//! | `next_event`, `next_event_into` | `next_event`, `message`, `in_place`, `event`, `arguments`, `display` | `Reading`, `ReadingEnds`, `Handling`, `Events`, `Cutting` |
 //! | `finish_event`, `open_event` | `finish_event` | `Finish`, `Steps`, `Cutting` |
-//! | `info`, `get_data`, `set_data`, `with_data`, `destroy_object` | `objects` | `Objects` |
+//! | `info`, `get_data`, `set_data`, `with_data`, `destroy_object` | `objects` | `Objects`, `Plain/Calls` |
 //! | `replay` | `step`, `replay` | `Steps`, `Handed`, `Named`, `Noted`, `Replies`, `Stretches` |
 //!
 //! The clause `call` of a call through `&mut self` says that it is a step of a history (`Steps`, `Histories`), of which the laws
-//! hold (`Accounts`). A clause `plain` says what a program finds after it (`Plain`).
+//! hold (`Accounts`). A clause `plain` says what a program finds after it (`Plain`, `Plain/Calls`).
 //!
 //! The functions of [`laws`] do nothing. Their contracts are the laws of runs of calls, in the words of these files:
 //! `Handed` and `Named` (ids), `Noted` (notes), `Failed` (errors), `Replies` (there is one outcome), `Cutting`, `Heard` and
 //! `Stretches` (it does not matter how bytes are cut; the words of a reader are in `Reader` and `Served` of `wl_link`),
-//! `Scripted` (calls of `Memory` as steps).
+//! `ReadingEnds` (why a reading ends), `Scripted` (calls of `Memory` as steps).
 #![tactic(auto)]
 
 mod arguments;

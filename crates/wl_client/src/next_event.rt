@@ -94,8 +94,8 @@ impl<T: Transport + Drop, U: Drop> Backend<T, U> {
     /// A message does not end the session by a full buffer, if it is no longer than the limit or 65536 bytes, whichever is
     /// less, and its tokens come no later than its last byte.
     ///
-    /// An event, or the error of a reading that began, comes of what was received last or of the message that was then at the
-    /// front, as `laws::each_reading_ends_for_a_reason` says (clause `reason`).
+    /// Which message an event is of, or why there is none, is said by `laws::each_reading_ends_for_a_reason` (clause `reason`), if
+    /// the session had no error and no open event.
     pub fn next_event(&mut self) -> Result<Message<ObjectId, Token>, EventError>
         ensures call { Calls (CallOf T.sends T.receives) self.old step.NextEvent (reply.NextEvent result) self.new }
         ensures plain { ReadsEvent self.old.session (event_content result) self.new.session }

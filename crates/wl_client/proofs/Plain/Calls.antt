@@ -36,7 +36,7 @@ module _ {T U : Type 0} (s : SessionState T U) (id : IdParts) where
   -- ---- data
 
   unset : (u : U) → named s.store id ≡ None → SetsData s id u (Err _) s
-  unset u none = record { object = (none, refl); objects = λ other differ. refl; notes = refl; link = refl; rest = (refl, refl, refl) }
+  unset u none = record { object = (none, refl); objects = λ other differ. refl; notes = refl; link = refl; rest = (refl, refl, refl, refl) }
 
   set : (u : U) (x : Object (Kept U)) → named s.store id ≡ Some x
       → SetsData s id u (Ok tt) (record s { store = rewritten s.store id.number (with_user_data u x) })
@@ -45,7 +45,7 @@ module _ {T U : Type 0} (s : SessionState T U) (id : IdParts) where
     objects = λ other differ. rewritten_others s.store id x (with_user_data u x) (names_so s.store id x found) refl other differ;
     notes = refl;
     link = refl;
-    rest = (refl, refl, refl);
+    rest = (refl, refl, refl, refl);
   }
 
   pub sets_data : (u : U) (answer : Result (Unit {0}) InvalidId) (after : SessionState T U) → DataSet s id u answer after → SetsData s id u answer after
@@ -81,17 +81,17 @@ module _ {T U : Type 0} (s : SessionState T U) (id : IdParts) where
         object = (x, may, rewritten_named s.store id x (with_flags true x.value.server_destroyed x) by refl, refl);
         objects = λ other differ. rewritten_others s.store id x (with_flags true x.value.server_destroyed x) by refl other differ;
         link = refl;
-        rest = (refl, refl, refl);
+        rest = (refl, refl, refl, refl);
       }
 
   pub destroys_object : (answer : Result (Unit {0}) DestroyError) (after : SessionState T U) → DestroyedBy s id answer after → DestroysObject s id answer after
   destroys_object answer after h =
       elim (either_option (destroyable s id) h) [
         | inl (none, (is, same)) ↦
-            to (Err destroy.InvalidId) s is same (record { object = (none, refl); objects = λ other differ. refl; link = refl; rest = (refl, refl, refl) })
+            to (Err destroy.InvalidId) s is same (record { object = (none, refl); objects = λ other differ. refl; link = refl; rest = (refl, refl, refl, refl) })
         | inr (x, may, inl (is, same)) ↦ to (Ok tt) _ is same (destroyed x may)
         | inr (x, may, inr (is, same, has)) ↦
-            to (Err destroy.OutOfMemory) s is same (record { object = (x, may, has, refl); objects = λ other differ. refl; link = refl; rest = (refl, refl, refl) })
+            to (Err destroy.OutOfMemory) s is same (record { object = (x, may, has, refl); objects = λ other differ. refl; link = refl; rest = (refl, refl, refl, refl) })
       ]
     where
       to : (a : Result (Unit {0}) DestroyError) (t : SessionState T U) → answer ≡ a → after ≡ t → DestroysObject s id a t → DestroysObject s id answer after
@@ -112,7 +112,8 @@ module _ {T U : Type 0} (sends : T → Queue → Result ℕ IoFault → T → Ty
     fails : (f : IoFault) → EndsSession f → Flushed sends s.link (Err f) link → FlushesSession sends s (Err flush.Failed) (record over { error = Some (Io f) })
     fails f ends by = record {
       answered = inr (none, (f, ends, by, refl));
-      objects = λ id. refl;
+      objects = refl;
+      last_serial = refl;
       open_event = refl;
       notes = refl;
       table = refl;
@@ -121,11 +122,11 @@ module _ {T U : Type 0} (sends : T → Queue → Result ℕ IoFault → T → Ty
     ended : (flushed : Result (Unit {0}) IoFault) (answer : Result (Unit {0}) FlushError) (after : SessionState T U) → Flushed sends s.link flushed link
         → FlushEnds over flushed answer after → FlushesSession sends s answer after
     ended (Ok u) answer after by (is, same) =
-        to answer (Ok tt) after over is same (record { answered = (none, by, none); objects = λ id. refl; open_event = refl; notes = refl; table = refl })
+        to answer (Ok tt) after over is same (record { answered = (none, by, none); objects = refl; last_serial = refl; open_event = refl; notes = refl; table = refl })
     ended (Err fault.WouldBlock) answer after by (is, same) =
-        to answer (Err flush.WouldBlock) after over is same (record { answered = (none, by, none); objects = λ id. refl; open_event = refl; notes = refl; table = refl })
+        to answer (Err flush.WouldBlock) after over is same (record { answered = (none, by, none); objects = refl; last_serial = refl; open_event = refl; notes = refl; table = refl })
     ended (Err fault.OutOfMemory) answer after by (is, same) =
-        to answer (Err flush.OutOfMemory) after over is same (record { answered = (none, by, none); objects = λ id. refl; open_event = refl; notes = refl; table = refl })
+        to answer (Err flush.OutOfMemory) after over is same (record { answered = (none, by, none); objects = refl; last_serial = refl; open_event = refl; notes = refl; table = refl })
     ended (Err fault.Pipe) answer after by (is, same) = to answer (Err flush.Failed) after _ is same (fails fault.Pipe tt by)
     ended (Err fault.TooBig) answer after by (is, same) = to answer (Err flush.Failed) after _ is same (fails fault.TooBig tt by)
     ended (Err fault.Proto) answer after by (is, same) = to answer (Err flush.Failed) after _ is same (fails fault.Proto tt by)
@@ -138,5 +139,5 @@ module _ {T U : Type 0} (sends : T → Queue → Result ℕ IoFault → T → Ty
         | inl (none, (flushed, link, by, ends)) ↦ ended none link flushed answer after by ends
         | inr (e, some, (is, same)) ↦
             to answer (Err flush.Failed) after s is same
-            (record { answered = inl (ap is_some some, refl); objects = λ id. refl; open_event = refl; notes = refl; table = refl })
+            (record { answered = inl (ap is_some some, refl); objects = refl; last_serial = refl; open_event = refl; notes = refl; table = refl })
       ]

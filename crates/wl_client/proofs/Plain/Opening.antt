@@ -1,6 +1,7 @@
 -- What is known of an event that is handed out, and of the object that it made.
 use Rattle.std.proofs.Common.{◌≡◌, ◌≢◌, ℕ, Bool, true, false, not, cond, eqb, List, [], ◌∷◌, ◌++◌, Option, None, Some, is_some, Result, Ok, Err, MatchOption, refl, sym, ap, ap₂, subst, ◌∙◌, true≢false}
 use mathlib.Core.Logic.{inl, inr}
+use Rattle.std.proofs.lemmas.Bool.{eq-eqb}
 use Rattle.std.specs.List.{list_any}
 use Rattle.std.specs.Prelude.{◌&&◌, ◌||◌, ◌==◌, ◌+◌, IsSome, length, nat_le, option_map}
 use Rattle.wl_wire.specs.declared.argument.Argument.{Argument}
@@ -353,6 +354,7 @@ module _ {U : Type 0} (table : List InterfaceRow) where
   pub record Opens (first : Store (Kept U)) (m : SessionMessage) (event : OpenEvent) (objects : Objects (Kept U)) : Type 0 where
     pub sender : Object (Kept U)
     pub row : MessageRow
+    pub not_display : m.sender.number ≢ 1
     pub holds : held objects.store m.sender.number ≡ Some sender
     pub sender_is : m.sender ≡ id_at m.sender.number sender
     pub live : sender.value.client_destroyed ≡ false
@@ -382,22 +384,23 @@ module _ {U : Type 0} (table : List InterfaceRow) where
       made.3 ∙ ap (λ (b : Bool). Some (made_object x.version b id.interface id.serial)) live,
     )
 
-    converted : (x : Object (Kept U)) (row : MessageRow) → held objects.store m.sender ≡ Some x → event_row table x.interface m.opcode ≡ Some row
+    converted : m.sender ≢ 1 → (x : Object (Kept U)) (row : MessageRow) → held objects.store m.sender ≡ Some x → event_row table x.interface m.opcode ≡ Some row
         → creates row ≡ list_any is_new m.args → (b : Bool) → x.value.client_destroyed ≡ b → (outcome : Outcome U)
         → StayBy x.version x.value.client_destroyed objects.store outcome
         → ((live : x.value.client_destroyed ≡ false) → HoldsOf objects.store x row m.sender live (start objects row) m.args outcome)
         → OpensIn objects.store (of_converted table objects m x row outcome)
-    converted x row holds has fits b is (Wrong w after) stay so = tt
-    converted x row holds has fits true is (Whole c args) stay so =
+    converted other x row holds has fits b is (Wrong w after) stay so = tt
+    converted other x row holds has fits true is (Whole c args) stay so =
         subst (λ (b : Bool). OpensIn objects.store (cond b (Swallows c.objects) (HandsOut (event_of m x args) (opened_of m x row c.created) c.objects)))
         (sym is) stay
-    converted x row holds has fits false is (Whole c args) stay so =
+    converted other x row holds has fits false is (Whole c args) stay so =
         let (kept, new) = so is in
         subst (λ (b : Bool). OpensIn objects.store (cond b (Swallows c.objects) (HandsOut (event_of m x args) (opened_of m x row c.created) c.objects)))
         (sym is)
         (record {
           sender = x;
           row = row;
+          not_display = other;
           holds = kept.receiver;
           sender_is = refl;
           live = is;
@@ -409,23 +412,24 @@ module _ {U : Type 0} (table : List InterfaceRow) where
               (made_new x row is c.created c.child c.objects.store kept.made);
         })
 
-    event : (o : Option (Object (Kept U))) → held objects.store m.sender ≡ o → (r : Option MessageRow) → row_in table o m.opcode ≡ r
+    event : m.sender ≢ 1 → (o : Option (Object (Kept U))) → held objects.store m.sender ≡ o → (r : Option MessageRow) → row_in table o m.opcode ≡ r
         → OpensIn objects.store (of_event table objects m o r)
-    event None is None has = tt
-    event None is (Some row) has = tt
-    event (Some x) is None has = tt
-    event (Some x) is (Some row) has =
-        converted x row is has (makes row (ap (λ (o : Option (Object (Kept U))). row_in table o m.opcode) is ∙ has)) x.value.client_destroyed refl _
+    event other None is None has = tt
+    event other None is (Some row) has = tt
+    event other (Some x) is None has = tt
+    event other (Some x) is (Some row) has =
+        converted other x row is has (makes row (ap (λ (o : Option (Object (Kept U))). row_in table o m.opcode) is ∙ has)) x.value.client_destroyed refl _
         (stay_by_all x.version x.value.client_destroyed objects.store (start objects row) [] m.args (λ k some. some))
         (λ live.
         all objects.store x row m.sender live (start objects row) [] m.args
         (record { receiver = is; stay = λ k some. some; named = refl; made = refl }))
 
     pub opens : OpensIn objects.store (handling table objects m)
-    opens = at (m.sender == 1)
+    opens = at (m.sender == 1) refl
       where
-        at : (b : Bool)
+        at : (b : Bool) → (m.sender == 1) ≡ b
             → OpensIn objects.store (cond b (of_display table objects (display_event m.opcode m.args))
             (of_event table objects m (held objects.store m.sender) (row_in table (held objects.store m.sender) m.opcode)))
-        at true = of_display_none (display_event m.opcode m.args)
-        at false = event (held objects.store m.sender) refl (row_in table (held objects.store m.sender) m.opcode) refl
+        at true is = of_display_none (display_event m.opcode m.args)
+        at false is =
+            event (λ same. true≢false (sym (eq-eqb m.sender 1 same) ∙ is)) (held objects.store m.sender) refl (row_in table (held objects.store m.sender) m.opcode) refl

@@ -47,6 +47,7 @@ module _ {U : Type 0} where
   opened_before b c d m stay o = record {
     sender = o.sender;
     row = o.row;
+    not_display = o.not_display;
     holds = o.holds;
     sender_is = o.sender_is;
     live = o.live;
@@ -168,6 +169,7 @@ module _ {T U : Type 0} (sends : T → Queue → Result ℕ IoFault → T → Ty
               (record {
                 sender = so.sender;
                 row = so.row;
+                not_display = so.not_display;
                 holds = so.holds;
                 sender_is = so.sender_is;
                 live = so.live;

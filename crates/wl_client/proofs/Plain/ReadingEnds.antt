@@ -1,8 +1,8 @@
 -- How a reading ends, over its turns.
 use Rattle.std.proofs.Common.{◌≡◌, ◌≢◌, ◌⊎◌, ℕ, Bool, true, false, cond, eqb, eqb-true, ◌||◌, List, [], ◌∷◌, ◌++◌, map, append-nil, append_assoc, Option, None, Some, is_some, Result, Ok, Err, MatchResult, refl, sym, ap, ap₂, subst, ◌∙◌, true≢false}
 use mathlib.Core.Logic.{inl, inr}
-use Rattle.std.specs.Prelude.{Contains, length, nat_le, option_map}
-use Rattle.std.proofs.lemmas.List.Elements.{Contains-append_left, Contains-append_right, Contains-push}
+use Rattle.std.proofs.lemmas.Bool.{eq-eqb}
+use Rattle.std.specs.Prelude.{◌+◌, length, nat_le, option_map}
 use Rattle.wl_wire.specs.declared.argument.Argument.{Argument}
 use Rattle.wl_wire.specs.declared.argument.Argument.TheVariants as arg
 use Rattle.wl_wire.specs.declared.argument.ArgumentType.{ArgumentType}
@@ -15,15 +15,16 @@ use Rattle.wl_wire.specs.Argument.{WireArgument}
 use Rattle.wl_wire.specs.Message.{WireMessage}
 use Rattle.wl_wire.specs.MessageRows.{event_row, fits, next_interface}
 use Rattle.wl_wire.specs.Parse.{opcode_of, sender_of}
-use Rattle.wl_wire.specs.Table.{MessageRow, anonymous_id}
+use Rattle.wl_wire.specs.Table.{MessageRow}
 use Rattle.wl_link.proofs.Calls.Branches.{either_bool, either_option}
+use Rattle.wl_link.proofs.Ids.StoreLaws.{stored_here, stored_other}
 use Rattle.wl_link.specs.declared.object.Object.{Object}
 use Rattle.wl_link.specs.Exchange.{Queue, Sending}
 use Rattle.wl_link.specs.Identity.{Objects}
 use Rattle.wl_link.specs.Link.{FilledBy, LinkState, ReadFound, count_of, counted_answer}
 use Rattle.wl_link.specs.Puts.{Said, lacks_memory}
 use Rattle.wl_link.specs.Reader.{CarriesOut, Given, Gives, Halts, HandedOut, Handled, ReaderState, Reads, ReadsAs, Received, Turn, Unread, Verdict, came_to, given_first, put_and_gave, stops, with_link}
-use Rattle.wl_link.specs.Store.{Store, held}
+use Rattle.wl_link.specs.Store.{Store, held, stored}
 use Rattle.wl_client.specs.declared.error.EventError.{EventError}
 use Rattle.wl_client.specs.declared.error.EventError.TheVariants as no_event
 use Rattle.wl_client.specs.declared.error.WaylandError.{WaylandError}
@@ -32,15 +33,15 @@ use Rattle.wl_client.specs.declared.event.OpenEvent.{OpenEvent}
 use Rattle.wl_client.specs.declared.objects.Kept.{Kept}
 use Rattle.wl_client.specs.declared.protocol_error.EventFault.{EventFault}
 use Rattle.wl_client.specs.declared.protocol_error.EventFault.TheVariants as wrong
-use Rattle.wl_client.specs.Events.{Converted, Converting, DisplayEvent, Outcome, Whole, Wrong, convert, convert_one, delete_event, display_event, error_event, error_of, going_on, is_valid_new, object_argument_of, start, with_new_argument, with_new_at, with_object_argument}
+use Rattle.wl_client.specs.Events.{Converted, Converting, DisplayEvent, Outcome, Whole, Wrong, convert, convert_one, delete_event, display_event, error_event, error_of, going_on, is_valid_new, made_object, object_argument_of, start, vacated, with_new_argument, with_new_at, with_object_argument}
 use Rattle.wl_client.specs.Handling.{Breaks, Handling, HandsOut, Swallows, event_of, handed, handling, of_converted, of_display, of_event, opened_of, row_in, signature_in}
 use Rattle.wl_client.specs.ObjectId.{IdParts}
 use Rattle.wl_client.specs.Plain.{CanRead, EventIsOpen}
 use Rattle.wl_client.specs.Reading.{NextEvent, answered, client, core_after, event_in, fails_by, faulted, objects_in, reader_state_of, reads_on, receives_allowed, starved_to, verdict, with_objects}
-use Rattle.wl_client.specs.ReadingEnds.{EndsForAReason, FoundError, FoundEvent, HasFailedBy, IsWrong, LastReceiveFailed, ObjectsFit, OfLast, ReadingEnds, TellsError, TurnLeads, on_the_wire}
+use Rattle.wl_client.specs.ReadingEnds.{EndsForAReason, FoundError, FoundEvent, HasFailedBy, HasWrongArgument, IsWrong, IsWrongArgument, IsWrongBehind, LastReceiveFailed, ObjectsFit, OfLast, ReadingEnds, TellsError, TurnLeads, has_new, left_behind, on_the_wire}
 use Rattle.wl_client.specs.Requests.{SessionMessage}
 use Rattle.wl_client.specs.Session.{Core, SessionState, id_at, null_parts}
-use Rattle.wl_client.proofs.Plain.Opening.{Opens, OpensIn, makes_new, opens}
+use Rattle.wl_client.proofs.Plain.Opening.{Opens, OpensIn, makes_new, opens, vacated_elsewhere}
 use Rattle.wl_client.proofs.Plain.Reading.{failed_off, live_on, opened_off, stopped, when_true}
 
 none_some : {A : Type 0} {x : A} → None ≡ Some x → ⊥
@@ -59,106 +60,252 @@ other_than n k differ same is = true≢false (sym same ∙ ap (λ (i : ℕ). eqb
 
 -- ---- what is wrong with the arguments of an event
 
-module _ {U : Type 0} where
-  -- an argument is wrong, by these objects
-  abbrev WrongAt : EventFault → List WireArgument → Objects (Kept U) → Type 0
-  WrongAt wrong.Malformed args o = ⊥
-  WrongAt (wrong.UnknownObject n) args o = Contains args (arg.Object n) × (n ≢ 0) × (held o.store n ≡ None)
-  WrongAt (wrong.WrongInterface n asked i) args o =
-      Contains args (arg.Object n) × (fits asked i ≡ false) × ((x : Object (Kept U)) × (held o.store n ≡ Some x) × (x.interface ≡ i))
-  WrongAt (wrong.InvalidNewId n i) args o = Contains args (arg.NewId n) × ((is_valid_new o n ≡ false) ⊎ (i ≡ anonymous_id))
+-- the argument is a number of an object, or a new one
+abbrev means_object : WireArgument → Bool
+means_object (arg.Object n) = true
+means_object (arg.NewId n) = true
+means_object _ = false
 
-  among : (w : EventFault) (xs ys : List WireArgument) (o : Objects (Kept U)) → ((x : WireArgument) → Contains xs x → Contains ys x) → WrongAt w xs o → WrongAt w ys o
-  among wrong.Malformed xs ys o into so = so
-  among (wrong.UnknownObject n) xs ys o into (in_it, not_null, none) = (into _ in_it, not_null, none)
-  among (wrong.WrongInterface n asked i) xs ys o into (in_it, fit, there) = (into _ in_it, fit, there)
-  among (wrong.InvalidNewId n i) xs ys o into (in_it, rest) = (into _ in_it, rest)
+abbrev is_new : WireArgument → Bool
+is_new (arg.NewId n) = true
+is_new _ = false
 
-  -- so is a message
-  wrong_so : (w : EventFault) (m : WireMessage) (o : Objects (Kept U)) (end : Core U) → end.store ≡ o.store → end.last_serial ≡ o.last_serial → WrongAt w m.args o → IsWrong w m end
-  wrong_so wrong.Malformed m o end same last so = absurd so
-  wrong_so (wrong.UnknownObject n) m o end same last so = (so.0, so.1, ap (λ (s : Store (Kept U)). held s n) same ∙ so.2)
-  wrong_so (wrong.WrongInterface n asked i) m o end same last (in_it, fit, (x, there, is)) = (in_it, fit, (x, ap (λ (s : Store (Kept U)). held s n) same ∙ there, is))
-  wrong_so (wrong.InvalidNewId n i) m o end same last (in_it, inl bad) =
-      (in_it, inl (ap₂ (λ (s : Store (Kept U)) (k : ℕ). is_valid_new (record { store = s; last_serial = k }) n) same last ∙ bad))
-  wrong_so (wrong.InvalidNewId n i) m o end same last (in_it, inr nameless) = (in_it, inr nameless)
+abbrev number_in : WireArgument → ℕ
+number_in (arg.Object n) = n
+number_in (arg.NewId n) = n
+number_in _ = 0
+
+abbrev has_none : List WireArgument → Bool
+has_none [] = true
+has_none (x ∷ xs) = false
+
+no_split : (xs ys : List WireArgument) (a : WireArgument) → [] ≡ xs ++ a ∷ ys → ⊥
+no_split [] ys a is = true≢false (ap has_none is)
+no_split (x ∷ xs) ys a is = true≢false (ap has_none is)
+
+of_cons : (x y : WireArgument) (xs ys : List WireArgument) → x ∷ xs ≡ y ∷ ys → (x ≡ y) × (xs ≡ ys)
+of_cons x y xs ys is = (ap first is, ap rest is)
+  where
+    first : List WireArgument → WireArgument
+    first [] = x
+    first (z ∷ zs) = z
+
+    rest : List WireArgument → List WireArgument
+    rest [] = xs
+    rest (z ∷ zs) = zs
 
 module _ {U : Type 0} (version : ℕ) (destroyed : Bool) where
+  -- this is wrong with an argument behind these, once the arguments were gone through so far
+  abbrev WrongBehind : Converting U → Objects (Kept U) → List WireArgument → EventFault → WireArgument → Type 0
+  WrongBehind c o earlier w a = IsWrongArgument (next_interface (left_behind c.asked earlier)) c.child (has_new earlier) c.objects o w a
+
+  -- the objects are these at the end: once an object was made they stay
+  abbrev EndsAs : Converting U → Objects (Kept U) → Type 0
+  EndsAs c o = c.child ≡ None → o ≡ c.objects
+
   abbrev OneWrong : Converting U → WireArgument → Converted U → Type 0
-  OneWrong c a (Ok next) = Unit {0}
-  OneWrong c a (Err w) = WrongAt w (a ∷ []) c.objects
+  OneWrong c a (Ok next) =
+      ((o : Objects (Kept U)) → EndsAs next.1 o → EndsAs c o)
+      × ((o : Objects (Kept U)) (earlier : List WireArgument) (w : EventFault) (b : WireArgument) → EndsAs next.1 o → WrongBehind next.1 o earlier w b
+      → WrongBehind c o (a ∷ earlier) w b)
+      × ((o : Objects (Kept U)) (earlier : List WireArgument) (w : EventFault) (b : WireArgument) → EndsAs next.1 o → WrongBehind c o (a ∷ earlier) w b
+      → WrongBehind next.1 o earlier w b)
+      × ((o : Objects (Kept U)) (w : EventFault) → WrongBehind c o [] w a → ⊥)
+  OneWrong c a (Err w) = WrongBehind c c.objects [] w a
+
+  -- an object was made at the number
+  none_before : (s : Store (Kept U)) (n : ℕ) (x : Object (Kept U)) (k : ℕ) → held (stored (vacated s n) n x) k ≡ None → held s k ≡ None
+  none_before s n x k none = at (eqb k n) refl
+    where
+      at : (b : Bool) → eqb k n ≡ b → held s k ≡ None
+      at true is = absurd (none_some (sym none ∙ stored_here (vacated s n) n x k (eqb-true k n is)))
+      at false is =
+          let apart : k ≢ n = λ same. true≢false (sym (eq-eqb k n same) ∙ is) in
+          sym (stored_other (vacated s n) n x k apart ∙ vacated_elsewhere s k n apart) ∙ none
+
+  behind_made : (c next : Converting U) (n : ℕ) (i : InterfaceId) → c.child ≡ Some i → next.child ≡ None → next.asked ≡ c.asked
+      → ((k : ℕ) → held next.objects.store k ≡ None → held c.objects.store k ≡ None)
+      → (o : Objects (Kept U)) (earlier : List WireArgument) (w : EventFault) (b : WireArgument) → EndsAs next o → WrongBehind next o earlier w b
+      → WrongBehind c o (arg.NewId n ∷ earlier) w b
+  behind_made c next n i makes made asks none_then o earlier wrong.Malformed b ends so = so
+  behind_made c next n i makes made asks none_then o earlier (wrong.UnknownObject k) b ends (is, not_null, none, gone) =
+      (is, not_null, none_then k none, λ behind. at (has_new earlier) gone)
+    where
+      at : (new : Bool) → (new ≡ true → held o.store k ≡ None) → held o.store k ≡ None
+      at true there = there refl
+      at false there = ap (λ (objects : Objects (Kept U)). held objects.store k) (ends made) ∙ none
+  behind_made c next n i makes made asks none_then o earlier (wrong.WrongInterface k asked j) b ends (is, not_null, by_table, fit, (x, there, same)) =
+      (is, not_null, by_table ∙ ap (λ (l : List InterfaceId). next_interface (left_behind l earlier)) asks, fit, (x, at (has_new earlier) there, same))
+    where
+      at : (new : Bool) → held (cond new o.store next.objects.store) k ≡ Some x → held o.store k ≡ Some x
+      at true there = there
+      at false there = ap (λ (objects : Objects (Kept U)). held objects.store k) (ends made) ∙ there
+  behind_made c next n i makes made asks none_then o earlier (wrong.InvalidNewId k j) b ends (is, inl (first, names, bad)) = absurd (none_some (sym made ∙ names))
+  behind_made c next n i makes made asks none_then o earlier (wrong.InvalidNewId k j) b ends (is, inr (nameless, why)) = (is, inr (nameless, inr refl))
+
+  before_made : (c next : Converting U) (n : ℕ) → next.child ≡ None → next.asked ≡ c.asked
+      → (o : Objects (Kept U)) (earlier : List WireArgument) (w : EventFault) (b : WireArgument) → EndsAs next o → WrongBehind c o (arg.NewId n ∷ earlier) w b
+      → WrongBehind next o earlier w b
+  before_made c next n made asks o earlier wrong.Malformed b ends so = so
+  before_made c next n made asks o earlier (wrong.UnknownObject k) b ends (is, not_null, none, gone) =
+      (is, not_null, ap (λ (objects : Objects (Kept U)). held objects.store k) (sym (ends made)) ∙ gone refl, λ behind. gone refl)
+  before_made c next n made asks o earlier (wrong.WrongInterface k asked j) b ends (is, not_null, by_table, fit, (x, there, same)) =
+      (is, not_null, by_table ∙ sym (ap (λ (l : List InterfaceId). next_interface (left_behind l earlier)) asks), fit, (x, at (has_new earlier), same))
+    where
+      at : (new : Bool) → held (cond new o.store next.objects.store) k ≡ Some x
+      at true = there
+      at false = ap (λ (objects : Objects (Kept U)). held objects.store k) (sym (ends made)) ∙ there
+  before_made c next n made asks o earlier (wrong.InvalidNewId k j) b ends (is, inl (first, names, bad)) = absurd (true≢false first)
+  before_made c next n made asks o earlier (wrong.InvalidNewId k j) b ends (is, inr (nameless, why)) = (is, inr (nameless, inl made))
+
+  -- nothing is wrong with an argument that means no object, with null, with an object that fits, and with a new number that is valid
+  right_value : (c : Converting U) (a : WireArgument) → means_object a ≡ false → (o : Objects (Kept U)) (w : EventFault) → WrongBehind c o [] w a → ⊥
+  right_value c a off o wrong.Malformed so = so
+  right_value c a off o (wrong.UnknownObject k) so = true≢false (sym (ap means_object so.0) ∙ off)
+  right_value c a off o (wrong.WrongInterface k asked j) so = true≢false (sym (ap means_object so.0) ∙ off)
+  right_value c a off o (wrong.InvalidNewId k j) so = true≢false (sym (ap means_object so.0) ∙ off)
+
+  right_null : (c : Converting U) (n : ℕ) → n ≡ 0 → (o : Objects (Kept U)) (w : EventFault) → WrongBehind c o [] w (arg.Object n) → ⊥
+  right_null c n zero o wrong.Malformed so = so
+  right_null c n zero o (wrong.UnknownObject k) so = so.1 (sym (ap number_in so.0) ∙ zero)
+  right_null c n zero o (wrong.WrongInterface k asked j) so = so.1 (sym (ap number_in so.0) ∙ zero)
+  right_null c n zero o (wrong.InvalidNewId k j) so = true≢false (sym (ap is_new so.0))
+
+  right_object : (c : Converting U) (n : ℕ) (x : Object (Kept U)) → held c.objects.store n ≡ Some x → fits (next_interface c.asked) x.interface ≡ true
+      → (o : Objects (Kept U)) (w : EventFault) → WrongBehind c o [] w (arg.Object n) → ⊥
+  right_object c n x there fit o wrong.Malformed so = so
+  right_object c n x there fit o (wrong.UnknownObject k) (is, not_null, none, gone) =
+      none_some (sym none ∙ ap (λ (i : ℕ). held c.objects.store i) (sym (ap number_in is)) ∙ there)
+  right_object c n x there fit o (wrong.WrongInterface k asked j) (is, not_null, by_table, bad, (y, other, same)) =
+      true≢false (sym fit ∙ ap₂ (λ (i l : InterfaceId). fits i l) (sym by_table) (sym interface_is ∙ same) ∙ bad)
+    where
+      both : Some y ≡ Some x
+      both = sym other ∙ ap (λ (i : ℕ). held c.objects.store i) (sym (ap number_in is)) ∙ there
+
+      interface_in : Option (Object (Kept U)) → InterfaceId
+      interface_in None = asked
+      interface_in (Some z) = z.interface
+
+      interface_is : y.interface ≡ x.interface
+      interface_is = ap interface_in both
+  right_object c n x there fit o (wrong.InvalidNewId k j) so = true≢false (sym (ap is_new so.0))
+
+  right_new : (c : Converting U) (n : ℕ) (i : InterfaceId) → c.child ≡ Some i → is_valid_new c.objects n ≡ true
+      → (o : Objects (Kept U)) (w : EventFault) → WrongBehind c o [] w (arg.NewId n) → ⊥
+  right_new c n i makes valid o wrong.Malformed so = so
+  right_new c n i makes valid o (wrong.UnknownObject k) so = true≢false (ap is_new so.0)
+  right_new c n i makes valid o (wrong.WrongInterface k asked j) so = true≢false (ap is_new so.0)
+  right_new c n i makes valid o (wrong.InvalidNewId k j) (is, inl (first, names, bad)) =
+      true≢false (sym valid ∙ ap (λ (l : ℕ). is_valid_new c.objects l) (ap number_in is) ∙ bad)
+  right_new c n i makes valid o (wrong.InvalidNewId k j) (is, inr (nameless, inl none)) = none_some (sym none ∙ makes)
+  right_new c n i makes valid o (wrong.InvalidNewId k j) (is, inr (nameless, inr behind)) = true≢false (sym behind)
 
   wrong_one : (c : Converting U) (a : WireArgument) → OneWrong c a (convert_one version destroyed c a)
   wrong_one c (arg.Object n) = at (eqb n 0) refl
     where
       found : n ≢ 0 → (o : Option (Object (Kept U))) → held c.objects.store n ≡ o
           → OneWrong c (arg.Object n) (with_object_argument c (object_argument_of (next_interface c.asked) n o))
-      found not_null None there = (Contains-push [] (arg.Object n), not_null, there)
+      found not_null None there = (refl, not_null, there, λ behind. there)
       found not_null (Some x) there = go (fits (next_interface c.asked) x.interface) refl
         where
           go : (b : Bool) → fits (next_interface c.asked) x.interface ≡ b
               → OneWrong c (arg.Object n) (with_object_argument c (cond b (Ok (id_at n x)) (Err (wrong.WrongInterface n (next_interface c.asked) x.interface))))
-          go true fit = tt
-          go false fit = (Contains-push [] (arg.Object n), fit, (x, there, refl))
+          go true fit = (λ o ends. ends, λ o earlier w b ends so. so, λ o earlier w b ends so. so, right_object c n x there fit)
+          go false fit = (refl, not_null, refl, fit, (x, there, refl))
 
       at : (b : Bool) → eqb n 0 ≡ b
           → OneWrong c (arg.Object n) (with_object_argument c (cond b (Ok null_parts) (object_argument_of (next_interface c.asked) n (held c.objects.store n))))
-      at true is = tt
+      at true is = (λ o ends. ends, λ o earlier w b ends so. so, λ o earlier w b ends so. so, right_null c n (eqb-true n 0 is))
       at false is = found (other_than n 0 is refl) (held c.objects.store n) refl
-  wrong_one c (arg.NewId n) = new c.child
+  wrong_one c (arg.NewId n) = new c.child refl
     where
-      valid : (i : InterfaceId) (b : Bool) → is_valid_new c.objects n ≡ b
+      valid : (i : InterfaceId) → c.child ≡ Some i → (b : Bool) → is_valid_new c.objects n ≡ b
           → OneWrong c (arg.NewId n) (cond b (Ok (with_new_at version destroyed c n i)) (Err (wrong.InvalidNewId n i)))
-      valid i false is = (Contains-push [] (arg.NewId n), inl is)
-      valid i true is = tt
+      valid i makes false is = (refl, inl (refl, makes, is))
+      valid i makes true is =
+          let next = (with_new_at version destroyed c n i).1 in
+          let none_then : (k : ℕ) → held next.objects.store k ≡ None → held c.objects.store k ≡ None =
+          λ k none. none_before c.objects.store n (made_object version destroyed i (c.objects.last_serial + 1)) k none in (
+            λ o ends none. absurd (none_some (sym none ∙ makes)),
+            behind_made c next n i makes refl refl none_then,
+            before_made c next n refl refl,
+            right_new c n i makes is,
+          )
 
-      new : (o : Option InterfaceId) → OneWrong c (arg.NewId n) (with_new_argument version destroyed c n o)
-      new None = (Contains-push [] (arg.NewId n), inr refl)
-      new (Some i) = valid i (is_valid_new c.objects n) refl
-  wrong_one c _ = tt
+      new : (o : Option InterfaceId) → c.child ≡ o → OneWrong c (arg.NewId n) (with_new_argument version destroyed c n o)
+      new None makes = (refl, inr (refl, inl makes))
+      new (Some i) makes = valid i makes (is_valid_new c.objects n) refl
+  wrong_one c (arg.Int z) = (λ o ends. ends, λ o earlier w b ends so. so, λ o earlier w b ends so. so, right_value c (arg.Int z) refl)
+  wrong_one c (arg.Uint n) = (λ o ends. ends, λ o earlier w b ends so. so, λ o earlier w b ends so. so, right_value c (arg.Uint n) refl)
+  wrong_one c (arg.Fixed z) = (λ o ends. ends, λ o earlier w b ends so. so, λ o earlier w b ends so. so, right_value c (arg.Fixed z) refl)
+  wrong_one c (arg.Str text) = (λ o ends. ends, λ o earlier w b ends so. so, λ o earlier w b ends so. so, right_value c (arg.Str text) refl)
+  wrong_one c (arg.Array bytes) = (λ o ends. ends, λ o earlier w b ends so. so, λ o earlier w b ends so. so, right_value c (arg.Array bytes) refl)
+  wrong_one c (arg.Fd token) = (λ o ends. ends, λ o earlier w b ends so. so, λ o earlier w b ends so. so, right_value c (arg.Fd token) refl)
 
-  abbrev AllWrong : List WireArgument → Outcome U → Type 0
-  AllWrong args (Whole e all) = Unit {0}
-  AllWrong args (Wrong w o) = WrongAt w args o
+  -- nothing is wrong with each of these arguments
+  abbrev RightBefore : Converting U → Objects (Kept U) → List WireArgument → Type 0
+  RightBefore c o earlier = (xs ys : List WireArgument) (a : WireArgument) (w : EventFault) → earlier ≡ xs ++ a ∷ ys → ¬ WrongBehind c o xs w a
 
-  wrong_all : (c : Converting U) (done : List (Argument IdParts Token)) (args : List WireArgument) → AllWrong args (convert version destroyed c done args)
+  right_first : (c next : Converting U) (b : Argument IdParts Token) (a : WireArgument) (o : Objects (Kept U)) (earlier : List WireArgument) → EndsAs next o → OneWrong c a (Ok (b, next))
+      → RightBefore next o earlier → RightBefore c o (a ∷ earlier)
+  right_first c next b a o earlier ends so right [] ys x w split bad =
+      so.3 o w (subst (λ (y : WireArgument). WrongBehind c o [] w y) (sym (of_cons a x earlier ys split).0) bad)
+  right_first c next b a o earlier ends so right (z ∷ xs) ys x w split bad =
+      let (same, others) = of_cons a z earlier (xs ++ x ∷ ys) split in
+      right xs ys x w others (so.2 o xs w x ends (subst (λ (y : WireArgument). WrongBehind c o (y ∷ xs) w x) (sym same) bad))
+
+  abbrev AllWrong : Converting U → List WireArgument → Outcome U → Type 0
+  AllWrong c args (Whole e all) = Unit {0}
+  AllWrong c args (Wrong w o) =
+      EndsAs c o
+      × ((earlier : List WireArgument) × (a : WireArgument) × (later : List WireArgument) × (args ≡ earlier ++ a ∷ later) × WrongBehind c o earlier w a
+      × RightBefore c o earlier)
+
+  wrong_all : (c : Converting U) (done : List (Argument IdParts Token)) (args : List WireArgument) → AllWrong c args (convert version destroyed c done args)
   wrong_all c done [] = tt
   wrong_all c done (a ∷ args) = at (convert_one version destroyed c a) (wrong_one c a) (λ next all. wrong_all next all args)
     where
-      behind : (o : Outcome U) → AllWrong args o → AllWrong (a ∷ args) o
-      behind (Whole e all) so = tt
-      behind (Wrong w o) so = among w args (a ∷ args) o (λ x is. Contains-append_right (a ∷ []) args x is) so
+      behind : (b : Argument IdParts Token) (next : Converting U) → OneWrong c a (Ok (b, next)) → (o : Outcome U) → AllWrong next args o → AllWrong c (a ∷ args) o
+      behind b next so (Whole e all) h = tt
+      behind b next so (Wrong w o) (ends, (earlier, x, later, split, bad, right)) = (
+        so.0 o ends,
+        (
+          a ∷ earlier,
+          x,
+          later,
+          ap (λ (xs : List WireArgument). a ∷ xs) split,
+          so.1 o earlier w x ends bad,
+          right_first c next b a o earlier ends so right,
+        ),
+      )
 
       at : (r : Converted U) → OneWrong c a r
-          → ((next : Converting U) (all : List (Argument IdParts Token)) → AllWrong args (convert version destroyed next all args))
-          → AllWrong (a ∷ args) (going_on r c.objects (λ b next. convert version destroyed next (done ++ b ∷ []) args))
-      at (Ok next) so rest = behind (convert version destroyed next.1 (done ++ next.0 ∷ []) args) (rest next.1 (done ++ next.0 ∷ []))
-      at (Err w) so rest = among w (a ∷ []) (a ∷ args) c.objects (λ x is. Contains-append_left (a ∷ []) args x is) so
+          → ((next : Converting U) (all : List (Argument IdParts Token)) → AllWrong next args (convert version destroyed next all args))
+          → AllWrong c (a ∷ args) (going_on r c.objects (λ b next. convert version destroyed next (done ++ b ∷ []) args))
+      at (Ok (b, next)) so rest = behind b next so (convert version destroyed next (done ++ b ∷ []) args) (rest next (done ++ b ∷ []))
+      at (Err w) so rest = (λ none. refl, ([], a, args, refl, so, λ xs ys x f split bad. no_split xs ys x split))
 
 -- ---- the arguments of an event that is handed out
 
-module _ {U : Type 0} (version : ℕ) (destroyed : Bool) (first : Store (Kept U)) where
-  -- no object was made yet, or none will be
-  abbrev Settled : Converting U → Type 0
-  Settled c = (c.objects.store ≡ first) ⊎ (c.child ≡ None)
-
+module _ {U : Type 0} (version : ℕ) (destroyed : Bool) where
+  -- once an object was made, the store stays
   abbrev EndsIn : Converting U → Store (Kept U) → Type 0
   EndsIn c s = c.child ≡ None → s ≡ c.objects.store
 
   abbrev One : Converting U → WireArgument → Converted U → Type 0
   One c x (Ok next) =
-      (on_the_wire next.0 ≡ x) × (Settled c → Settled next.1) × ((s : Store (Kept U)) → EndsIn next.1 s → EndsIn c s)
-      × ((s : Store (Kept U)) (more : List (Argument IdParts Token)) → Settled c → EndsIn c s → ObjectsFit first s next.1.asked more
-      → ObjectsFit first s c.asked (next.0 ∷ more))
+      (on_the_wire next.0 ≡ x) × ((s : Store (Kept U)) → EndsIn next.1 s → EndsIn c s)
+      × ((s : Store (Kept U)) (more : List (Argument IdParts Token)) → EndsIn next.1 s → ObjectsFit next.1.objects.store s next.1.asked more
+      → ObjectsFit c.objects.store s c.asked (next.0 ∷ more))
   One c x (Err w) = Unit {0}
 
   one : (c : Converting U) (x : WireArgument) → One c x (convert_one version destroyed c x)
-  one c (arg.Int z) = (refl, λ h. h, λ s h. h, λ s more settled ends fit. fit)
-  one c (arg.Uint n) = (refl, λ h. h, λ s h. h, λ s more settled ends fit. fit)
-  one c (arg.Fixed z) = (refl, λ h. h, λ s h. h, λ s more settled ends fit. fit)
-  one c (arg.Str text) = (refl, λ h. h, λ s h. h, λ s more settled ends fit. fit)
-  one c (arg.Array bytes) = (refl, λ h. h, λ s h. h, λ s more settled ends fit. fit)
-  one c (arg.Fd token) = (refl, λ h. h, λ s h. h, λ s more settled ends fit. fit)
+  one c (arg.Int z) = (refl, λ s h. h, λ s more ends fit. fit)
+  one c (arg.Uint n) = (refl, λ s h. h, λ s more ends fit. fit)
+  one c (arg.Fixed z) = (refl, λ s h. h, λ s more ends fit. fit)
+  one c (arg.Str text) = (refl, λ s h. h, λ s more ends fit. fit)
+  one c (arg.Array bytes) = (refl, λ s h. h, λ s more ends fit. fit)
+  one c (arg.Fd token) = (refl, λ s h. h, λ s more ends fit. fit)
   one c (arg.Object n) = at (eqb n 0) refl
     where
       found : (o : Option (Object (Kept U))) → held c.objects.store n ≡ o
@@ -166,25 +313,26 @@ module _ {U : Type 0} (version : ℕ) (destroyed : Bool) (first : Store (Kept U)
       found None there = tt
       found (Some x) there = go (fits (next_interface c.asked) x.interface) refl
         where
-          kept : (s : Store (Kept U)) → Settled c → EndsIn c s → (held first n ≡ Some x) ⊎ (held s n ≡ Some x)
-          kept s (inl same) ends = inl (ap (λ (k : Store (Kept U)). held k n) (sym same) ∙ there)
-          kept s (inr none) ends = inr (ap (λ (k : Store (Kept U)). held k n) (ends none) ∙ there)
-
           go : (b : Bool) → fits (next_interface c.asked) x.interface ≡ b
               → One c (arg.Object n) (with_object_argument c (cond b (Ok (id_at n x)) (Err (wrong.WrongInterface n (next_interface c.asked) x.interface))))
-          go true fit = (refl, λ h. h, λ s h. h, λ s more settled ends rest. (inr (x, kept s settled ends, refl, fit), rest))
+          go true fit = (refl, λ s h. h, λ s more ends rest. (inr (x, there, refl, fit), rest))
           go false fit = tt
 
       at : (b : Bool) → eqb n 0 ≡ b
           → One c (arg.Object n) (with_object_argument c (cond b (Ok null_parts) (object_argument_of (next_interface c.asked) n (held c.objects.store n))))
-      at true is = (ap (λ (k : ℕ). let x : WireArgument = arg.Object k in x) (sym (eqb-true n 0 is)), λ h. h, λ s h. h, λ s more settled ends rest. (inl refl, rest))
+      at true is = (ap (λ (k : ℕ). let x : WireArgument = arg.Object k in x) (sym (eqb-true n 0 is)), λ s h. h, λ s more ends rest. (inl refl, rest))
       at false is = found (held c.objects.store n) refl
   one c (arg.NewId n) = new c.child refl
     where
       valid : (i : InterfaceId) → c.child ≡ Some i → (b : Bool)
           → One c (arg.NewId n) (cond b (Ok (with_new_at version destroyed c n i)) (Err (wrong.InvalidNewId n i)))
       valid i is false = tt
-      valid i is true = (refl, λ h. inr refl, λ s h none. absurd (none_some (sym none ∙ is)), λ s more settled ends fit. fit)
+      valid i is true =
+          let next = (with_new_at version destroyed c n i).1 in (
+            refl,
+            λ s h none. absurd (none_some (sym none ∙ is)),
+            λ s more ends fit. subst (λ (t : Store (Kept U)). ObjectsFit t s c.asked more) (sym (ends refl)) fit,
+          )
 
       new : (o : Option InterfaceId) → c.child ≡ o → One c (arg.NewId n) (with_new_argument version destroyed c n o)
       new None is = tt
@@ -194,22 +342,22 @@ module _ {U : Type 0} (version : ℕ) (destroyed : Bool) (first : Store (Kept U)
   abbrev Came : Converting U → List (Argument IdParts Token) → List WireArgument → Outcome U → Type 0
   Came c done args (Whole e all) =
       (more : List (Argument IdParts Token)) × (all ≡ done ++ more) × (map on_the_wire more ≡ args) × EndsIn c e.objects.store
-      × (Settled c → ObjectsFit first e.objects.store c.asked more)
+      × ObjectsFit c.objects.store e.objects.store c.asked more
   Came c done args (Wrong w o) = Unit {0}
 
   came_then : (c next : Converting U) (done : List (Argument IdParts Token)) (b : Argument IdParts Token) (x : WireArgument) (args : List WireArgument) → One c x (Ok (b, next))
       → (o : Outcome U) → Came next (done ++ b ∷ []) args o → Came c done (x ∷ args) o
-  came_then c next done b x args (is, settles, ends, fit) (Whole e all) (more, all_is, numbers, end, rest) = (
+  came_then c next done b x args (is, ends, fit) (Whole e all) (more, all_is, numbers, end, rest) = (
     b ∷ more,
     all_is ∙ append_assoc done (b ∷ []) more,
     ap (λ (y : WireArgument). y ∷ map on_the_wire more) is ∙ ap (λ (ys : List WireArgument). x ∷ ys) numbers,
     ends e.objects.store end,
-    λ settled. fit e.objects.store more settled (ends e.objects.store end) (rest (settles settled)),
+    fit e.objects.store more end rest,
   )
   came_then c next done b x args so (Wrong w o) h = tt
 
   converts : (c : Converting U) (done : List (Argument IdParts Token)) (args : List WireArgument) → Came c done args (convert version destroyed c done args)
-  converts c done [] = ([], sym (append-nil done), refl, λ none. refl, λ settled. tt)
+  converts c done [] = ([], sym (append-nil done), refl, λ none. refl, tt)
   converts c done (x ∷ args) = at (convert_one version destroyed c x) (one c x) (λ next all. converts next all args)
     where
       at : (r : Converted U) → One c x r
@@ -225,6 +373,7 @@ module _ {U : Type 0} (c : Core U) (m : WireMessage) where
   record IsEvent (event : SessionMessage) (store : Store (Kept U)) : Type 0 where
     receiver : Object (Kept U)
     row : MessageRow
+    not_display : m.sender ≢ 1
     was_held : held c.store m.sender ≡ Some receiver
     live : receiver.value.client_destroyed ≡ false
     by_table : event_row c.table receiver.interface m.opcode ≡ Some row
@@ -238,13 +387,13 @@ module _ {U : Type 0} (c : Core U) (m : WireMessage) where
   So (HandsOut event opened o) = IsEvent event o.store
   So (Breaks e o) =
       (end : Core U) → end.store ≡ o.store → end.last_serial ≡ o.last_serial
-      → TellsError c m e ⊎ ((w : EventFault) × IsWrong w m end × (e ≡ error_of c.table w))
+      → TellsError c m e ⊎ ((w : EventFault) × IsWrong w c m end × (e ≡ error_of c.table w))
 
   -- ---- an event of the display
 
   unreadable : m.sender ≡ 1 → ((n code : ℕ) (text : List ℕ) → m.opcode ≡ 0 → ¬ (m.args ≡ arg.Object n ∷ arg.Uint code ∷ arg.Str (Some text) ∷ []))
       → ((n : ℕ) → m.opcode ≡ 1 → ¬ (m.args ≡ arg.Uint n ∷ [])) → (e : ProtocolError) → e ≡ error_of c.table wrong.Malformed
-      → (end : Core U) → TellsError c m e ⊎ ((w : EventFault) × IsWrong w m end × (e ≡ error_of c.table w))
+      → (end : Core U) → TellsError c m e ⊎ ((w : EventFault) × IsWrong w c m end × (e ≡ error_of c.table w))
   unreadable sender no_error' no_deletion e is end = inr (wrong.Malformed, (sender, no_error', no_deletion), is)
 
   told_so : m.sender ≡ 1 → m.opcode ≡ 0 → (args : List WireArgument) → m.args ≡ args → So (of_display c.table (objects_in c) (error_event args))
@@ -286,35 +435,63 @@ module _ {U : Type 0} (c : Core U) (m : WireMessage) where
 
   -- ---- an event of another object
 
-  converted_so : (x : Object (Kept U)) (row : MessageRow) → held c.store m.sender ≡ Some x → event_row c.table x.interface m.opcode ≡ Some row → (o : Outcome U)
-      → AllWrong x.version x.value.client_destroyed m.args o → Came x.version x.value.client_destroyed c.store (start (objects_in c) row) [] m.args o
+  wrong_so : (w : EventFault) (end : Core U) → HasWrongArgument w c m end → IsWrong w c m end
+  wrong_so wrong.Malformed end so = absurd so.is_wrong
+  wrong_so (wrong.UnknownObject n) end so = so
+  wrong_so (wrong.WrongInterface n asked i) end so = so
+  wrong_so (wrong.InvalidNewId n i) end so = so
+
+  converted_so : m.sender ≢ 1 → (x : Object (Kept U)) (row : MessageRow) → held c.store m.sender ≡ Some x → event_row c.table x.interface m.opcode ≡ Some row → (o : Outcome U)
+      → AllWrong x.version x.value.client_destroyed (start (objects_in c) row) m.args o → Came x.version x.value.client_destroyed (start (objects_in c) row) [] m.args o
       → So (of_converted c.table (objects_in c) m x row o)
-  converted_so x row there has (Wrong w o) bad came = λ end same last. inr (w, wrong_so w m o end same last bad, refl)
-  converted_so x row there has (Whole e args) bad (more, is, numbers, ends, fit) = at x.value.client_destroyed refl
+  converted_so other x row there has (Wrong w o) (ends, (earlier, a, later, split, bad, right)) came = λ end same last. inr (
+    w,
+    wrong_so w end
+        (record {
+          receiver = x;
+          row = row;
+          not_display = other;
+          was_held = there;
+          by_table = has;
+          earlier = earlier;
+          argument = a;
+          later = later;
+          args_are = split;
+          is_wrong = subst (λ (objects : Objects (Kept U)). IsWrongBehind row (objects_in c) objects earlier w a) (sym (at_end end same last)) bad;
+          is_first = λ xs ys x f found wrong'.
+              right xs ys x f found (subst (λ (objects : Objects (Kept U)). IsWrongBehind row (objects_in c) objects xs f x) (at_end end same last) wrong');
+        }),
+    refl,
+  )
+    where
+      at_end : (end : Core U) → end.store ≡ o.store → end.last_serial ≡ o.last_serial → objects_in end ≡ o
+      at_end end same last = ap₂ (λ (s : Store (Kept U)) (k : ℕ). let objects : Objects (Kept U) = record { store = s; last_serial = k } in objects) same last
+  converted_so other x row there has (Whole e args) bad (more, is, numbers, ends, fit) = at x.value.client_destroyed refl
     where
       at : (b : Bool) → x.value.client_destroyed ≡ b → So (cond b (Swallows e.objects) (HandsOut (event_of m x args) (opened_of m x row e.created) e.objects))
       at true over = tt
       at false live = record {
         receiver = x;
         row = row;
+        not_display = other;
         was_held = there;
         live = live;
         by_table = has;
         sender_is = refl;
         opcode_is = refl;
         args_are = ap (map on_the_wire) is ∙ numbers;
-        objects_fit = subst (λ (xs : List (Argument IdParts Token)). ObjectsFit c.store e.objects.store row.arg_interfaces xs) (sym is) (fit (inl refl));
+        objects_fit = subst (λ (xs : List (Argument IdParts Token)). ObjectsFit c.store e.objects.store row.arg_interfaces xs) (sym is) fit;
       }
 
-  event_so : (signature : List ArgumentType) → signature_in c.table c.store m.sender m.opcode ≡ Some signature
+  event_so : m.sender ≢ 1 → (signature : List ArgumentType) → signature_in c.table c.store m.sender m.opcode ≡ Some signature
       → (o : Option (Object (Kept U))) → held c.store m.sender ≡ o → (r : Option MessageRow) → row_in c.table o m.opcode ≡ r → So (of_event c.table (objects_in c) m o r)
-  event_so signature signed None there r has = absurd (none_some (sym (ap (λ (o : Option (Object (Kept U))). option_map (λ (row : MessageRow). row.signature) (row_in c.table o m.opcode)) there) ∙ signed))
-  event_so signature signed (Some x) there None has =
+  event_so other signature signed None there r has = absurd (none_some (sym (ap (λ (o : Option (Object (Kept U))). option_map (λ (row : MessageRow). row.signature) (row_in c.table o m.opcode)) there) ∙ signed))
+  event_so other signature signed (Some x) there None has =
       absurd (none_some (sym (ap (λ (o : Option (Object (Kept U))). option_map (λ (row : MessageRow). row.signature) (row_in c.table o m.opcode)) there
       ∙ ap (option_map (λ (row : MessageRow). row.signature)) has) ∙ signed))
-  event_so signature signed (Some x) there (Some row) has =
-      converted_so x row there has _ (wrong_all x.version x.value.client_destroyed (start (objects_in c) row) [] m.args)
-      (converts x.version x.value.client_destroyed c.store (start (objects_in c) row) [] m.args)
+  event_so other signature signed (Some x) there (Some row) has =
+      converted_so other x row there has _ (wrong_all x.version x.value.client_destroyed (start (objects_in c) row) [] m.args)
+      (converts x.version x.value.client_destroyed (start (objects_in c) row) [] m.args)
 
   handling_so : (signature : List ArgumentType) → signature_in c.table c.store m.sender m.opcode ≡ Some signature → So (handling c.table (objects_in c) m)
   handling_so signature signed = at (eqb m.sender 1) refl
@@ -323,7 +500,7 @@ module _ {U : Type 0} (c : Core U) (m : WireMessage) where
           → So (cond b (of_display c.table (objects_in c) (display_event m.opcode m.args))
           (of_event c.table (objects_in c) m (held c.store m.sender) (row_in c.table (held c.store m.sender) m.opcode)))
       at true is = display_so (eqb-true m.sender 1 is)
-      at false is = event_so signature signed (held c.store m.sender) refl (row_in c.table (held c.store m.sender) m.opcode) refl
+      at false is = event_so (other_than m.sender 1 is refl) signature signed (held c.store m.sender) refl (row_in c.table (held c.store m.sender) m.opcode) refl
 
 -- ---- turns
 
@@ -430,6 +607,7 @@ module _ {T U : Type 0} (sends : T → Queue → Result ℕ IoFault → T → Ty
       (record {
         sender = so.sender;
         row = so.row;
+        not_display = so.not_display;
         holds = so.holds;
         sender_is = so.sender_is;
         live = so.live;
@@ -451,6 +629,7 @@ module _ {T U : Type 0} (sends : T → Queue → Result ℕ IoFault → T → Ty
     record {
       receiver = so.receiver;
       row = so.row;
+      not_display = so.not_display;
       was_held = so.was_held;
       live = so.live;
       by_table = so.by_table;
@@ -577,6 +756,9 @@ module _ {T U : Type 0} (sends : T → Queue → Result ℕ IoFault → T → Ty
             turns,
             out,
             reads,
+            is,
+            gave,
+            calm,
             subst (λ (a : Result SessionMessage EventError). ReadingEnds sends receives (reader_state_of before) turns a refused out.left (reader_state_of after)) (sym is)
                 (subst (λ (b : Bool). ReadingEnds sends receives (reader_state_of before) turns (answered out.stopped out.gave) b out.left (reader_state_of after)) (sym calm)
                 (reading_ends receives_allowed before after turns out fine idle reads)),

@@ -32,25 +32,31 @@ module _ {U : Type 0} where
 
   stays_same : (o : Option (Object (Kept U))) → StaysAs o o
   stays_same None = refl
-  stays_same (Some x) = at x.value.client_destroyed refl
+  stays_same (Some x) = at x.value.client_destroyed
     where
-      at : (b : Bool) → x.value.client_destroyed ≡ b
-          → MatchBool b ((Some x ≡ Some x) ⊎ (Some x ≡ None)) ((given_up : Bool) × (Some x ≡ Some (with_flags false given_up x)))
-      at true is = inl refl
-      at false is = (x.value.server_destroyed, ap (λ (b : Bool). Some (with_flags b x.value.server_destroyed x)) is)
+      at : (b : Bool) → MatchBool b ((Some x ≡ Some x) ⊎ (Some x ≡ None)) ((Some x ≡ Some x) ⊎ (Some x ≡ Some (with_flags false true x)))
+      at true = inl refl
+      at false = inl refl
 
   stays_then : (a b c : Option (Object (Kept U))) → StaysAs a b → StaysAs b c → StaysAs a c
   stays_then None b c first second = subst (λ (o : Option (Object (Kept U))). StaysAs o c) first second
   stays_then (Some x) b c first second = at x.value.client_destroyed refl first
     where
       at : (d : Bool) → x.value.client_destroyed ≡ d
-          → MatchBool d ((b ≡ Some x) ⊎ (b ≡ None)) ((given_up : Bool) × (b ≡ Some (with_flags false given_up x)))
-          → MatchBool d ((c ≡ Some x) ⊎ (c ≡ None)) ((given_up : Bool) × (c ≡ Some (with_flags false given_up x)))
+          → MatchBool d ((b ≡ Some x) ⊎ (b ≡ None)) ((b ≡ Some x) ⊎ (b ≡ Some (with_flags false true x)))
+          → MatchBool d ((c ≡ Some x) ⊎ (c ≡ None)) ((c ≡ Some x) ⊎ (c ≡ Some (with_flags false true x)))
       at true is (inl same) =
-          subst (λ (d : Bool). MatchBool d ((c ≡ Some x) ⊎ (c ≡ None)) ((given_up : Bool) × (c ≡ Some (with_flags false given_up x)))) is
+          subst (λ (d : Bool). MatchBool d ((c ≡ Some x) ⊎ (c ≡ None)) ((c ≡ Some x) ⊎ (c ≡ Some (with_flags false true x)))) is
           (subst (λ (o : Option (Object (Kept U))). StaysAs o c) same second)
       at true is (inr none) = inr (subst (λ (o : Option (Object (Kept U))). StaysAs o c) none second)
-      at false is (given_up, same) = subst (λ (o : Option (Object (Kept U))). StaysAs o c) same second
+      at false is (inl same) =
+          subst (λ (d : Bool). MatchBool d ((c ≡ Some x) ⊎ (c ≡ None)) ((c ≡ Some x) ⊎ (c ≡ Some (with_flags false true x)))) is
+          (subst (λ (o : Option (Object (Kept U))). StaysAs o c) same second)
+      at false is (inr same) = flagged (subst (λ (o : Option (Object (Kept U))). StaysAs o c) same second)
+        where
+          flagged : (c ≡ Some (with_flags false true x)) ⊎ (c ≡ Some (with_flags false true x)) → (c ≡ Some x) ⊎ (c ≡ Some (with_flags false true x))
+          flagged (inl stays) = inr stays
+          flagged (inr stays) = inr stays
 
   -- one that was not destroyed is not destroyed
   live_still : (a b : Option (Object (Kept U))) → IsSome (alive a) → StaysAs a b → IsSome (alive b)
@@ -58,9 +64,10 @@ module _ {U : Type 0} where
   live_still (Some x) b live stays = at x.value.client_destroyed live stays
     where
       at : (d : Bool) → IsSome (cond d None (Some x))
-          → MatchBool d ((b ≡ Some x) ⊎ (b ≡ None)) ((given_up : Bool) × (b ≡ Some (with_flags false given_up x))) → IsSome (alive b)
+          → MatchBool d ((b ≡ Some x) ⊎ (b ≡ None)) ((b ≡ Some x) ⊎ (b ≡ Some (with_flags false true x))) → IsSome (alive b)
       at true none stays = absurd (true≢false (sym none))
-      at false some (given_up, same) = subst (λ (o : Option (Object (Kept U))). IsSome (alive o)) (sym same) refl
+      at false some (inl same) = subst (λ (o : Option (Object (Kept U))). IsSome (alive o)) (sym same) live
+      at false some (inr same) = subst (λ (o : Option (Object (Kept U))). IsSome (alive o)) (sym same) refl
 
   -- ---- what ids name
 
@@ -109,7 +116,7 @@ module _ {U : Type 0} where
   flagged_from : (y : Object (Kept U)) → y.value.client_destroyed ≡ false → (z t : Bool)
       → StaysAs (cond z None (cond t (Some y) None)) (cond z None (cond t (Some (with_flags false true y)) None))
   flagged_from y live true t = refl
-  flagged_from y live false true = at_false _ y.value.client_destroyed live (true, refl)
+  flagged_from y live false true = at_false _ y.value.client_destroyed live (inr refl)
   flagged_from y live false false = refl
 
   ids_by_deletion : (a : Objects (Kept U)) (n : ℕ) → IdsStay a (record a { store = deleted a.store n })

@@ -22,7 +22,7 @@ use Rattle.wl_client.specs.Objects.{destroyable, user_data_of}
 use Rattle.wl_client.specs.Plain.{object_of, same_object}
 use Rattle.wl_client.specs.Session.{SessionState, id_at, noted, with_flags, with_user_data}
 
--- the session gets this fault as its error; after another one more may be sent later
+-- the session gets this fault as its error; after `WouldBlock` and `OutOfMemory` more may be sent later
 abbrev pub EndsSession : IoFault → Type 0
 EndsSession fault.WouldBlock = ⊥
 EndsSession fault.OutOfMemory = ⊥
@@ -31,17 +31,17 @@ EndsSession _ = Unit {0}
 module _ {T U : Type 0} where
   -- ---- what is as before
 
-  -- each id names what it named
+  -- the objects are as before
   abbrev pub ObjectsStay : SessionState T U → SessionState T U → Type 0
-  ObjectsStay before after = (id : IdParts) → object_of after id ≡ object_of before id
+  ObjectsStay before after = after.store ≡ before.store
 
   -- each id but this one names what it named
   abbrev pub OtherObjectsStay : SessionState T U → IdParts → SessionState T U → Type 0
   OtherObjectsStay before id after = (other : IdParts) → same_object id other ≡ false → object_of after other ≡ object_of before other
 
-  -- the event that is open, the error and the table are as before
+  -- the event that is open, the error, the table and the last serial that was given out are as before
   abbrev pub RestStays : SessionState T U → SessionState T U → Type 0
-  RestStays before after = (after.open_event ≡ before.open_event) × (after.error ≡ before.error) × (after.table ≡ before.table)
+  RestStays before after = (after.open_event ≡ before.open_event) × (after.error ≡ before.error) × (after.table ≡ before.table) × (after.last_serial ≡ before.last_serial)
 
   -- ---- the calls on objects
 
@@ -80,8 +80,8 @@ module _ {T U : Type 0} where
 
   -- ---- the connection
 
-  -- A session that has an error sends nothing. Another one sends what waits. A fault is the answer, and the session's error if
-  -- no later send can mend it.
+  -- A session that has an error sends nothing. Another one sends what waits. `WouldBlock` and `OutOfMemory` are the answer. Any
+  -- other fault becomes the session's error, and the answer is `Failed`.
   abbrev pub FlushedAs : (T → Queue → Result ℕ IoFault → T → Type 0) → SessionState T U → Result (Unit {0}) FlushError → SessionState T U → Type 0
   FlushedAs sends before (Ok _) after = (before.error ≡ None) × Flushed sends before.link (Ok tt) after.link × (after.error ≡ None)
   FlushedAs sends before (Err flush.WouldBlock) after =
@@ -98,6 +98,7 @@ module _ {T U : Type 0} where
       (after : SessionState T U) : Type 0 where
     pub answered : FlushedAs sends before answer after
     pub objects : ObjectsStay before after
+    pub last_serial : after.last_serial ≡ before.last_serial
     pub open_event : after.open_event ≡ before.open_event
     pub notes : after.notes ≡ before.notes
     pub table : after.table ≡ before.table
@@ -124,6 +125,7 @@ module _ {T U : Type 0} where
     pub answered : AnswersGrowth before.table rows answer
     pub table : after.table ≡ grown before.table rows answer
     pub objects : ObjectsStay before after
+    pub last_serial : after.last_serial ≡ before.last_serial
     pub notes : after.notes ≡ before.notes
     pub link : after.link ≡ before.link
     pub open_event : after.open_event ≡ before.open_event

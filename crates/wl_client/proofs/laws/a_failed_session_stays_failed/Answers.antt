@@ -1,4 +1,4 @@
-use Rattle.wl_client.proofs.OverRuns.FailedLaws.{calls_kept, stays_failed, steps_kept}
+use Rattle.wl_client.proofs.OverRuns.FailedLaws.{calls_kept, stays_failed}
 use Rattle.wl_client.specs.Steps.{CallOf}
 use Rattle.wl_client.proofs.laws.a_failed_session_stays_failed.Goals as goal
 

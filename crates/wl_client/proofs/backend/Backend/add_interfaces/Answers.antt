@@ -14,7 +14,8 @@ returns-clause-plain g c =
     (record {
       answered = c.extend-answer.ensures.answer;
       table = c.extend-answer.ensures.table;
-      objects = λ id. refl;
+      objects = refl;
+      last_serial = refl;
       notes = refl;
       link = refl;
       open_event = refl;

@@ -17,7 +17,7 @@ returns-clause-plain g c =
     (record {
       taken = ap (λ (v : Vec _ _). v.items) c.replace.ensures.value;
       left = ap (λ (v : Vec _ _). v.items) c.replace.ensures.after ∙ c.new-none.ensures.items;
-      objects = λ id. refl;
+      objects = refl;
       link = refl;
-      rest = (refl, refl, refl);
+      rest = (refl, refl, refl, refl);
     })
