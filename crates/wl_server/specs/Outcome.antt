@@ -165,6 +165,6 @@ module _ {T G C : Type 0} where
       SameSteps (mine id later) (mine id later') → HasMemory (mine id later) → HasMemory (mine id later') →
       SameRun id (mine id later) (mine id later') × (seen id after ≡ seen id after')
 
-  -- all four
+  -- calls, a client's own runs, clients in two runs, and offers have one outcome
   abbrev pub HaveOneOutcome : Type 0 → World T G C → Type 0
   HaveOneOutcome U w = CallsHaveOneOutcome U w × OwnRunsHaveOneOutcome U w × ClientsHaveOneOutcome U w × OffersHaveOneOutcome U w

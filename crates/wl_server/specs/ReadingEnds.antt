@@ -32,7 +32,7 @@ use Rattle.wl_server.specs.Globals.{global_at}
 use Rattle.wl_server.specs.Ids.{ClientParts, GlobalParts, IdParts}
 use Rattle.wl_server.specs.Part.{Part, fresh_object, id_at, null_id}
 use Rattle.wl_server.specs.PartStep.{World, around}
-use Rattle.wl_server.specs.Reading.{Around, action_content, may_bind, read_on, server}
+use Rattle.wl_server.specs.Reading.{Around, action_content, answered, may_bind, read_on, server}
 use Rattle.wl_server.specs.Requests.{allows_null, kinds_after}
 use Rattle.wl_server.specs.Server.{seen}
 use Rattle.wl_server.specs.Telling.{Core, Told, end_deeds, part_of, reader_part}
@@ -216,13 +216,15 @@ module _ {T U G C : Type 0} (sends : T → Queue → Result ℕ IoFault → T �
 -- ---- a reading of a server
 
 module _ {T U G C : Type 0} (w : World T G C) where
-  -- A reading of a client that was live and had no action open: it was a list of turns (`Reads`), and ended with this answer for a
-  -- reason (`ReadingEnds`). After it so many receives are left, and this is held of the client, of which only its end was noted.
+  -- A reading of a client that was live and had no action open: it was a list of turns (`Reads`), whose answer is this one, and
+  -- ended for a reason (`ReadingEnds`). `r'` has the receives that are left, and counts the messages handled. What is held of
+  -- the client is what the last turn left. If it was killed, that one note was added, and no other.
   abbrev pub EndsForAReason : BackendState T U G C → ClientParts → Reading → Result Action ActionError → Reading → BackendState T U G C → Type 0
   EndsForAReason before id r answer r' after =
       (p : Part T U C) → (seen id before.server).part ≡ Some p → p.is_killed ≡ false → p.action ≡ None →
       (turns : List Turn) × (out : Gives (Told U)) × (end : ReaderState T (Core U C))
       × Reads w.sends (server (around w id before.server.offer)) w.receives r.turns_left (reader_part p) turns out end
+      × (action_content answer ≡ answered out.stopped out.gave) × (after.refused ≡ out.refused)
       × ReadingEnds w.sends w.receives (around w id before.server.offer) (reader_part p) turns (action_content answer) after.refused out.left end
       × (r' ≡ read_on r out.left (handled_in turns))
       × (seen id after.server ≡ record { part = Some (part_of end); made = (seen id before.server).made ++ notes_in (end_deeds {U = U} end.core.ended) })

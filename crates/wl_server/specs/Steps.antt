@@ -193,16 +193,17 @@ scripted_client (step.AcceptFault target f) = Some target
 scripted_client (step.TakeSent target) = Some target
 scripted_client _ = None
 
+-- the step is a call of a transport by script
 abbrev pub IsOfScript : {T U G C : Type 0} → Step T U G C → Type 0
 IsOfScript s = IsSome (scripted_client s)
 
--- the second call is a change of the transport by script of which the first is a call
+-- the first is a call of a client's transport by script, the second a change of that client's transport
 abbrev pub IsChangeFor : {T U G C : Type 0} → Call T U G C → Call T U G C → Type 0
 IsChangeFor (Asked s answer) (Changed target t) = scripted_client s ≡ Some target
 IsChangeFor _ _ = ⊥
 
--- A call over transports by script stands for one over every transport: a call of a client's transport for a change of that transport,
--- with the same deeds and no want of memory; each other call for itself.
+-- Over transports by script and over every transport: any call may stand for itself; a call of a client's transport may stand for a
+-- change of that transport, with the same deeds, and no memory refused.
 abbrev pub StandsFor : {T U G C : Type 0} → Entry T U G C → Entry T U G C → Type 0
 StandsFor e other = (other ≡ e) ⊎ (IsChangeFor e.call other.call × (other.refused ≡ false) × (other.did ≡ e.did))
 

@@ -9,7 +9,7 @@ ghost use Rattle.std.specs.Prelude.{◌≡◌, false};
 ghost use Rattle.wl_server.specs.Dispatch.{DispatchesAll, DispatchesClient, answering, after_cleanup, total_with};
 ghost use Rattle.wl_server.specs.Inside.Dispatching.{CleansUp};
 ghost use Rattle.wl_server.specs.PartStep.{over};
-ghost use Rattle.wl_server.specs.Plain.Dispatch.{DispatchLeaves, DispatchesLeave};
+ghost use Rattle.wl_server.specs.Plain.Dispatch.{DispatchOfOneLeaves, DispatchOfSeveralLeaves};
 
 mod request_handler;
 mod serve;
@@ -76,7 +76,7 @@ impl<T: Transport + Drop, U: Drop, G: GlobalHandler<C> + Drop, C: Drop> Backend<
         client: &ClientId,
     ) -> Result<usize, IoFault>
         ensures call { DispatchesClient (over T.sends T.receives G.views) (answering H.requests H.binds) client.now handler.old self.old.server result handler.new self.new }
-        ensures plain { DispatchLeaves client.now result self.new }
+        ensures plain { DispatchOfOneLeaves self.old.server client.now result self.new }
     {
         self.begin_dispatch();
         let answer = self.serve(handler, client);
@@ -98,7 +98,7 @@ impl<T: Transport + Drop, U: Drop, G: GlobalHandler<C> + Drop, C: Drop> Backend<
         clients: &[ClientId],
     ) -> Result<usize, IoFault>
         ensures call { DispatchesAll (over T.sends T.receives G.views) (answering H.requests H.binds) clients.now handler.old self.old.server result handler.new self.new }
-        ensures plain { DispatchesLeave result self.new }
+        ensures plain { DispatchOfSeveralLeaves result self.new }
     {
         self.begin_dispatch();
         let mut total = 0;

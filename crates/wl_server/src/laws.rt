@@ -13,8 +13,8 @@
 //! - A *token* stands for a file descriptor.
 //! - The *transport by script* is `wl_link::Memory`, whose answers are given beforehand.
 //!
-//! The laws of runs speak of every transport. Over the transport by script a call of that transport is a change of it
-//! (clause `change` of [`calls_over_scripts_are_steps`]).
+//! The laws of runs speak of every transport. Over the transport by script a call of that transport stands for a change
+//! of it (clause `change` of [`calls_over_scripts_are_steps`]).
 
 ghost use Rattle.std.specs.Prelude.{◌≡◌, ◌≢◌, ◌<◌, ◌≤◌, ◌∷◌, ◌++◌, [], ℕ, Bool, false, List, None, Option, Some, Result, Err};
 ghost use Rattle.wl_wire.specs.Table.{AnswersGrowth, InterfaceRow};
@@ -103,7 +103,8 @@ pub fn each_client_has_one_outcome<T: Transport, U, G: GlobalHandler<C>, C>()
 /// Their replies are the same, and the servers look the same afterwards: what is held of each client id, the globals and
 /// limits, how many clients were inserted, and the order of the notes that are not taken yet. A program does not see where
 /// lists lie in memory. The same holds if the order of the notes of different clients is left out (`ordered` is `false`),
-/// before and after. It holds of steps over the transport by script, too, whatever else is among them (clause `script`).
+/// before and after. It holds of steps over the transport by script, too, also if changes of transports and added interfaces
+/// are among them (clause `script`).
 ///
 /// Servers of which the same is held return the same in look-ups (clause `answers`): which clients are live, what is
 /// known of a client, an object and a global, and which handler a global has. What calls return about all clients

@@ -63,7 +63,7 @@ module _ {T U C : Type 0} (sends : T → Queue → Result ℕ IoFault → T → 
   moves_quiet p q d (went n x waits holds is same) = came_of d _ is refl
   moves_quiet p q d (remembered n x holds registry is same) = came_of d _ is refl
   moves_quiet p q d (opens action h reads so is same) = came_of d _ is refl
-  moves_quiet p q d (finished is same) = came_of d _ is refl
+  moves_quiet p q d (finished may is same) = came_of d _ is refl
   moves_quiet p q d (cleaned on is same) = came_of d _ is refl
 
   goes_quiet : (s t : Seen T U C) (d : Doings U) → Goes unread_moves sends receives client s d t → d.came ≡ []

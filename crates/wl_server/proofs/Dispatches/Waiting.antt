@@ -48,7 +48,7 @@ use Rattle.wl_server.proofs.OverRuns.Moves.BaseMoves.{Doings, Goes, Kind, Moves,
 use Rattle.wl_server.proofs.OverRuns.Moves.BaseMovesLaw.{AnyGoes, any_moves, reads_of}
 use Rattle.wl_server.proofs.OverRuns.Moves.MovesOfReadings.{gave_none}
 
-not_true : (b : Bool) → not b ≡ true → b ≡ false
+pub not_true : (b : Bool) → not b ≡ true → b ≡ false
 not_true true is = absurd (true≢false (sym is))
 not_true false is = refl
 
@@ -68,7 +68,7 @@ module _ {T U C : Type 0} where
 
 -- the client is not read
 abbrev pub unread_moves : Kind
-unread_moves = record { gathers = true; hands = true; reads = false; kills = λ reason. Unit {0}; closes = tt }
+unread_moves = record { gathers = true; hands = true; reads = false; finishes = true; kills = λ reason. Unit {0}; closes = tt }
 
 module _ {T U C : Type 0} (sends : T → Queue → Result ℕ IoFault → T → Type 0) (receives : T → ℕ → Result Queue IoFault → T → Type 0) (client : ClientParts) where
   -- messages that are put leave what waits to be read, as a verdict does that puts them
@@ -96,7 +96,7 @@ module _ {T U C : Type 0} (sends : T → Queue → Result ℕ IoFault → T → 
   moves_keep p q d (went n x waits holds is same) = ap (λ (x : Part T U C). x.link.incoming) same
   moves_keep p q d (remembered n x holds registry is same) = ap (λ (x : Part T U C). x.link.incoming) same
   moves_keep p q d (opens action h reads so is same) = absurd (true≢false (sym reads))
-  moves_keep p q d (finished is same) = ap (λ (x : Part T U C). x.link.incoming) same
+  moves_keep p q d (finished may is same) = ap (λ (x : Part T U C). x.link.incoming) same
   moves_keep p q d (cleaned on is same) = ap (λ (x : Part T U C). x.link.incoming) same
 
 -- ---- what waits of a client
@@ -126,7 +126,7 @@ module _ {T U G C : Type 0} (w : World T G C) (id : ClientParts) (offer : Offer 
   pub unread_goes : (call : Call T U G C) → reads_of id call ≡ false → PartCall w id offer call before lacked did after → AnyGoes unread_moves w id offer before did after
   unread_goes call other h =
       any_moves unread_moves w id offer call before lacked did after
-      (record { kills = λ e may. tt; gathers = λ is. refl; hands = λ is. refl; reads = λ is. absurd (true≢false (sym is ∙ other)) }) h
+      (record { kills = λ e may. tt; gathers = λ is. refl; hands = λ is. refl; reads = λ is. absurd (true≢false (sym is ∙ other)); finishes = λ is. refl }) h
 
   -- a call that is no reading of the client adds nothing to what waits of it
   pub adds_nothing : (call : Call T U G C) → reads_of id call ≡ false → PartCall w id offer call before lacked did after → waits after ≤ waits before

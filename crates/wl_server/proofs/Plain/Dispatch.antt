@@ -1,8 +1,8 @@
 -- A dispatch: what it leaves of its client, and of the others.
-use Rattle.std.proofs.Common.{◌≡◌, ℕ, Bool, true, false, cond, eqb, List, [], ◌∷◌, Option, None, Some, Result, Ok, Err, refl, sym, ap, subst, ◌∙◌, true≢false}
+use Rattle.std.proofs.Common.{◌≡◌, ℕ, Bool, true, false, cond, eqb, List, [], ◌∷◌, Option, None, Some, IsSome, is_some, Result, Ok, Err, refl, sym, ap, subst, ◌∙◌, true≢false, arith}
 use mathlib.Core.Logic.{inl, inr}
-use Rattle.std.proofs.lemmas.Bool.{eq-eqb}
-use Rattle.std.specs.Prelude.{◌⊎◌, ◌||◌, Vec}
+use Rattle.std.proofs.lemmas.Bool.{cases_lt, eq-eqb}
+use Rattle.std.specs.Prelude.{◌⊎◌, ◌||◌, ◌≤◌, ◌<◌, Vec}
 use Rattle.std.specs.Global.{Global}
 use Rattle.wl_wire.specs.declared.error.IoFault.{IoFault}
 use Rattle.wl_wire.specs.declared.error.IoFault.TheVariants as fault
@@ -28,21 +28,23 @@ use Rattle.wl_server.specs.declared.runs.step.Reply.TheVariants as reply
 use Rattle.wl_server.specs.declared.runs.step.Step.{Step}
 use Rattle.wl_server.specs.declared.runs.step.Step.TheVariants as step
 use Rattle.wl_server.specs.Backend.{BackendState}
-use Rattle.wl_server.specs.Deeds.{Deed, Handed}
-use Rattle.wl_server.specs.Dispatch.{Answering, Answers, DispatchesAll, DispatchesClient, Handles, Last, after_cleanup, cleaned, dispatched, fault_of_end, fault_of_reading, no_action, not_ended, refusal_in}
-use Rattle.wl_server.specs.Finish.{FinishesBind, FinishesOpenBind}
+use Rattle.wl_server.specs.Deeds.{Bind, Deed, Handed, Request}
+use Rattle.wl_server.specs.Dispatch.{Answering, Answers, DispatchesAll, DispatchesClient, Handles, Last, Rounds, after_cleanup, cleaned, dispatched, fault_of_end, fault_of_reading, more as one_round, no_action, none as no_round, not_ended, refusal_in}
+use Rattle.wl_server.specs.Finish.{FinishesBind, FinishesOpenBind, FinishesRequest, refusal}
 use Rattle.wl_server.specs.Globals.{Offer}
 use Rattle.wl_server.specs.Inside.Finishing.{is_out_of_memory, lacks_finish}
 use Rattle.wl_server.specs.Ids.{ClientParts}
+use Rattle.wl_server.specs.Objects.{unless_refused}
 use Rattle.wl_server.specs.Part.{Part}
 use Rattle.wl_server.specs.PartStep.{Asked, Call, CleanedAs, OnPart, PartCall, ReadsFor, World, around}
-use Rattle.wl_server.specs.Plain.Dispatch.{AllLive, DispatchLeaves, DispatchesLeave, IsIdle, LeftBy}
-use Rattle.wl_server.specs.Plain.Reading.{FaultLeaves, IsKilledOnce, ReadAs}
+use Rattle.wl_server.specs.Plain.Dispatch.{AllLive, DispatchOfOneLeaves, DispatchOfSeveralLeaves, IsBusy, IsIdle, LeftBy}
+use Rattle.wl_server.specs.Plain.Reading.{FaultLeaves, IsHandedOut, IsKilledOnce, ReadAs}
 use Rattle.wl_server.specs.Reading.{Around, NextAction, action_content, server}
 use Rattle.wl_server.specs.ReadingEnds.{LastReceiveFailed, ReadingEnds, StopsItself}
 use Rattle.wl_server.specs.Server.{Seen, ServerState, seen}
 use Rattle.wl_server.specs.Steps.{Entry, OneStep, lacks_growth}
 use Rattle.wl_server.specs.Telling.{Core, Told, reader_part}
+use Rattle.wl_server.proofs.Dispatches.Standing.{Stands, born_still, run_stands}
 use Rattle.wl_server.proofs.Plain.Base.{none_and_some, one_value, own}
 use Rattle.wl_server.proofs.Plain.Cleanup.{cleaned_killed, cleaned_live, cleaned_none}
 use Rattle.wl_server.proofs.Plain.Reading.{reads_as, split_bool}
@@ -163,6 +165,45 @@ module _ {T U C : Type 0} (table : List InterfaceRow) (id : ClientParts) (s t : 
 ended_finish : {T U C : Type 0} (why : FinishError) (found : Option (Part T U C)) → EndedBy (fault_of_end why) found
 ended_finish finish.OutOfMemory found = tt
 ended_finish _ found = tt
+
+-- ---- a client whose dispatch ends with `InvalidInput`
+
+module _ {T U C : Type 0} where
+  -- it is not stored, or killed, or an action of it is open
+  abbrev Shut : Option (Part T U C) → Type 0
+  Shut found = (found ≡ None) ⊎ ((p : Part T U C) × (found ≡ Some p) × ((p.is_killed ≡ true) ⊎ IsSome p.action))
+
+  gone_shut : (found : Option (Part T U C)) → IsGone found → Shut found
+  gone_shut found (inl none) = inl none
+  gone_shut found (inr (p, is, dead)) = inr (p, is, inl dead)
+
+  stands_shut : (found : Option (Part T U C)) → Stands found → Shut found
+  stands_shut found (inl none) = inl none
+  stands_shut found (inr (p, is, some)) = inr (p, is, inr some)
+
+ok_no_err : {h : Handed} {e : ActionError} → ◌≡◌ {A = Result Handed ActionError} (Ok h) (Err e) → ⊥
+ok_no_err is = absurd cc
+
+module _ {T U C : Type 0} (table : List InterfaceRow) (id : ClientParts) (s t : Seen T U C) where
+  open_shut : ReadAs table id (Err ActionOpen) s t → Shut t.part
+  open_shut (inl (none, is, same)) = absurd (not_open (sym is))
+  open_shut (inr (p, was, inl (some, is, same))) = inr (p, ap (λ (x : Seen T U C). x.part) same ∙ was, inr some)
+  open_shut (inr (p, was, inr (inl (idle, dead, is, same)))) = absurd (not_open (sym is))
+  open_shut (inr (p, was, inr (inr (idle, live, (q, never))))) = absurd never
+
+  read_shut : (error : ActionError) → ReadAs table id (Err error) s t → fault_of_reading error ≡ fault.InvalidInput → Shut t.part
+  read_shut ActionOpen h is = open_shut h
+  read_shut (Io f) h is = gone_shut t.part (read_killed table id s t fault.InvalidInput (λ q k. k) (subst (λ (x : IoFault). ReadAs table id (Err (Io x)) s t) is h))
+
+  opens : (h : Handed) (q : Part T U C) → IsHandedOut table id h q → IsSome q.action
+  opens (Request sender opcode args is_destructor created) q (x, row, there, sender_is, request, ends, fit, makes, is_open) = ap is_some is_open
+  opens (Bind global object) q (version, client_is, there, is_open) = ap is_some is_open
+
+  read_stands : (h : Handed) → ReadAs table id (Ok h) s t → Stands t.part
+  read_stands h (inl (none, is, same)) = absurd (ok_no_err is)
+  read_stands h (inr (p, was, inl (some, is, same))) = absurd (ok_no_err is)
+  read_stands h (inr (p, was, inr (inl (idle, dead, is, same)))) = absurd (ok_no_err is)
+  read_stands h (inr (p, was, inr (inr (idle, live, (q, (handed, (lives, is))))))) = inr (q, ap (λ (x : Seen T U C). x.part) is, opens h q handed)
 
 -- ---- whether memory was refused
 
@@ -332,6 +373,110 @@ module _ {H T U G C : Type 0} (w : World T G C) (answers : Answering H T U G C) 
       subst (λ (f : IoFault). EndedBy f (seen id s').part) (sym f_is) (no_more r r' s s' e error by is)
   last_leaves {s' = s'} (not_ended why round f_is) = subst (λ (f : IoFault). EndedBy f (seen id s').part) (sym f_is) (ended_finish why (seen id s').part)
 
+  -- ---- an action whose end is refused
+
+  read_as : (r r' : Reading) (s s' : ServerState T U G C) (e : Entry T U G C) (got : Result Action ActionError) → OneStep w s e s'
+      → e.call ≡ Asked (step.NextActionWithin id r) (reply.NextActionWithin got r') → ReadAs s.offer.table id (action_content got) (seen id s) (seen id s')
+  read_as r r' s s' e got by is =
+      let (given, left, same, h) = subst (λ (c : Call T U G C). PartCall w id s.offer c (seen id s) (e.lacks id) (e.did id) (seen id s')) is (by.each id) in
+      reads_as w id s.offer r left (action_content got) (seen id s) (seen id s') (e.lacks id) (e.did id)
+      (subst (λ (x : Result Action ActionError). ReadsFor w id s.offer id r (action_content x) left (seen id s) (e.lacks id) (e.did id) (seen id s')) (inside given left same) h)
+    where
+      inside : (given : Result Action ActionError) (left : Reading) → ◌≡◌ {A = Reply T U} (reply.NextActionWithin got r') (reply.NextActionWithin given left) → given ≡ got
+      inside given left is = cc
+
+  module _ (why : FinishError) (is_not : why ≡ finish.OutOfMemory → ⊥) where
+    request_same : (p q : Part T U C) (u : Option U) (r : Result (Unit {0}) (FinishRefused (Option U))) (lacked : Bool) (did : List (Deed U))
+        → Some why ≡ refusal_in {T = T} (reply.FinishRequest r) → FinishesRequest w.sends id p u r lacked did q → q ≡ p
+    request_same p q u r lacked did so does =
+        elim (either_option p.action does) [
+          | inl (idle, (is, calm, none, stays)) ↦ stays
+          | inr (opened.Bind object, is_open, (is, calm, none, stays)) ↦ stays
+          | inr (opened.Request sender is_destructor created, is_open, g) ↦ elim (either_option (refusal p.is_killed created u) g) [
+            | inl (fine, (is, tells)) ↦ absurd (accepted lacked is)
+            | inr (e, because, (is, calm, none, stays)) ↦ stays
+          ]
+        ]
+      where
+        one : Some why ≡ Some finish.OutOfMemory → why ≡ finish.OutOfMemory
+        one is = cc
+
+        accepted : (lacked : Bool) → r ≡ unless_refused (record { error = finish.OutOfMemory; user_data = u }) lacked → ⊥
+        accepted true is = is_not (one (so ∙ ap (λ (x : Result (Unit {0}) (FinishRefused (Option U))). refusal_in {T = T} (reply.FinishRequest x)) is))
+        accepted false is =
+            none_and_some None refl (sym (so ∙ ap (λ (x : Result (Unit {0}) (FinishRefused (Option U))). refusal_in {T = T} (reply.FinishRequest x)) is))
+
+    bind_same : (p q : Part T U C) (u : U) (r : Result (Unit {0}) (FinishRefused U)) (lacked : Bool) (did : List (Deed U))
+        → Some why ≡ refusal_in {T = T} (reply.FinishBind r) → FinishesBind p u r lacked did q → q ≡ p
+    bind_same p q u r lacked did so does =
+        elim (either_option p.action does) [
+          | inl (idle, (is, calm, none, stays)) ↦ stays
+          | inr (opened.Request sender is_destructor created, is_open, (is, calm, none, stays)) ↦ stays
+          | inr (opened.Bind object, is_open, (is, calm, none, same)) ↦
+              absurd (none_and_some None refl (sym (so ∙ ap (λ (x : Result (Unit {0}) (FinishRefused U)). refusal_in {T = T} (reply.FinishBind x)) is)))
+        ]
+
+    module _ (s s' : ServerState T U G C) (e : Entry T U G C) (by : OneStep w s e s') (answer : Reply T U) (so : Some why ≡ refusal_in answer) where
+      request_stays : (u : Option U) → e.call ≡ Asked (step.FinishRequest id u) answer → (seen id s').part ≡ (seen id s).part
+      request_stays u is =
+          let (r, answer_is, h) = subst (λ (c : Call T U G C). PartCall w id s.offer c (seen id s) (e.lacks id) (e.did id) (seen id s')) is (by.each id) in
+          elim (either_option (seen id s).part (own id (seen id s) (λ p q. FinishesRequest w.sends id p u r (e.lacks id) (e.did id) q)
+          (r ≡ Err (record { error = finish.InvalidId; user_data = u })) (e.lacks id) (e.did id) (seen id s') h)) [
+            | inl (none, (says, (calm, nothing, same))) ↦ ap (λ (x : Seen T U C). x.part) same
+            | inr (p, there, (q, does, same)) ↦
+                ap (λ (x : Seen T U C). x.part) same
+                ∙ ap Some (request_same p q u r (e.lacks id) (e.did id) (so ∙ ap refusal_in answer_is) does) ∙ sym there
+          ]
+
+      bind_stays : (u : U) → e.call ≡ Asked (step.FinishBind id u) answer → (seen id s').part ≡ (seen id s).part
+      bind_stays u is =
+          let (r, answer_is, h) = subst (λ (c : Call T U G C). PartCall w id s.offer c (seen id s) (e.lacks id) (e.did id) (seen id s')) is (by.each id) in
+          elim (either_option (seen id s).part (own id (seen id s) (λ p q. FinishesBind p u r (e.lacks id) (e.did id) q)
+          (r ≡ Err (record { error = finish.InvalidId; user_data = u })) (e.lacks id) (e.did id) (seen id s') h)) [
+            | inl (none, (says, (calm, nothing, same))) ↦ ap (λ (x : Seen T U C). x.part) same
+            | inr (p, there, (q, does, same)) ↦
+                ap (λ (x : Seen T U C). x.part) same
+                ∙ ap Some (bind_same p q u r (e.lacks id) (e.did id) (so ∙ ap refusal_in answer_is) does) ∙ sym there
+          ]
+
+    end_stays : {h h' : H} {before : BackendState T U G C} {a : Action} {run : List (Entry T U G C)} {lacked : Bool} {after : ServerState T U G C}
+        → (x : Handles w answers id h before a run lacked (Some why) h' after) → (seen id after).part ≡ (seen id x.left.server).part
+    end_stays {h} {h'} {before} {a} {after = after} x = at a x.answers_so
+      where
+        at : (a : Action) → Answers w answers id h before a x.end h' x.left → (seen id after).part ≡ (seen id x.left.server).part
+        at (action.Request sender opcode args is_destructor created) (u, so, is) =
+            request_stays x.left.server after x.ended x.ends x.answer x.why_is u (x.ended_is ∙ ap (λ (s : Step T U G C). Asked s x.answer) is)
+        at (action.Bind global object) (u, so, is) =
+            bind_stays x.left.server after x.ended x.ends x.answer x.why_is u (x.ended_is ∙ ap (λ (s : Step T U G C). Asked s x.answer) is)
+
+  born_rounds : {h h' : H} {r r' : Reading} {s s' : ServerState T U G C} {run : List (Entry T U G C)} {lacked : Bool}
+      → Rounds w answers id h r s run lacked h' r' s' → id.serial ≤ s.last_client → id.serial ≤ s'.last_client
+  born_rounds (no_round run_is lacked_is) born = born
+  born_rounds (one_round {s1 = s1} before round run_is lacked_is) born =
+      let so_far = born_rounds before born in
+      let read = round.reads.last in
+      let handled = born_still w id round.found.server round.handles.left.server round.handles.calls (omega (arith, so_far, read)) round.handles.leads in
+      let ended = round.handles.ends.last in
+      omega (arith, handled, ended)
+
+  last_shut : {h h' : H} {r r' : Reading} {s s' : ServerState T U G C} {run : List (Entry T U G C)} {lacked : Bool} {f : IoFault}
+      → Last w answers id h r s run lacked f h' r' s' → id.serial ≤ s.last_client → f ≡ fault.InvalidInput → Shut (seen id s').part
+  last_shut {r = r} {r' = r'} {s = s} {s' = s'} (no_action e error by run_is call_is lacked_is f_is same) born so =
+      read_shut s.offer.table id (seen id s) (seen id s') error (read_as r r' s s' e (Err error) by run_is) (sym f_is ∙ so)
+  last_shut {r = r} {r' = r'} {s = s} {s' = s'} (not_ended why round f_is) born so =
+      let read = round.reads.last in
+      let stands = read_stands s.offer.table id (seen id s) (seen id round.found.server) _
+      (read_as r r' s round.found.server round.read (Ok round.handed) round.reads round.read_is) in
+      stands_shut (seen id s').part
+      (subst Stands (sym (end_stays why is_not round.handles))
+      (run_stands w id round.found.server round.handles.left.server round.handles.calls (omega (arith, born, read)) round.handles.leads round.handles.spared stands))
+    where
+      other : fault.OutOfMemory ≡ fault.InvalidInput → ⊥
+      other is = absurd cc
+
+      is_not : why ≡ finish.OutOfMemory → ⊥
+      is_not is = other (sym (ap fault_of_end is) ∙ sym f_is ∙ so)
+
   -- ---- memory
 
   end_starved : {h h' : H} {before : BackendState T U G C} {a : Action} {run : List (Entry T U G C)} {lacked : Bool} {after : ServerState T U G C}
@@ -368,25 +513,39 @@ module _ {H T U G C : Type 0} (w : World T G C) (answers : Answering H T U G C) 
   -- ---- a client
 
   -- the cleanup was made
-  swept : (offer : Offer G) (out : Vec (ClientParts × T) Global) (s t : Seen T U C) (lacked : Bool) (did : List (Deed U)) → CleanedAs w id offer (Ok out) s lacked did t
-      → (f : IoFault) (read : ℕ) → EndedBy f s.part → LeftBy t.part (dispatched f read)
-  swept offer out s t lacked did h fault.WouldBlock read idle = at (eqb read 0) refl
+  shut_then : (offer : Offer G) (out : Vec (ClientParts × T) Global) (s t : Seen T U C) (lacked : Bool) (did : List (Deed U)) → CleanedAs w id offer (Ok out) s lacked did t
+      → Shut s.part → (t.part ≡ None) ⊎ IsBusy t.part
+  shut_then offer out s t lacked did h (inl none) = inl (gone_then w id offer out s t lacked did h (inl none))
+  shut_then offer out s t lacked did h (inr (p, was, inl dead)) = inl (gone_then w id offer out s t lacked did h (inr (p, was, dead)))
+  shut_then offer out s t lacked did h (inr (p, was, inr some)) =
+      elim (split p.is_killed) [
+        | inl dead ↦ inl (gone_then w id offer out s t lacked did h (inr (p, was, dead)))
+        | inr live ↦
+            let (handed, is, made) = cleaned_live w id offer out s t lacked did p was live h in inr (record p { waiting = [] }, is, live, some)
+      ]
+
+  abbrev Refused : ServerState T U G C → Option (Part T U C) → Type 0
+  Refused before found = (found ≡ None) ⊎ (IsBusy found ⊎ (before.last_client < id.serial))
+
+  swept : (before : ServerState T U G C) (offer : Offer G) (out : Vec (ClientParts × T) Global) (s t : Seen T U C) (lacked : Bool) (did : List (Deed U)) → CleanedAs w id offer (Ok out) s lacked did t
+      → (f : IoFault) (read : ℕ) → EndedBy f s.part → (f ≡ fault.InvalidInput → Refused before t.part) → LeftBy before id t.part (dispatched f read)
+  swept before offer out s t lacked did h fault.WouldBlock read idle shut = at (eqb read 0) refl
     where
       still : IsIdle t.part
       still = idle_still w id offer out s t lacked did h idle
 
-      at : (b : Bool) → eqb read 0 ≡ b → LeftBy t.part (cond b (Err fault.WouldBlock) (Ok read))
+      at : (b : Bool) → eqb read 0 ≡ b → LeftBy before id t.part (cond b (Err fault.WouldBlock) (Ok read))
       at true is = still
       at false is = (λ none. true≢false (sym (eq-eqb read 0 none) ∙ is), still)
-  swept offer out s t lacked did h fault.InvalidInput read ended = tt
-  swept offer out s t lacked did h fault.OutOfMemory read ended = tt
-  swept offer out s t lacked did h fault.Pipe read gone = gone_then w id offer out s t lacked did h gone
-  swept offer out s t lacked did h fault.TooBig read gone = gone_then w id offer out s t lacked did h gone
-  swept offer out s t lacked did h fault.Proto read gone = gone_then w id offer out s t lacked did h gone
-  swept offer out s t lacked did h (fault.Other n) read gone = gone_then w id offer out s t lacked did h gone
+  swept before offer out s t lacked did h fault.InvalidInput read ended shut = shut refl
+  swept before offer out s t lacked did h fault.OutOfMemory read ended shut = tt
+  swept before offer out s t lacked did h fault.Pipe read gone shut = gone_then w id offer out s t lacked did h gone
+  swept before offer out s t lacked did h fault.TooBig read gone shut = gone_then w id offer out s t lacked did h gone
+  swept before offer out s t lacked did h fault.Proto read gone shut = gone_then w id offer out s t lacked did h gone
+  swept before offer out s t lacked did h (fault.Other n) read gone shut = gone_then w id offer out s t lacked did h gone
 
   pub dispatch_leaves : (h h' : H) (before : ServerState T U G C) (result : Result ℕ IoFault) (after : BackendState T U G C) → DispatchesClient w answers id h before result h' after
-      → DispatchLeaves id result after
+      → DispatchOfOneLeaves before id result after
   dispatch_leaves h h' before result after (calls, lacked, answer, mid, rounds, ends) =
       let c = of_client w mid after ends.cleanup ends.out ends.cleans ends.cleanup_is id in
       let was : EndedBy rounds.fault (seen id mid).part = last_leaves rounds.rounds_end.end in
@@ -394,6 +553,16 @@ module _ {H T U G C : Type 0} (w : World T G C) (answers : Answering H T U G C) 
     where
       result_as : (r : Result (Vec (ClientParts × T) Global) OutOfMemory) → ends.out ≡ reply.Cleanup r → result ≡ after_cleanup r (dispatched rounds.fault rounds.left.read)
       result_as r is = ends.result_is ∙ ap (λ (o : Reply T U). cleaned o answer) is ∙ ap (λ (a : Result ℕ IoFault). after_cleanup r a) rounds.answer_is
+
+      refused : (out : Vec (ClientParts × T) Global) → CleanedAs w id mid.offer (Ok out) (seen id mid) (ends.cleanup.lacks id) (ends.cleanup.did id) (seen id after.server)
+          → rounds.fault ≡ fault.InvalidInput → (before.last_client < id.serial) ⊎ (id.serial ≤ before.last_client) → Refused before (seen id after.server).part
+      refused out h so (inl unborn) = inr (inr unborn)
+      refused out h so (inr born) =
+          elim (shut_then mid.offer out (seen id mid) (seen id after.server) (ends.cleanup.lacks id) (ends.cleanup.did id) h
+          (last_shut rounds.rounds_end.end (born_rounds rounds.rounds_end.rounds born) so)) [
+            | inl none ↦ inl none
+            | inr busy ↦ inr (inl busy)
+          ]
 
       of_fault : (f : IoFault) (read : ℕ) → dispatched f read ≡ Err fault.OutOfMemory → f ≡ fault.OutOfMemory
       of_fault fault.OutOfMemory read is = refl
@@ -410,10 +579,11 @@ module _ {H T U G C : Type 0} (w : World T G C) (answers : Answering H T U G C) 
 
       at : (r : Result (Vec (ClientParts × T) Global) OutOfMemory) → ends.out ≡ reply.Cleanup r
           → CleanedAs w id mid.offer r (seen id mid) (ends.cleanup.lacks id) (ends.cleanup.did id) (seen id after.server) → EndedBy rounds.fault (seen id mid).part
-          → DispatchLeaves id result after
+          → DispatchOfOneLeaves before id result after
       at (Ok out) is h was = record {
-        client = subst (λ (a : Result ℕ IoFault). LeftBy (seen id after.server).part a) (sym (result_as (Ok out) is))
-            (swept mid.offer out (seen id mid) (seen id after.server) (ends.cleanup.lacks id) (ends.cleanup.did id) h rounds.fault rounds.left.read was);
+        client = subst (λ (a : Result ℕ IoFault). LeftBy before id (seen id after.server).part a) (sym (result_as (Ok out) is))
+            (swept before mid.offer out (seen id mid) (seen id after.server) (ends.cleanup.lacks id) (ends.cleanup.did id) h rounds.fault rounds.left.read was
+            (λ so. refused out h so (cases_lt before.last_client id.serial)));
         all = λ fine. all_live w mid after ends.cleanup ends.out ends.cleans ends.cleanup_is out is;
         memory = λ lacks.
             ends.refused
@@ -423,7 +593,7 @@ module _ {H T U G C : Type 0} (w : World T G C) (answers : Answering H T U G C) 
             (last_starved rounds.rounds_end.end (of_fault rounds.fault rounds.left.read (sym (result_as (Ok out) is) ∙ lacks))));
       }
       at (Err l) is h was = record {
-        client = subst (λ (a : Result ℕ IoFault). LeftBy (seen id after.server).part a) (sym (result_as (Err l) is)) tt;
+        client = subst (λ (a : Result ℕ IoFault). LeftBy before id (seen id after.server).part a) (sym (result_as (Err l) is)) tt;
         all = λ fine. absurd (fine (result_as (Err l) is));
         memory = λ lacks.
             ends.refused ∙ or_then lacked ends.cleanup.refused (refused_as w mid after ends.cleanup ends.out ends.cleans ends.cleanup_is l is);
@@ -433,17 +603,17 @@ module _ {H T U G C : Type 0} (w : World T G C) (answers : Answering H T U G C) 
 
 module _ {H T U G C : Type 0} (w : World T G C) (answers : Answering H T U G C) where
   pub dispatches_leave : (ids : List ClientParts) (h h' : H) (before : ServerState T U G C) (result : Result ℕ IoFault) (after : BackendState T U G C)
-      → DispatchesAll w answers ids h before result h' after → DispatchesLeave result after
+      → DispatchesAll w answers ids h before result h' after → DispatchOfSeveralLeaves result after
   dispatches_leave ids h h' before result after (calls, lacked, total, mid, each, ends) =
       let c = of_client w mid after ends.cleanup ends.out ends.cleans ends.cleanup_is (record { slot = 0; serial = 0 }) in at c.r c.answer_is
     where
       result_as : (r : Result (Vec (ClientParts × T) Global) OutOfMemory) → ends.out ≡ reply.Cleanup r → result ≡ after_cleanup r (Ok total)
       result_as r is = ends.result_is ∙ ap (λ (o : Reply T U). cleaned o (Ok total)) is
 
-      at : (r : Result (Vec (ClientParts × T) Global) OutOfMemory) → ends.out ≡ reply.Cleanup r → DispatchesLeave result after
-      at (Ok out) is = subst (λ (a : Result ℕ IoFault). DispatchesLeave a after) (sym (result_as (Ok out) is))
+      at : (r : Result (Vec (ClientParts × T) Global) OutOfMemory) → ends.out ≡ reply.Cleanup r → DispatchOfSeveralLeaves result after
+      at (Ok out) is = subst (λ (a : Result ℕ IoFault). DispatchOfSeveralLeaves a after) (sym (result_as (Ok out) is))
           (record { all = all_live w mid after ends.cleanup ends.out ends.cleans ends.cleanup_is out is })
-      at (Err l) is = subst (λ (a : Result ℕ IoFault). DispatchesLeave a after) (sym (result_as (Err l) is))
+      at (Err l) is = subst (λ (a : Result ℕ IoFault). DispatchOfSeveralLeaves a after) (sym (result_as (Err l) is))
           (record {
             all = (
               refl,

@@ -3,7 +3,7 @@ use Rattle.std.proofs.Common.{◌≡◌, ℕ, Bool, true, false, List, [], ◌++
 use mathlib.Core.Logic.{inl, inr}
 use Rattle.wl_wire.specs.declared.protocol.TableError.{TableError}
 use Rattle.wl_wire.specs.declared.protocol.TableError.TheVariants as table_error
-use Rattle.wl_wire.specs.Table.{InterfaceRow, refused_growth}
+use Rattle.wl_wire.specs.Table.{InterfaceRow, grown, refused_growth}
 use Rattle.wl_link.specs.Link.{LimitSet, LinkState}
 use Rattle.wl_server.specs.declared.error.InsertClientError.{InsertClientError}
 use Rattle.wl_server.specs.declared.runs.step.Reply.{Reply}
@@ -12,6 +12,7 @@ use Rattle.wl_server.specs.declared.runs.step.Step.{Step}
 use Rattle.wl_server.specs.declared.runs.step.Step.TheVariants as step
 use Rattle.wl_server.specs.Backend.{BackendState, Calls, IsGrowth}
 use Rattle.wl_server.specs.Deeds.{Deed, notes_in}
+use Rattle.wl_server.specs.Globals.{with_table}
 use Rattle.wl_server.specs.Ids.{ClientParts, same_client}
 use Rattle.wl_server.specs.Lookups.{and_then}
 use Rattle.wl_server.specs.Part.{Part, named, with_link}
@@ -122,11 +123,11 @@ module _ {T U G C : Type 0} (w : World T G C) (before after : BackendState T U G
             | inr (id, lacking) ↦ absurd (true≢false (sym lacking ∙ (unfelt e is by id).0))
           ]
 
-  pub adds_interfaces : IsGrowth w before rows answer after → AddsInterfaces before rows answer after
-  adds_interfaces growth =
+  pub adds_interfaces : IsGrowth w before rows answer after
+      → after.server ≡ record before.server { offer = with_table before.server.offer (grown before.server.offer.table rows answer) } → AddsInterfaces before rows answer after
+  adds_interfaces growth same =
       let (e, is, refused, by) = growth.step in record {
         answered = subst (λ (c : Call T U G C). AnswersShared before.server.offer c) is by.global;
-        offer = subst (λ (c : Call T U G C). after.server.offer ≡ offer_after before.server.offer c) is by.offer;
-        clients = λ id. (unfelt e is by id).2;
+        server = same;
         memory = sym refused ∙ refused_as e is by;
       }

@@ -80,6 +80,8 @@ module _ {T U G C : Type 0} (w : World T G C) (before after : BackendState T U G
         out,
         end,
         reads,
+        says,
+        memory ∙ lacks,
         answered_so (reader_part p) end turns out.left (action_content answer) (answered out.stopped out.gave) after.refused out.refused says (memory ∙ lacks)
             (reading_ends w.sends w.receives here r.turns_left p turns out end live idle reads),
         left,

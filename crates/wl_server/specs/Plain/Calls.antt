@@ -1,7 +1,8 @@
 -- What a program finds after an insertion of a client, after a limit was set, and after interfaces were added, in the words of the
 -- look-ups.
 --
--- A contract that cites one of these has another clause beside it, `call`, from which it follows.
+-- A contract that cites one of these has another clause beside it, `call`, from which it follows. `AddsInterfaces` also needs the
+-- clause `server`.
 use Rattle.std.specs.Prelude.{◌≡◌, ℕ, List, ◌∷◌, [], ◌++◌, false, None, Some, Result, Ok, Err, MatchOption}
 use Rattle.wl_wire.specs.declared.protocol.TableError.{TableError}
 use Rattle.wl_wire.specs.Table.{AnswersGrowth, InterfaceRow, grown, refused_growth}
@@ -51,10 +52,10 @@ module _ {T U G C : Type 0} where
     pub clients : ClientsStay before after
     pub memory : after.refused ≡ false
 
-  -- The table has the new rows behind the others. Or it answers why not, and is as before. No client has changed, and no global.
+  -- The table has the new rows behind the others. Or it answers why not, and is as before. Nothing else of the server has changed:
+  -- no client, no global, no note, nor what the next of these will get.
   pub record AddsInterfaces (before : BackendState T U G C) (rows : List InterfaceRow) (answer : Result (Unit {0}) TableError) (after : BackendState T U G C)
       : Type 0 where
     pub answered : AnswersGrowth before.server.offer.table rows answer
-    pub offer : after.server.offer ≡ with_table before.server.offer (grown before.server.offer.table rows answer)
-    pub clients : ClientsStay before after
+    pub server : after.server ≡ record before.server { offer = with_table before.server.offer (grown before.server.offer.table rows answer) }
     pub memory : after.refused ≡ refused_growth answer

@@ -1,25 +1,32 @@
 -- What a program finds after a dispatch, in the words of the look-ups.
 --
 -- A contract that cites one of these has another clause beside it, `call`, from which it follows.
-use Rattle.std.specs.Prelude.{◌≡◌, ◌≢◌, true, false, ℕ, [], Option, None, Some, Result, Ok, Err, MatchResult}
+use Rattle.std.specs.Prelude.{◌≡◌, ◌≢◌, ◌⊎◌, ◌<◌, true, false, ℕ, [], Option, None, Some, IsSome, Result, Ok, Err, MatchResult}
 use Rattle.wl_wire.specs.declared.error.IoFault.{IoFault}
 use Rattle.wl_wire.specs.declared.error.IoFault.TheVariants as fault
 use Rattle.wl_server.specs.Backend.{BackendState}
 use Rattle.wl_server.specs.Ids.{ClientParts}
 use Rattle.wl_server.specs.Part.{Part}
 use Rattle.wl_server.specs.Plain.{client_in}
+use Rattle.wl_server.specs.Server.{ServerState}
 
 module _ {T U C : Type 0} where
   -- the client is stored and live, and no action of it is open
   abbrev pub IsIdle : Option (Part T U C) → Type 0
   IsIdle found = (p : Part T U C) × (found ≡ Some p) × (p.is_killed ≡ false) × (p.action ≡ None)
 
-  -- After a count, which is not 0, or `WouldBlock`, more may be read of the client later. After `InvalidInput` or `OutOfMemory`
-  -- an action of it may be open. After any other fault it is no longer stored.
+  -- the client is stored and live, and an action of it is open
+  abbrev pub IsBusy : Option (Part T U C) → Type 0
+  IsBusy found = (p : Part T U C) × (found ≡ Some p) × (p.is_killed ≡ false) × IsSome p.action
+
+module _ {T U G C : Type 0} (before : ServerState T U G C) (id : ClientParts) where
+  -- After a count, which is not 0, or `WouldBlock`, more may be read of the client later. After `InvalidInput` it is not stored, or
+  -- an action of it is open, or its serial was given to no client before the dispatch. After `OutOfMemory` nothing is said of it.
+  -- After any other fault it is no longer stored.
   abbrev pub LeftBy : Option (Part T U C) → Result ℕ IoFault → Type 0
   LeftBy found (Ok count) = (count ≢ 0) × IsIdle found
   LeftBy found (Err fault.WouldBlock) = IsIdle found
-  LeftBy found (Err fault.InvalidInput) = Unit {0}
+  LeftBy found (Err fault.InvalidInput) = (found ≡ None) ⊎ (IsBusy found ⊎ (before.last_client < id.serial))
   LeftBy found (Err fault.OutOfMemory) = Unit {0}
   LeftBy found (Err _) = found ≡ None
 
@@ -28,12 +35,14 @@ module _ {T U G C : Type 0} where
   abbrev pub AllLive : BackendState T U G C → Type 0
   AllLive after = (id : ClientParts) (p : Part T U C) → client_in after id ≡ Some p → (p.is_killed ≡ false) × (p.waiting ≡ [])
 
-  -- A dispatch of one client: killed clients are taken out, unless memory was refused, and then the call tells so.
-  pub record DispatchLeaves (id : ClientParts) (answer : Result ℕ IoFault) (after : BackendState T U G C) : Type 0 where
-    pub client : LeftBy (client_in after id) answer
+  -- A dispatch of one client. After each answer but `OutOfMemory` the killed clients are taken out. After `OutOfMemory`
+  -- `memory_refused` is true.
+  pub record DispatchOfOneLeaves (before : ServerState T U G C) (id : ClientParts) (answer : Result ℕ IoFault) (after : BackendState T U G C) : Type 0 where
+    pub client : LeftBy before id (client_in after id) answer
     pub all : ¬ (answer ≡ Err fault.OutOfMemory) → AllLive after
     pub memory : answer ≡ Err fault.OutOfMemory → after.refused ≡ true
 
-  -- a dispatch of several clients; its one fault is that memory was refused to the cleanup
-  pub record DispatchesLeave (answer : Result ℕ IoFault) (after : BackendState T U G C) : Type 0 where
+  -- A dispatch of several clients. After a count every stored client is live, and no note waits for a cleanup. The one fault is
+  -- `OutOfMemory`, and then `memory_refused` is true.
+  pub record DispatchOfSeveralLeaves (answer : Result ℕ IoFault) (after : BackendState T U G C) : Type 0 where
     pub all : MatchResult answer (λ count. AllLive after) (λ f. (f ≡ fault.OutOfMemory) × (after.refused ≡ true))

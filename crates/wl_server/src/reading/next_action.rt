@@ -215,8 +215,8 @@ impl<T: Transport + Drop, U: Drop, G: GlobalHandler<C> + Drop, C: Drop> Backend<
     /// If each receive brings a byte or would block, and memory is not refused, it does not matter how bytes and tokens
     /// were cut into receives.
     ///
-    /// An action, or the error of a reading that began, comes of what was received last or of the message that was then at
-    /// the front, as `laws::each_reading_ends_for_a_reason` says (clause `reason`).
+    /// Which message an action is of, or why there is none, is said by `laws::each_reading_ends_for_a_reason` (clause
+    /// `reason`), if the client was live and had no open action.
     pub fn next_action(&mut self, id: &ClientId) -> Result<Action, ActionError>
         ensures call { Calls (over T.sends T.receives G.views) self.old (step.NextAction id.now) (reply.NextAction result) self.new }
         ensures plain { ReadsClient self.old id.now result self.new }

@@ -60,7 +60,7 @@ module _ {T U C : Type 0} (sends : T → Queue → Result ℕ IoFault → T → 
   moves_hold p q d (went n x waits kept is same) holds = subst Holds (sym same) holds
   moves_hold p q d (remembered n x kept registry is same) holds = subst Holds (sym same) holds
   moves_hold p q d (opens action h acts so is same) holds = subst Holds (sym same) holds
-  moves_hold p q d (finished is same) holds = subst Holds (sym same) holds
+  moves_hold p q d (finished may is same) holds = subst Holds (sym same) holds
   moves_hold p q d (cleaned on is same) holds = subst Holds (sym same) holds
 
   goes_hold : (s t : Seen T U C) (d : Doings U) → Goes (any true) sends receives client s d t → SeenHolds s → SeenHolds t

@@ -296,7 +296,7 @@ module _ {T U C : Type 0} (sends : T → Queue → Result ℕ IoFault → T → 
   moves_change p q d empty (opens action h acts so is same) =
       changing_so p (record p { action = Some action }) q (record nothing_done { acted = h ∷ [] }) d is same
       (quiet p (record p { action = Some action }) (record nothing_done { acted = h ∷ [] }) empty refl refl refl refl (λ h among. absurd among))
-  moves_change p q d empty (finished is same) =
+  moves_change p q d empty (finished may is same) =
       changing_so p (record p { action = None }) q nothing_done d is same (quiet p (record p { action = None }) nothing_done empty refl refl refl refl (λ h among. absurd among))
   moves_change p q d empty (cleaned on is same) =
       changing_so p (record p { waiting = [] }) q (noting p.waiting) d is same (record {
@@ -327,7 +327,7 @@ module _ {T U C : Type 0} (sends : T → Queue → Result ℕ IoFault → T → 
   moves_take p q d (went n x waits holds is same) = ap (λ (x : Doings U). x.taken) is
   moves_take p q d (remembered n x holds registry is same) = ap (λ (x : Doings U). x.taken) is
   moves_take p q d (opens action h acts so is same) = ap (λ (x : Doings U). x.taken) is
-  moves_take p q d (finished is same) = ap (λ (x : Doings U). x.taken) is
+  moves_take p q d (finished may is same) = ap (λ (x : Doings U). x.taken) is
   moves_take p q d (cleaned on is same) = ap (λ (x : Doings U). x.taken) is
 
   -- ---- what is held of a client

@@ -183,7 +183,7 @@ module _ {T U G C : Type 0} (w : World T G C) (id : ClientParts) (offer : Offer 
       go : (b : Bool) → concerns id call ≡ b → StillDead
       go true about =
           goes_dead _ (call_moves fading w id offer call before lacked did after about
-          (record { kills = λ e may. tt; gathers = λ is. is; hands = λ is. refl; reads = λ is. is }) h)
+          (record { kills = λ e may. tt; gathers = λ is. is; hands = λ is. refl; reads = λ is. is; finishes = λ is. refl }) h)
       go false far = unfelt_dead (other_call w id offer call before lacked did after other far h)
 
 -- ---- a client that is not stored

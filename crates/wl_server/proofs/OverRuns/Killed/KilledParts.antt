@@ -28,7 +28,7 @@ module _ {T U C : Type 0} (p : Part T U C) (killed : p.is_killed ≡ true) where
 
 -- no action is opened, and no client is taken out
 abbrev pub fading : Kind
-fading = record { gathers = false; hands = true; reads = false; kills = λ reason. Unit {0}; closes = tt }
+fading = record { gathers = false; hands = true; reads = false; finishes = true; kills = λ reason. Unit {0}; closes = tt }
 
 module _ {T U C : Type 0} (sends : T → Queue → Result ℕ IoFault → T → Type 0) (receives : T → ℕ → Result Queue IoFault → T → Type 0) (client : ClientParts) where
   pub moves_remain : (p q : Part T U C) (d : Doings U) → Moves fading sends receives client p d q → p.is_killed ≡ true → Remains p q
@@ -51,6 +51,6 @@ module _ {T U C : Type 0} (sends : T → Queue → Result ℕ IoFault → T → 
   moves_remain p q d (went n x waits holds is same) killed = remains_as p killed q _ same refl refl
   moves_remain p q d (remembered n x holds registry is same) killed = remains_as p killed q _ same refl refl
   moves_remain p q d (opens action h acts so is same) killed = absurd (false≢true acts)
-  moves_remain p q d (finished is same) killed =
+  moves_remain p q d (finished may is same) killed =
       record { killed = ap (λ (x : Part T U C). x.is_killed) same ∙ killed; closed = λ none. ap (λ (x : Part T U C). x.action) same }
   moves_remain p q d (cleaned on is same) killed = absurd (false≢true on)

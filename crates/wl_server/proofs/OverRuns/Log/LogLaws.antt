@@ -86,7 +86,7 @@ module _ {T U C : Type 0} (sends : T → Queue → Result ℕ IoFault → T → 
   moves_keep p q d (went n x waits holds is same) = quiet_move p q _ d _ is same refl refl refl
   moves_keep p q d (remembered n x holds registry is same) = quiet_move p q _ d _ is same refl refl refl
   moves_keep p q d (opens action h acts so is same) = quiet_move p q _ d _ is same refl refl refl
-  moves_keep p q d (finished is same) = quiet_move p q _ d _ is same refl refl refl
+  moves_keep p q d (finished may is same) = quiet_move p q _ d _ is same refl refl refl
   moves_keep p q d (cleaned on is same) = quiet_move p q _ d _ is same refl refl refl
 
   -- ---- what is held of a client

@@ -141,18 +141,19 @@ module _ {T U C : Type 0} (client : ClientParts) where
 
 -- ---- the moves
 
--- Which moves there may be: whether notes that wait are made, whether notes are handed out, whether the client is read, and
--- for which reasons it is killed. It may always be closed down.
+-- Which moves there may be: whether notes that wait are made, whether notes are handed out, whether the client is read, whether
+-- its action is ended, and for which reasons it is killed. It may always be closed down.
 pub record Kind : Type 1 where
   pub gathers : Bool
   pub hands : Bool
   pub reads : Bool
+  pub finishes : Bool
   pub kills : DisconnectReason → Type 0
   pub closes : kills ConnectionClosed
 
 -- for any reason
 abbrev pub any : Bool → Kind
-any b = record { gathers = b; hands = true; reads = true; kills = λ reason. Unit {0}; closes = tt }
+any b = record { gathers = b; hands = true; reads = true; finishes = true; kills = λ reason. Unit {0}; closes = tt }
 
 -- a reading may be among them: the client is read, and an error that is about its display is a reason
 pub record MayRead (kind : Kind) (table : List InterfaceRow) (client : ClientParts) : Type 0 where
@@ -202,7 +203,7 @@ pub data Moves {T U C : Type 0} (kind : Kind) (sends : T → Queue → Result �
       → q ≡ record p { registries = p.registries ++ id_of (id_at client n x) ∷ [] } → Moves kind sends receives client p d q
   opens : {p q : Part T U C} {d : Doings U} (action : OpenAction) (h : Handed) → kind.reads ≡ true → Opens client p action h
       → d ≡ record nothing_done { acted = h ∷ [] } → q ≡ record p { action = Some action } → Moves kind sends receives client p d q
-  finished : {p q : Part T U C} {d : Doings U} → d ≡ nothing_done → q ≡ record p { action = None } → Moves kind sends receives client p d q
+  finished : {p q : Part T U C} {d : Doings U} → kind.finishes ≡ true → d ≡ nothing_done → q ≡ record p { action = None } → Moves kind sends receives client p d q
   cleaned : {p q : Part T U C} {d : Doings U} → kind.gathers ≡ true → d ≡ noting p.waiting → q ≡ record p { waiting = [] } → Moves kind sends receives client p d q
 
 -- ---- what is held of a client id

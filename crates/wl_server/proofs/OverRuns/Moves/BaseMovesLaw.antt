@@ -211,6 +211,12 @@ reads_of id (Asked (step.NextAction target) answer) = same_client target id
 reads_of id (Asked (step.NextActionWithin target r) answer) = same_client target id
 reads_of id _ = false
 
+-- the call ends the action of this client
+abbrev pub finishes_of : {T U G C : Type 0} → ClientParts → Call T U G C → Bool
+finishes_of id (Asked (step.FinishRequest target u) answer) = same_client target id
+finishes_of id (Asked (step.FinishBind target u) answer) = same_client target id
+finishes_of id _ = false
+
 module _ {T U G C : Type 0} (kind : Kind) (w : World T G C) (id : ClientParts) (offer : Offer G) where
   abbrev To : Seen T U C → List (Deed U) → Seen T U C → Type 0
   To s did t = Goes kind w.sends w.receives id s (doings_in did) t
@@ -319,6 +325,7 @@ module _ {T U G C : Type 0} (kind : Kind) (w : World T G C) (id : ClientParts) (
     pub gathers : gathers_in call ≡ true → kind.gathers ≡ true
     pub hands : hands_in call ≡ true → kind.hands ≡ true
     pub reads : reads_of id call ≡ true → kind.reads ≡ true
+    pub finishes : finishes_of id call ≡ true → kind.finishes ≡ true
 
   abbrev Handed : Call T U G C → Seen T U C → List (Deed U) → Seen T U C → Type 0
   Handed call s did t = Goes kind w.sends w.receives id s (doings_of (handed_by id call did) did) t
@@ -353,9 +360,9 @@ module _ {T U G C : Type 0} (kind : Kind) (w : World T G C) (id : ClientParts) (
   step_goes (step.NextAction target) answer s lacked did t about may (r, left, is, h) = reads_goes target (λ mine. record { displays = λ code text. may.kills _ (mine, (code, text, refl)); reads = may.reads mine }) _ _ left s lacked did t h
   step_goes (step.NextActionWithin target reading) answer s lacked did t about may (r, left, is, h) = reads_goes target (λ mine. record { displays = λ code text. may.kills _ (mine, (code, text, refl)); reads = may.reads mine }) reading _ left s lacked did t h
   step_goes (step.FinishRequest target u) answer s lacked did t about may (r, is, h) =
-      of_client kind w.sends w.receives id (same_client target id) s _ _ lacked did t (λ mine p q f. finishes_moves kind w.sends w.receives id p u r lacked did q f) h
+      of_client kind w.sends w.receives id (same_client target id) s _ _ lacked did t (λ mine p q f. finishes_moves kind w.sends w.receives id (may.finishes mine) p u r lacked did q f) h
   step_goes (step.FinishBind target u) answer s lacked did t about may (r, is, h) =
-      of_client kind w.sends w.receives id (same_client target id) s _ _ lacked did t (λ mine p q f. finishes_bind_moves kind w.sends w.receives id p u r lacked did q f) h
+      of_client kind w.sends w.receives id (same_client target id) s _ _ lacked did t (λ mine p q f. finishes_bind_moves kind w.sends w.receives id (may.finishes mine) p u r lacked did q f) h
   step_goes step.Cleanup answer s lacked did t about may (r, is, h) =
       cleanup_goes r s lacked did t (subst (λ (a : Reply T U). gathers_in {T = T} {U = U} {G = G} {C = C} (Asked step.Cleanup a) ≡ true → kind.gathers ≡ true) is may.gathers) h
   step_goes step.TakeNotes answer s lacked did t about may (r, is, h) =
@@ -405,4 +412,4 @@ pub call_goes : {T U G C : Type 0} (gathers : Bool) (w : World T G C) (id : Clie
     (t : Seen T U C) → concerns id call ≡ true → PartCall w id offer call s lacked did t → (gathers_in call ≡ true → gathers ≡ true) → Handed (any gathers) w id offer call s did t
 call_goes gathers w id offer call s lacked did t about h on =
     call_moves (any gathers) w id offer call s lacked did t about
-    (record { kills = λ e may. tt; gathers = on; hands = λ is. refl; reads = λ is. refl }) h
+    (record { kills = λ e may. tt; gathers = on; hands = λ is. refl; reads = λ is. refl; finishes = λ is. refl }) h

@@ -376,13 +376,13 @@ module _ {T U C : Type 0} (kind : Kind) (sends : T → Queue → Result ℕ IoFa
       go None e = stayed refl refl
       go (Some x) e = wrote id.number x u (named_held p.store id x e) refl refl
 
-  finish_moves : (p : Part T U C) (created : Option IdParts) (u : Option U) → Move p nothing_done (record p { action = None; store = store_with_data p.store created u })
-  finish_moves p created u = followed (data_moves p created u) (finished refl refl) refl
+  finish_moves : kind.finishes ≡ true → (p : Part T U C) (created : Option IdParts) (u : Option U) → Move p nothing_done (record p { action = None; store = store_with_data p.store created u })
+  finish_moves may p created u = followed (data_moves p created u) (finished may refl refl) refl
 
-  finish_comes : (c : Core U C) (created : Option IdParts) (u : Option U) → Calm c → Come c (finish_verdict c created u)
-  finish_comes c created u calm = record {
+  finish_comes : kind.finishes ≡ true → (c : Core U C) (created : Option IdParts) (u : Option U) → Calm c → Come c (finish_verdict c created u)
+  finish_comes may c created u calm = record {
     made = [];
-    lands = lands_at kind sends receives client c [] (core_finished c created u) calm refl (λ l. finish_moves (at kind sends receives client c l) created u);
+    lands = lands_at kind sends receives client c [] (core_finished c created u) calm refl (λ l. finish_moves may (at kind sends receives client c l) created u);
     events = λ e same. refl;
     quiet = (refl, refl);
     last = inl refl;
@@ -425,12 +425,12 @@ module _ {T U C : Type 0} (kind : Kind) (sends : T → Queue → Result ℕ IoFa
         ∙ still_gone (removed c.store id.number) id.number created u (removed_here c.store id.number id.number refl)))
         ∙ told_ended
 
-    ends_some_comes : Come c (ends client c id (Some x) created u)
-    ends_some_comes = record {
+    ends_some_comes : kind.finishes ≡ true → Come c (ends client c id (Some x) created u)
+    ends_some_comes may = record {
       made = ended_deeds;
       lands = lands_at kind sends receives client c ended_deeds (core_finished (without c id.number x) created u) calm refl
           (λ l. followed (went {q = at kind sends receives client (without c id.number x) l} id.number x false (named_held c.store id x is) refl refl)
-          (finish_moves (at kind sends receives client (without c id.number x) l) created u)
+          (finish_moves may (at kind sends receives client (without c id.number x) l) created u)
           (doings_ended ∙ sym (joined_none (leaves client false id.number x))));
       events = λ e same. ending_told e same;
       quiet = quiet_ended;
@@ -438,18 +438,18 @@ module _ {T U C : Type 0} (kind : Kind) (sends : T → Queue → Result ℕ IoFa
       starved = inr (refl, ap (λ (o : Option (Object (Kept U))). told_deeds (cond (is_some o) [] (map Did ended_deeds))) is);
     }
 
-  ends_comes : (c : Core U C) (id : IdParts) (o : Option (Object (Kept U))) (created : Option IdParts) (u : Option U) → Calm c
+  ends_comes : kind.finishes ≡ true → (c : Core U C) (id : IdParts) (o : Option (Object (Kept U))) (created : Option IdParts) (u : Option U) → Calm c
       → ((x : Object (Kept U)) → o ≡ Some x → named c.store id ≡ Some x) → Come c (ends client c id o created u)
-  ends_comes c id None created u calm is = finish_comes c created u calm
-  ends_comes c id (Some x) created u calm is = ends_some_comes c id x created u calm (is x refl)
+  ends_comes may c id None created u calm is = finish_comes may c created u calm
+  ends_comes may c id (Some x) created u calm is = ends_some_comes c id x created u calm (is x refl) may
 
   refuses_moves : {D : Type 0} (p : Part T U C) (d : D) (e : FinishError) (answer : Result (Unit {0}) (FinishRefused D)) (lacked : Bool) (did : List (Deed U)) (q : Part T U C)
       → Refuses p d e answer lacked did q → Move p (doings_in did) q
   refuses_moves p d e answer lacked did q (is, no_memory, none, same) = stays p did q none same
 
-  pub finishes_moves : (p : Part T U C) (u : Option U) (answer : Result (Unit {0}) (FinishRefused (Option U))) (lacked : Bool) (did : List (Deed U)) (q : Part T U C)
+  pub finishes_moves : kind.finishes ≡ true → (p : Part T U C) (u : Option U) (answer : Result (Unit {0}) (FinishRefused (Option U))) (lacked : Bool) (did : List (Deed U)) (q : Part T U C)
       → FinishesRequest sends client p u answer lacked did q → Move p (doings_in did) q
-  finishes_moves p u answer lacked did q h =
+  finishes_moves may p u answer lacked did q h =
       elim (either_option p.action h) [
         | inl (none, refuses) ↦ refuses_moves p u _ answer lacked did q refuses
         | inr (opened.Bind object, is, refuses) ↦ refuses_moves p u _ answer lacked did q refuses
@@ -458,18 +458,18 @@ module _ {T U C : Type 0} (kind : Kind) (sends : T → Queue → Result ℕ IoFa
               | inr (e, why, refuses) ↦ refuses_moves p u e answer lacked did q refuses
               | inl (none, (is', tells')) ↦
                   tells_moves kind sends receives client p (ends_request client (core_of p) sender b created u) lacked did q
-                  (ends_comes (core_of p) sender (ended_by p.store sender b) created u (calm_core p) (λ x e. ended_named p.store sender b x e)) tells'
+                  (ends_comes may (core_of p) sender (ended_by p.store sender b) created u (calm_core p) (λ x e. ended_named p.store sender b x e)) tells'
             ]
       ]
 
-  pub finishes_bind_moves : (p : Part T U C) (u : U) (answer : Result (Unit {0}) (FinishRefused U)) (lacked : Bool) (did : List (Deed U)) (q : Part T U C)
+  pub finishes_bind_moves : kind.finishes ≡ true → (p : Part T U C) (u : U) (answer : Result (Unit {0}) (FinishRefused U)) (lacked : Bool) (did : List (Deed U)) (q : Part T U C)
       → FinishesBind p u answer lacked did q → Move p (doings_in did) q
-  finishes_bind_moves p u answer lacked did q h =
+  finishes_bind_moves may p u answer lacked did q h =
       elim (either_option p.action h) [
         | inl (none, refuses) ↦ refuses_moves p u _ answer lacked did q refuses
         | inr (opened.Request sender b created, is, refuses) ↦ refuses_moves p u _ answer lacked did q refuses
         | inr (opened.Bind object, is, (is', no_memory, none, same)) ↦
             subst (λ (e : Part T U C). Move p (doings_in did) e) (sym same)
             (same_doings kind sends receives client p (record p { action = None; store = store_with_data p.store (Some object) (Some u) }) nothing_done (doings_in did) (ap doings_in none)
-            (finish_moves p (Some object) (Some u)))
+            (finish_moves may p (Some object) (Some u)))
       ]

@@ -73,7 +73,7 @@ killed_for P e f is holds = subst P same holds
 
 -- a client is killed for errors of which it holds
 abbrev killing : (ProtocolError → Type 0) → Kind
-killing P = record { gathers = true; hands = true; reads = true; kills = λ reason. (e : ProtocolError) → reason ≡ BrokeProtocol e → P e; closes = closed_for_none P }
+killing P = record { gathers = true; hands = true; reads = true; finishes = true; kills = λ reason. (e : ProtocolError) → reason ≡ BrokeProtocol e → P e; closes = closed_for_none P }
 
 module _ {T U C : Type 0} (P : ProtocolError → Type 0) (sends : T → Queue → Result ℕ IoFault → T → Type 0) (receives : T → ℕ → Result Queue IoFault → T → Type 0) (client : ClientParts) where
   -- no other error is noted, or waits
@@ -112,7 +112,7 @@ module _ {T U C : Type 0} (P : ProtocolError → Type 0) (sends : T → Queue �
   moves_keep p q d (went n x waits holds is same) = leaves waits p q d n x (notes_of P d _ is) same
   moves_keep p q d (remembered n x holds registry is same) = quiet p q _ d (notes_of P d _ is) same refl
   moves_keep p q d (opens action h acts so is same) = quiet p q _ d (notes_of P d _ is) same refl
-  moves_keep p q d (finished is same) = quiet p q _ d (notes_of P d _ is) same refl
+  moves_keep p q d (finished may is same) = quiet p q _ d (notes_of P d _ is) same refl
   moves_keep p q d (cleaned on is same) = λ tell.
       (subst (Tell P) (sym (notes_of P d _ is)) tell, subst (λ (y : Part T U C). Tell P y.waiting) (sym same) (tell_none P))
 
@@ -148,6 +148,7 @@ module _ {T U G C : Type 0} (w : World T G C) where
         gathers = λ is. refl;
         hands = λ is. refl;
         reads = λ is. refl;
+        finishes = λ is. refl;
       }) h) [
         | inl (ids, goes) ↦ goes_held P w.sends w.receives id s t _ held goes
         | inr (p, none, empty, did_so, same) ↦

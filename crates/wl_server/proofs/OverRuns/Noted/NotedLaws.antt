@@ -171,7 +171,7 @@ module _ {T U C : Type 0} (sends : T → Queue → Result ℕ IoFault → T → 
       (ap (λ (y : Part T U C). y.is_killed) same)
   moves_note p q d none (remembered n x holds registry is same) = quiet p q _ d _ none is same refl refl refl refl
   moves_note p q d none (opens action h acts so is same) = quiet p q _ d _ none is same refl refl refl refl
-  moves_note p q d none (finished is same) = quiet p q _ d _ none is same refl refl refl refl
+  moves_note p q d none (finished may is same) = quiet p q _ d _ none is same refl refl refl refl
   moves_note p q d none (cleaned on is same) =
       subst (λ (y : Doings U). Noting p y q) (sym is)
       (subst (λ (y : Part T U C). Noting p (record (doings_of [] []) { notes = p.waiting }) y) (sym same)

@@ -142,7 +142,7 @@ module _ {U : Type 0} where
 
 -- no notes are handed out
 abbrev keeping : Kind
-keeping = record { gathers = true; hands = false; reads = true; kills = λ reason. Unit {0}; closes = tt }
+keeping = record { gathers = true; hands = false; reads = true; finishes = true; kills = λ reason. Unit {0}; closes = tt }
 
 module _ {T U G C : Type 0} (w : World T G C) (id : ClientParts) (offer : Offer G) where
   abbrev Grows : Seen T U C → Seen T U C → Type 0
@@ -166,6 +166,7 @@ module _ {T U G C : Type 0} (w : World T G C) (id : ClientParts) (offer : Offer 
         gathers = λ is. refl;
         hands = λ is. absurd (false≢true (sym (none_handed call none) ∙ is));
         reads = λ is. refl;
+        finishes = λ is. refl;
       }) h) [
         | inl (ids, goes) ↦ goes_grows s t _ goes
         | inr (p, none_waits, empty, did_so, same) ↦ (happened.Initialized ∷ [], ap (λ (x : Seen T U C). x.made) same)

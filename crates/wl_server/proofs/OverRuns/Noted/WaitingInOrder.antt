@@ -103,7 +103,7 @@ module _ {T U C : Type 0} (sends : T → Queue → Result ℕ IoFault → T → 
       at false same = still p q _ same refl
   moves_grow p q d (remembered n x holds registry is same) = still p q _ same refl
   moves_grow p q d (opens action h acts so is same) = still p q _ same refl
-  moves_grow p q d (finished is same) = still p q _ same refl
+  moves_grow p q d (finished may is same) = still p q _ same refl
   moves_grow p q d (cleaned on is same) = absurd (false≢true on)
 
   goes_grow : (s t : Seen T U C) (d : Doings U) → Goes (any false) sends receives client s d t → Grown (waiting_of s.part) (waiting_of t.part)

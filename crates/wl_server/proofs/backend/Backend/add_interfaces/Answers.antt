@@ -39,4 +39,4 @@ pub returns-clause-server : goal.returns-clause-server
 returns-clause-server g c = rw (← c.self.view_is, c.extend-answer.ensures.table) refl
 
 pub returns-clause-plain : goal.returns-clause-plain
-returns-clause-plain g c = adds_interfaces _ _ _ _ _ (returns-clause-call g c)
+returns-clause-plain g c = adds_interfaces _ _ _ _ _ (returns-clause-call g c) (returns-clause-server g c)

@@ -1,0 +1,97 @@
+-- That an open action of a client stays open over calls that neither read the client nor end its action, as long as the client is
+-- stored.
+use Rattle.std.proofs.Common.{◌≡◌, ◌⊎◌, ℕ, ◌≤◌, Bool, true, false, List, [], ◌∷◌, Option, None, Some, IsSome, is_some, Result, refl, sym, ap, subst, ◌∙◌, true≢false, arith}
+use mathlib.Core.Logic.{inl, inr}
+use Rattle.wl_wire.specs.declared.error.IoFault.{IoFault}
+use Rattle.wl_link.specs.Exchange.{Queue}
+use Rattle.wl_server.specs.declared.runs.step.Step.TheVariants as step
+use Rattle.wl_server.specs.Deeds.{Deed}
+use Rattle.wl_server.specs.Globals.{Offer}
+use Rattle.wl_server.specs.Ids.{ClientParts, same_client}
+use Rattle.wl_server.specs.Part.{Part}
+use Rattle.wl_server.specs.PartStep.{Asked, Call, PartCall, World}
+use Rattle.wl_server.specs.Reached.{AllSpare, spares}
+use Rattle.wl_server.specs.Runs.{IsNotInserted, Leads, concerns}
+use Rattle.wl_server.specs.Server.{Seen, ServerState, seen}
+use Rattle.wl_server.specs.Steps.{Entry}
+use Rattle.wl_server.proofs.Dispatches.Waiting.{not_true, spared_unread}
+use Rattle.wl_server.proofs.OverRuns.Alone.IsolationLaw.{not_again, other_call}
+use Rattle.wl_server.proofs.OverRuns.Moves.BaseMoves.{Doings, Goes, Kind, Moves, born as born_one, cleaned, ended, finished, flushed, followed, found as found_one, found_none, handed_out, notes_taken, opens, received, relinked, remembered, stayed, taken_out, told, unfelt, went, within, wrote}
+use Rattle.wl_server.proofs.OverRuns.Moves.BaseMovesLaw.{call_moves, finishes_of}
+use Rattle.wl_server.proofs.Plain.Base.{none_and_some, one_value}
+
+-- no action is opened, and none is ended
+abbrev standing : Kind
+standing = record { gathers = true; hands = true; reads = false; finishes = false; kills = λ reason. Unit {0}; closes = tt }
+
+pub spared_unended : {T U G C : Type 0} (id : ClientParts) (call : Call T U G C) → spares id call ≡ true → finishes_of id call ≡ false
+spared_unended id (Asked (step.FinishRequest target u) answer) spared = not_true (same_client target id) spared
+spared_unended id (Asked (step.FinishBind target u) answer) spared = not_true (same_client target id) spared
+spared_unended id _ spared = refl
+
+module _ {T U C : Type 0} where
+  -- it is not stored, or an action of it is open
+  abbrev pub Stands : Option (Part T U C) → Type 0
+  Stands found = (found ≡ None) ⊎ ((p : Part T U C) × (found ≡ Some p) × IsSome p.action)
+
+module _ {T U C : Type 0} (sends : T → Queue → Result ℕ IoFault → T → Type 0) (receives : T → ℕ → Result Queue IoFault → T → Type 0) (client : ClientParts) where
+  moves_stand : (p q : Part T U C) (d : Doings U) → Moves standing sends receives client p d q → q.action ≡ p.action
+  moves_stand p q d (stayed is same) = ap (λ (x : Part T U C). x.action) same
+  moves_stand p q d (followed {m = m} {a = a} {b = b} first second is) = moves_stand m q b second ∙ moves_stand p m a first
+  moves_stand p q d (handed_out {a = a} ids moves among is) = moves_stand p q a moves
+  moves_stand p q d (relinked link waits stays unread is same) = ap (λ (x : Part T U C). x.action) same
+  moves_stand p q d (received r answer link reads filled is same) = ap (λ (x : Part T U C). x.action) same
+  moves_stand p q d (told messages es put answer link puts is same) = ap (λ (x : Part T U C). x.action) same
+  moves_stand p q d (flushed es answer link by is same) = ap (λ (x : Part T U C). x.action) same
+  moves_stand p q d (ended reason may is same) = ap (λ (x : Part T U C). x.action) same
+  moves_stand p q d (born_one n x free ne serial is same) = ap (λ (x : Part T U C). x.action) same
+  moves_stand p q d (found_one n x holds is same) = ap (λ (x : Part T U C). x.action) same
+  moves_stand p q d (found_none is same) = ap (λ (x : Part T U C). x.action) same
+  moves_stand p q d (wrote n x u holds is same) = ap (λ (x : Part T U C). x.action) same
+  moves_stand p q d (went n x waits holds is same) = ap (λ (x : Part T U C). x.action) same
+  moves_stand p q d (remembered n x holds registry is same) = ap (λ (x : Part T U C). x.action) same
+  moves_stand p q d (opens action h reads so is same) = absurd (true≢false (sym reads))
+  moves_stand p q d (finished may is same) = absurd (true≢false (sym may))
+  moves_stand p q d (cleaned on is same) = ap (λ (x : Part T U C). x.action) same
+
+  goes_stand : (s t : Seen T U C) (d : Doings U) → Goes standing sends receives client s d t → Stands s.part → Stands t.part
+  goes_stand s t d (unfelt none same) h = subst Stands (sym (ap (λ (x : Seen T U C). x.part) same)) h
+  goes_stand s t d (within p q there moves same) (inl none) = absurd (none_and_some s.part none there)
+  goes_stand s t d (within p q there moves same) (inr (o, was, some)) =
+      inr (
+        q,
+        ap (λ (x : Seen T U C). x.part) same,
+        ap is_some (moves_stand p q d moves) ∙ ap (λ (x : Part T U C). is_some x.action) (one_value s.part there was) ∙ some,
+      )
+  goes_stand s t d (taken_out p q on there killed moves none noted same) h = inl (ap (λ (x : Seen T U C). x.part) same)
+  goes_stand s t d (notes_taken on is same) h = subst Stands (sym (ap (λ (x : Seen T U C). x.part) same)) h
+
+module _ {T U G C : Type 0} (w : World T G C) (id : ClientParts) where
+  call_stands : (offer : Offer G) (call : Call T U G C) (s : Seen T U C) (lacked : Bool) (did : List (Deed U)) (t : Seen T U C) → spares id call ≡ true → IsNotInserted id call
+      → PartCall w id offer call s lacked did t → Stands s.part → Stands t.part
+  call_stands offer call s lacked did t spared other h stands = go (concerns id call) refl
+    where
+      go : (b : Bool) → concerns id call ≡ b → Stands t.part
+      go true about =
+          goes_stand w.sends w.receives id s t _
+          (call_moves standing w id offer call s lacked did t about
+          (record {
+            kills = λ e may. tt;
+            gathers = λ is. refl;
+            hands = λ is. refl;
+            reads = λ is. absurd (true≢false (sym is ∙ spared_unread id call spared));
+            finishes = λ is. absurd (true≢false (sym is ∙ spared_unended id call spared));
+          }) h) stands
+      go false far = subst Stands (sym (ap (λ (x : Seen T U C). x.part) (other_call w id offer call s lacked did t other far h).2)) stands
+
+  -- so it is over all calls of a handler, if the id was given before
+  pub run_stands : (before after : ServerState T U G C) (run : List (Entry T U G C)) → id.serial ≤ before.last_client → Leads w before run after → AllSpare id run
+      → Stands (seen id before).part → Stands (seen id after).part
+  run_stands before after [] born same spared stands = subst (λ (s : ServerState T U G C). Stands (seen id s).part) (sym same) stands
+  run_stands before after (e ∷ run) born (mid, by, leads) (spared, others) stands =
+      run_stands mid after run (let grown = by.last in omega (arith, born, grown)) leads others
+      (call_stands before.offer e.call (seen id before) (e.lacks id) (e.did id) (seen id mid) spared (not_again w id before mid e born by) (by.each id) stands)
+
+  pub born_still : (before after : ServerState T U G C) (run : List (Entry T U G C)) → id.serial ≤ before.last_client → Leads w before run after → id.serial ≤ after.last_client
+  born_still before after [] born same = let e = ap (λ (s : ServerState T U G C). s.last_client) same in omega (arith, born, e)
+  born_still before after (e ∷ run) born (mid, by, leads) = born_still mid after run (let grown = by.last in omega (arith, born, grown)) leads
