@@ -80,19 +80,18 @@ fn push_digit(text: &mut String, number: u32, unit: u32) -> Result<(), AllocErro
     text.push(char::from(b'0' + digit))
 }
 
+/// The units of eight digits, the greatest first.
+const EIGHT_UNITS: [u32; 8] = [10_000_000, 1_000_000, 100_000, 10_000, 1_000, 100, 10, 1];
+
 /// Appends the 256ths of a fixed-point number as eight digits, which tell them exactly.
 fn push_fraction(text: &mut String, size: u32) -> Result<(), AllocError>
     ensures { OnOk result (string_bytes text.new ≡ string_bytes text.old ++ fraction_text size) }
 {
     let part = size % 256 * 390_625;
-    push_digit(text, part, 10_000_000)?;
-    push_digit(text, part, 1_000_000)?;
-    push_digit(text, part, 100_000)?;
-    push_digit(text, part, 10_000)?;
-    push_digit(text, part, 1_000)?;
-    push_digit(text, part, 100)?;
-    push_digit(text, part, 10)?;
-    push_digit(text, part, 1)
+    for unit in EIGHT_UNITS {
+        push_digit(text, part, unit)?;
+    }
+    Ok(())
 }
 
 /// What stands before a number: `-` if it is below zero.
