@@ -2,7 +2,7 @@
 use Rattle.std.proofs.Common.{ℕ, ◌+◌, ◌-◌, List, Option, is_some, refl, sym, ap, subst, ◌∙◌, arith}
 use Rattle.wl_link.specs.declared.object.Object.{Object}
 use Rattle.wl_link.specs.Store.{client_range, server_range}
-use Rattle.wl_link.specs.Inside.FreeTree.{IsHeight}
+use Rattle.wl_sets.specs.FreeTree.{IsHeight}
 use Rattle.wl_link.specs.ObjectMap.{WordsRead}
 use Rattle.wl_link.specs.Inside.PlaceList.{store_of, Within, WordsReadIn}
 use Rattle.wl_link.proofs.Keeping.{held_client, held_server}

@@ -19,7 +19,7 @@ use Rattle.wl_link.specs.declared.object_map.InsertError.TheVariants as insert
 use Rattle.wl_link.specs.declared.object_map.NewError.TheVariants as new
 use Rattle.wl_link.specs.Exchange.{Queue, Sending, nothing}
 use Rattle.wl_link.proofs.Calls.FlushLaws.{some_bytes}
-use Rattle.wl_link.specs.Inside.FreeTree.{IsHeight, lowest_bit, reads_of}
+use Rattle.wl_sets.specs.FreeTree.{IsHeight, lowest_bit, reads_of}
 use Rattle.wl_link.specs.Identity.{named_in, names}
 use Rattle.wl_link.specs.Link.{AreLimits, FilledBy, Flushes, Grows, IsLimit, LinkState, ReadOne, Wants, WroteBy, grown_capacity, ignoring, incoming_limit, left_of, offer_of, offer_size, spelled, with_incoming_capacity}
 use Rattle.wl_link.specs.Mailbox.{MailboxState, behind, front, mailbox_after_receive, mailbox_after_send, mailbox_answer, mailbox_gives}

@@ -11,7 +11,7 @@ use Rattle.wl_wire.proofs.Spelling.RoundTrip.{length-spelling}
 use Rattle.wl_link.specs.Inside.WaitingBytes.{Waiting, Appended, waits, arrived}
 use Rattle.wl_link.specs.Link.{TokensAsk}
 use Rattle.wl_link.proofs.Receiving.{front_and_part}
-use Rattle.wl_link.proofs.Trees.{written}
+use Rattle.wl_sets.proofs.Trees.{written}
 
 -- what is put behind all is put behind those that are left
 pub queued_behind : {X E : Type 0} (r : Result ℕ E) (start : ℕ) (old new more : List X) → start ≤ length old → OnOk r (new ≡ old ++ more)

@@ -1,5 +1,4 @@
 -- What the functions inside promise each other; no public clause names these.
-pub mod FreeTree
 pub mod PlaceList
 pub mod WaitingBytes
 pub mod ReaderLoops

@@ -8,7 +8,7 @@ use Rattle.wl_link.specs.declared.object_map.InsertError.{InsertError}
 use Rattle.wl_link.specs.declared.object_map.InsertError.TheVariants as insert
 use Rattle.wl_link.specs.declared.object_map.NewError.{NewError}
 use Rattle.wl_link.specs.declared.object_map.NewError.TheVariants as new
-use Rattle.wl_link.specs.Inside.FreeTree.{IsHeight}
+use Rattle.wl_sets.specs.FreeTree.{IsHeight}
 use Rattle.wl_link.specs.Store.{Store, Range, held, is_free, first_unused, stored, rewritten, IsLeastAbsent, IsFull}
 
 -- what a map keeps, whether its next insertion takes no memory, and how many words the last search for a number read

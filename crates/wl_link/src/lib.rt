@@ -29,7 +29,6 @@
 mod all_objects;
 mod buffer;
 mod buffered_socket;
-mod free_tree;
 mod into_objects;
 pub mod laws;
 mod limit;

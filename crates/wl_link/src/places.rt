@@ -9,7 +9,7 @@ ghost use Rattle.wl_link.specs.declared.object_map.InsertError.TheVariants as in
 ghost use Rattle.wl_link.specs.declared.object_map.NewError.TheVariants as new;
 
 use crate::all_objects::RangeObjects;
-use crate::free_tree::FreeTree;
+use wl_sets::free_tree::FreeTree;
 use crate::into_objects::RangeIntoObjects;
 use crate::object::Object;
 use crate::object_map::{InsertError, NewError};

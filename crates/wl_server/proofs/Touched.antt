@@ -1,6 +1,4 @@
 -- The clients that were touched, and those for which nothing waits.
-pub mod LowestBit
-pub mod SlotSets
 pub mod Kept
 pub mod Flushed
 pub mod Gathered

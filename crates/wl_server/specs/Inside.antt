@@ -25,5 +25,4 @@ pub mod EventChecks
 pub mod Ending
 pub mod Performing
 pub mod Dispatching
-pub mod SlotSets
 pub mod Touched

@@ -9,7 +9,6 @@ pub mod flush;
 pub mod insert;
 pub mod kill;
 pub mod limits;
-pub mod slot_set;
 pub mod stored;
 pub mod touched;
 pub mod transport;

@@ -8,7 +8,7 @@ use Rattle.wl_link.specs.declared.object_map.NewError.{NewError}
 use Rattle.wl_link.specs.declared.object_map.NewError.TheVariants as new
 use Rattle.wl_link.specs.declared.object_map.Place.{Place}
 use Rattle.wl_link.specs.declared.object_map.Place.TheVariants.{Nowhere, Client, Server}
-use Rattle.wl_link.specs.Inside.FreeTree.{IsTree, IsHeight, words_of, has_capacity, is_ready}
+use Rattle.wl_sets.specs.FreeTree.{IsTree, IsHeight, words_of, has_capacity, is_ready}
 use Rattle.wl_link.specs.Store.{Store, client_range, server_range}
 
 -- how many places there are after something is put at this one

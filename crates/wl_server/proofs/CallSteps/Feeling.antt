@@ -22,7 +22,8 @@ use Rattle.wl_server.specs.Inside.Places.{AllFeel, FeltAt, PlaceFeels}
 use Rattle.wl_server.specs.Server.{Seen, ServerState, Stored, client_at, if_serial, seen_as, notes_of}
 use Rattle.wl_server.specs.Steps.{AsksForRoom, Makes, MakesNotes, NotesGoOn, NumbersClient, AnswersShared, RisesBySlot, inserted_by, lacks_growth, offer_after}
 use Rattle.wl_server.proofs.CallSteps.Numbering.{all_none}
-use Rattle.wl_server.proofs.CallSteps.Slots.{Kind, client_present, get_set_other, get_set_same, on_part, other_of, same_parts, slot_within}
+use Rattle.wl_sets.proofs.Lists.{get_set_other, get_set_same, other_of}
+use Rattle.wl_server.proofs.CallSteps.Slots.{Kind, client_present, on_part, same_parts, slot_within}
 
 module _ {T U C : Type 0} (R : Kind T U C) where
   -- ---- the loop over the slots

@@ -13,7 +13,8 @@ use Rattle.wl_server.specs.Inside.Leaving.{all_staying, staying}
 use Rattle.wl_server.specs.NoteOrder.{AllInTime, AllNumbered, AllTakeFirst, AreInTime, GivesNumbers, HasNumbers, InTimeBelow, InTurn, IsNumbered, NoneWaits, NotesInTime, RiseWithin, TakesFirst, last_number, number_after, number_past, numbers_from, place_at, times_at, times_of}
 use Rattle.wl_server.specs.Inside.NoteOrder.{NoneNumbered}
 use Rattle.wl_server.specs.Server.{NoteTimes, Stored, client_at, no_times, stored_at}
-use Rattle.wl_server.proofs.CallSteps.Slots.{get_set_other, get_set_same, other_of, slot_of_client}
+use Rattle.wl_sets.proofs.Lists.{get_set_other, get_set_same, other_of}
+use Rattle.wl_server.proofs.CallSteps.Slots.{slot_of_client}
 
 -- ---- numbers that rise
 

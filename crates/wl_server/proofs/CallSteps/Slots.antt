@@ -4,6 +4,7 @@ use Rattle.std.specs.Option.{option_map_or}
 use Rattle.std.specs.Prelude.{if◌then◌else◌, ◌==◌, slice_get, slice_index_or, slice_set}
 use Rattle.std.proofs.lemmas.Bool.{eqb-true, eq-eqb, false≢true}
 use Rattle.std.proofs.lemmas.Option.{slice_get_past, slice_get_read, slice_get_within}
+use Rattle.wl_sets.proofs.Lists.{get_set_other, get_set_same, other_of}
 use Rattle.wl_server.specs.declared.notes.Happening.{Happening}
 use Rattle.wl_server.specs.declared.notes.Note.{Note}
 use Rattle.wl_server.specs.Deeds.{Deed, notes_in}
@@ -12,24 +13,7 @@ use Rattle.wl_server.specs.Part.{Part}
 use Rattle.wl_server.specs.PartStep.{OfClient, OnPart}
 use Rattle.wl_server.specs.Server.{Seen, Stored, client_at, if_serial, no_times, notes_of, seen_as, untimed}
 
--- ---- lists
-
-pub get_set_same : {A : Type 0} (xs : List A) (i : ℕ) (x y : A) → slice_get xs i ≡ Some x → slice_get (slice_set xs i y) i ≡ Some y
-get_set_same [] i x y is = absurd (false≢true (ap is_some is))
-get_set_same (z ∷ xs) zero x y is = refl
-get_set_same (z ∷ xs) (suc i) x y is = get_set_same xs i x y is
-
-pub get_set_other : {A : Type 0} (xs : List A) (i j : ℕ) (y : A) → i ≢ j → slice_get (slice_set xs i y) j ≡ slice_get xs j
-get_set_other [] i j y differ = refl
-get_set_other (z ∷ xs) zero zero y differ = absurd (differ refl)
-get_set_other (z ∷ xs) zero (suc j) y differ = refl
-get_set_other (z ∷ xs) (suc i) zero y differ = refl
-get_set_other (z ∷ xs) (suc i) (suc j) y differ = get_set_other xs i j y (λ e. differ (ap suc e))
-
 -- ---- ids
-
-pub other_of : (i j : ℕ) → (i == j) ≡ false → i ≢ j
-other_of i j differ e = true≢false (sym (eq-eqb i j e) ∙ differ)
 
 -- two ids have the same slot and serial, or differ
 pub data Same (a b : ClientParts) : Type 0 where

@@ -13,7 +13,8 @@ use Rattle.wl_server.specs.Inside.Gathering.{Gathers, MovesNote, count_leaving, 
 use Rattle.wl_server.specs.NoteOrder.{to_gather}
 use Rattle.wl_server.specs.Ids.{ClientParts, same_client}
 use Rattle.wl_server.specs.Server.{Stored, client_at, if_serial, note_of, notes_of, told_of}
-use Rattle.wl_server.proofs.CallSteps.Slots.{Are, Serials, Slots, client_absent, client_present, compare, get_set_other, get_set_same, other_of, same_parts, same_self, same_serials, same_slots}
+use Rattle.wl_sets.proofs.Lists.{get_set_other, get_set_same, other_of}
+use Rattle.wl_server.proofs.CallSteps.Slots.{Are, Serials, Slots, client_absent, client_present, compare, same_parts, same_self, same_serials, same_slots}
 
 -- ---- notes of one client
 

@@ -18,7 +18,7 @@ use Rattle.wl_server.specs.NoteOrder.{Along, IsOrderOf, all_places, place_at, pl
 use Rattle.wl_server.specs.Inside.NoteOrder.{AreNumbered, NoneNumbered, count_places, place_of}
 use Rattle.wl_server.specs.Ids.{ClientParts}
 use Rattle.wl_server.specs.Server.{NoteTimes, Stored, no_times, note_of, stored_at}
-use Rattle.wl_server.proofs.CallSteps.Slots.{get_set_other, get_set_same, other_of}
+use Rattle.wl_sets.proofs.Lists.{get_set_other, get_set_same, other_of}
 
 -- ---- lists of places
 

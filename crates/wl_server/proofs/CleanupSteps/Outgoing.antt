@@ -23,7 +23,7 @@ use Rattle.wl_server.specs.Part.{end_note, id_at}
 use Rattle.wl_server.specs.Server.{Stored, no_times, note_of}
 use Rattle.wl_server.proofs.Readings.Flushing.{killed_stays, live_flushed}
 use Rattle.wl_server.proofs.CleanupSteps.Gathering.{map_set}
-use Rattle.wl_server.proofs.CallSteps.Slots.{get_set_other, get_set_same, other_of}
+use Rattle.wl_sets.proofs.Lists.{get_set_other, get_set_same, other_of}
 
 map_itself : {A : Type 0} (f : A → A) (xs : List A) → ((k : ℕ) (x : A) → slice_get xs k ≡ Some x → f x ≡ x) → map f xs ≡ xs
 map_itself f [] all = refl

@@ -27,7 +27,8 @@ use Rattle.wl_server.specs.PartStep.{Asked, Inserted, Unfelt, World}
 use Rattle.wl_server.specs.Server.{Seen, ServerState, Stored, client_at, if_serial, no_times, notes_of, seen_as, stored_at, untimed}
 use Rattle.wl_server.specs.Steps.{IsLeastFree, LacksSlot, StepOf}
 use Rattle.wl_server.proofs.CallSteps.Numbering.{all_none}
-use Rattle.wl_server.proofs.CallSteps.Slots.{Are, Serials, Slots, client_absent, client_present, compare, did_at, get_set_other, get_set_same, held_of, other_of, same_parts, same_self, same_serials, same_slots}
+use Rattle.wl_sets.proofs.Lists.{get_set_other, get_set_same, other_of}
+use Rattle.wl_server.proofs.CallSteps.Slots.{Are, Serials, Slots, client_absent, client_present, compare, did_at, held_of, same_parts, same_self, same_serials, same_slots}
 
 module _ {T U C : Type 0} where
   -- ---- slots

@@ -15,7 +15,8 @@ use Rattle.wl_server.specs.Part.{Part}
 use Rattle.wl_server.specs.Posted.{TellsOrLacks}
 use Rattle.wl_server.specs.Server.{Stored, client_at}
 use Rattle.wl_server.specs.Telling.{Kills, error_message}
-use Rattle.wl_server.proofs.CallSteps.Slots.{client_present, get_set_same, slot_of_client}
+use Rattle.wl_sets.proofs.Lists.{get_set_same}
+use Rattle.wl_server.proofs.CallSteps.Slots.{client_present, slot_of_client}
 use Rattle.wl_server.proofs.ObjectCalls.Posting.{kills_is}
 
 module _ {T U C : Type 0} where

@@ -16,7 +16,8 @@ use Rattle.wl_server.specs.Part.{Part, named, with_user_data}
 use Rattle.wl_server.specs.Plain.{EndsBind, EndsOpenRequest, RequestDataHeld, ReturnsBindData, ReturnsRequestData, client_in}
 use Rattle.wl_server.specs.Server.{Stored, client_at}
 use Rattle.wl_server.proofs.Plain.Finishing.{given_named}
-use Rattle.wl_server.proofs.CallSteps.Slots.{client_present, get_set_same, slot_of_client}
+use Rattle.wl_sets.proofs.Lists.{get_set_same}
+use Rattle.wl_server.proofs.CallSteps.Slots.{client_present, slot_of_client}
 
 -- ---- data that are given
 

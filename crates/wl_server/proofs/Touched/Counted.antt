@@ -5,7 +5,7 @@ use Rattle.wl_server.specs.declared.notes.queues.NotePlace.{NotePlace}
 use Rattle.wl_server.specs.Inside.Gathering.{count_leaving}
 use Rattle.wl_server.specs.Inside.Leaving.{collected, ends_at, given_at}
 use Rattle.wl_server.specs.Inside.NoteOrder.{count_places}
-use Rattle.wl_server.specs.Inside.SlotSets.{IsOut}
+use Rattle.wl_sets.specs.SlotSets.{IsOut}
 use Rattle.wl_server.specs.Inside.Touched.{AllQuiet, IsQuiet}
 use Rattle.wl_server.specs.NoteOrder.{all_places, places_at, places_of, times_of, to_gather}
 use Rattle.wl_server.specs.Server.{Stored, no_times}

@@ -9,7 +9,7 @@ use Rattle.wl_server.specs.Deeds.{Deed, notes_in}
 use Rattle.wl_server.specs.Felt.{FlushedTo, FlushesLive}
 use Rattle.wl_server.specs.Inside.Client.{Does}
 use Rattle.wl_server.specs.Inside.Places.{AllFeel, PlaceFeels}
-use Rattle.wl_server.specs.Inside.SlotSets.{IsOut}
+use Rattle.wl_sets.specs.SlotSets.{IsOut}
 use Rattle.wl_server.specs.Inside.Touched.{AllSent, HasSent, IsCalm}
 use Rattle.wl_server.specs.Part.{Part}
 use Rattle.wl_server.specs.Server.{Stored}

@@ -6,10 +6,10 @@ use Rattle.std.specs.Prelude.{◌==◌, IsTrue, MatchOption, slice_get, slice_se
 use Rattle.std.proofs.lemmas.Bool.{eqb-true}
 use Rattle.wl_server.specs.declared.client.touched.Touched.{Touched}
 use Rattle.wl_server.specs.Inside.Inserting.{IsPut}
-use Rattle.wl_server.specs.Inside.SlotSets.{Adds, IsOut, TakesOut}
+use Rattle.wl_sets.specs.SlotSets.{Adds, IsOut, TakesOut}
 use Rattle.wl_server.specs.Inside.Touched.{AllOut, AreTouched, HasSent, IsQuiet, StayTouched}
 use Rattle.wl_server.specs.Server.{Stored, stored_at}
-use Rattle.wl_server.proofs.CallSteps.Slots.{get_set_other, get_set_same, other_of}
+use Rattle.wl_sets.proofs.Lists.{get_set_other, get_set_same, other_of}
 
 -- ---- from one slot to a later one
 

@@ -1,7 +1,7 @@
 -- Which clients were touched: for the others nothing waits.
 use Rattle.std.specs.Prelude.{◌≡◌, ℕ, List, [], false, Option, None, Some}
 use Rattle.wl_server.specs.declared.client.touched.Touched.{Touched}
-use Rattle.wl_server.specs.Inside.SlotSets.{IsOut}
+use Rattle.wl_sets.specs.SlotSets.{IsOut}
 use Rattle.wl_server.specs.Server.{Stored, no_times, stored_at}
 
 module _ {T U C : Type 0} where

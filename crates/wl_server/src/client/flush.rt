@@ -19,7 +19,7 @@ ghost use Rattle.wl_server.specs.declared.runs.step.Step.TheVariants as step;
 
 use crate::backend::Backend;
 use crate::client::Client;
-use crate::client::slot_set::SlotSet;
+use wl_sets::slot_set::SlotSet;
 use crate::client::stored::stored_mut;
 use crate::events::display::is_out_of_memory;
 use crate::globals::handler::GlobalHandler;

@@ -4,10 +4,10 @@
 //! client or an object (`Note`).
 
 ghost use Rattle.std.specs.Prelude.{ℕ};
-ghost use Rattle.wl_server.specs.Inside.SlotSets.{Adds, IsOut};
+ghost use Rattle.wl_sets.specs.SlotSets.{Adds, IsOut};
 ghost use Rattle.wl_server.specs.Inside.Touched.{StayTouched};
 
-use crate::client::slot_set::SlotSet;
+use wl_sets::slot_set::SlotSet;
 use std::alloc::Global;
 use wl_wire::OutOfMemory;
 

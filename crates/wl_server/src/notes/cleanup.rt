@@ -20,7 +20,7 @@ ghost use Rattle.wl_server.specs.declared.runs.step.Step.TheVariants as step;
 use crate::backend::Backend;
 use crate::client::Client;
 use crate::client::flush::flush_killed;
-use crate::client::slot_set::SlotSet;
+use wl_sets::slot_set::SlotSet;
 use crate::globals::handler::GlobalHandler;
 use crate::ids::client_id::ClientId;
 use crate::notes::Note;

@@ -1,7 +1,7 @@
 use Rattle.std.proofs.Common.{◌≡◌, ◌+◌, arith, length, subst, sym}
-use Rattle.wl_link.specs.Inside.FreeTree.{IsTree, words_of}
+use Rattle.wl_sets.specs.FreeTree.{IsTree, words_of}
 use Rattle.wl_link.specs.Inside.PlaceList.{free_flag}
-use Rattle.wl_link.proofs.Trees.{marks_pushed, free_past}
+use Rattle.wl_link.proofs.FreePlaces.{marks_pushed, free_past}
 use Rattle.wl_link.proofs.places.Places.append.Goals as goal
 
 pub push-requires-2-clause-tree : goal.push-requires-2-clause-tree

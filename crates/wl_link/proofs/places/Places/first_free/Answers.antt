@@ -1,7 +1,8 @@
 use Rattle.std.proofs.Common.{◌≡◌, arith, length, Some, None}
-use Rattle.wl_link.specs.Inside.FreeTree.{words_of}
+use Rattle.wl_sets.specs.FreeTree.{words_of}
 use Rattle.wl_link.specs.Inside.PlaceList.{free_flag}
-use Rattle.wl_link.proofs.Trees.{first_is, none_is, height_within, reads_places, few_reads}
+use Rattle.wl_sets.proofs.Trees.{height_within, few_reads}
+use Rattle.wl_link.proofs.FreePlaces.{first_is, none_is, reads_places}
 use Rattle.wl_link.proofs.places.Places.first_free.Goals as goal
 
 pub least-requires-clause-few : goal.least-requires-clause-few

@@ -1,8 +1,8 @@
 use Rattle.std.proofs.Common.{arith, length, Some}
 use Rattle.std.proofs.lemmas.Grind.{common_steps}
-use Rattle.wl_link.specs.Inside.FreeTree.{words_of}
+use Rattle.wl_sets.specs.FreeTree.{words_of}
 use Rattle.wl_link.specs.Inside.PlaceList.{free_flag}
-use Rattle.wl_link.proofs.Trees.{height_within, few_reads}
+use Rattle.wl_sets.proofs.Trees.{height_within, few_reads}
 use Rattle.wl_link.proofs.places.Places.insert_new.Goals as goal
 
 pub take_least-requires-clause-few : goal.take_least-requires-clause-few

@@ -16,7 +16,7 @@ use Rattle.std.proofs.lemmas.Bool.{eqb-true}
 use Rattle.wl_link.specs.Identity.{Id}
 use Rattle.wl_server.specs.Felt.{announcements, is_first}
 use Rattle.wl_server.proofs.GlobalCalls.PutEach.{each_of_none, each_starved}
-use Rattle.wl_server.proofs.CallSteps.Slots.{other_of}
+use Rattle.wl_sets.proofs.Lists.{other_of}
 use Rattle.wl_server.proofs.OverRuns.Announced.AnnouncementLaws.{same_id_self}
 use Rattle.wl_server.proofs.globals.announce.Announcement.tell.Goals as goal
 

@@ -1,6 +1,0 @@
-use Rattle.wl_link.specs.Inside.FreeTree.{words_of}
-use Rattle.wl_link.proofs.Trees.{levels_of}
-use Rattle.wl_link.proofs.free_tree.FreeTree.take_least.Goals as goal
-
-pub returns-clause-height : goal.returns-clause-height
-returns-clause-height c = levels_of (words_of c.args.self.now.levels.items)

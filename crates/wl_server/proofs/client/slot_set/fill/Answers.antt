@@ -1,6 +1,0 @@
-use Rattle.std.proofs.Common.{arith}
-use Rattle.wl_server.proofs.Touched.SlotSets.{all_set}
-use Rattle.wl_server.proofs.client.slot_set.fill.Goals as goal
-
-pub returns : goal.returns
-returns c = all_set c.loop-row.words (λ r below. c.loop-row.invariant.set r (omega (arith, below, c.loop-row-test.false, c.loop-row.invariant.ends)))

@@ -1,8 +1,0 @@
-use Rattle.std.proofs.Common.{◌≡◌, ℕ, ◌<◌, ◌≤◌, length, Some, slice_get}
-use Rattle.wl_server.proofs.client.slot_set.next_row.Given as goal
-
-abbrev pub invariant-loop-row : goal.invariant-loop-row
-invariant-loop-row l = record {
-  skipped : (r : ℕ) → l.from ≤ r → r < l.row → slice_get l.words r ≡ Some 0;
-  ends : l.row-end ≡ length l.words;
-}
