@@ -2,3 +2,4 @@
 pub mod PlaceList
 pub mod WaitingBytes
 pub mod ReaderLoops
+pub mod HandFront

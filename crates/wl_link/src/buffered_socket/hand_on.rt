@@ -10,6 +10,7 @@ ghost use Rattle.wl_wire.specs.Parse.{IsInline, IsWhole, ReadsMessage, RefusesMe
 ghost use Rattle.wl_link.specs.Exchange.{joined, nothing};
 ghost use Rattle.wl_link.specs.HandOn.{Carries, HandsOn, HandsOnRest, LeavesOtherWay};
 ghost use Rattle.wl_link.specs.Link.{has_room, with_incoming, with_outgoing};
+ghost use Rattle.wl_link.specs.Inside.HandFront.{HandsFront};
 ghost use Rattle.wl_link.specs.Inside.WaitingBytes.{beside};
 
 use crate::buffered_socket::BufferedSocket;
@@ -108,6 +109,34 @@ impl<T> BufferedSocket<T> {
         Ok((bytes, tokens))
     }
 
+    /// Moves so many bytes and tokens from the front of what was received to the end of what waits to be sent on the other
+    /// link. The error is `NoRoom` or `OutOfMemory`. Then nothing was moved, but the buffer of the other link may have grown.
+    fn hand_front<S>(
+        &mut self,
+        len: usize,
+        count: usize,
+        to: &mut BufferedSocket<S>,
+    ) -> Result<(), HandOnError>
+        requires bytes { len ≤ length self.old.incoming.bytes }
+        requires tokens { count ≤ length self.old.incoming.tokens }
+        ensures handed { HandsFront len count self.old to.old result self.new to.new }
+        ensures carried { Carries self.old to.old self.new to.new }
+        ensures other_way { LeavesOtherWay self.old to.old self.new to.new }
+    {
+        let bytes = self.incoming.bytes();
+        let Ok(()) = to.grow_for(len) else {
+            return Err(HandOnError::OutOfMemory);
+        };
+        if !to.has_room(len) {
+            return Err(HandOnError::NoRoom);
+        }
+        let Ok(()) = to.put_raw(&bytes[..len], &mut self.fds_in, count) else {
+            return Err(HandOnError::OutOfMemory);
+        };
+        self.incoming.consume(len);
+        Ok(())
+    }
+
     /// Takes the first message off what was received, and appends it to what waits to be sent on the other link: its bytes as
     /// they are, and as many tokens as the signature has file descriptors.
     ///
@@ -143,17 +172,7 @@ impl<T> BufferedSocket<T> {
         if self.fds_in.len() < count {
             return Err(HandOnError::MissingFD);
         }
-        let Ok(()) = to.grow_for(header.len) else {
-            return Err(HandOnError::OutOfMemory);
-        };
-        if !to.has_room(header.len) {
-            return Err(HandOnError::NoRoom);
-        }
-        let Ok(()) = to.put_raw(&bytes[..header.len], &mut self.fds_in, count) else {
-            return Err(HandOnError::OutOfMemory);
-        };
-        self.incoming.consume(header.len);
-        Ok(())
+        self.hand_front(header.len, count, to)
     }
 
     /// Takes all that was received and not read, and appends it to what waits to be sent on the other link, whether it is whole
@@ -170,19 +189,8 @@ impl<T> BufferedSocket<T> {
         ensures carried { Carries self.old to.old self.new to.new }
         ensures other_way { LeavesOtherWay self.old to.old self.new to.new }
     {
-        let (bytes, count) = (self.incoming.bytes(), self.fds_in.len());
-        let len = bytes.len();
-        let Ok(()) = to.grow_for(len) else {
-            return Err(HandOnError::OutOfMemory);
-        };
-        if !to.has_room(len) {
-            return Err(HandOnError::NoRoom);
-        }
-        let Ok(()) = to.put_raw(bytes, &mut self.fds_in, count) else {
-            return Err(HandOnError::OutOfMemory);
-        };
-        self.incoming.consume(len);
-        Ok(())
+        let (len, count) = (self.incoming.len(), self.fds_in.len());
+        self.hand_front(len, count, to)
     }
 
     /// Appends these bytes to what waits to be sent, and as many tokens of the queue, which has them.
