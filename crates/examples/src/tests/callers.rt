@@ -1,4 +1,4 @@
-//! The functions of `wl_callers`.
+//! The functions of `wl_callers`, and its handler.
 
 use smallvec::SmallVec;
 use std::alloc::Global;
@@ -10,6 +10,7 @@ use wl_callers::data::set_count;
 use wl_callers::destruction::destroy_for_good;
 use wl_callers::ending::disconnect;
 use wl_callers::finishing::finish_destruction;
+use wl_callers::labels::Labels;
 use wl_callers::proxy::hand_on;
 use wl_client::ObjectId as ClientObject;
 use wl_link::Memory;
@@ -102,6 +103,18 @@ fn tell_disconnected(server: &mut Server, client: &ClientId, log: &mut String) -
     Ok(())
 }
 
+/// Offers a global. A handler labels what the client binds, and the label is told.
+fn label(server: &mut Server, log: &mut String) -> Result<(), Fail> {
+    let alloc = *log.allocator();
+    let client = server.insert_client(Memory::new(alloc), ())?;
+    offer(server, QUAD, 3, ShownToAll)?;
+    arrive(alloc, server, &client, &BIND)?;
+    server.dispatch_single_client(&mut Labels { label: 5 }, &client)?;
+    let bound = server.object_for_protocol_id(&client, QUAD, 3)?;
+    writeln!(log, "label {}", server.get_object_data(&bound)?)?;
+    Ok(())
+}
+
 /// All of that with the first client of the server.
 fn callers(server: &mut Server, log: &mut String) -> Result<(), Fail> {
     let client = server.insert_client(Memory::new(*log.allocator()), ())?;
@@ -111,17 +124,29 @@ fn callers(server: &mut Server, log: &mut String) -> Result<(), Fail> {
     tell_disconnected(server, &client, log)
 }
 
-/// The log of a server.
-fn log_of(alloc: Global, server: &mut Server) -> Result<String, Fail> {
+/// The calls of a test.
+#[derive(Drop)]
+enum Calls {
+    /// The functions of `wl_callers`, in turn.
+    Callers,
+    /// A dispatch with its handler.
+    Label,
+}
+
+/// The log of a server with these calls.
+fn log_of(alloc: Global, server: &mut Server, calls: Calls) -> Result<String, Fail> {
     let mut log = String::new(alloc);
-    callers(server, &mut log)?;
+    match calls {
+        Calls::Callers => callers(server, &mut log)?,
+        Calls::Label => label(server, &mut log)?,
+    }
     Ok(log)
 }
 
-/// The log of a new server.
-fn server_log(alloc: Global) -> Result<String, Fail> {
+/// The log of a new server with these calls.
+fn server_log(alloc: Global, calls: Calls) -> Result<String, Fail> {
     let mut server = Server::new(alloc, quad_table(alloc)?);
-    let answer = log_of(alloc, &mut server);
+    let answer = log_of(alloc, &mut server, calls);
     drop(server);
     answer
 }
@@ -131,9 +156,15 @@ fn server_log(alloc: Global) -> Result<String, Fail> {
 fn callers_of_a_server(rt: HostRuntime) -> Result<(), Fail> {
     tells(
         &rt,
-        server_log(rt.alloc()),
+        server_log(rt.alloc(), Calls::Callers),
         "count 7\nInvalid Id\nInvalid Id\nclient 0, sends 1\n",
     )
+}
+
+/// What a client binds in a dispatch has the handler's label as its data.
+#[test]
+fn labels_of_a_handler(rt: HostRuntime) -> Result<(), Fail> {
+    tells(&rt, server_log(rt.alloc(), Calls::Label), "label 5\n")
 }
 
 /// Two times `global`, of the name 1 and of the name 2, as `quad` of version 3.
