@@ -9,11 +9,11 @@ ghost use Rattle.wl_link.specs.declared.object_map.InsertError.TheVariants as in
 ghost use Rattle.wl_link.specs.declared.object_map.NewError.TheVariants as new;
 
 use crate::all_objects::RangeObjects;
-use wl_sets::free_tree::FreeTree;
 use crate::into_objects::RangeIntoObjects;
 use crate::object::Object;
 use crate::object_map::{InsertError, NewError};
 use std::alloc::Global;
+use wl_sets::free_tree::FreeTree;
 use wl_wire::OutOfMemory;
 
 /// A place for each number of a range that was ever in use, from the first number of the range on.

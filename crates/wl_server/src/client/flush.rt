@@ -19,12 +19,12 @@ ghost use Rattle.wl_server.specs.declared.runs.step.Step.TheVariants as step;
 
 use crate::backend::Backend;
 use crate::client::Client;
-use wl_sets::slot_set::SlotSet;
 use crate::client::stored::stored_mut;
 use crate::events::display::is_out_of_memory;
 use crate::globals::handler::GlobalHandler;
 use crate::ids::client_id::ClientId;
 use wl_link::Transport;
+use wl_sets::slot_set::SlotSet;
 use wl_wire::IoFault;
 
 impl<T: Transport + Drop, U: Drop, C: Drop> Client<T, U, C> {

@@ -7,8 +7,8 @@ ghost use Rattle.std.specs.Prelude.{ℕ};
 ghost use Rattle.wl_sets.specs.SlotSets.{Adds, IsOut};
 ghost use Rattle.wl_server.specs.Inside.Touched.{StayTouched};
 
-use wl_sets::slot_set::SlotSet;
 use std::alloc::Global;
+use wl_sets::slot_set::SlotSet;
 use wl_wire::OutOfMemory;
 
 /// The slots of the clients for which something may wait. A client that is looked up to be changed is put into both sets.

@@ -20,7 +20,6 @@ ghost use Rattle.wl_server.specs.declared.runs.step.Step.TheVariants as step;
 use crate::backend::Backend;
 use crate::client::Client;
 use crate::client::flush::flush_killed;
-use wl_sets::slot_set::SlotSet;
 use crate::globals::handler::GlobalHandler;
 use crate::ids::client_id::ClientId;
 use crate::notes::Note;
@@ -29,6 +28,7 @@ use crate::notes::leaving::{count_ending, end_objects};
 use crate::notes::queues::{NoteNumbers, NotePlace};
 use std::alloc::Global;
 use wl_link::Transport;
+use wl_sets::slot_set::SlotSet;
 use wl_wire::OutOfMemory;
 
 /// Takes the client of a slot out, if it was killed. Notes are made of the end of its objects that have user data, and

@@ -12,11 +12,11 @@ ghost use Rattle.wl_server.specs.Inside.Touched.{AllQuiet, IsQuiet};
 ghost use Rattle.wl_server.specs.Server.{note_of as the_note};
 
 use crate::client::Client;
-use wl_sets::slot_set::SlotSet;
 use crate::ids::client_id::ClientId;
 use crate::notes::queues::NotePlace;
 use crate::notes::{Happening, Note};
 use std::alloc::Global;
+use wl_sets::slot_set::SlotSet;
 use wl_wire::OutOfMemory;
 
 /// The note that this happened to the client.

@@ -19,9 +19,9 @@ none_after q = queue_is _ nothing (drop_all (length q.bytes) q.bytes (omega arit
 rest_handed : {S R : Type 0} (from from' : LinkState R) (to to' : LinkState S) (answer : Result (Unit {0}) HandOnError)
     → HandsFront (length from.incoming.bytes) (length from.incoming.tokens) from to answer from' to' → HandsOnRest from to answer from' to'
 rest_handed from from' to to' (Ok _) (taken, (grown, room, put)) = (
-      taken ∙ ap (with_incoming from from.transport) (none_after from.incoming),
-      (grown, room, put ∙ ap (λ (q : Queue). with_outgoing grown grown.transport (joined grown.outgoing q)) (all_of from.incoming)),
-    )
+  taken ∙ ap (with_incoming from from.transport) (none_after from.incoming),
+  (grown, room, put ∙ ap (λ (q : Queue). with_outgoing grown grown.transport (joined grown.outgoing q)) (all_of from.incoming)),
+)
 rest_handed from from' to to' (Err hand.NoRoom) h = h
 rest_handed from from' to to' (Err hand.OutOfMemory) h = h
 rest_handed from from' to to' (Err hand.MissingData) h = h
