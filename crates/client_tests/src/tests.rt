@@ -8,6 +8,7 @@ mod acts;
 mod cuts;
 mod drops;
 mod events;
+mod failing;
 mod faults;
 mod hints;
 mod objects;

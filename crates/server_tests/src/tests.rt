@@ -9,6 +9,7 @@ mod cuts;
 mod cutting;
 mod dispatches;
 mod drops;
+mod failing;
 mod globals;
 mod handlers;
 mod long;

@@ -4,9 +4,9 @@ ghost use Rattle.std.specs.Prelude.{◌<◌};
 
 use super::replayed::replay;
 use super::ways::{Read, Way, read_in, send_in};
-use client_test_kit::steps::Call;
-use client_test_kit::told::*;
-use client_test_kit::values::{Child, Object, Request, message};
+use crate::kit::steps::Call;
+use crate::kit::told::*;
+use crate::kit::values::{Child, Object, Request, message};
 use std::alloc::{AllocError, Global};
 use std::fmt::Write;
 use std::test::Fail;

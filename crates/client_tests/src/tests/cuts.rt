@@ -2,7 +2,7 @@
 
 use super::acts::{Act, Cue, Look, log_of};
 use super::ways::Way;
-use client_test_kit::values::{Object, Request};
+use crate::kit::values::{Object, Request};
 use std::alloc::Global;
 use std::test::Fail;
 use test_kit::cuts::{Stream, cut_of, cutting_tells};

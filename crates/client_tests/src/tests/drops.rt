@@ -1,7 +1,7 @@
 //! What a call was given and refuses, and what a session gives up, is dropped, once and then: each value counts its drops.
 
-use client_test_kit::counted::{Counted, Line};
-use client_test_kit::values::{Object, Request, message};
+use crate::kit::counted::{Counted, Line};
+use crate::kit::values::{Object, Request, message};
 use std::alloc::Global;
 use std::cell::Cell;
 use std::test::Fail;

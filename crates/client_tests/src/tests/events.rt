@@ -1,7 +1,7 @@
 //! Events: their arguments, those that break the protocol, and errors that the server tells.
 
 use super::acts::{Act, Cue, Look, Row, rows_tell};
-use client_test_kit::values::{Object, Request};
+use crate::kit::values::{Object, Request};
 use std::test::Fail;
 use test_kit::quad::PAIR;
 use wl_wire::IoFault;

@@ -1,7 +1,7 @@
 //! Faults and wants of memory of the transport, and what is too long for it.
 
 use super::acts::{Act, Cue, Look, Row, rows_tell};
-use client_test_kit::values::Request;
+use crate::kit::values::Request;
 use std::test::Fail;
 use wl_wire::IoFault;
 

@@ -2,7 +2,7 @@
 
 use super::acts::{Act, Cue, Look, log_by};
 use super::ways::Way;
-use client_test_kit::table::hinting_table;
+use crate::kit::table::hinting_table;
 use std::alloc::Global;
 use std::test::Fail;
 use test_kit::log::row_tells;

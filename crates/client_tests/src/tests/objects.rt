@@ -1,7 +1,7 @@
 //! Objects that the server makes, and the ends of objects and of their numbers.
 
 use super::acts::{Act, Cue, Look, Row, rows_tell};
-use client_test_kit::values::{Object, Request};
+use crate::kit::values::{Object, Request};
 use std::test::Fail;
 
 /// `quad.made` of the `quad` 3, with the first number of the server's range.

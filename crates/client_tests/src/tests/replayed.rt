@@ -1,9 +1,9 @@
 //! Runs by `replay`, and wants of memory of the transport.
 
 use super::acts::{Act, Row, rows_tell};
-use client_test_kit::steps::{Call, steps};
-use client_test_kit::told::write_replies;
-use client_test_kit::values::{Object, Request};
+use crate::kit::steps::{Call, steps};
+use crate::kit::told::write_replies;
+use crate::kit::values::{Object, Request};
 use std::alloc::{AllocError, Global};
 use std::fmt::Write;
 use std::test::Fail;

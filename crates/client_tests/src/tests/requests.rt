@@ -1,7 +1,7 @@
 //! Requests: what is sent, which are refused, and those that end an object or carry a descriptor.
 
 use super::acts::{Act, Cue, Look, Row, rows_tell};
-use client_test_kit::values::{Object, Request};
+use crate::kit::values::{Object, Request};
 use std::test::Fail;
 use test_kit::quad::{DESTROY, PAIR};
 use wl_wire::{InterfaceId, WL_CALLBACK_INTERFACE, WL_REGISTRY_INTERFACE};

@@ -1,7 +1,7 @@
 //! The two ways of a run: its requests and events are moved, or lent.
 
 use super::acts::Client;
-use client_test_kit::values::{Child, Request, message};
+use crate::kit::values::{Child, Request, message};
 use std::alloc::Global;
 use std::test::Fail;
 use wl_client::{EventError, ObjectId, RequestError};

@@ -1,9 +1,9 @@
 //! Buffers that have too little room: they grow as far as the program lets them.
 
 use super::run::{Act, Look, WITH_A_QUAD, log_of};
-use server_test_kit::arrivals::{DESTROY, SYNC_AT_4, SYNC_AT_5};
-use server_test_kit::steps::Call;
-use server_test_kit::values::{BOUND, Event, FIRST, Named, Thing};
+use crate::kit::arrivals::{DESTROY, SYNC_AT_4, SYNC_AT_5};
+use crate::kit::steps::Call;
+use crate::kit::values::{BOUND, Event, FIRST, Named, Thing};
 use std::alloc::Global;
 use std::test::Fail;
 use test_kit::log::{row_tells, tells};

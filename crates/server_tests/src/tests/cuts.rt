@@ -1,12 +1,12 @@
 //! What breaks the protocol, in every cutting: whole, in two at each place, and byte by byte.
 
 use super::run::{Act, Look, log_of};
-use server_test_kit::arrivals::{
+use crate::kit::arrivals::{
     GET_REGISTRY, LINK_OF_2, LINK_OF_9, LINK_OF_NONE, MAKE, SYNC_AT_5, SYNC_AT_SERVER,
     UNKNOWN_OPCODE, UNKNOWN_SENDER,
 };
-use server_test_kit::steps::Call;
-use server_test_kit::values::{FIRST, Named, SECOND};
+use crate::kit::steps::Call;
+use crate::kit::values::{FIRST, Named, SECOND};
 use std::alloc::Global;
 use std::test::Fail;
 use test_kit::cuts::{Stream, cut_of, cutting_tells};

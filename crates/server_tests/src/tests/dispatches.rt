@@ -2,9 +2,9 @@
 
 use super::handlers::{Contrary, Killing, Numbering, Summing, TakingOut, Working};
 use super::run::{Act, Look, Server, WITH_A_QUAD, perform_all};
-use server_test_kit::arrivals::{BIND, DESTROY, GET_REGISTRY, MAKE_BY_SERVER, SYNC};
-use server_test_kit::steps::Call;
-use server_test_kit::values::{FIRST, SECOND, Shown, Thing};
+use crate::kit::arrivals::{BIND, DESTROY, GET_REGISTRY, MAKE_BY_SERVER, SYNC};
+use crate::kit::steps::Call;
+use crate::kit::values::{FIRST, SECOND, Shown, Thing};
 use std::alloc::Global;
 use std::fmt::Write;
 use std::test::Fail;

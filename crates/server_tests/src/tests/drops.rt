@@ -1,8 +1,8 @@
 //! What a call was given and refuses, and what the server gives up, is dropped, once and then: each value counts its drops.
 
-use server_test_kit::arrivals::SYNC_AT_5;
-use server_test_kit::counted::{Counted, Line};
-use server_test_kit::values::{FIRST, Named, SECOND, Thing, Who};
+use crate::kit::arrivals::SYNC_AT_5;
+use crate::kit::counted::{Counted, Line};
+use crate::kit::values::{FIRST, Named, SECOND, Thing, Who};
 use smallvec::SmallVec;
 use std::alloc::Global;
 use std::cell::Cell;

@@ -1,9 +1,9 @@
 //! Requests that are longer than the buffer in which they arrive is at first.
 
 use super::run::{Act, Look, Row, WITH_A_QUAD, rows_tell};
-use server_test_kit::arrivals::{GIVE_5000, GIVE_65532};
-use server_test_kit::steps::Call;
-use server_test_kit::values::FIRST;
+use crate::kit::arrivals::{GIVE_5000, GIVE_65532};
+use crate::kit::steps::Call;
+use crate::kit::values::FIRST;
 use std::test::Fail;
 
 /// The runs, and what they tell.

@@ -1,10 +1,10 @@
 //! A server with one client: requests of the display, objects, events, errors, and a transport that lacks memory.
 
 use super::run::{Act, Beside, Look, Row, rows_tell};
-use server_test_kit::arrivals::{GET_REGISTRY, MAKE_BY_SERVER, SYNC, SYNC_AT_5};
-use server_test_kit::steps::Call;
-use server_test_kit::told::done;
-use server_test_kit::values::{DISPLAY, Event, FIRST, Named, SECOND, Thing};
+use crate::kit::arrivals::{GET_REGISTRY, MAKE_BY_SERVER, SYNC, SYNC_AT_5};
+use crate::kit::steps::Call;
+use crate::kit::told::done;
+use crate::kit::values::{DISPLAY, Event, FIRST, Named, SECOND, Thing};
 use std::alloc::Global;
 use std::test::Fail;
 use test_kit::log::tells;

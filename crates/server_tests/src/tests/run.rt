@@ -1,8 +1,8 @@
 //! The one owner of a server: it makes the calls of a run and looks at what they left.
 
-use server_test_kit::steps::{Call, Made, arrive, arrive_with, step};
-use server_test_kit::told::{action, done, object, reply};
-use server_test_kit::values::{Event, FIRST, Named, Shown, Thing, Who, message};
+use crate::kit::steps::{Call, Made, arrive, arrive_with, step};
+use crate::kit::told::{action, done, object, reply};
+use crate::kit::values::{Event, FIRST, Named, Shown, Thing, Who, message};
 use std::alloc::Global;
 use std::fmt::Write;
 use std::test::Fail;

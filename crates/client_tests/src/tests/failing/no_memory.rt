@@ -1,0 +1,185 @@
+//! Calls that take no memory.
+//!
+//! A test names each call on standard error before it makes it. So `./refusal-drill` can count what is allocated for it: nothing,
+//! but for the calls whose name begins with `control`, for which something has to be.
+
+use crate::kit::counted::{Counted, Line};
+use crate::kit::values::{Object, Request, message};
+use std::alloc::Global;
+use std::cell::Cell;
+use std::test::Fail;
+use test_kit::log::holds;
+use test_kit::quad::{QUAD, quad_table};
+use wl_client::{Backend, ObjectId};
+use wl_wire::WL_CALLBACK_INTERFACE;
+
+/// A client whose transport takes all that it is sent, without memory.
+type Client<'a> = Backend<Line<'a>, Counted<'a>>;
+
+/// A call.
+#[derive(Clone, Copy)]
+enum Call {
+    /// `send_request`, of a sync.
+    Send,
+    /// All calls that look something up.
+    LookUp,
+    /// `set_data`, of the callback.
+    SetData,
+    /// `set_data`, of an object that is not there.
+    SetMissing,
+    /// `with_data`, of the callback.
+    LendData,
+    /// `set_max_buffer_size`.
+    Limit,
+    /// `dispatch_inner_queue`.
+    Dispatch,
+    /// `transport_mut`.
+    Transport,
+    /// `flush`.
+    Flush,
+    /// `destroy_object`, of the callback.
+    Destroy,
+    /// `destroy_object`, of the callback of the second sync.
+    DestroySecond,
+    /// `take_notes`.
+    Notes,
+}
+
+/// The calls, in order, each with its name if it is counted.
+static CALLS: [(&str, Call); 14] = [
+    ("control: send_request", Call::Send),
+    ("look-ups", Call::LookUp),
+    ("set_data", Call::SetData),
+    ("set_data of no object", Call::SetMissing),
+    ("with_data", Call::LendData),
+    ("set_max_buffer_size", Call::Limit),
+    ("dispatch_inner_queue", Call::Dispatch),
+    ("transport_mut", Call::Transport),
+    ("flush", Call::Flush),
+    ("", Call::Send),
+    ("control: destroy_object", Call::Destroy),
+    (
+        "destroy_object, with room for its note",
+        Call::DestroySecond,
+    ),
+    ("take_notes", Call::Notes),
+    ("take_notes of none", Call::Notes),
+];
+
+/// Whether each look-up finds what it has to.
+fn is_looked_up(client: &Client) -> bool {
+    let callback = Object::Callback.id();
+    client.info(&callback).is_ok()
+        && client.get_data(&callback).is_ok()
+        && client.display_id() == Object::Display.id()
+        && client.protocol().get(QUAD).is_some()
+        && client.last_error().is_none()
+        && client.open_event().is_none()
+        && client.waiting() == [0, 0, 12, 0]
+}
+
+/// Sends a sync; whether that is done.
+fn send<'a>(alloc: Global, drops: &'a Cell<u64>, client: &mut Client<'a>) -> Result<bool, Fail> {
+    let sync = message(alloc, Request::Sync)?;
+    let data = Some(Counted::new(drops, 1));
+    Ok(client.send_request(sync, data, None).is_ok())
+}
+
+/// Makes the call; whether it answers as it has to.
+fn make<'a>(
+    alloc: Global,
+    drops: &'a Cell<u64>,
+    client: &mut Client<'a>,
+    call: Call,
+) -> Result<bool, Fail> {
+    match call {
+        Call::Send => send(alloc, drops, client),
+        Call::LookUp => Ok(is_looked_up(client)),
+        Call::SetData => {
+            let callback = Object::Callback.id();
+            Ok(client.set_data(&callback, Counted::new(drops, 1)).is_ok())
+        }
+        Call::SetMissing => {
+            let missing = Object::Quad.id();
+            Ok(client.set_data(&missing, Counted::new(drops, 1)).is_err())
+        }
+        Call::LendData => {
+            let callback = Object::Callback.id();
+            Ok(client.with_data(&callback, |_data| ()).is_ok())
+        }
+        _ => Ok(make_of_all(client, call)),
+    }
+}
+
+/// Makes a call that is given nothing.
+fn make_of_all(client: &mut Client, call: Call) -> bool {
+    match call {
+        Call::Limit => {
+            client.set_max_buffer_size(Some(8192));
+            true
+        }
+        Call::Dispatch => client.dispatch_inner_queue().is_ok(),
+        Call::Transport => {
+            let _ = client.transport_mut();
+            true
+        }
+        Call::Flush => client.flush().is_ok(),
+        Call::Destroy => client.destroy_object(&Object::Callback.id()).is_ok(),
+        Call::DestroySecond => {
+            let second = ObjectId::from_parts(3, 2, WL_CALLBACK_INTERFACE);
+            client.destroy_object(&second).is_ok()
+        }
+        _ => client.take_notes().len() < 3,
+    }
+}
+
+/// Makes the call, and names it before if it is counted. Fails if it does not answer as it has to, or was refused memory.
+fn counted<'a>(
+    rt: &(impl Eprint + AllocGlobal),
+    drops: &'a Cell<u64>,
+    client: &mut Client<'a>,
+    (name, call): (&str, Call),
+) -> Result<(), Fail> {
+    if !name.is_empty() {
+        let _ = eprintln!(rt; "call: {name}");
+    }
+    let is_made = make(rt.alloc(), drops, client, call)?;
+    if !name.is_empty() {
+        let _ = eprintln!(rt; "end");
+    }
+    holds(rt, name, is_made && !client.memory_refused())
+}
+
+/// Makes the calls.
+fn all_counted<'a>(
+    rt: &(impl Eprint + AllocGlobal),
+    drops: &'a Cell<u64>,
+    client: &mut Client<'a>,
+    calls: &[(&str, Call)],
+) -> Result<(), Fail> {
+    for call in calls {
+        counted(rt, drops, client, *call)?;
+    }
+    Ok(())
+}
+
+/// A new client.
+fn connected<'a>(alloc: Global, drops: &'a Cell<u64>) -> Result<Client<'a>, Fail> {
+    let table = quad_table(alloc)?;
+    let line = Line::new(&[], Counted::new(drops, 1));
+    Ok(Backend::connect(alloc, table, line)?)
+}
+
+/// Makes the calls of a new client.
+fn counted_of_new<'a>(rt: &(impl Eprint + AllocGlobal), drops: &'a Cell<u64>) -> Result<(), Fail> {
+    let mut client = connected(rt.alloc(), drops)?;
+    let answer = all_counted(rt, drops, &mut client, &CALLS);
+    drop(client);
+    answer
+}
+
+#[test]
+fn takes_no_memory(rt: HostRuntime) -> Result<(), Fail> {
+    let drops = Cell::new(0);
+    counted_of_new(&rt, &drops)
+}

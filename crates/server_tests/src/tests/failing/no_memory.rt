@@ -1,0 +1,327 @@
+//! Calls that take no memory.
+//!
+//! A test names each call on standard error before it makes it. So `./refusal-drill` can count what is allocated for it: nothing,
+//! but for the calls whose name begins with `control`, for which something has to be.
+
+use crate::kit::counted::{Counted, Line};
+use crate::kit::values::{FIRST, Named, SECOND, Thing};
+use std::cell::Cell;
+use std::test::Fail;
+use test_kit::log::holds;
+use test_kit::quad::{QUAD, quad_table};
+use wl_server::{Backend, DisconnectReason};
+use wl_wire::Protocol;
+
+/// A server whose transports take all that they are sent, without memory.
+type Server<'a> = Backend<Line<'a>, Counted<'a>, Counted<'a>, Counted<'a>>;
+
+/// `wl_display.get_registry` with the new id 2; `wl_registry.bind`, of the global 1, as `quad` of version 3, twice: with the
+/// new id 3, and with the new id 4; and `quad.poke`, by object 3.
+const BINDS: [u8; 88] = [
+    1, 0, 0, 0, 1, 0, 12, 0, 2, 0, 0, 0, 2, 0, 0, 0, 0, 0, 32, 0, 1, 0, 0, 0, 5, 0, 0, 0, 113, 117,
+    97, 100, 0, 0, 0, 0, 3, 0, 0, 0, 3, 0, 0, 0, 2, 0, 0, 0, 0, 0, 32, 0, 1, 0, 0, 0, 5, 0, 0, 0,
+    113, 117, 97, 100, 0, 0, 0, 0, 3, 0, 0, 0, 4, 0, 0, 0, 3, 0, 0, 0, 0, 0, 12, 0, 7, 0, 0, 0,
+];
+
+/// The object that the server makes for the first client.
+const MADE: Thing = Thing(FIRST, 0xFF00_0000, 1, QUAD);
+
+/// The object that the first client binds first, after its registry.
+const BOUND: Thing = Thing(FIRST, 3, 3, QUAD);
+
+/// The global.
+const GLOBAL: Named = Named(1, 1);
+
+/// A call.
+#[derive(Clone, Copy)]
+enum Call {
+    /// `insert_client`, of a client that sends two binds.
+    Insert,
+    /// `create_object`, for the first client.
+    Create,
+    /// `create_global`.
+    Global,
+    /// `next_action`, of the first client, which gives a bind, or the request after both.
+    Next,
+    /// All calls that look something up.
+    LookUp,
+    /// `set_object_data`, of the object that was made.
+    SetData,
+    /// `set_object_data`, of an object that is not there.
+    SetMissing,
+    /// `with_object_data`, of the object that was made.
+    LendData,
+    /// `set_default_max_buffer_size`.
+    DefaultLimit,
+    /// `set_client_max_buffer_size`.
+    Limit,
+    /// `transport_mut`.
+    Transport,
+    /// `finish_bind`.
+    FinishBind,
+    /// `finish_bind`, if no action is open.
+    FinishNone,
+    /// `finish_bind_returning`.
+    FinishReturning,
+    /// `finish_request`, of a request that made no object and ended none.
+    FinishRequest,
+    /// `flush` of the first client.
+    Flush,
+    /// `flush` of all clients.
+    FlushAll,
+    /// `take_notes`.
+    Notes,
+    /// `destroy_object`, of this object.
+    Destroy(Thing),
+    /// `cleanup`.
+    Cleanup,
+    /// `kill_client`, of the first client.
+    Kill,
+}
+
+/// The calls, in order, each with its name if it is counted.
+static CALLS: [(&str, Call); 29] = [
+    ("control: insert_client", Call::Insert),
+    ("", Call::Insert),
+    ("", Call::Create),
+    ("", Call::Global),
+    ("", Call::Next),
+    ("look-ups", Call::LookUp),
+    ("set_object_data", Call::SetData),
+    ("set_object_data of no object", Call::SetMissing),
+    ("with_object_data", Call::LendData),
+    ("set_default_max_buffer_size", Call::DefaultLimit),
+    ("set_client_max_buffer_size", Call::Limit),
+    ("transport_mut", Call::Transport),
+    ("finish_bind", Call::FinishBind),
+    ("finish_bind of no action", Call::FinishNone),
+    ("", Call::Next),
+    ("finish_bind_returning", Call::FinishReturning),
+    ("next_action of a request of a number", Call::Next),
+    ("finish_request", Call::FinishRequest),
+    ("flush of a client", Call::Flush),
+    ("flush of all clients", Call::FlushAll),
+    ("control: take_notes", Call::Notes),
+    ("take_notes of none", Call::Notes),
+    ("cleanup of nothing", Call::Cleanup),
+    ("control: destroy_object", Call::Destroy(MADE)),
+    ("control: cleanup of a note", Call::Cleanup),
+    ("take_notes of those that are gathered", Call::Notes),
+    (
+        "destroy_object, with room for its note",
+        Call::Destroy(BOUND),
+    ),
+    ("kill_client", Call::Kill),
+    ("control: cleanup", Call::Cleanup),
+];
+
+/// How many clients, and how many objects of the first one, the iterators give.
+fn walked(server: &Server) -> u32 {
+    let mut count = 0u32;
+    for _client in server.all_clients() {
+        count = count.wrapping_add(1);
+    }
+    if let Ok(objects) = server.all_objects_for(&FIRST.id()) {
+        for _object in objects {
+            count = count.wrapping_add(1);
+        }
+    }
+    count
+}
+
+/// Whether each look-up finds what it has to.
+fn is_looked_up(server: &Server) -> bool {
+    let mut count = 0u32;
+    server.with_all_clients(|_| count = count.wrapping_add(1));
+    server.visit_clients(&mut |_| count = count.wrapping_add(1));
+    let has_clients = count == 4;
+    // Two clients, and of the first the display, the registry, what is bound, and what was made.
+    has_clients
+        && walked(server) == 6
+        && server.next_client_id().is_some()
+        && server.get_client_data(&FIRST.id()).is_ok()
+        && server.transport(&FIRST.id()).is_ok()
+        && are_objects_looked_up(server)
+        && is_global_looked_up(server)
+}
+
+/// The same of objects.
+fn are_objects_looked_up(server: &Server) -> bool {
+    let mut count = 0u32;
+    let answer = server.with_all_objects_for(&FIRST.id(), |_| count = count.wrapping_add(1));
+    let visited = server.visit_objects(&FIRST.id(), &mut |_| count = count.wrapping_add(1));
+    // The display, the registry, what is bound, and what was made.
+    answer.is_ok()
+        && visited.is_ok()
+        && count == 8
+        && server.object_info(&MADE.id()).is_ok()
+        && server.get_client(&MADE.id()).is_ok()
+        && server.get_object_data(&MADE.id()).is_ok()
+        && server
+            .object_for_protocol_id(&FIRST.id(), QUAD, 0xFF00_0000)
+            .is_ok()
+}
+
+/// The same of the global.
+fn is_global_looked_up(server: &Server) -> bool {
+    server.global_info(&GLOBAL.id()).is_ok()
+        && server.get_global_handler(&GLOBAL.id()).is_ok()
+        && server.global_name(&GLOBAL.id(), &FIRST.id()).is_some()
+        && server.next_global_id().is_some()
+        && server.protocol().get(QUAD).is_some()
+}
+
+/// Inserts a client; whether that is done.
+fn insert<'a>(drops: &'a Cell<u64>, server: &mut Server<'a>) -> bool {
+    let line = Line::new(&BINDS, Counted::new(drops, 1));
+    server.insert_client(line, Counted::new(drops, 1)).is_ok()
+}
+
+/// Makes a call that is given a value for something new; whether it answers that it did what it has to.
+fn make_new<'a>(drops: &'a Cell<u64>, server: &mut Server<'a>, call: Call) -> bool {
+    let value = Counted::new(drops, 1);
+    match call {
+        Call::Create => server.create_object(&FIRST.id(), QUAD, 3, value).is_ok(),
+        _ => server.create_global(QUAD, 3, value).is_ok(),
+    }
+}
+
+/// Sets data, of the object that was made or of one that is not there; whether that is answered as it has to be.
+fn set_data<'a>(drops: &'a Cell<u64>, server: &mut Server<'a>, call: Call) -> bool {
+    let data = Counted::new(drops, 1);
+    match call {
+        Call::SetData => server.set_object_data(&MADE.id(), data).is_ok(),
+        _ => {
+            let missing = Thing(SECOND, 0xFF00_0000, 1, QUAD);
+            server.set_object_data(&missing.id(), data).is_err()
+        }
+    }
+}
+
+/// Finishes the bind that is open, or none; whether that is answered as it has to be.
+fn finish<'a>(drops: &'a Cell<u64>, server: &mut Server<'a>, call: Call) -> bool {
+    let answer = server.finish_bind(&FIRST.id(), Counted::new(drops, 1));
+    match call {
+        Call::FinishBind => answer.is_ok(),
+        _ => answer.is_err(),
+    }
+}
+
+/// Finishes the bind that is open, and gets what is bound; whether that is done.
+fn finish_returning<'a>(drops: &'a Cell<u64>, server: &mut Server<'a>) -> bool {
+    let data = Counted::new(drops, 1);
+    server.finish_bind_returning(&FIRST.id(), data).is_ok()
+}
+
+/// Makes a call that sets a limit.
+fn set_limit(server: &mut Server, call: Call) {
+    match call {
+        Call::DefaultLimit => server.set_default_max_buffer_size(8192),
+        _ => server.set_client_max_buffer_size(&FIRST.id(), 8192),
+    }
+}
+
+/// Makes a call about the first client, or one that flushes; whether it answers that it did what it has to.
+fn make_of_first(server: &mut Server, call: Call) -> bool {
+    match call {
+        Call::Transport => server.transport_mut(&FIRST.id()).is_ok(),
+        Call::Next => server.next_action(&FIRST.id()).is_ok(),
+        Call::FinishRequest => server.finish_request(&FIRST.id(), None).is_ok(),
+        Call::Flush => server.flush(Some(FIRST.id())).is_ok(),
+        _ => server.flush(None).is_ok(),
+    }
+}
+
+/// Makes a call about the ends of clients and objects; whether it answers that it did what it has to.
+fn make_of_ends(server: &mut Server, call: Call) -> bool {
+    match call {
+        Call::Notes => server.take_notes().is_ok(),
+        Call::Destroy(object) => server.destroy_object(&object.id()).is_ok(),
+        Call::Cleanup => server.cleanup().is_ok(),
+        _ => {
+            server.kill_client(&FIRST.id(), DisconnectReason::ConnectionClosed);
+            true
+        }
+    }
+}
+
+/// Makes a call that is given no value; whether it answers that it did what it has to.
+fn make_of_all(server: &mut Server, call: Call) -> bool {
+    match call {
+        Call::LookUp => is_looked_up(server),
+        Call::LendData => server.with_object_data(&MADE.id(), |_data| ()).is_ok(),
+        Call::DefaultLimit | Call::Limit => {
+            set_limit(server, call);
+            true
+        }
+        Call::Transport | Call::Next | Call::FinishRequest | Call::Flush | Call::FlushAll => {
+            make_of_first(server, call)
+        }
+        _ => make_of_ends(server, call),
+    }
+}
+
+/// Makes the call; whether it answers as it has to.
+fn make_any<'a>(drops: &'a Cell<u64>, server: &mut Server<'a>, call: Call) -> bool {
+    match call {
+        Call::Insert => insert(drops, server),
+        Call::Create | Call::Global => make_new(drops, server, call),
+        Call::SetData | Call::SetMissing => set_data(drops, server, call),
+        Call::FinishBind | Call::FinishNone => finish(drops, server, call),
+        Call::FinishReturning => finish_returning(drops, server),
+        _ => make_of_all(server, call),
+    }
+}
+
+/// Makes the call, and names it before if it is counted. Fails if it does not answer as it has to, or was refused memory.
+fn counted<'a>(
+    rt: &impl Eprint,
+    drops: &'a Cell<u64>,
+    server: &mut Server<'a>,
+    (name, call): (&str, Call),
+) -> Result<(), Fail> {
+    if !name.is_empty() {
+        let _ = eprintln!(rt; "call: {name}");
+    }
+    let is_made = make_any(drops, server, call);
+    if !name.is_empty() {
+        let _ = eprintln!(rt; "end");
+    }
+    holds(rt, name, is_made && !server.memory_refused())
+}
+
+/// Makes the calls.
+fn all_counted<'a>(
+    rt: &impl Eprint,
+    drops: &'a Cell<u64>,
+    server: &mut Server<'a>,
+    calls: &[(&str, Call)],
+) -> Result<(), Fail> {
+    for call in calls {
+        counted(rt, drops, server, *call)?;
+    }
+    Ok(())
+}
+
+/// Makes a server of that protocol, which takes no memory.
+fn counted_new<'a>(rt: &(impl Eprint + AllocGlobal), protocol: Protocol) -> Server<'a> {
+    let _ = eprintln!(rt; "call: new");
+    let server = Backend::new(rt.alloc(), protocol);
+    let _ = eprintln!(rt; "end");
+    server
+}
+
+/// Makes a server, which takes no memory, and the calls.
+fn counted_of_new<'a>(rt: &(impl Eprint + AllocGlobal), drops: &'a Cell<u64>) -> Result<(), Fail> {
+    let protocol = quad_table(rt.alloc())?;
+    let mut server = counted_new(rt, protocol);
+    let answer = all_counted(rt, drops, &mut server, &CALLS);
+    drop(server);
+    answer
+}
+
+#[test]
+fn takes_no_memory(rt: HostRuntime) -> Result<(), Fail> {
+    let drops = Cell::new(0);
+    counted_of_new(&rt, &drops)
+}
