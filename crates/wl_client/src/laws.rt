@@ -1,4 +1,5 @@
-//! Laws that follow from the definitions of a session alone. Each function does nothing; its contract states a law.
+//! Laws that follow from the definitions of a session alone. Each function does nothing, but for the last, which compares two
+//! ids; its contract states a law.
 //!
 //! A *run* is a list of calls over the transport by script, each with its reply. A *history* is a list of calls over any
 //! transport, each with its reply, of changes that the program makes to the transport between them, and of interfaces that it
@@ -7,7 +8,7 @@
 //! a change of it (`calls_over_scripts_are_steps`). An id *names* an object if its number has that object and its serial is
 //! that object's.
 
-ghost use Rattle.std.specs.Prelude.{◌≡◌, ◌∷◌, ◌++◌, ◌↔◌, ◌⊎◌, [], Bool, List, Option, None, Result, Ok, Err, IsSome, Vec, false, length, map, ℕ};
+ghost use Rattle.std.specs.Prelude.{◌≡◌, ◌∷◌, ◌++◌, ◌↔◌, ◌⊎◌, [], Bool, List, Option, None, Result, Ok, Err, IsSome, IsTrue, Vec, false, length, map, ℕ};
 ghost use Rattle.std.specs.Global.{Global};
 ghost use Rattle.wl_wire.specs.declared.argument.Token.{Token};
 ghost use Rattle.wl_wire.specs.declared.error.IoFault.{IoFault};
@@ -42,6 +43,7 @@ ghost use Rattle.wl_client.specs.Steps.{CallOf, Entry, IsOfScript, Leads, StepOf
 ghost use Rattle.wl_client.specs.Stretches.{IsRunServed, IsStretch, IsStretchWithin, SameLeft, arrived, events_of, finished};
 
 use crate::next_event::READ_TURNS;
+use crate::object_id::ObjectId;
 use wl_link::Transport;
 
 /// The identity law: each id that a session hands out names the object that it was made of, as long as that object is kept,
@@ -269,3 +271,10 @@ pub fn each_reading_ends_for_a_reason<T: Transport, U>()
         before.error ≡ None → before.open_event ≡ None → Reads T.sends client T.receives left (reader_state_of before) turns out (reader_state_of after) →
         ReadingEnds T.sends T.receives (reader_state_of before) turns (answered out.stopped out.gave) out.refused out.left (reader_state_of after) }
 {}
+
+/// Two ids of objects are equal if all their parts are equal, and only then.
+pub fn ids_are_equal_by_all_parts(a: &ObjectId, b: &ObjectId) -> bool
+    ensures { IsTrue result ↔ (a.now ≡ b.now) }
+{
+    a == b
+}

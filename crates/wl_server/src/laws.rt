@@ -1,4 +1,5 @@
-//! What follows from the definitions of a server alone. Each function has a law as its contract, and does nothing.
+//! What follows from the definitions of a server alone. Each function has a law as its contract. It does nothing, but for the last
+//! three, which compare two ids.
 //!
 //! These words are used in this file:
 //!
@@ -16,7 +17,7 @@
 //! The laws of runs speak of every transport. Over the transport by script a call of that transport stands for a change
 //! of it (clause `change` of [`calls_over_scripts_are_steps`]).
 
-ghost use Rattle.std.specs.Prelude.{◌≡◌, ◌≢◌, ◌<◌, ◌≤◌, ◌∷◌, ◌++◌, [], ℕ, Bool, false, List, None, Option, Some, Result, Err};
+ghost use Rattle.std.specs.Prelude.{◌≡◌, ◌≢◌, ◌<◌, ◌≤◌, ◌∷◌, ◌++◌, [], ◌↔◌, ℕ, Bool, false, IsTrue, List, None, Option, Some, Result, Err};
 ghost use Rattle.wl_wire.specs.Table.{AnswersGrowth, InterfaceRow};
 ghost use Rattle.wl_wire.specs.declared.protocol.TableError.{TableError};
 ghost use Rattle.wl_wire.specs.declared.protocol.TableError.TheVariants as table_error;
@@ -65,6 +66,9 @@ ghost use Rattle.wl_server.specs.Outcome.Whole.{AnswersAlike, HoldsSame, Perform
 
 use crate::dispatch::Handler;
 use crate::globals::handler::GlobalHandler;
+use crate::ids::client_id::ClientId;
+use crate::ids::global_id::GlobalId;
+use crate::ids::object_id::ObjectId;
 use crate::reading::next_action::READ_TURNS;
 use wl_link::Transport;
 
@@ -434,3 +438,24 @@ pub fn each_reading_receives_within_its_bound<
         EachIsDispatched (over T.sends T.receives G.views) (answering H.requests H.binds) ids h before calls lacked total h' mid →
         EachPartIsBounded ids calls }
 {}
+
+/// Two ids of objects are equal if all their parts are equal, and only then.
+pub fn object_ids_are_equal_by_all_parts(a: &ObjectId, b: &ObjectId) -> bool
+    ensures { IsTrue result ↔ (a.now ≡ b.now) }
+{
+    a == b
+}
+
+/// Two ids of clients are equal if both their parts are equal, and only then.
+pub fn client_ids_are_equal_by_all_parts(a: &ClientId, b: &ClientId) -> bool
+    ensures { IsTrue result ↔ (a.now ≡ b.now) }
+{
+    a == b
+}
+
+/// Two ids of globals are equal if both their parts are equal, and only then.
+pub fn global_ids_are_equal_by_all_parts(a: &GlobalId, b: &GlobalId) -> bool
+    ensures { IsTrue result ↔ (a.now ≡ b.now) }
+{
+    a == b
+}
