@@ -260,8 +260,8 @@ abbrev pub kept_if : Status → Bool → Result Bool Status
 kept_if status.Ok kept = Ok kept
 kept_if s kept = Err s
 
--- The open event is finished, with data for the object that it made. The answer says whether that object is there. If the client
--- has destroyed it, the data are not kept, and no note tells of them.
+-- The open event is finished, with data for the object that it made. The answer says whether that object is there, and the client
+-- has not destroyed it. If it has, no note tells of the data.
 abbrev pub EndsEventWith : HostedClient → ℕ → Result Bool Status → HostedClient → Type 0
 EndsEventWith before u result after =
     (s : Status) × EndsEvent before (Some u) s after

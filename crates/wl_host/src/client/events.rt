@@ -122,8 +122,9 @@ impl Client {
         self.finish(None)
     }
 
-    /// Ends the event that was handed out, and gives the object that it made these data. Returns whether they are kept: they
-    /// are not if the client has destroyed the object. Then no note tells of them.
+    /// Ends the event that was handed out, and gives the object that it made these data. Returns whether the object is there and
+    /// the client has not destroyed it. If it has, `object_data` answers the data until the number is free, and no note tells
+    /// of them.
     ///
     /// The statuses are those of `finish_event`, with `UnexpectedData` in place of `MissingData`: the event made no object.
     pub fn finish_event_with(&mut self, user_data: u64) -> Result<bool, Status>
