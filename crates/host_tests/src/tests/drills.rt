@@ -126,6 +126,10 @@ const ARGUMENTS: ServerRun = ServerRun {
             Act::Next(FIRST, 0, 0),
             "Ok kind 1 opcode 2 ends 1 data 44 4@2 0@0 version 0 needs 0 0\n",
         ),
+        // No note is left and nothing is to be sent, so what comes below is there by the end of the object alone.
+        (Act::Writable, "WouldBlock\n"),
+        (Act::Note, "Ok kind 1 error 0 0 data 0 client 0:1 0@0\n"),
+        (Act::Note, "WouldBlock\n"),
         (Act::Finish(FIRST), "Ok\n"),
         (Act::Writable, "Ok client 0:1\n"),
         (
@@ -134,7 +138,6 @@ const ARGUMENTS: ServerRun = ServerRun {
         ),
         (Act::Sent(FIRST, 12), "Ok\n"),
         (Act::Writable, "WouldBlock\n"),
-        (Act::Note, "Ok kind 1 error 0 0 data 0 client 0:1 0@0\n"),
         (Act::Note, "Ok kind 3 error 0 0 data 44 client 0:1 4@2\n"),
         (Act::Note, "WouldBlock\n"),
         (Act::Dropped, "WouldBlock\n"),
