@@ -2,4 +2,4 @@
 pub mod Cursor
 pub mod Buffer
 pub mod TableCheck
-pub mod Fixed
+pub mod FixedInterfaces

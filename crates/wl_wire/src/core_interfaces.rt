@@ -2,7 +2,7 @@
 
 ghost use Rattle.std.specs.Prelude.{◌≡◌, IfOk, map};
 ghost use Rattle.wl_wire.specs.Table.{fixed_rows, interface_row, interface_rows, message_row};
-ghost use Rattle.wl_wire.specs.Inside.Fixed.{row_of_interface, row_of_message};
+ghost use Rattle.wl_wire.specs.Inside.FixedInterfaces.{row_of_interface, row_of_message};
 
 use crate::argument::{AllowNull, ArgumentType};
 use crate::interface::{

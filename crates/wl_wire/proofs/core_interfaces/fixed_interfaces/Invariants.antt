@@ -1,5 +1,5 @@
 use Rattle.std.proofs.Common.{◌≡◌, map, take}
-use Rattle.wl_wire.specs.Inside.Fixed.{row_of_interface}
+use Rattle.wl_wire.specs.Inside.FixedInterfaces.{row_of_interface}
 use Rattle.wl_wire.specs.Table.{interface_rows}
 use Rattle.wl_wire.proofs.core_interfaces.fixed_interfaces.Given as goal
 

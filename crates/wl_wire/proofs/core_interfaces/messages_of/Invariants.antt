@@ -1,5 +1,5 @@
 use Rattle.std.proofs.Common.{◌≡◌, map, take}
-use Rattle.wl_wire.specs.Inside.Fixed.{row_of_message}
+use Rattle.wl_wire.specs.Inside.FixedInterfaces.{row_of_message}
 use Rattle.wl_wire.specs.Table.{message_row}
 use Rattle.wl_wire.proofs.core_interfaces.messages_of.Given as goal
 
