@@ -1,16 +1,11 @@
 -- The free places of a range, as the flags of a tree of words.
-use Rattle.std.proofs.Common.{nat_eq, nat_lt, is_some, ◌-◌, ◌≡◌, ◌≢◌, ◌+◌, ◌*◌, ◌/◌, ◌%◌, ◌<◌, ◌≤◌, ◌^◌, ◌++◌, ◌&&◌, ◌||◌, ◌⊎◌, take, drop, true≢false, Vec, vec_len, eqb, cond, ℕ, zero, suc, List, [], ◌∷◌, Bool, true, false, not, length, refl, sym, ap, subst, ◌∙◌, arith, inl, inr, get_or, set, Option, None, Some}
-use mathlib.Core.Bool.{beq}
+use Rattle.std.proofs.Common.{nat_lt, is_some, ◌-◌, ◌≡◌, ◌+◌, ◌<◌, ◌≤◌, ◌++◌, ◌&&◌, true≢false, Vec, eqb, cond, ℕ, List, [], ◌∷◌, Bool, true, false, not, length, refl, sym, ap, subst, ◌∙◌, arith, inl, inr, set, Option, None, Some}
 use Rattle.std.proofs.lemmas.Bool.{cases_lt, cases_eq, eq-eqb, ne_eqb, le-ltb, lt-ltb}
 use Rattle.std.proofs.lemmas.List.{get_or_past, get_or-set_other, get_or-append_right, get_or_append_left, length-append, length-set}
-use Rattle.std.proofs.lemmas.Grind.{get_or-set_at, get_or_default_zero}
-use Rattle.std.proofs.lemmas.Nat.Bits.{bit_at-trailing_zeros, bit_at-zero, bit_at_above}
-use Rattle.std.specs.Int.{bit_at, trailing_zeros, w64}
-use Rattle.std.proofs.Math.Seq.{take-append_seam}
-use Rattle.std.proofs.Math.Nat.{pow-succ'}
+use Rattle.std.proofs.lemmas.Grind.{get_or-set_at}
 use Rattle.wl_link.specs.Inside.PlaceList.{place, IsFirstFree, free_flag, ShowsFree, WordsReadIn}
 use Rattle.wl_sets.proofs.Trees.{same_flags}
-use Rattle.wl_sets.specs.FreeTree.{word, is_set, as_bit, flags_above, IsLevel, IsTree, changed, IsLeast, FindsLeast, lowest_bit, with_first, height, reads_of, IsHeight, words_of, is_ready, has_capacity, is_one_word, ClearsBelow, TakesLeast, ChangesFlag, HasFlag, IsWholeTree, IsLeastOf}
+use Rattle.wl_sets.specs.FreeTree.{IsTree, changed, IsLeast, FindsLeast, height, reads_of, IsHeight, words_of}
 
 module _ {A : Type 0} where
   pub free_past : (places : List (Option A)) (j : ℕ) → length places ≤ j → free_flag places j ≡ false

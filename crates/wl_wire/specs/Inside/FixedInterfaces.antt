@@ -1,5 +1,5 @@
 -- the rows of the fixed interfaces as the code has them
-use Rattle.std.specs.Prelude.{List, map, false}
+use Rattle.std.specs.Prelude.{map}
 use Rattle.wl_wire.specs.declared.core_interfaces.FixedInterface.{FixedInterface}
 use Rattle.wl_wire.specs.declared.core_interfaces.FixedMessage.{FixedMessage}
 use Rattle.wl_wire.specs.Table.{InterfaceRow, MessageRow}

@@ -1,5 +1,5 @@
 -- That what leaves one link stands on the other.
-use Rattle.std.proofs.Common.{rules, arith, ap, ◌≡◌, ◌∙◌, ℕ, List, drop, take}
+use Rattle.std.proofs.Common.{rules, arith, ap, ◌≡◌, ◌∙◌, List, drop, take}
 use Rattle.std.proofs.lemmas.Grind.{common_steps}
 use Rattle.wl_wire.specs.declared.argument.Token.{Token}
 use Rattle.wl_link.specs.Exchange.{Queue, joined}

@@ -1,11 +1,11 @@
-use Rattle.std.proofs.Common.{rules, arith, ap, subst, sym, ◌≡◌, ◌∙◌, ℕ, List, length, Result, Ok, Err}
+use Rattle.std.proofs.Common.{rules, arith, ap, subst, ◌≡◌, ◌∙◌, ℕ, length, Result, Ok, Err}
 use Rattle.std.proofs.lemmas.List.{drop_all, take_all}
 use Rattle.wl_link.specs.declared.buffered_socket.hand_on.HandOnError.{HandOnError}
 use Rattle.wl_link.specs.declared.buffered_socket.hand_on.HandOnError.TheVariants as hand
 use Rattle.wl_link.specs.Exchange.{Queue, joined, nothing}
 use Rattle.wl_link.specs.HandOn.{HandsOnRest}
 use Rattle.wl_link.specs.Inside.HandFront.{HandsFront, after_part, first_part}
-use Rattle.wl_link.specs.Link.{Grown, LinkState, with_incoming, with_outgoing}
+use Rattle.wl_link.specs.Link.{LinkState, with_incoming, with_outgoing}
 use Rattle.wl_link.proofs.Calls.QueueLaws.{queue_is}
 use Rattle.wl_link.proofs.buffered_socket.BufferedSocket.hand_on_rest.Goals as goal
 
