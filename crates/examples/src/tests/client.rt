@@ -2,6 +2,7 @@
 
 ghost use Rattle.std.specs.Prelude.{◌≤◌, IfOk, length};
 
+use anyhow::Result;
 use smallvec::SmallVec;
 use std::alloc::Global;
 use std::collections::VecDeque;
@@ -66,7 +67,7 @@ type Client<'a> = Backend<Playback<'a>, u32>;
 
 /// A request of the display that makes an object: `sync` or `get_registry`. The new id is left out: the session puts the
 /// number in.
-fn making(alloc: Global, display: ObjectId, opcode: u16) -> Result<Message<ObjectId, Token>, Fail> {
+fn making(alloc: Global, display: ObjectId, opcode: u16) -> Result<Message<ObjectId, Token>> {
     let mut request = Message {
         sender_id: display,
         opcode,
@@ -77,7 +78,7 @@ fn making(alloc: Global, display: ObjectId, opcode: u16) -> Result<Message<Objec
 }
 
 /// Sends a sync: the server answers when it has come to it.
-fn ask(alloc: Global, client: &mut Client<'_>, data: u32) -> Result<ObjectId, Fail> {
+fn ask(alloc: Global, client: &mut Client<'_>, data: u32) -> Result<ObjectId> {
     let sync = making(alloc, client.display_id(), 0)?;
     let callback = client.send_request(sync, Some(data), None)?;
     client.flush()?;
@@ -85,7 +86,7 @@ fn ask(alloc: Global, client: &mut Client<'_>, data: u32) -> Result<ObjectId, Fa
 }
 
 /// The object that the next event is for; `None` if no event is there to its end.
-fn next_sender(client: &mut Client<'_>) -> Result<Option<ObjectId>, Fail> {
+fn next_sender(client: &mut Client<'_>) -> Result<Option<ObjectId>> {
     match client.next_event() {
         Ok(event) => Ok(Some(event.sender_id)),
         Err(EventError::WouldBlock) => Ok(None),
@@ -94,12 +95,13 @@ fn next_sender(client: &mut Client<'_>) -> Result<Option<ObjectId>, Fail> {
 }
 
 /// The data of that object, whose event is finished.
-fn answered(client: &mut Client<'_>) -> Result<Option<u32>, Fail> {
+fn answered(client: &mut Client<'_>) -> Result<Option<u32>> {
     let Some(sender) = next_sender(client)? else {
         return Ok(None);
     };
     let data = *client.get_data(&sender)?;
-    client.finish_event(None)?;
+    let ended = client.finish_event(None);
+    ended.map_err(|refused| refused.error)?;
     Ok(Some(data))
 }
 

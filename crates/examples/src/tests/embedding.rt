@@ -1,5 +1,6 @@
 //! Sessions over `Memory`: the examples of `docs/EMBEDDING.md`.
 
+use anyhow::Result;
 use smallvec::SmallVec;
 use std::alloc::Global;
 use std::test::Fail;
@@ -11,35 +12,37 @@ use wl_link::Memory;
 use wl_server::{Action, ActionError, ClientId, ShownToAll};
 use wl_wire::{Argument, IoFault, Message, Protocol, Token};
 
-/// A server whose clients the host sends to and receives from. Nothing is kept of an object or a client.
+/// A server that keeps nothing of an object or a client.
 type Server = wl_server::Backend<Memory, (), ShownToAll, ()>;
 
 /// A client whose server the host sends to and receives from.
 type Client = wl_client::Backend<Memory, ()>;
 
-/// What one receive gave, or one send is to take: bytes, and the tokens of the descriptors beside them.
+/// What one receive gave, or one send is to take: bytes, and the tokens beside them.
 type Parcel = (Vec<u8>, Vec<Token>);
 
-/// The program's part: it accepts each bind and request, and keeps the descriptors of a request, which are its own now.
+/// The program's part: it accepts each bind and request, and keeps a request's descriptors, which are its own now.
 fn act(
     server: &mut Server,
     client: &ClientId,
     action: &Action,
     descriptors: &mut Vec<Token>,
-) -> Result<(), Fail> {
+) -> Result<()> {
     let Action::Request { args, created, .. } = action else {
-        return Ok(server.finish_bind(client, ())?);
+        let ended = server.finish_bind(client, ());
+        return Ok(ended.map_err(|refused| refused.error)?);
     };
     for arg in args.as_slice() {
         if let Argument::Fd(token) = arg {
             descriptors.push(*token)?;
         }
     }
-    Ok(server.finish_request(client, created.map(|_| ()))?)
+    let ended = server.finish_request(client, created.map(|_| ()));
+    Ok(ended.map_err(|refused| refused.error)?)
 }
 
 /// Reads the client until nothing more of it waits, for 64 actions at most.
-fn read(server: &mut Server, client: &ClientId, descriptors: &mut Vec<Token>) -> Result<(), Fail> {
+fn read(server: &mut Server, client: &ClientId, descriptors: &mut Vec<Token>) -> Result<()> {
     for _ in 0..64 {
         match server.next_action(client) {
             Ok(action) => act(server, client, &action, descriptors)?,
@@ -56,7 +59,7 @@ fn receive_from(
     client: &ClientId,
     (bytes, tokens): Parcel,
     descriptors: &mut Vec<Token>,
-) -> Result<Vec<Parcel>, Fail> {
+) -> Result<Vec<Parcel>> {
     server.transport_mut(client)?.arrive(bytes, tokens)?;
     read(server, client, descriptors)?;
     server.flush(Some(*client))?;

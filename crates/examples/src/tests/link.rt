@@ -1,5 +1,6 @@
 //! The lines of the README of `wl_link`: a sync is sent over a script, and its answer comes in two chunks.
 
+use anyhow::Result;
 use smallvec::SmallVec;
 use std::alloc::Global;
 use std::test::Fail;
@@ -10,13 +11,13 @@ use wl_wire::{Argument, ArgumentType, Message, MessageParseError, Token};
 static DONE: [ArgumentType; 1] = [ArgumentType::Uint];
 
 /// Appends the bytes to the arrivals.
-fn arrive(alloc: Global, script: &mut Memory, bytes: &[u8]) -> Result<(), Fail> {
+fn arrive(alloc: Global, script: &mut Memory, bytes: &[u8]) -> Result<()> {
     let bytes = Vec::from_slice(alloc, bytes)?;
     Ok(script.arrive(bytes, Vec::new(alloc))?)
 }
 
 /// A script by which `done` comes in two chunks.
-fn answer_in_two(alloc: Global) -> Result<Memory, Fail> {
+fn answer_in_two(alloc: Global) -> Result<Memory> {
     let mut script = Memory::new(alloc);
     arrive(alloc, &mut script, &[2, 0, 0, 0, 0, 0, 12, 0])?;
     arrive(alloc, &mut script, &[9, 0, 0, 0])?;
@@ -28,7 +29,7 @@ fn message(
     alloc: Global,
     sender_id: u32,
     argument: Argument<u32, Token>,
-) -> Result<Message<u32, Token>, Fail> {
+) -> Result<Message<u32, Token>> {
     let mut message = Message {
         sender_id,
         opcode: 0,
@@ -43,7 +44,7 @@ fn sends(
     link: &mut BufferedSocket<Memory>,
     message: &Message<u32, Token>,
     bytes: &[u8],
-) -> Result<bool, Fail> {
+) -> Result<bool> {
     link.write_message(message)?;
     link.flush()?;
     let sent = link.transport().sent();
@@ -56,7 +57,7 @@ fn lacks_data(link: &mut BufferedSocket<Memory>) -> bool {
 }
 
 /// Whether the message is read.
-fn reads(link: &mut BufferedSocket<Memory>, message: &Message<u32, Token>) -> Result<bool, Fail> {
+fn reads(link: &mut BufferedSocket<Memory>, message: &Message<u32, Token>) -> Result<bool> {
     let read = link.read_one_message(|_, _| Some(&DONE))?;
     Ok(read == *message)
 }
@@ -65,7 +66,7 @@ fn reads(link: &mut BufferedSocket<Memory>, message: &Message<u32, Token>) -> Re
 fn reads_in_two(
     link: &mut BufferedSocket<Memory>,
     message: &Message<u32, Token>,
-) -> Result<bool, Fail> {
+) -> Result<bool> {
     link.fill_incoming_buffers()?;
     let half = lacks_data(link);
     link.fill_incoming_buffers()?;
@@ -73,19 +74,19 @@ fn reads_in_two(
 }
 
 /// Whether the sync is sent.
-fn sends_sync(link: &mut BufferedSocket<Memory>, alloc: Global) -> Result<bool, Fail> {
+fn sends_sync(link: &mut BufferedSocket<Memory>, alloc: Global) -> Result<bool> {
     let sync = message(alloc, 1, Argument::NewId(2))?;
     sends(link, &sync, &[1, 0, 0, 0, 0, 0, 12, 0, 2, 0, 0, 0])
 }
 
 /// Whether the answer to the sync is read.
-fn reads_answer(link: &mut BufferedSocket<Memory>, alloc: Global) -> Result<bool, Fail> {
+fn reads_answer(link: &mut BufferedSocket<Memory>, alloc: Global) -> Result<bool> {
     let done = message(alloc, 2, Argument::Uint(9))?;
     reads_in_two(link, &done)
 }
 
 /// Whether the sync is sent, and its answer read.
-fn asks(link: &mut BufferedSocket<Memory>, alloc: Global) -> Result<(bool, bool), Fail> {
+fn asks(link: &mut BufferedSocket<Memory>, alloc: Global) -> Result<(bool, bool)> {
     let sent = sends_sync(link, alloc)?;
     let answered = reads_answer(link, alloc)?;
     Ok((sent, answered))
@@ -95,13 +96,13 @@ fn asks(link: &mut BufferedSocket<Memory>, alloc: Global) -> Result<(bool, bool)
 fn asks_and_waits(
     link: &mut BufferedSocket<Memory>,
     alloc: Global,
-) -> Result<(bool, bool, [usize; 4]), Fail> {
+) -> Result<(bool, bool, [usize; 4])> {
     let (sent, answered) = asks(link, alloc)?;
     Ok((sent, answered, link.waiting()))
 }
 
 /// Whether the sync is sent over a new link, its answer read, and nothing left to wait.
-fn asked(alloc: Global) -> Result<(bool, bool, [usize; 4]), Fail> {
+fn asked(alloc: Global) -> Result<(bool, bool, [usize; 4])> {
     let script = answer_in_two(alloc)?;
     let mut link = BufferedSocket::new(alloc, script, None)?;
     let answer = asks_and_waits(&mut link, alloc);

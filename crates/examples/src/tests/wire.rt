@@ -1,5 +1,6 @@
 //! The lines of the README of `wl_wire`: a bind is written and read.
 
+use anyhow::Result;
 use smallvec::SmallVec;
 use std::alloc::Global;
 use std::collections::VecDeque;
@@ -9,7 +10,7 @@ use wl_wire::{
 };
 
 /// Puts the arguments of the bind into the message.
-fn push_arguments(bind: &mut Message<u32, Token>, name: CString) -> Result<(), Fail> {
+fn push_arguments(bind: &mut Message<u32, Token>, name: CString) -> Result<()> {
     bind.args.push(Argument::Uint(18))?;
     bind.args.push(Argument::Str(Some(name)))?;
     bind.args.push(Argument::Uint(1))?;
@@ -17,7 +18,7 @@ fn push_arguments(bind: &mut Message<u32, Token>, name: CString) -> Result<(), F
 }
 
 /// The bind of `wl_shell`.
-fn bind_message(alloc: Global) -> Result<Message<u32, Token>, Fail> {
+fn bind_message(alloc: Global) -> Result<Message<u32, Token>> {
     let mut bind = Message {
         sender_id: 2,
         opcode: 0,
@@ -29,13 +30,13 @@ fn bind_message(alloc: Global) -> Result<Message<u32, Token>, Fail> {
 }
 
 /// How many bytes the message takes in the buffer.
-fn write(alloc: Global, bind: &Message<u32, Token>, buffer: &mut [u8]) -> Result<usize, Fail> {
+fn write(alloc: Global, bind: &Message<u32, Token>, buffer: &mut [u8]) -> Result<usize> {
     let mut tokens = Vec::new(alloc);
     Ok(write_to_buffers(bind, buffer, &mut tokens)?)
 }
 
 /// Whether the buffer holds the message and nothing after it.
-fn reads_again(alloc: Global, bind: &Message<u32, Token>, buffer: &[u8]) -> Result<bool, Fail> {
+fn reads_again(alloc: Global, bind: &Message<u32, Token>, buffer: &[u8]) -> Result<bool> {
     let signature = [
         ArgumentType::Uint,
         ArgumentType::Str(AllowNull::No),
@@ -47,14 +48,14 @@ fn reads_again(alloc: Global, bind: &Message<u32, Token>, buffer: &[u8]) -> Resu
 }
 
 /// The size of the message, and whether it is read again.
-fn written_and_read(alloc: Global, bind: &Message<u32, Token>) -> Result<(usize, bool), Fail> {
+fn written_and_read(alloc: Global, bind: &Message<u32, Token>) -> Result<(usize, bool)> {
     let mut buffer = [0u8; 32];
     let size = write(alloc, bind, &mut buffer)?;
     Ok((size, reads_again(alloc, bind, &buffer)?))
 }
 
 /// The size of the bind, and whether it is read again.
-fn bind_again(alloc: Global) -> Result<(usize, bool), Fail> {
+fn bind_again(alloc: Global) -> Result<(usize, bool)> {
     let bind = bind_message(alloc)?;
     written_and_read(alloc, &bind)
 }
