@@ -1,6 +1,6 @@
 //! What a call was given and refuses, and what the server gives up, is dropped, once and then: each value counts its drops.
 
-use crate::kit::arrivals::SYNC_AT_5;
+use crate::kit::arrivals::{MAKE_BY_SERVER, SYNC_AT_5};
 use crate::kit::counted::{Counted, Line};
 use crate::kit::values::{FIRST, Named, SECOND, Thing, Who};
 use smallvec::SmallVec;
@@ -53,6 +53,8 @@ enum Act {
     Dispatch(Who, u64),
     /// The same with a handler that destroys what is bound.
     DispatchUndone(Who, u64),
+    /// The same with a handler that takes its client out.
+    DispatchTakenOut(Who, u64),
 }
 
 /// Tells what was dropped so far: before the answer of the call is let go of, and after that.
@@ -144,6 +146,44 @@ impl<'a> Handler<Line<'a>, Counted<'a>, Counted<'a>, Counted<'a>> for Undoing<'a
     }
 }
 
+/// Takes out the client of each action, and answers a value to that.
+#[derive(Drop)]
+struct TakingOut<'a>(Answering<'a>);
+
+impl<'a> Handler<Line<'a>, Counted<'a>, Counted<'a>, Counted<'a>> for TakingOut<'a> {
+    ghost use Rattle.std.specs.Prelude.{⊤};
+
+    ghost requests = { λ h b id sender opcode args created u h' b'. ⊤ };
+
+    ghost binds = { λ h b id global object u h' b'. ⊤ };
+
+    fn request(
+        &mut self,
+        backend: &mut Server<'a>,
+        client: &ClientId,
+        _sender: ObjectId,
+        _opcode: u16,
+        _args: SmallVec<Argument<ObjectId, Token>, INLINE_ARGS>,
+        _created: Option<ObjectId>,
+    ) -> Option<Counted<'a>> {
+        backend.kill_client(client, DisconnectReason::ConnectionClosed);
+        let _ = backend.cleanup();
+        Some(self.0.answer())
+    }
+
+    fn bind(
+        &mut self,
+        backend: &mut Server<'a>,
+        client: &ClientId,
+        _global: GlobalId,
+        _object: ObjectId,
+    ) -> Counted<'a> {
+        backend.kill_client(client, DisconnectReason::ConnectionClosed);
+        let _ = backend.cleanup();
+        self.0.answer()
+    }
+}
+
 /// Inserts a client with this transport, over which these bytes come, and with these data.
 fn insert<'a>(
     drops: &'a Cell<u64>,
@@ -230,6 +270,18 @@ fn dispatch_undone<'a>(
     tell(drops, log, answer)
 }
 
+/// The same with a handler that takes its client out.
+fn dispatch_taken_out<'a>(
+    drops: &'a Cell<u64>,
+    server: &mut Server<'a>,
+    log: &mut String,
+    (who, weight): (Who, u64),
+) -> Result<(), Fail> {
+    let mut handler = TakingOut(Answering { drops, weight });
+    let answer = server.dispatch_single_client(&mut handler, &who.id());
+    tell(drops, log, answer)
+}
+
 /// Makes a call that reads, or ends an action.
 fn perform_reading<'a>(
     drops: &'a Cell<u64>,
@@ -249,6 +301,9 @@ fn perform_reading<'a>(
         }
         Act::Dispatch(who, weight) => dispatch(drops, server, log, (who, weight)),
         Act::DispatchUndone(who, weight) => dispatch_undone(drops, server, log, (who, weight)),
+        Act::DispatchTakenOut(who, weight) => {
+            dispatch_taken_out(drops, server, log, (who, weight))
+        }
         _ => Err(Fail::new("the call reads nothing")),
     }
 }
@@ -269,7 +324,8 @@ fn perform_all<'a>(
             | Act::Finish(..)
             | Act::FinishBind(..)
             | Act::Dispatch(..)
-            | Act::DispatchUndone(..) => perform_reading(drops, server, log, *act)?,
+            | Act::DispatchUndone(..)
+            | Act::DispatchTakenOut(..) => perform_reading(drops, server, log, *act)?,
             _ => perform_shared(drops, server, log, *act)?,
         }
     }
@@ -320,7 +376,7 @@ const BIND_AND_MAKE: [u8; 56] = [
 
 /// The runs. After each call there is what it has dropped, and what was dropped with its answer; at the end, what has been
 /// dropped once the session has ended.
-static ROWS: [Row; 9] = [
+static ROWS: [Row; 11] = [
     // What a refused call was given: by a creation for a client that is not stored, or of an interface that is not there; for an
     // object that is not there; and by a creation of a global of no interface, or of too high a version.
     Row {
@@ -421,6 +477,28 @@ static ROWS: [Row; 9] = [
             Act::DispatchUndone(FIRST, 1000),
         ],
         told: "00000000, 00000000\n00000000, 00000000\n00000000, 00000000\n00001000, 00001000\n00011111\n",
+    },
+    // A handler takes its client out: the data of the client and its transport are dropped, and so is the answer, for which
+    // there is nothing left: to a request that makes an object, and to a bind. Data of an object go into its note.
+    Row {
+        name: "an answer to a request of a client that is gone",
+        acts: &[
+            Act::Insert(1, &MAKE_BY_SERVER, 10),
+            Act::Create(FIRST, QUAD, 100),
+            Act::DispatchTakenOut(FIRST, 1000),
+            Act::Notes,
+        ],
+        told: "00000000, 00000000\n00000000, 00000000\n00001011, 00001011\n00001011, 00001111\n00001111\n",
+    },
+    Row {
+        name: "an answer to a bind of a client that is gone",
+        acts: &[
+            Act::Insert(1, &BIND_AND_DESTROY, 10),
+            Act::Global(QUAD, 100),
+            Act::DispatchTakenOut(FIRST, 1000),
+            Act::Notes,
+        ],
+        told: "00000000, 00000000\n00000000, 00000000\n00001011, 00001011\n00001011, 00001011\n00001111\n",
     },
     // The cleanup of a dispatch drops the transport too.
     Row {

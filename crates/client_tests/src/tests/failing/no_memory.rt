@@ -9,18 +9,29 @@ use std::alloc::Global;
 use std::cell::Cell;
 use std::test::Fail;
 use test_kit::log::holds;
-use test_kit::quad::{QUAD, quad_table};
+use test_kit::quad::{DESTROY, QUAD, quad_table};
 use wl_client::{Backend, ObjectId};
 use wl_wire::WL_CALLBACK_INTERFACE;
 
 /// A client whose transport takes all that it is sent, without memory.
 type Client<'a> = Backend<Line<'a>, Counted<'a>>;
 
+/// `wl_callback.done`, by object 5; `wl_display.delete_id` of that; and `quad.moved`, by object 3, of 7. Then the same again.
+const TWICE: [u8; 72] = [
+    5, 0, 0, 0, 0, 0, 12, 0, 0, 0, 0, 0, 1, 0, 0, 0, 1, 0, 12, 0, 5, 0, 0, 0, 3, 0, 0, 0, 0, 0, 12,
+    0, 7, 0, 0, 0, 5, 0, 0, 0, 0, 0, 12, 0, 0, 0, 0, 0, 1, 0, 0, 0, 1, 0, 12, 0, 5, 0, 0, 0, 3, 0,
+    0, 0, 0, 0, 12, 0, 7, 0, 0, 0,
+];
+
 /// A call.
 #[derive(Clone, Copy)]
 enum Call {
-    /// `send_request`, of a sync.
-    Send,
+    /// `send_request`, of this request.
+    Send(Request),
+    /// `next_event`.
+    Next,
+    /// `finish_event`, of an event that made no object.
+    Finish,
     /// All calls that look something up.
     LookUp,
     /// `set_data`, of the callback.
@@ -47,7 +58,7 @@ enum Call {
 
 /// The calls, in order, each with its name if it is counted.
 static CALLS: [(&str, Call); 14] = [
-    ("control: send_request", Call::Send),
+    ("control: send_request", Call::Send(Request::Sync)),
     ("look-ups", Call::LookUp),
     ("set_data", Call::SetData),
     ("set_data of no object", Call::SetMissing),
@@ -56,7 +67,7 @@ static CALLS: [(&str, Call); 14] = [
     ("dispatch_inner_queue", Call::Dispatch),
     ("transport_mut", Call::Transport),
     ("flush", Call::Flush),
-    ("", Call::Send),
+    ("", Call::Send(Request::Sync)),
     ("control: destroy_object", Call::Destroy),
     (
         "destroy_object, with room for its note",
@@ -64,6 +75,35 @@ static CALLS: [(&str, Call); 14] = [
     ),
     ("take_notes", Call::Notes),
     ("take_notes of none", Call::Notes),
+];
+
+/// Calls for which an earlier one has made room: of a number that was in use before, and of the list of notes, which is not taken
+/// in between, since it is handed out with its room. In order, each with its name if it is counted.
+static WITH_ROOM: [(&str, Call); 15] = [
+    ("", Call::Send(Request::GetRegistry)),
+    ("", Call::Send(Request::Bind)),
+    ("", Call::Send(Request::Make)),
+    ("", Call::Send(Request::Sync)),
+    ("next_event of a number", Call::Next),
+    ("control: finish_event of a destructor", Call::Finish),
+    ("", Call::Next),
+    ("finish_event", Call::Finish),
+    ("", Call::Send(Request::Sync)),
+    ("", Call::Next),
+    (
+        "finish_event of a destructor, with room for its note",
+        Call::Finish,
+    ),
+    ("", Call::Next),
+    ("", Call::Finish),
+    (
+        "send_request of a sync at a number that was in use, with room for one more",
+        Call::Send(Request::Sync),
+    ),
+    (
+        "send_request of a destructor, with room for its note",
+        Call::Send(Request::Bare(Object::Second, DESTROY)),
+    ),
 ];
 
 /// Whether each look-up finds what it has to.
@@ -78,11 +118,17 @@ fn is_looked_up(client: &Client) -> bool {
         && client.waiting() == [0, 0, 12, 0]
 }
 
-/// Sends a sync; whether that is done.
-fn send<'a>(alloc: Global, drops: &'a Cell<u64>, client: &mut Client<'a>) -> Result<bool, Fail> {
-    let sync = message(alloc, Request::Sync)?;
+/// Sends the request; whether that is done.
+fn send<'a>(
+    alloc: Global,
+    drops: &'a Cell<u64>,
+    client: &mut Client<'a>,
+    request: Request,
+) -> Result<bool, Fail> {
+    let message = message(alloc, request)?;
+    let (_, wish) = request.child();
     let data = Some(Counted::new(drops, 1));
-    Ok(client.send_request(sync, data, None).is_ok())
+    Ok(client.send_request(message, data, wish).is_ok())
 }
 
 /// Makes the call; whether it answers as it has to.
@@ -93,7 +139,7 @@ fn make<'a>(
     call: Call,
 ) -> Result<bool, Fail> {
     match call {
-        Call::Send => send(alloc, drops, client),
+        Call::Send(request) => send(alloc, drops, client, request),
         Call::LookUp => Ok(is_looked_up(client)),
         Call::SetData => {
             let callback = Object::Callback.id();
@@ -118,6 +164,8 @@ fn make_of_all(client: &mut Client, call: Call) -> bool {
             client.set_max_buffer_size(Some(8192));
             true
         }
+        Call::Next => client.next_event().is_ok(),
+        Call::Finish => client.finish_event(None).is_ok(),
         Call::Dispatch => client.dispatch_inner_queue().is_ok(),
         Call::Transport => {
             let _ = client.transport_mut();
@@ -163,17 +211,26 @@ fn all_counted<'a>(
     Ok(())
 }
 
-/// A new client.
-fn connected<'a>(alloc: Global, drops: &'a Cell<u64>) -> Result<Client<'a>, Fail> {
+/// A new client, to which the server sends these bytes.
+fn connected<'a>(
+    alloc: Global,
+    drops: &'a Cell<u64>,
+    from_server: &'static [u8],
+) -> Result<Client<'a>, Fail> {
     let table = quad_table(alloc)?;
-    let line = Line::new(&[], Counted::new(drops, 1));
+    let line = Line::new(from_server, Counted::new(drops, 1));
     Ok(Backend::connect(alloc, table, line)?)
 }
 
-/// Makes the calls of a new client.
-fn counted_of_new<'a>(rt: &(impl Eprint + AllocGlobal), drops: &'a Cell<u64>) -> Result<(), Fail> {
-    let mut client = connected(rt.alloc(), drops)?;
-    let answer = all_counted(rt, drops, &mut client, &CALLS);
+/// Makes the calls of a new client, to which the server sends these bytes.
+fn counted_of_new<'a>(
+    rt: &(impl Eprint + AllocGlobal),
+    drops: &'a Cell<u64>,
+    from_server: &'static [u8],
+    calls: &[(&str, Call)],
+) -> Result<(), Fail> {
+    let mut client = connected(rt.alloc(), drops, from_server)?;
+    let answer = all_counted(rt, drops, &mut client, calls);
     drop(client);
     answer
 }
@@ -181,5 +238,6 @@ fn counted_of_new<'a>(rt: &(impl Eprint + AllocGlobal), drops: &'a Cell<u64>) ->
 #[test]
 fn takes_no_memory(rt: HostRuntime) -> Result<(), Fail> {
     let drops = Cell::new(0);
-    counted_of_new(&rt, &drops)
+    counted_of_new(&rt, &drops, &[], &CALLS)?;
+    counted_of_new(&rt, &drops, &TWICE, &WITH_ROOM)
 }

@@ -5,12 +5,14 @@
 
 use crate::kit::counted::{Counted, Line};
 use crate::kit::values::{FIRST, Named, SECOND, Thing};
+use smallvec::SmallVec;
+use std::alloc::Global;
 use std::cell::Cell;
 use std::test::Fail;
 use test_kit::log::holds;
 use test_kit::quad::{QUAD, quad_table};
 use wl_server::{Backend, DisconnectReason};
-use wl_wire::Protocol;
+use wl_wire::{Message, Protocol};
 
 /// A server whose transports take all that they are sent, without memory.
 type Server<'a> = Backend<Line<'a>, Counted<'a>, Counted<'a>, Counted<'a>>;
@@ -23,6 +25,17 @@ const BINDS: [u8; 88] = [
     113, 117, 97, 100, 0, 0, 0, 0, 3, 0, 0, 0, 4, 0, 0, 0, 3, 0, 0, 0, 0, 0, 12, 0, 7, 0, 0, 0,
 ];
 
+/// `wl_display.get_registry` with the new id 2, and `wl_registry.bind`, of the global 1, as `quad` of version 3, with the new
+/// id 3. Then, twice, `wl_display.sync` with the new id 4, and `quad.poke`, by object 3. At the end, twice, `quad.make`, by
+/// object 3, with the new id 4, and `quad.destroy`, by object 4.
+const TWICE: [u8; 132] = [
+    1, 0, 0, 0, 1, 0, 12, 0, 2, 0, 0, 0, 2, 0, 0, 0, 0, 0, 32, 0, 1, 0, 0, 0, 5, 0, 0, 0, 113, 117,
+    97, 100, 0, 0, 0, 0, 3, 0, 0, 0, 3, 0, 0, 0, 1, 0, 0, 0, 0, 0, 12, 0, 4, 0, 0, 0, 3, 0, 0, 0,
+    0, 0, 12, 0, 7, 0, 0, 0, 1, 0, 0, 0, 0, 0, 12, 0, 4, 0, 0, 0, 3, 0, 0, 0, 0, 0, 12, 0, 7, 0, 0,
+    0, 3, 0, 0, 0, 1, 0, 12, 0, 4, 0, 0, 0, 4, 0, 0, 0, 2, 0, 8, 0, 3, 0, 0, 0, 1, 0, 12, 0, 4, 0,
+    0, 0, 4, 0, 0, 0, 2, 0, 8, 0,
+];
+
 /// The object that the server makes for the first client.
 const MADE: Thing = Thing(FIRST, 0xFF00_0000, 1, QUAD);
 
@@ -32,16 +45,19 @@ const BOUND: Thing = Thing(FIRST, 3, 3, QUAD);
 /// The global.
 const GLOBAL: Named = Named(1, 1);
 
+/// The opcode of `quad.gone`.
+const GONE: u16 = 2;
+
 /// A call.
 #[derive(Clone, Copy)]
 enum Call {
-    /// `insert_client`, of a client that sends two binds.
-    Insert,
+    /// `insert_client`, of a client that sends these bytes.
+    Insert(&'static [u8]),
     /// `create_object`, for the first client.
     Create,
     /// `create_global`.
     Global,
-    /// `next_action`, of the first client, which gives a bind, or the request after both.
+    /// `next_action`, of the first client, which gives a bind or a request.
     Next,
     /// All calls that look something up.
     LookUp,
@@ -63,8 +79,12 @@ enum Call {
     FinishNone,
     /// `finish_bind_returning`.
     FinishReturning,
-    /// `finish_request`, of a request that made no object and ended none.
+    /// `finish_request`, of a request that made no object.
     FinishRequest,
+    /// `finish_request`, of a request that made one.
+    FinishMade,
+    /// `send_event`, of `quad.gone`, by the object that was bound first.
+    SendGone,
     /// `flush` of the first client.
     Flush,
     /// `flush` of all clients.
@@ -81,8 +101,8 @@ enum Call {
 
 /// The calls, in order, each with its name if it is counted.
 static CALLS: [(&str, Call); 29] = [
-    ("control: insert_client", Call::Insert),
-    ("", Call::Insert),
+    ("control: insert_client", Call::Insert(&BINDS)),
+    ("", Call::Insert(&BINDS)),
     ("", Call::Create),
     ("", Call::Global),
     ("", Call::Next),
@@ -113,6 +133,49 @@ static CALLS: [(&str, Call); 29] = [
     ),
     ("kill_client", Call::Kill),
     ("control: cleanup", Call::Cleanup),
+];
+
+/// Calls for which an earlier one has made room: of a number that was in use before, and of a list of notes that are taken out.
+/// In order, each with its name if it is counted.
+static WITH_ROOM: [(&str, Call); 22] = [
+    ("", Call::Insert(&TWICE)),
+    ("", Call::Create),
+    ("", Call::Global),
+    ("", Call::Next),
+    ("", Call::FinishBind),
+    ("", Call::Next),
+    ("", Call::FinishRequest),
+    // It gives the request behind the sync.
+    (
+        "next_action of a sync at a number that was in use",
+        Call::Next,
+    ),
+    ("", Call::FinishRequest),
+    ("", Call::Next),
+    ("", Call::FinishMade),
+    ("", Call::Next),
+    (
+        "control: finish_request of a destructor",
+        Call::FinishRequest,
+    ),
+    ("", Call::Notes),
+    (
+        "next_action of a new object at a number that was in use, with room for one more",
+        Call::Next,
+    ),
+    ("finish_request of a new object", Call::FinishMade),
+    ("next_action of a destructor", Call::Next),
+    (
+        "finish_request of a destructor, with room for its note",
+        Call::FinishRequest,
+    ),
+    ("control: destroy_object", Call::Destroy(MADE)),
+    ("", Call::Cleanup),
+    ("", Call::Notes),
+    (
+        "send_event of a destructor, with room for its note",
+        Call::SendGone,
+    ),
 ];
 
 /// How many clients, and how many objects of the first one, the iterators give.
@@ -171,9 +234,9 @@ fn is_global_looked_up(server: &Server) -> bool {
         && server.protocol().get(QUAD).is_some()
 }
 
-/// Inserts a client; whether that is done.
-fn insert<'a>(drops: &'a Cell<u64>, server: &mut Server<'a>) -> bool {
-    let line = Line::new(&BINDS, Counted::new(drops, 1));
+/// Inserts a client that sends these bytes; whether that is done.
+fn insert<'a>(drops: &'a Cell<u64>, server: &mut Server<'a>, bytes: &'static [u8]) -> bool {
+    let line = Line::new(bytes, Counted::new(drops, 1));
     server.insert_client(line, Counted::new(drops, 1)).is_ok()
 }
 
@@ -207,10 +270,24 @@ fn finish<'a>(drops: &'a Cell<u64>, server: &mut Server<'a>, call: Call) -> bool
     }
 }
 
-/// Finishes the bind that is open, and gets what is bound; whether that is done.
-fn finish_returning<'a>(drops: &'a Cell<u64>, server: &mut Server<'a>) -> bool {
+/// Finishes the bind that is open, and gets what becomes of its data, or the request that is open and made an object; whether
+/// that is done.
+fn finish_made<'a>(drops: &'a Cell<u64>, server: &mut Server<'a>, call: Call) -> bool {
     let data = Counted::new(drops, 1);
-    server.finish_bind_returning(&FIRST.id(), data).is_ok()
+    match call {
+        Call::FinishReturning => server.finish_bind_returning(&FIRST.id(), data).is_ok(),
+        _ => server.finish_request(&FIRST.id(), Some(data)).is_ok(),
+    }
+}
+
+/// Sends the event that ends the object that was bound first; whether that is done.
+fn send_gone(alloc: Global, server: &mut Server) -> bool {
+    let gone = Message {
+        sender_id: BOUND.id(),
+        opcode: GONE,
+        args: SmallVec::new(alloc),
+    };
+    server.send_event(gone).is_ok()
 }
 
 /// Makes a call that sets a limit.
@@ -262,20 +339,21 @@ fn make_of_all(server: &mut Server, call: Call) -> bool {
 }
 
 /// Makes the call; whether it answers as it has to.
-fn make_any<'a>(drops: &'a Cell<u64>, server: &mut Server<'a>, call: Call) -> bool {
+fn make_any<'a>(alloc: Global, drops: &'a Cell<u64>, server: &mut Server<'a>, call: Call) -> bool {
     match call {
-        Call::Insert => insert(drops, server),
+        Call::Insert(bytes) => insert(drops, server, bytes),
         Call::Create | Call::Global => make_new(drops, server, call),
         Call::SetData | Call::SetMissing => set_data(drops, server, call),
         Call::FinishBind | Call::FinishNone => finish(drops, server, call),
-        Call::FinishReturning => finish_returning(drops, server),
+        Call::FinishReturning | Call::FinishMade => finish_made(drops, server, call),
+        Call::SendGone => send_gone(alloc, server),
         _ => make_of_all(server, call),
     }
 }
 
 /// Makes the call, and names it before if it is counted. Fails if it does not answer as it has to, or was refused memory.
 fn counted<'a>(
-    rt: &impl Eprint,
+    rt: &(impl Eprint + AllocGlobal),
     drops: &'a Cell<u64>,
     server: &mut Server<'a>,
     (name, call): (&str, Call),
@@ -283,7 +361,7 @@ fn counted<'a>(
     if !name.is_empty() {
         let _ = eprintln!(rt; "call: {name}");
     }
-    let is_made = make_any(drops, server, call);
+    let is_made = make_any(rt.alloc(), drops, server, call);
     if !name.is_empty() {
         let _ = eprintln!(rt; "end");
     }
@@ -292,7 +370,7 @@ fn counted<'a>(
 
 /// Makes the calls.
 fn all_counted<'a>(
-    rt: &impl Eprint,
+    rt: &(impl Eprint + AllocGlobal),
     drops: &'a Cell<u64>,
     server: &mut Server<'a>,
     calls: &[(&str, Call)],
@@ -312,10 +390,14 @@ fn counted_new<'a>(rt: &(impl Eprint + AllocGlobal), protocol: Protocol) -> Serv
 }
 
 /// Makes a server, which takes no memory, and the calls.
-fn counted_of_new<'a>(rt: &(impl Eprint + AllocGlobal), drops: &'a Cell<u64>) -> Result<(), Fail> {
+fn counted_of_new<'a>(
+    rt: &(impl Eprint + AllocGlobal),
+    drops: &'a Cell<u64>,
+    calls: &[(&str, Call)],
+) -> Result<(), Fail> {
     let protocol = quad_table(rt.alloc())?;
     let mut server = counted_new(rt, protocol);
-    let answer = all_counted(rt, drops, &mut server, &CALLS);
+    let answer = all_counted(rt, drops, &mut server, calls);
     drop(server);
     answer
 }
@@ -323,5 +405,6 @@ fn counted_of_new<'a>(rt: &(impl Eprint + AllocGlobal), drops: &'a Cell<u64>) ->
 #[test]
 fn takes_no_memory(rt: HostRuntime) -> Result<(), Fail> {
     let drops = Cell::new(0);
-    counted_of_new(&rt, &drops)
+    counted_of_new(&rt, &drops, &CALLS)?;
+    counted_of_new(&rt, &drops, &WITH_ROOM)
 }
