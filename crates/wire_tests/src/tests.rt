@@ -6,6 +6,7 @@ mod errors;
 mod log_text;
 mod longest;
 mod looked_up;
+mod no_memory;
 mod refused;
 mod strings;
 mod tables;

@@ -1,11 +1,11 @@
-//! Calls of the map and of the link that take no memory, since there is room. `./refusal-drill` counts what is allocated for each:
-//! nothing, but for those whose names begin with `control`.
+//! Calls of the map and of the link that take no memory, since there is room, and one of the transport by script that never does.
+//! `./refusal-drill` counts what is allocated for each: nothing, but for those whose names begin with `control`.
 
 use std::alloc::Global;
 use std::test::Fail;
 use test_kit::log::holds;
 use test_kit::message::{Arg, message};
-use wl_link::{BufferedSocket, Mailbox, Object, ObjectMap};
+use wl_link::{BufferedSocket, Mailbox, Memory, Object, ObjectMap, Transport};
 use wl_wire::{ArgumentType, Token, WL_CALLBACK_INTERFACE};
 
 /// Names a call on standard error before it is made, if it has a name.
@@ -224,8 +224,22 @@ fn of_a_link(rt: &(impl Eprint + AllocGlobal)) -> Result<(), Fail> {
     answer
 }
 
+/// Sends over a new script, which records that, and takes the record.
+fn of_a_script(rt: &(impl Eprint + AllocGlobal)) -> Result<(), Fail> {
+    let mut script = Memory::new(rt.alloc());
+    begin(rt, "control: send_msg of a script");
+    let sent = script.send_msg(&BYTES, &TOKENS);
+    end(rt, "control: send_msg of a script");
+    begin(rt, "take_sent");
+    let taken = script.take_sent();
+    end(rt, "take_sent");
+    let is_taken = sent == Ok(12) && taken.len() == 1 && script.sent().is_empty();
+    holds(rt, "take_sent", is_taken)
+}
+
 #[test]
 fn takes_no_memory(rt: HostRuntime) -> Result<(), Fail> {
     of_a_map(&rt)?;
-    of_a_link(&rt)
+    of_a_link(&rt)?;
+    of_a_script(&rt)
 }

@@ -40,7 +40,7 @@ fn tell_written(log: &mut String, message: &Message<u32, Token>, room: usize) ->
 }
 
 /// Whether that message was read.
-fn is_parsed(parsed: &Parsed<'_>, message: &Message<u32, Token>) -> bool {
+pub fn is_parsed(parsed: &Parsed<'_>, message: &Message<u32, Token>) -> bool {
     match parsed {
         Ok((again, _)) => *again == *message,
         Err(_) => false,
