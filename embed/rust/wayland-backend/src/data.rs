@@ -71,6 +71,7 @@ impl<T> Slab<T> {
     }
 
     /// Takes a value out. A place that has used up its generations is not used again.
+    #[inline]
     pub(crate) fn remove(&mut self, key: u64) -> Option<T> {
         let (at, generation) = parts(key);
         let place = self

@@ -18,7 +18,13 @@ impl Panics {
     /// Calls the program's code. The answer is `None` if it panics.
     #[inline]
     pub(crate) fn catch<R>(&mut self, call: impl FnOnce() -> R) -> Option<R> {
-        self.calls = self.calls.wrapping_add(1);
+        self.count_call();
+        self.attempt(call)
+    }
+
+    /// The same for what may find that there is nothing to call. If the program's code was called, that is to be counted.
+    #[inline]
+    pub(crate) fn attempt<R>(&mut self, call: impl FnOnce() -> R) -> Option<R> {
         match catch_unwind(AssertUnwindSafe(call)) {
             Ok(answer) => Some(answer),
             Err(panic) => {
@@ -26,6 +32,12 @@ impl Panics {
                 None
             }
         }
+    }
+
+    /// The program's code was called.
+    #[inline]
+    pub(crate) fn count_call(&mut self) {
+        self.calls = self.calls.wrapping_add(1);
     }
 
     /// How often the program's code was called.

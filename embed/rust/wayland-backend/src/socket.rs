@@ -2,6 +2,7 @@
 
 use std::collections::VecDeque;
 use std::io::{IoSlice, IoSliceMut};
+use std::mem::ManuallyDrop;
 use std::os::fd::{BorrowedFd, OwnedFd};
 
 use rustix::io::{retry_on_intr, Errno};
@@ -29,7 +30,8 @@ pub(crate) fn receive(
     space: &mut [u8],
     descriptors: &mut VecDeque<OwnedFd>,
 ) -> Result<usize, Errno> {
-    let mut control = RecvAncillaryBuffer::new(space);
+    // All that comes is taken out of it, so there is nothing to be dropped.
+    let mut control = ManuallyDrop::new(RecvAncillaryBuffer::new(space));
     let flags = RecvFlags::DONTWAIT | RecvFlags::CMSG_CLOEXEC;
     let parts = &mut [IoSliceMut::new(buffer)];
     let came = retry_on_intr(|| recvmsg(socket, parts, &mut control, flags))?;
@@ -50,22 +52,26 @@ pub(crate) fn receive(
 /// `MSG_CTRUNC`, which rustix does not name among the flags that it answers.
 const CONTROL_TRUNCATED: u32 = 0x8;
 
-/// Sends once, the descriptors with the first byte. The answer is how many bytes were taken. The error is `AGAIN` if the
-/// socket takes nothing now.
-pub(crate) fn send(
+/// How each send is made.
+const SEND_FLAGS: SendFlags = SendFlags::DONTWAIT.union(SendFlags::NOSIGNAL);
+
+/// Sends once. The answer is how many bytes were taken. The error is `AGAIN` if the socket takes nothing now.
+#[inline]
+pub(crate) fn send(socket: BorrowedFd<'_>, bytes: &[u8]) -> Result<usize, Errno> {
+    retry_on_intr(|| rustix::net::send(socket, bytes, SEND_FLAGS))
+}
+
+/// The same with descriptors, which go with the first byte.
+pub(crate) fn send_with(
     socket: BorrowedFd<'_>,
     bytes: &[u8],
     descriptors: &[BorrowedFd<'_>],
 ) -> Result<usize, Errno> {
-    let flags = SendFlags::DONTWAIT | SendFlags::NOSIGNAL;
-    if descriptors.is_empty() {
-        return retry_on_intr(|| rustix::net::send(socket, bytes, flags));
-    }
     let mut space = [0; rustix::cmsg_space!(ScmRights(MOST_DESCRIPTORS))];
     let mut control = SendAncillaryBuffer::new(&mut space);
     control.push(SendAncillaryMessage::ScmRights(descriptors));
     let parts = &[IoSlice::new(bytes)];
-    retry_on_intr(|| sendmsg(socket, parts, &mut control, flags))
+    retry_on_intr(|| sendmsg(socket, parts, &mut control, SEND_FLAGS))
 }
 
 #[cfg(test)]
@@ -106,10 +112,10 @@ mod tests {
         let (one, two) = pair();
         let (first, second) = (file("first"), file("second"));
         assert_eq!(
-            send(one.as_fd(), b"bytes", &[first.as_fd(), second.as_fd()]),
+            send_with(one.as_fd(), b"bytes", &[first.as_fd(), second.as_fd()]),
             Ok(5)
         );
-        assert_eq!(send(one.as_fd(), b"more", &[]), Ok(4));
+        assert_eq!(send(one.as_fd(), b"more"), Ok(4));
         let mut buffer = [0; 64];
         let mut descriptors = VecDeque::new();
         let mut came = Vec::new();
@@ -131,7 +137,7 @@ mod tests {
     #[test]
     fn a_descriptor_that_came_is_closed_on_exec() {
         let (one, two) = pair();
-        send(one.as_fd(), b"x", &[file("").as_fd()]).unwrap();
+        send_with(one.as_fd(), b"x", &[file("").as_fd()]).unwrap();
         let mut descriptors = VecDeque::new();
         receive(
             two.as_fd(),
@@ -159,7 +165,7 @@ mod tests {
             Err(Errno::AGAIN)
         );
         let full = loop {
-            if let Err(error) = send(one.as_fd(), &buffer, &[]) {
+            if let Err(error) = send(one.as_fd(), &buffer) {
                 break error;
             }
         };
@@ -179,7 +185,7 @@ mod tests {
             ),
             Ok(0)
         );
-        assert_eq!(send(two.as_fd(), b"x", &[]), Err(Errno::PIPE));
+        assert_eq!(send(two.as_fd(), b"x"), Err(Errno::PIPE));
     }
 
     #[test]

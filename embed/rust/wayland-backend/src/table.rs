@@ -18,6 +18,8 @@ use crate::protocol::{AllowNull, ArgumentType, Interface, MessageDesc, ANONYMOUS
 pub(crate) struct Table {
     /// What is to be logged when no lock is held.
     longer: Vec<Longer>,
+    /// Whether two statics of one name differ in which events end their objects.
+    ends_differ: bool,
     /// The static of each row: the first one of its name.
     statics: Vec<&'static Interface>,
     rows_by_name: HashMap<&'static str, u32>,
@@ -46,6 +48,7 @@ impl Table {
     pub(crate) fn new() -> Table {
         let mut table = Table {
             longer: Vec::new(),
+            ends_differ: false,
             statics: Vec::new(),
             rows_by_name: HashMap::new(),
             rows_by_address: HashMap::default(),
@@ -82,6 +85,13 @@ impl Table {
             Some(row) => Ok(*row),
             None => self.append(interface, append),
         }
+    }
+
+    /// Whether the event may end an object of this interface.
+    #[inline]
+    pub(crate) fn may_end(&self, interface: &'static Interface, event: u16) -> bool {
+        let event = interface.events.get(usize::from(event));
+        self.ends_differ || event.is_some_and(|event| event.is_destructor)
     }
 
     /// Whether something is to be logged of the interfaces that were named. It is not almost always.
@@ -128,6 +138,7 @@ impl Table {
                 self.rows_by_address.insert(address(interface), row);
                 let first = self.interface(row);
                 self.longer.extend(Longer::of(interface, first));
+                self.ends_differ |= !same_ends(interface, first);
                 continue;
             }
             self.push(interface);
@@ -200,6 +211,12 @@ impl Table {
             });
         }
     }
+}
+
+/// Whether the events that both have end an object of either, or of none.
+fn same_ends(one: &Interface, other: &Interface) -> bool {
+    let mut both = one.events.iter().zip(other.events);
+    both.all(|(one, other)| one.is_destructor == other.is_destructor)
 }
 
 /// A second static of a name that has messages which the row has not: they cannot be sent or received.
@@ -405,6 +422,30 @@ mod tests {
             row
         );
         assert!(std::ptr::eq(table.interface(row), &SURFACE));
+    }
+
+    #[test]
+    fn an_event_may_end_an_object_if_any_static_of_the_name_says_so() {
+        const DONE: MessageDesc = message("done", None, &[], &[]);
+        const fn with_events(events: &'static [MessageDesc]) -> Interface {
+            Interface {
+                events,
+                ..interface("timer", &[])
+            }
+        }
+        static LASTING: Interface = with_events(&[DONE, DONE]);
+        static SAME: Interface = with_events(&[DONE]);
+        static ENDING: Interface = with_events(&[MessageDesc {
+            is_destructor: true,
+            ..DONE
+        }]);
+        let mut table = Table::new();
+        table.row(&LASTING, |_| Ok(())).unwrap();
+        table.row(&SAME, |_| Ok(())).unwrap();
+        assert!(!table.may_end(&LASTING, 0));
+        assert!(table.may_end(&ENDING, 0) && !table.may_end(&ENDING, 1));
+        table.row(&ENDING, |_| Ok(())).unwrap();
+        assert!(table.may_end(&LASTING, 0));
     }
 
     #[test]

@@ -1155,6 +1155,20 @@ fn a_send_to_a_closed_socket_ends_the_connection() {
 }
 
 #[test]
+fn a_reading_says_that_its_last_callback_has_ended_the_connection() {
+    let (client, server, _) = bound(data(|client, event| {
+        send(client, &event.sender_id, GIVE, &[Argument::Fd(-1)]).unwrap();
+        None
+    }));
+    give(&server, &raw(3, BLOB, &run(b"")), &[]);
+    let error = read(&client).unwrap_err();
+    assert!(
+        matches!(&error, WaylandError::Io(error) if error.kind() != std::io::ErrorKind::WouldBlock),
+        "{error:?}"
+    );
+}
+
+#[test]
 fn a_backend_that_is_dropped_closes_what_it_has() {
     let (client, server, thing) = bound(quiet());
     let weak = client.downgrade();

@@ -8,7 +8,6 @@ use std::sync::{Arc, Condvar, Mutex, MutexGuard, PoisonError};
 use rustix::io::Errno;
 
 use super::misuse;
-use super::reading::Readers;
 use super::session::{Failure, Leftovers, Refused, Session};
 use super::{InvalidId, ObjectData, ObjectId, WaylandError};
 use crate::debug;
@@ -21,7 +20,6 @@ pub(super) struct Connection {
     session: Mutex<Session>,
     /// The id of the display, which never changes.
     display: ObjectId,
-    pub(super) readers: Mutex<Readers>,
     /// A reading has ended, or all that were prepared were given up.
     pub(super) read: Condvar,
     /// Whether messages are printed.
@@ -43,7 +41,6 @@ impl Connection {
             socket,
             display: session.display(),
             session: Mutex::new(session),
-            readers: Mutex::new(Readers::default()),
             read: Condvar::new(),
             prints: debug::is_on_for_clients(),
         }
@@ -88,16 +85,40 @@ impl Connection {
     pub(super) fn destroy_object(&self, id: &ObjectId) -> Result<(), InvalidId> {
         let mut leftovers = Leftovers::default();
         let mut session = self.lock();
-        if session.library.destroy_object(&id.raw()).is_err() {
+        let raw = id.raw();
+        if session.library.destroy_object(&raw).is_err() {
             return Err(InvalidId);
         }
-        session.take_notes(id, &mut leftovers);
+        session.take_notes(&raw, &mut leftovers);
         drop(session);
         leftovers.settle();
         Ok(())
     }
 
+    #[inline]
     pub(super) fn send_request(
+        &self,
+        message: &Message<ObjectId, RawFd>,
+        data: Option<Arc<dyn ObjectData>>,
+        child_spec: Option<(&'static Interface, u32)>,
+    ) -> Result<ObjectId, InvalidId> {
+        if data.is_some() || child_spec.is_some() || is_destructor(message) {
+            return self.send_and_settle(message, data, child_spec);
+        }
+        // It makes no object, or is refused. So it leaves nothing to be done.
+        let sent = self.lock().send_plain(message);
+        match sent {
+            Ok(()) => {
+                let created = ObjectId::null();
+                self.print_sent(message, &created);
+                Ok(created)
+            }
+            Err(status) => self.refuse(Refused::from(status), message, None),
+        }
+    }
+
+    /// Sends a request that may make or end an object.
+    fn send_and_settle(
         &self,
         message: &Message<ObjectId, RawFd>,
         data: Option<Arc<dyn ObjectData>>,
@@ -113,33 +134,48 @@ impl Connection {
                 leftovers.settle();
                 Ok(created)
             }
-            Err(Refused::InvalidId) => {
+            Err(refused) => {
                 leftovers.settle();
+                self.refuse(refused, message, child_spec)
+            }
+        }
+    }
+
+    #[cold]
+    fn refuse(
+        &self,
+        why: Refused,
+        message: &Message<ObjectId, RawFd>,
+        child_spec: Option<(&'static Interface, u32)>,
+    ) -> Result<ObjectId, InvalidId> {
+        match why {
+            Refused::InvalidId => {
                 if self.prints {
                     let arguments = debug::List(&message.args);
                     debug::print_discarded(&message.sender_id, name_of(message), arguments);
                 }
                 Err(InvalidId)
             }
-            Err(Refused::Misuse(status)) => {
-                leftovers.settle();
+            Refused::Misuse(status) => {
                 let info = self.info(&message.sender_id).ok();
                 panic!("{}", misuse::text(status, message, child_spec, info))
             }
-            Err(Refused::BadInterface(error)) => {
-                leftovers.settle();
-                panic!("{error}")
-            }
+            Refused::BadInterface(error) => panic!("{error}"),
         }
     }
 
+    #[inline]
     fn print_sent(&self, message: &Message<ObjectId, RawFd>, created: &ObjectId) {
-        let sender = &message.sender_id;
-        let arguments = debug::WithNewId(&message.args, created);
         if self.prints {
-            debug::print_sent(sender, name_of(message), &arguments);
+            let arguments = debug::WithNewId(&message.args, created);
+            debug::print_sent(&message.sender_id, name_of(message), arguments);
         }
-        crate::log_debug!("Sending {sender}.{} ({arguments})", name_of(message));
+        crate::log_debug!(
+            "Sending {}.{} ({})",
+            message.sender_id,
+            name_of(message),
+            debug::WithNewId(&message.args, created)
+        );
     }
 
     pub(super) fn flush(&self) -> Result<(), WaylandError> {
@@ -171,6 +207,14 @@ impl Connection {
     pub(super) fn set_max_buffer_size(&self, limit: Option<usize>) {
         self.lock().library.set_max_buffer_size(limit);
     }
+}
+
+/// Whether the request ends its sender.
+fn is_destructor(message: &Message<ObjectId, RawFd>) -> bool {
+    let requests = message.sender_id.interface.requests;
+    requests
+        .get(usize::from(message.opcode))
+        .is_some_and(|request| request.is_destructor)
 }
 
 /// The name of a request.

@@ -1,15 +1,15 @@
 //! Reading events, by one thread for all that have prepared it.
 
 use std::io;
-use std::os::unix::io::OwnedFd;
+use std::mem;
 use std::ptr;
-use std::sync::{MutexGuard, PoisonError};
+use std::sync::{Arc, MutexGuard, PoisonError};
 
 use rustix::io::Errno;
 
 use super::connection::Connection;
 use super::session::{Failure, Leftovers, OpenEvent, Session};
-use super::{Backend, ObjectId, WaylandError};
+use super::{Backend, ObjectData, ObjectId, WaylandError};
 use crate::debug;
 use crate::library::{Arguments, Received, Status};
 use crate::panics::Panics;
@@ -40,40 +40,37 @@ pub(super) struct Readers {
 }
 
 impl Connection {
-    fn lock_readers(&self) -> MutexGuard<'_, Readers> {
-        self.readers.lock().unwrap_or_else(PoisonError::into_inner)
-    }
-
     /// Prepares a reading. While another thread reads, this waits until it has ended: then what it read has been handed
     /// out. A callback of the reading itself does not wait.
     pub(super) fn prepare_read(&self) {
-        let mut readers = self.lock_readers();
-        if readers.current.is_some() {
+        let mut session = self.lock();
+        if session.readers.current.is_some() {
             let thread = ThreadMark::of_this();
-            while readers.current.is_some_and(|current| current != thread) {
-                readers = self.wait(readers);
+            while session.readers.current.is_some_and(|it| it != thread) {
+                session = self.wait(session);
             }
         }
-        readers.prepared += 1;
+        session.readers.prepared += 1;
     }
 
     /// Waits until a reading has ended, or all that were prepared were given up.
-    fn wait<'a>(&self, mut readers: MutexGuard<'a, Readers>) -> MutexGuard<'a, Readers> {
-        readers.waiting += 1;
-        let mut readers = self
+    #[cold]
+    fn wait<'a>(&self, mut session: MutexGuard<'a, Session>) -> MutexGuard<'a, Session> {
+        session.readers.waiting += 1;
+        let mut session = self
             .read
-            .wait(readers)
+            .wait(session)
             .unwrap_or_else(PoisonError::into_inner);
-        readers.waiting -= 1;
-        readers
+        session.readers.waiting -= 1;
+        session
     }
 
     /// Gives a prepared reading up. If it was the last one, those that wait for a reader go on.
     pub(super) fn give_up_reading(&self) {
-        let mut readers = self.lock_readers();
+        let readers = &mut self.lock().readers;
         readers.prepared -= 1;
         if readers.prepared == 0 && readers.current.is_none() {
-            self.end_reading(&mut readers);
+            self.end_reading(readers);
         }
     }
 
@@ -86,42 +83,58 @@ impl Connection {
         }
     }
 
-    /// Begins a prepared reading. The answer is whether this thread is the one that reads; otherwise another one has.
-    fn begin_reading(&self) -> Result<bool, WaylandError> {
+    /// Begins a prepared reading. If this thread is the one that reads, the answer is the session, which is locked; otherwise
+    /// another one has read.
+    fn begin_reading(&self) -> Result<Option<MutexGuard<'_, Session>>, WaylandError> {
         let thread = ThreadMark::of_this();
-        let mut readers = self.lock_readers();
-        readers.prepared -= 1;
-        if readers.current == Some(thread) {
+        let mut session = self.lock();
+        session.readers.prepared -= 1;
+        if session.readers.current == Some(thread) {
             // A callback of this thread's own reading.
             return Err(io::Error::from(Errno::AGAIN).into());
         }
-        let ended = readers.ended;
-        while readers.prepared > 0 || readers.current.is_some() {
-            readers = self.wait(readers);
-            if readers.ended != ended {
-                return Ok(false);
+        let ended = session.readers.ended;
+        while session.readers.prepared > 0 || session.readers.current.is_some() {
+            session = self.wait(session);
+            if session.readers.ended != ended {
+                return Ok(None);
             }
         }
-        readers.current = Some(thread);
-        Ok(true)
+        session.readers.current = Some(thread);
+        Ok(Some(session))
     }
 }
 
-/// Ends the reading of this thread, also by a panic.
-struct Reading<'a>(&'a Connection);
+/// The reading of this thread. It ends at the latest when this is dropped, also by a panic.
+struct Reading<'a> {
+    connection: &'a Connection,
+    is_over: bool,
+}
+
+impl Reading<'_> {
+    fn end(&mut self, session: &mut Session) {
+        self.connection.end_reading(&mut session.readers);
+        self.is_over = true;
+    }
+}
 
 impl Drop for Reading<'_> {
     fn drop(&mut self) {
-        self.0.end_reading(&mut self.0.lock_readers());
+        if !self.is_over {
+            self.end(&mut self.connection.lock());
+        }
     }
 }
 
 /// Reads, or waits until another thread has read.
 pub(super) fn read(backend: &Backend) -> Result<usize, WaylandError> {
     let connection = &*backend.connection;
-    if connection.begin_reading()? {
-        let _reading = Reading(connection);
-        return dispatch(backend);
+    if let Some(session) = connection.begin_reading()? {
+        let mut reading = Reading {
+            connection,
+            is_over: false,
+        };
+        return dispatch(backend, session, &mut reading);
     }
     match connection.last_error() {
         Some(error) => Err(error),
@@ -130,116 +143,144 @@ pub(super) fn read(backend: &Backend) -> Result<usize, WaylandError> {
 }
 
 /// Hands events out until the socket has no more. The answer is how many. If a callback panics, the panic goes on when all
-/// events were handed out.
-fn dispatch(backend: &Backend) -> Result<usize, WaylandError> {
+/// events were handed out. The reading ends when all that comes of it was done.
+fn dispatch<'a>(
+    backend: &'a Backend,
+    mut session: MutexGuard<'a, Session>,
+    reading: &mut Reading<'_>,
+) -> Result<usize, WaylandError> {
     let connection = &*backend.connection;
     let mut panics = Panics::default();
     let mut leftovers = Leftovers::default();
     let mut dispatched = 0;
-    let mut session = connection.lock();
-    let mut received = session.receive(connection.socket());
-    let mut message = None;
+    let mut dangers = session.library.dangers();
+    let mut receipt = session.receive(connection.socket());
     let result = loop {
-        match session.next_event(message.insert(no_message())) {
-            Ok(event) => {
-                drop(session);
-                session = hand_out(backend, event, &mut message, &mut leftovers, &mut panics);
-                dispatched += 1;
-            }
-            // If the socket had no more, it may have by now. Then poll says so.
-            Err(Status::WOULD_BLOCK) if received == Received::Some => {
-                received = session.receive(connection.socket());
-            }
-            Err(Status::FAILED) => break Err(session.failed()),
-            Err(_) if dispatched == 0 => break Err(Failure::from(Errno::AGAIN)),
-            Err(_) => break Ok(dispatched),
+        // All were handed out that there can be, and no callback has done what may have given the session an error.
+        if receipt.most == 0 && session.library.dangers() == dangers {
+            break Ok(dispatched);
         }
+        let answer = match panics.attempt(|| hand_out(backend, session)) {
+            Some(Ok(answer)) => Some(answer),
+            None => None,
+            Some(Err(no_event)) => {
+                session = no_event.session;
+                match no_event.status {
+                    // If the socket had no more, it may have by now. Then poll says so.
+                    Status::WOULD_BLOCK if receipt.received == Received::Some => {
+                        dangers = session.library.dangers();
+                        receipt = session.receive(connection.socket());
+                        continue;
+                    }
+                    Status::FAILED => break Err(session.failed()),
+                    _ if dispatched == 0 => break Err(Failure::from(Errno::AGAIN)),
+                    _ => break Ok(dispatched),
+                }
+            }
+        };
+        session = finish(connection, answer, &mut leftovers, &mut panics);
+        dispatched += 1;
+        receipt.most = receipt.most.saturating_sub(1);
     };
     session.library.close_dropped();
     session.take_unused(&mut leftovers);
-    drop(session);
-    panics.catch(|| leftovers.settle());
-    let result = panics.catch(|| result.map_err(Failure::logged));
+    let result = match result {
+        Ok(count) if leftovers.is_empty() => {
+            reading.end(&mut session);
+            drop(session);
+            Some(Ok(count))
+        }
+        result => {
+            drop(session);
+            panics.catch(|| leftovers.settle());
+            match result {
+                Ok(count) => Some(Ok(count)),
+                Err(failure) => panics.catch(|| Err(failure.logged())),
+            }
+        }
+    };
     panics.go_on();
     result.expect("no callback has panicked")
 }
 
-/// A message without arguments, of no object.
-fn no_message() -> Message<ObjectId, OwnedFd> {
-    Message {
-        sender_id: ObjectId::null(),
-        opcode: 0,
-        args: Arguments::new(),
-    }
+/// What a callback answers to an event.
+type Answer = Option<Arc<dyn ObjectData>>;
+
+/// There is no event, and why. The session is still locked.
+struct NoEvent<'a> {
+    session: MutexGuard<'a, Session>,
+    status: Status,
 }
 
-impl Connection {
-    fn print_event(&self, message: &Message<ObjectId, OwnedFd>) {
-        let (sender, arguments) = (&message.sender_id, debug::List(&message.args));
-        let name = || {
-            let events = sender.interface().events;
-            events
-                .get(usize::from(message.opcode))
-                .map_or("<unknown>", |event| event.name)
-        };
-        if self.prints {
-            debug::print_dispatched(sender, name(), &arguments);
-        }
-        crate::log_debug!("Dispatching {sender}.{} ({arguments})", name());
-    }
-}
-
-/// Hands an event to its object's data, and finishes it. The message is taken out of its place. The session stays locked
-/// for the next event.
+/// Hands the next event to its object's data, and answers what these answer. No lock is held then.
+#[inline]
 fn hand_out<'a>(
     backend: &'a Backend,
-    event: OpenEvent,
-    message: &mut Option<Message<ObjectId, OwnedFd>>,
+    mut session: MutexGuard<'a, Session>,
+) -> Result<Answer, NoEvent<'a>> {
+    let mut args = Arguments::new();
+    let OpenEvent {
+        data,
+        sender_id,
+        opcode,
+    } = match session.next_event(&mut args) {
+        Ok(event) => event,
+        Err(status) => return Err(NoEvent { session, status }),
+    };
+    drop(session);
+    backend.connection.print_event(&sender_id, opcode, &args);
+    // The message is large: it is put together where it is handed over.
+    Ok(data.event(
+        backend,
+        Message {
+            sender_id,
+            opcode,
+            args,
+        },
+    ))
+}
+
+/// Finishes the event that was handed out, by what its callback answered; there is no answer if that panicked. The
+/// session is locked for the next event.
+#[inline]
+fn finish<'a>(
+    connection: &'a Connection,
+    answer: Option<Answer>,
     leftovers: &mut Leftovers,
     panics: &mut Panics,
 ) -> MutexGuard<'a, Session> {
-    let connection = &*backend.connection;
-    let OpenEvent {
-        data,
-        created,
-        ended,
-    } = event;
-    let answer = panics.catch(|| {
-        if let Some(message) = message {
-            connection.print_event(message);
-        }
-        // It is taken here, and not moved with this closure, since it is large.
-        let message = message.take().expect("an event has a message");
-        data.event(backend, message)
-    });
-    // What a callback that panicked would have answered is not known.
-    let is_answered = answer
-        .as_ref()
-        .map_or(created.is_some(), |answer| answer.is_some());
+    let has_answered = answer.is_some();
     let mut session = connection.lock();
-    session.finish_event(
-        created.as_ref(),
-        ended.as_ref(),
-        answer.flatten(),
-        leftovers,
-    );
-    if leftovers.is_empty() && created.is_some() == is_answered {
+    let misuse = session.finish_event(answer.flatten(), leftovers);
+    if leftovers.is_empty() && misuse.is_none() {
         return session;
     }
     drop(session);
-    panics.catch(|| leftovers.settle());
-    match created {
-        Some(created) if !is_answered => {
-            _ = panics.catch(|| {
-                panic!("Callback creating object {created} did not provide any object data.")
-            })
-        }
-        None if is_answered => {
-            _ = panics.catch(|| {
-                panic!("An object data was returned from a callback not creating any object")
-            })
-        }
-        _ => {}
+    panics.catch(|| mem::take(leftovers).settle());
+    if let Some(misuse) = misuse.filter(|_| has_answered) {
+        panics.catch(|| panic!("{misuse}"));
     }
     connection.lock()
+}
+
+impl Connection {
+    #[inline]
+    fn print_event(&self, sender: &ObjectId, opcode: u16, args: &Arguments<ObjectId>) {
+        if self.prints {
+            debug::print_dispatched(sender, name_of(sender, opcode), debug::List(args));
+        }
+        crate::log_debug!(
+            "Dispatching {sender}.{} ({})",
+            name_of(sender, opcode),
+            debug::List(args)
+        );
+    }
+}
+
+/// The name of an event.
+fn name_of(sender: &ObjectId, opcode: u16) -> &'static str {
+    let events = sender.interface().events;
+    events
+        .get(usize::from(opcode))
+        .map_or("<unknown>", |event| event.name)
 }

@@ -1,17 +1,20 @@
 //! What stands behind a connection's lock: the session, and what the program keeps for its objects.
 
 use std::collections::VecDeque;
+use std::fmt;
 use std::io;
 use std::mem;
-use std::os::unix::io::{BorrowedFd, OwnedFd, RawFd};
+use std::os::unix::io::{BorrowedFd, RawFd};
 use std::sync::Arc;
 
 use rustix::io::Errno;
 
+use super::reading::Readers;
 use super::{DisplayData, MissingData, ObjectData, ObjectId, WaylandError};
 use crate::data::Slab;
 use crate::library::{
-    Client, Event, Outgoing, RawArgument, RawObjectId, Received, Request, SessionError, Status,
+    Arguments, Client, Event, Outgoing, RawArgument, RawObjectId, Receipt, Request, SessionError,
+    Status,
 };
 use crate::panics::Panics;
 use crate::protocol::{ArgumentType, Interface, Message, MessageDesc, ObjectInfo, ProtocolError};
@@ -31,6 +34,8 @@ pub(super) struct Session {
     pub(super) library: Client,
     table: Table,
     data: Slab<Kept>,
+    /// The event that was handed out last.
+    event: Event,
     /// Objects that were destroyed, with the keys of their data. These are kept until the number is free.
     leaving: VecDeque<(RawObjectId, u64)>,
     /// How many of them were added since they were last looked at.
@@ -41,6 +46,7 @@ pub(super) struct Session {
     fault: Option<Errno>,
     /// Whether a call was answered that the session has an error. Nothing is received any more.
     has_failed: bool,
+    pub(super) readers: Readers,
 }
 
 /// Why a call failed.
@@ -77,14 +83,41 @@ pub(super) enum Refused {
     BadInterface(BadInterface),
 }
 
-/// An event that is open.
+impl From<Status> for Refused {
+    fn from(status: Status) -> Refused {
+        match status {
+            Status::INVALID_ID => Refused::InvalidId,
+            status => Refused::Misuse(status),
+        }
+    }
+}
+
+/// An event that is to be handed out.
 pub(super) struct OpenEvent {
     /// The data of the object that it was sent to.
     pub(super) data: Arc<dyn ObjectData>,
-    /// The object that it made.
-    pub(super) created: Option<ObjectId>,
-    /// Of a destructor: its sender.
-    pub(super) ended: Option<ObjectId>,
+    pub(super) sender_id: ObjectId,
+    pub(super) opcode: u16,
+}
+
+/// A callback that answered what does not fit its event.
+pub(super) enum Misuse {
+    NoData(ObjectId),
+    UnexpectedData,
+}
+
+impl fmt::Display for Misuse {
+    fn fmt(&self, f: &mut fmt::Formatter<'_>) -> fmt::Result {
+        match self {
+            Misuse::NoData(object) => write!(
+                f,
+                "Callback creating object {object} did not provide any object data."
+            ),
+            Misuse::UnexpectedData => {
+                f.write_str("An object data was returned from a callback not creating any object")
+            }
+        }
+    }
 }
 
 /// What a call leaves to be done when the lock is free, since it is the program's code.
@@ -114,8 +147,10 @@ struct MoreLeftovers {
 impl Leftovers {
     /// Tells the data of the objects that were destroyed, and drops the other data.
     #[inline]
-    pub(super) fn settle(&mut self) {
-        if !self.is_empty() {
+    pub(super) fn settle(mut self) {
+        if self.is_empty() {
+            mem::forget(self); // there is nothing to drop
+        } else {
             self.settle_all();
         }
     }
@@ -128,11 +163,11 @@ impl Leftovers {
     /// These data are not needed any more. There are none almost always.
     #[inline]
     fn leave(&mut self, data: Option<Arc<dyn ObjectData>>) {
-        if data.is_some() {
+        if let Some(data) = data {
             if self.unused.is_none() {
-                self.unused = data;
+                self.unused = Some(data);
             } else {
-                self.more().unused.extend(data);
+                self.more().unused.push(data);
             }
         }
     }
@@ -186,11 +221,13 @@ impl Session {
             library: Client::new(),
             table: Table::new(),
             data: Slab::new(),
+            event: Event::default(),
             leaving: VecDeque::new(),
             left_lately: 0,
             outgoing: Outgoing::default(),
             fault: None,
             has_failed: false,
+            readers: Readers::default(),
         };
         let display = session.library.display();
         let interface = session.table.interface(display.interface);
@@ -304,6 +341,7 @@ impl Session {
     }
 
     /// Sends a request, and answers the object that it makes.
+    #[inline]
     pub(super) fn send_request(
         &mut self,
         message: &Message<ObjectId, RawFd>,
@@ -359,19 +397,30 @@ impl Session {
                 }
                 match sent {
                     Ok(_) => ObjectId::null(),
-                    Err(Status::INVALID_ID) => return Err(Refused::InvalidId),
-                    Err(status) => return Err(Refused::Misuse(status)),
+                    Err(status) => return Err(status.into()),
                 }
             }
         };
         if description.is_some_and(|description| description.is_destructor) {
-            self.take_notes(sender, leftovers);
+            self.take_notes(&request.sender, leftovers);
         }
         Ok(created)
     }
 
+    /// Sends a request that has no data for a new object, and ends none. If it would make an object, the session refuses it.
+    #[inline]
+    pub(super) fn send_plain(&mut self, message: &Message<ObjectId, RawFd>) -> Result<(), Status> {
+        let request = Request {
+            sender: message.sender_id.raw(),
+            opcode: message.opcode.into(),
+            ..Request::default()
+        };
+        self.send(message, &request).map(|_| ())
+    }
+
     /// Hands a request to the session. If a descriptor cannot be duplicated, the session gets a number that is none in its
     /// place, so that the object of the request is there; and nothing is sent any more.
+    #[inline]
     fn send(
         &mut self,
         message: &Message<ObjectId, RawFd>,
@@ -394,18 +443,18 @@ impl Session {
     }
 
     /// Receives once, unless nothing can be read any more: then it would be kept for ever.
-    pub(super) fn receive(&mut self, socket: BorrowedFd<'_>) -> Received {
+    pub(super) fn receive(&mut self, socket: BorrowedFd<'_>) -> Receipt {
         if self.fault.is_some() || self.has_failed {
-            return Received::Nothing;
+            return Receipt::NOTHING;
         }
         self.library.receive(socket)
     }
 
-    /// The next event, which is written into the message, and who takes it.
+    /// The next event. Its arguments are appended to `args`.
     #[inline]
     pub(super) fn next_event(
         &mut self,
-        message: &mut Message<ObjectId, OwnedFd>,
+        args: &mut Arguments<ObjectId>,
     ) -> Result<OpenEvent, Status> {
         if self.fault.is_some() {
             return Err(Status::FAILED);
@@ -414,9 +463,10 @@ impl Session {
             library,
             table,
             data,
+            event,
             ..
         } = self;
-        let event = library.next_event(&mut message.args, |event, argument| {
+        library.next_event(event, args, |event, argument| {
             argument_id(table, data, event, argument)
         })?;
         let (receiver, interface) = match data.get(event.data) {
@@ -426,65 +476,67 @@ impl Session {
                 (missing, table.interface(event.sender.interface))
             }
         };
-        let created = (event.created.number != 0)
-            .then(|| ObjectId::new(&event.created, child_interface(table, data, &event)));
-        message.sender_id = ObjectId::new(&event.sender, interface);
-        message.opcode = event.opcode as u16;
         Ok(OpenEvent {
             data: receiver,
-            created,
-            ended: (event.is_destructor != 0).then(|| message.sender_id.clone()),
+            sender_id: ObjectId::new(&event.sender, interface),
+            opcode: event.opcode as u16,
         })
     }
 
-    /// Finishes the open event, which made `created` and, as a destructor, ends `ended`. An object that it made gets the data
-    /// that the callback answered.
+    /// Finishes the event that was handed out. An object that it made gets the data that the callback answered.
+    #[inline]
     pub(super) fn finish_event(
         &mut self,
-        created: Option<&ObjectId>,
-        ended: Option<&ObjectId>,
         answer: Option<Arc<dyn ObjectData>>,
         leftovers: &mut Leftovers,
-    ) {
-        match created {
-            None => {
+    ) -> Option<Misuse> {
+        let mut misuse = None;
+        if self.event.created.number != 0 {
+            misuse = self.finish_making(answer, leftovers);
+        } else {
+            if answer.is_some() {
                 leftovers.leave(answer);
-                let finished = self.library.finish_event(None);
-                debug_assert_eq!(finished, Ok(false));
+                misuse = Some(Misuse::UnexpectedData);
             }
-            Some(created) => self.finish_making(created, answer, leftovers),
+            let finished = self.library.finish_event(None);
+            debug_assert_eq!(finished, Ok(false));
         }
-        if let Some(ended) = ended {
-            self.take_notes(ended, leftovers);
+        if self.event.is_destructor != 0 {
+            let ended = self.event.sender;
+            self.take_notes(&ended, leftovers);
         }
+        misuse
     }
 
+    /// Finishes an event that made an object.
     fn finish_making(
         &mut self,
-        created: &ObjectId,
         answer: Option<Arc<dyn ObjectData>>,
         leftovers: &mut Leftovers,
-    ) {
-        let raw = created.raw();
+    ) -> Option<Misuse> {
+        let interface = child_interface(&self.table, &self.data, &self.event);
+        let raw = self.event.created;
         // The callback may have given it data, which these replace.
         if let Some(key) = self.library.object_data(&raw) {
             self.remove_data(key, leftovers);
         }
+        let misuse = match answer {
+            Some(_) => None,
+            None => Some(Misuse::NoData(ObjectId::new(&raw, interface))),
+        };
         let data = answer.unwrap_or_else(|| Arc::new(MissingData));
-        let key = self.data.insert(Kept {
-            data,
-            interface: created.interface,
-        });
+        let key = self.data.insert(Kept { data, interface });
         let finished = self.library.finish_event(Some(key));
         debug_assert!(finished.is_ok(), "{finished:?}");
         if finished != Ok(true) {
             // The callback has destroyed it: no note tells when its data leave.
             self.keep_until_free(raw, key);
         }
+        misuse
     }
 
     /// Takes the objects with data that were destroyed, up to this one, which was the last.
-    pub(super) fn take_notes(&mut self, last: &ObjectId, leftovers: &mut Leftovers) {
+    pub(super) fn take_notes(&mut self, last: &RawObjectId, leftovers: &mut Leftovers) {
         while let Some((raw, key)) = self.library.next_note() {
             if let Some(kept) = self.data.get(key) {
                 let id = ObjectId::new(&raw, kept.interface);

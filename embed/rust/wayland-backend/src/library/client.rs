@@ -6,11 +6,11 @@ use numbyroga_sys as sys;
 use rustix::io::Errno;
 
 use super::messages::Lent;
-use super::receiving::{Arrival, Inbox};
+use super::receiving::{Ending, Inbox};
 use super::rows::table_answer;
 use super::{
     answer, done, send_once, take_back, Arguments, Event, Outgoing, RawArgument, RawObjectId,
-    RawObjectInfo, Received, Request, Rows, Sent, Status, TableFault, NO_DESCRIPTOR,
+    RawObjectInfo, Receipt, Request, Rows, Sent, Status, TableFault, NO_DESCRIPTOR,
 };
 
 /// No limit of a session's buffers is lower.
@@ -48,6 +48,10 @@ pub(crate) struct Client {
     inbox: Inbox,
     /// Whether the socket took nothing when something was sent last.
     is_full: bool,
+    /// How many descriptors the session has.
+    descriptors: usize,
+    /// How often something was done that may have given the session an error. To receive and to take events does not count.
+    dangers: usize,
 }
 
 impl Client {
@@ -77,7 +81,22 @@ impl Client {
             lent: Lent::new(),
             inbox: Inbox::default(),
             is_full: false,
+            descriptors: 0,
+            dangers: 0,
         }
+    }
+
+    /// The session may get an error.
+    #[inline]
+    fn mark(&mut self) {
+        self.dangers = self.dangers.wrapping_add(1);
+    }
+
+    /// How often something was done that may have given the session an error. To receive and to take events does not count:
+    /// their answers tell of an error.
+    #[inline]
+    pub(crate) fn dangers(&self) -> usize {
+        self.dangers
     }
 
     /// Appends interfaces to the table: all of them, or none.
@@ -104,6 +123,7 @@ impl Client {
     /// Sets how far the buffers may grow, in bytes. There is no limit at first.
     #[cfg(feature = "libwayland_client_1_23")]
     pub(crate) fn set_max_buffer_size(&mut self, limit: Option<usize>) {
+        self.mark();
         let size = limit.unwrap_or(0) as u64;
         done(sys::nb_client_set_max_buffer_size(
             &mut self.place,
@@ -118,9 +138,15 @@ impl Client {
 
     /// Receives once from the socket. The end of the stream and a failure are told to the session, which answers them
     /// when its events are taken.
-    pub(crate) fn receive(&mut self, from: BorrowedFd<'_>) -> Received {
-        let (place, room) = (&mut self.place, self.lent.receiving());
-        let arrival = self.inbox.receive(from, room, |bytes, numbers| {
+    pub(crate) fn receive(&mut self, from: BorrowedFd<'_>) -> Receipt {
+        let Client {
+            place,
+            lent,
+            inbox,
+            descriptors,
+            ..
+        } = self;
+        let (receipt, ending) = inbox.receive(from, lent.receiving(), |bytes, numbers| {
             // SAFETY: each slice is lent with its own length.
             answer(unsafe {
                 sys::nb_client_received(
@@ -130,14 +156,16 @@ impl Client {
                     numbers.as_ptr(),
                     numbers.len(),
                 )
-            })
+            })?;
+            *descriptors += numbers.len();
+            Ok(())
         });
-        match arrival {
-            Arrival::Came(received) => return received,
-            Arrival::Ended => done(sys::nb_client_received_end(&mut self.place)),
-            Arrival::Failed(error) => self.receive_failed(error),
+        match ending {
+            None => {}
+            Some(Ending::Ended) => done(sys::nb_client_received_end(&mut self.place)),
+            Some(Ending::Failed(error)) => self.receive_failed(error),
         }
-        Received::Some
+        receipt
     }
 
     /// The socket failed while it was read.
@@ -150,6 +178,7 @@ impl Client {
 
     /// The socket failed while it was written: the next [`Client::flush`] with something to send fails.
     pub(crate) fn send_failed(&mut self, error: Errno) {
+        self.mark();
         done(sys::nb_client_send_failed(
             &mut self.place,
             error.raw_os_error(),
@@ -163,10 +192,10 @@ impl Client {
     #[inline]
     pub(crate) fn next_event<Id>(
         &mut self,
+        event: &mut Event,
         arguments: &mut Arguments<Id>,
         mut id: impl FnMut(&Event, &RawArgument) -> Id,
-    ) -> Result<Event, Status> {
-        let mut event = Event::default();
+    ) -> Result<(), Status> {
         loop {
             let Lent {
                 arguments, bytes, ..
@@ -175,7 +204,7 @@ impl Client {
             let status = unsafe {
                 sys::nb_client_next_event(
                     &mut self.place,
-                    &mut event,
+                    event,
                     arguments.as_mut_ptr(),
                     arguments.len(),
                     bytes.as_mut_ptr(),
@@ -189,11 +218,11 @@ impl Client {
             self.lent.grow(event.arguments, event.bytes);
         }
         // SAFETY: the session has just handed the message out.
-        unsafe {
+        self.descriptors -= unsafe {
             self.lent
-                .take(event.arguments, arguments, |argument| id(&event, argument));
-        }
-        Ok(event)
+                .take(event.arguments, arguments, |argument| id(event, argument))
+        };
+        Ok(())
     }
 
     /// Finishes the open event, with the data of the object that it made. The answer is whether that object is
@@ -219,6 +248,7 @@ impl Client {
         message: &mut Outgoing,
     ) -> Result<RawObjectId, Status> {
         let mut created = RawObjectId::default();
+        self.mark();
         // SAFETY: each slice is lent with its own length.
         let status = unsafe {
             sys::nb_client_send_request(
@@ -232,7 +262,7 @@ impl Client {
             )
         };
         answer(status)?;
-        message.give_up_descriptors();
+        self.descriptors += message.give_up_descriptors();
         Ok(created)
     }
 
@@ -289,6 +319,7 @@ impl Client {
 
     /// Hands what waits over to [`Client::send`]. Statuses: `FAILED`, `WOULD_BLOCK`.
     pub(crate) fn flush(&mut self) -> Result<(), Status> {
+        self.mark();
         answer(sys::nb_client_flush(&mut self.place))
     }
 
@@ -308,9 +339,15 @@ impl Client {
             )
         };
         done(status);
-        let place = &mut self.place;
-        send_once(to, &mut self.is_full, counts, bytes, numbers, |count| {
-            done(sys::nb_client_sent(place, count))
+        let Client {
+            place,
+            is_full,
+            descriptors,
+            ..
+        } = self;
+        send_once(to, is_full, counts, bytes, numbers, |count| {
+            done(sys::nb_client_sent(place, count));
+            *descriptors -= counts.descriptors as usize;
         })
     }
 
@@ -372,8 +409,11 @@ impl Client {
     /// Closes the descriptors that the session had and will not hand out.
     pub(crate) fn close_dropped(&mut self) {
         let mut number = -1;
-        while sys::nb_client_next_dropped(&mut self.place, &mut number) == sys::NB_OK {
+        while self.descriptors > 0
+            && sys::nb_client_next_dropped(&mut self.place, &mut number) == sys::NB_OK
+        {
             if number != NO_DESCRIPTOR {
+                self.descriptors -= 1;
                 // SAFETY: the session has just handed it out.
                 drop(unsafe { take_back(number) });
             }
@@ -385,9 +425,10 @@ impl Drop for Client {
     /// Takes the descriptors out that the session still has, and ends it.
     fn drop(&mut self) {
         self.receive_failed(Errno::PIPE);
+        let mut event = Event::default();
         loop {
-            match self.next_event(&mut Arguments::new(), |_, _| ()) {
-                Ok(event) => {
+            match self.next_event(&mut event, &mut Arguments::new(), |_, _| ()) {
+                Ok(()) => {
                     let data = (event.created.number != 0).then_some(0);
                     if self.finish_event(data).is_err() {
                         break;

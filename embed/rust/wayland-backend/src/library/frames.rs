@@ -6,45 +6,77 @@ const HEADER: usize = 8;
 /// Counts the messages of a stream as its bytes come.
 #[derive(Debug, Default)]
 pub(super) struct Frames {
+    /// The header of a message that has not come as a whole.
     header: [u8; HEADER],
     /// How many bytes of the header have come.
     has: usize,
     /// How many bytes are missing of the message whose header has come.
     missing: usize,
-    whole: usize,
 }
 
 impl Frames {
-    /// These bytes come next.
-    pub(super) fn push(&mut self, mut bytes: &[u8]) {
-        while !bytes.is_empty() {
-            if self.has < HEADER {
-                let count = (HEADER - self.has).min(bytes.len());
-                self.header[self.has..self.has + count].copy_from_slice(&bytes[..count]);
-                self.has += count;
-                bytes = &bytes[count..];
-                if self.has < HEADER {
-                    return;
-                }
-                let [.., a, b, c, d] = self.header;
-                let length = (u32::from_ne_bytes([a, b, c, d]) >> 16) as usize;
-                // A length below that of the header is wrong: the session refuses it.
-                self.missing = length.saturating_sub(HEADER);
+    /// These bytes come next. The answer is how many messages have come as a whole by them.
+    #[inline]
+    pub(super) fn push(&mut self, mut bytes: &[u8]) -> usize {
+        let mut count = 0;
+        loop {
+            if self.is_between() {
+                count += take_whole(&mut bytes);
             }
-            let count = self.missing.min(bytes.len());
-            bytes = &bytes[count..];
-            self.missing -= count;
-            if self.missing == 0 {
-                self.has = 0;
-                self.whole += 1;
+            if bytes.is_empty() {
+                return count;
             }
+            count += self.push_cut(&mut bytes);
         }
     }
 
-    /// How many messages have come as a whole since this was asked before.
-    pub(super) fn take_count(&mut self) -> usize {
-        std::mem::take(&mut self.whole)
+    /// Whether each message that has begun has come as a whole.
+    pub(super) fn is_between(&self) -> bool {
+        self.has == 0
     }
+
+    /// The bytes begin within a message, or with one that is cut. Its bytes are taken off. The answer is how many messages
+    /// that makes whole.
+    #[cold]
+    fn push_cut(&mut self, bytes: &mut &[u8]) -> usize {
+        if self.has < HEADER {
+            let count = (HEADER - self.has).min(bytes.len());
+            self.header[self.has..self.has + count].copy_from_slice(&bytes[..count]);
+            self.has += count;
+            *bytes = &bytes[count..];
+            if self.has < HEADER {
+                return 0;
+            }
+            self.missing = length(&self.header) - HEADER;
+        }
+        let count = self.missing.min(bytes.len());
+        *bytes = &bytes[count..];
+        self.missing -= count;
+        if self.missing > 0 {
+            return 0;
+        }
+        self.has = 0;
+        1
+    }
+}
+
+/// Takes the messages off that stand first as a whole, and answers how many these are.
+fn take_whole(bytes: &mut &[u8]) -> usize {
+    let mut count = 0;
+    while let Some(header) = bytes.first_chunk() {
+        let Some(rest) = bytes.get(length(header)..) else {
+            break;
+        };
+        *bytes = rest;
+        count += 1;
+    }
+    count
+}
+
+/// How long the message with this header is. A length below that of the header is wrong: the session refuses it.
+fn length(header: &[u8; HEADER]) -> usize {
+    let [.., a, b, c, d] = *header;
+    ((u32::from_ne_bytes([a, b, c, d]) >> 16) as usize).max(HEADER)
 }
 
 #[cfg(test)]
@@ -64,15 +96,16 @@ mod tests {
         for first in (0..30).chain(stream.len() - 20..=stream.len()) {
             let mut frames = Frames::default();
             let (one, other) = stream.split_at(first);
-            frames.push(one);
-            let before = frames.take_count();
-            frames.push(other);
-            assert_eq!(before + frames.take_count(), 4, "cut at {first}");
+            let before = frames.push(one);
+            let is_between = frames.is_between();
+            assert_eq!(before + frames.push(other), 4, "cut at {first}");
+            assert!(frames.is_between());
             let expected = [8, 20, 65552, 65560]
                 .iter()
                 .filter(|end| **end <= first)
                 .count();
             assert_eq!(before, expected, "cut at {first}");
+            assert_eq!(is_between, [0, 8, 20, 65552, 65560].contains(&first));
         }
     }
 
@@ -81,8 +114,7 @@ mod tests {
         let mut frames = Frames::default();
         let mut counts = Vec::new();
         for byte in [message(12), message(8)].concat() {
-            frames.push(&[byte]);
-            counts.push(frames.take_count());
+            counts.push(frames.push(&[byte]));
         }
         let mut expected = vec![0; 20];
         (expected[11], expected[19]) = (1, 1);

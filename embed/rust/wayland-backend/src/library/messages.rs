@@ -38,51 +38,25 @@ impl Outgoing {
     ) -> Result<(), Errno> {
         self.clear();
         let mut answer = Ok(());
+        let Outgoing {
+            arguments: flats,
+            bytes,
+            descriptors,
+        } = self;
         for argument in arguments {
-            let flat = match argument {
+            flats.push(match argument {
                 Argument::Int(value) => number(sys::NB_INT, *value),
                 Argument::Uint(value) => number(sys::NB_UINT, *value as i32),
                 Argument::Fixed(value) => number(sys::NB_FIXED, *value),
                 Argument::Object(object) => named(sys::NB_OBJECT, id(object)),
                 Argument::NewId(object) => named(sys::NB_NEW_ID, id(object)),
                 Argument::Str(None) => number(sys::NB_NULL_STRING, 0),
-                Argument::Str(Some(text)) => self.range(sys::NB_STRING, text.as_bytes()),
-                Argument::Array(bytes) => self.range(sys::NB_ARRAY, bytes),
-                Argument::Fd(descriptor) => self.duplicate(*descriptor, &mut answer),
-            };
-            self.arguments.push(flat);
+                Argument::Str(Some(text)) => range(sys::NB_STRING, put(text.as_bytes(), bytes)),
+                Argument::Array(array) => range(sys::NB_ARRAY, put(array, bytes)),
+                Argument::Fd(descriptor) => keep_copy(*descriptor, descriptors, &mut answer),
+            });
         }
         answer
-    }
-
-    /// Keeps a copy of a caller's descriptor. The first error is put into `answer`.
-    #[inline(never)]
-    fn duplicate(&mut self, descriptor: RawFd, answer: &mut Result<(), Errno>) -> RawArgument {
-        match duplicate(descriptor) {
-            Ok(copy) => {
-                let flat = number(sys::NB_DESCRIPTOR, copy.as_raw_fd());
-                self.descriptors.push(copy);
-                flat
-            }
-            Err(error) => {
-                *answer = answer.and(Err(error));
-                number(sys::NB_DESCRIPTOR, NO_DESCRIPTOR)
-            }
-        }
-    }
-
-    /// Puts a string or an array behind the other bytes.
-    #[inline(never)]
-    fn range(&mut self, kind: u32, bytes: &[u8]) -> RawArgument {
-        let bytes = &bytes[..bytes.len().min(TOO_MANY_BYTES)];
-        let at = self.bytes.len() as u32;
-        self.bytes.extend_from_slice(bytes);
-        RawArgument {
-            kind,
-            at,
-            length: bytes.len() as u32,
-            ..Default::default()
-        }
     }
 
     /// Takes so many numbers as arguments.
@@ -107,11 +81,14 @@ impl Outgoing {
         self.descriptors.clear();
     }
 
-    /// The session has taken the descriptors.
-    pub(super) fn give_up_descriptors(&mut self) {
+    /// The session has taken the descriptors. The answer is how many these are.
+    #[inline]
+    pub(super) fn give_up_descriptors(&mut self) -> usize {
+        let count = self.descriptors.len();
         while let Some(descriptor) = self.descriptors.pop() {
             let _ = descriptor.into_raw_fd();
         }
+        count
     }
 }
 
@@ -128,6 +105,43 @@ fn named(kind: u32, object: RawObjectId) -> RawArgument {
         kind,
         object,
         ..Default::default()
+    }
+}
+
+fn range(kind: u32, (at, length): (u32, u32)) -> RawArgument {
+    RawArgument {
+        kind,
+        at,
+        length,
+        ..Default::default()
+    }
+}
+
+/// Puts a string or an array behind the other bytes, and answers where it begins and how long it is.
+fn put(range: &[u8], bytes: &mut Vec<u8>) -> (u32, u32) {
+    let range = &range[..range.len().min(TOO_MANY_BYTES)];
+    let at = bytes.len() as u32;
+    bytes.extend_from_slice(range);
+    (at, range.len() as u32)
+}
+
+/// Keeps a copy of a caller's descriptor. The first error is put into `answer`.
+#[inline(never)]
+fn keep_copy(
+    descriptor: RawFd,
+    copies: &mut Vec<OwnedFd>,
+    answer: &mut Result<(), Errno>,
+) -> RawArgument {
+    match duplicate(descriptor) {
+        Ok(copy) => {
+            let flat = number(sys::NB_DESCRIPTOR, copy.as_raw_fd());
+            copies.push(copy);
+            flat
+        }
+        Err(error) => {
+            *answer = answer.and(Err(error));
+            number(sys::NB_DESCRIPTOR, NO_DESCRIPTOR)
+        }
     }
 }
 
@@ -209,9 +223,12 @@ impl Lent {
         let range = |flat: &RawArgument| &self.bytes[flat.at as usize..][..flat.length as usize];
         let mut descriptors = 0;
         let flats = &self.arguments[..count as usize];
-        if to.capacity() - to.len() < flats.len() {
+        let length = to.len();
+        if to.capacity() - length < flats.len() {
             to.reserve(flats.len());
         }
+        // SAFETY: the arguments that are there are followed by as much room as was reserved.
+        let mut place = unsafe { to.as_mut_ptr().add(length) };
         for flat in flats {
             let argument = match flat.kind {
                 sys::NB_INT => Argument::Int(flat.value),
@@ -228,13 +245,14 @@ impl Lent {
                     Argument::Fd(unsafe { take_back(flat.value) })
                 }
             };
-            let length = to.len();
-            // SAFETY: room was reserved for all of them, and nothing else is appended meanwhile.
+            // SAFETY: room was reserved for all of them.
             unsafe {
-                to.as_mut_ptr().add(length).write(argument);
-                to.set_len(length + 1);
+                place.write(argument);
+                place = place.add(1);
             }
         }
+        // SAFETY: so many were written. Were `id` to panic, they would be lost.
+        unsafe { to.set_len(length + flats.len()) };
         descriptors
     }
 }

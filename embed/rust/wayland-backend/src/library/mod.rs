@@ -28,13 +28,15 @@ pub(crate) use sys::{
 mod client;
 mod frames;
 mod messages;
+mod ready;
 mod receiving;
 mod rows;
 mod server;
 
 pub(crate) use client::{Client, SessionError};
 pub(crate) use messages::{Arguments, Outgoing};
-pub(crate) use receiving::{Inbox, Received};
+pub(crate) use ready::Ready;
+pub(crate) use receiving::{Inbox, Receipt, Received};
 pub(crate) use rows::{Rows, TableFault};
 pub(crate) use server::{Note, Server};
 
@@ -153,6 +155,7 @@ pub(crate) enum Sent {
 
 /// Sends once to a socket what a session has told, and closes the descriptors that were sent. `sent` tells the session
 /// how many bytes were taken. Whether the socket is full is noted.
+#[inline]
 fn send_once(
     to: BorrowedFd<'_>,
     is_full: &mut bool,
@@ -168,16 +171,11 @@ fn send_once(
         return Ok(Sent::Nothing);
     }
     let numbers = &numbers[..counts.descriptors as usize];
-    let mut descriptors = SmallVec::<[BorrowedFd<'_>; MOST_DESCRIPTORS]>::new();
-    for &number in numbers {
-        assert!(
-            number >= 0,
-            "the library sends descriptors that it was given"
-        );
-        // SAFETY: the session owns these descriptors, so they are open until `sent` hands them out.
-        descriptors.push(unsafe { BorrowedFd::borrow_raw(number) });
-    }
-    let taken = match socket::send(to, bytes, &descriptors) {
+    let taken = match numbers {
+        [] => socket::send(to, bytes),
+        numbers => send_with(to, bytes, numbers),
+    };
+    let taken = match taken {
         Ok(0) => Err(Errno::AGAIN),
         answer => answer,
     };
@@ -193,4 +191,19 @@ fn send_once(
     } else {
         Sent::Some
     })
+}
+
+/// Sends bytes and these descriptors of a session, which still owns them.
+#[cold]
+fn send_with(to: BorrowedFd<'_>, bytes: &[u8], numbers: &[i32]) -> Result<usize, Errno> {
+    let mut descriptors = SmallVec::<[BorrowedFd<'_>; MOST_DESCRIPTORS]>::new();
+    for &number in numbers {
+        assert!(
+            number >= 0,
+            "the library sends descriptors that it was given"
+        );
+        // SAFETY: the session owns these descriptors, so they are open until it hands them out.
+        descriptors.push(unsafe { BorrowedFd::borrow_raw(number) });
+    }
+    socket::send_with(to, bytes, &descriptors)
 }

@@ -18,10 +18,7 @@ pub(crate) struct Inbox {
     descriptors: VecDeque<OwnedFd>,
     /// How many descriptors have come.
     came: usize,
-    /// How many bytes have come since that was asked.
-    bytes: usize,
-    /// Counts the messages, if that is asked for.
-    frames: Option<Frames>,
+    frames: Frames,
     fault: Option<Errno>,
 }
 
@@ -36,69 +33,91 @@ pub(crate) enum Received {
     Some,
 }
 
-/// What is to be told to the session beside the bytes.
-pub(super) enum Arrival {
-    Came(Received),
+/// What one receive from a socket brought, and how much.
+#[derive(Clone, Copy, Debug)]
+pub(crate) struct Receipt {
+    pub(crate) received: Received,
+    /// How many bytes.
+    pub(crate) bytes: usize,
+    /// How many messages have come as a whole by it.
+    pub(crate) messages: usize,
+    /// How many messages the session can hand out now, at most, if nothing is wrong with the connection.
+    pub(crate) most: usize,
+}
+
+impl Receipt {
+    /// Nothing came.
+    pub(crate) const NOTHING: Receipt = Receipt {
+        received: Received::Nothing,
+        bytes: 0,
+        messages: 0,
+        most: usize::MAX,
+    };
+}
+
+/// How a stream has ended. The session is to be told so.
+pub(super) enum Ending {
     Ended,
     Failed(Errno),
 }
 
 impl Inbox {
-    /// An inbox that counts the messages.
-    pub(crate) fn counting() -> Inbox {
-        Inbox {
-            frames: Some(Frames::default()),
-            ..Inbox::default()
-        }
-    }
-
     /// Receives once from the socket, by way of a buffer, and of another one for control data. `arrive` hands bytes and
     /// descriptors to the session.
+    #[inline]
     pub(super) fn receive(
         &mut self,
         from: BorrowedFd<'_>,
         (buffer, control): (&mut [u8], &mut [u8]),
         mut arrive: impl FnMut(&[u8], &[i32]) -> Result<(), Status>,
-    ) -> Arrival {
+    ) -> (Receipt, Option<Ending>) {
+        let some = Receipt {
+            received: Received::Some,
+            ..Receipt::NOTHING
+        };
         if !self.descriptors.is_empty() {
             // The session has read all that it could. If it has room for none of these all the same, no message takes
             // those that it has: then the other side has broken the protocol.
-            return match self.give(arrive) {
-                0 => self.fail(Errno::PROTO),
-                _ => Arrival::Came(Received::Some),
-            };
+            let is_stuck = self.give(arrive) == 0;
+            return (some, is_stuck.then(|| self.fail(Errno::PROTO)));
         }
         let count = match socket::receive(from, buffer, control, &mut self.descriptors) {
-            Ok(0) => return Arrival::Ended,
+            Ok(0) => return (some, Some(Ending::Ended)),
             Ok(count) => count,
-            Err(Errno::AGAIN) => return Arrival::Came(Received::Nothing),
-            Err(error) => return self.fail(error),
+            Err(Errno::AGAIN) => return (Receipt::NOTHING, None),
+            Err(error) => return (some, Some(self.fail(error))),
         };
         let bytes = &buffer[..count];
-        if let Some(frames) = &mut self.frames {
-            frames.push(bytes);
-        }
-        self.came += self.descriptors.len();
-        self.bytes += count;
+        let mut receipt = Receipt {
+            bytes: count,
+            messages: self.frames.push(bytes),
+            ..some
+        };
         if !self.descriptors.is_empty() {
-            return self.arrive_with_descriptors(bytes, arrive);
+            return (receipt, self.arrive_with_descriptors(bytes, arrive));
         }
         // The error is that the client is gone.
         let is_taken = arrive(bytes, &[]).is_ok();
-        Arrival::Came(if is_taken && count < buffer.len() {
-            Received::All
-        } else {
-            Received::Some
-        })
+        if is_taken && count < buffer.len() {
+            receipt.received = Received::All;
+            // What came before was handed out, or waits for a descriptor. Of a message that is cut the session may see
+            // that it is wrong.
+            if self.frames.is_between() {
+                receipt.most = receipt.messages;
+            }
+        }
+        (receipt, None)
     }
 
     /// Hands over bytes, and the descriptors that have come with them. More may be there: the kernel ends a receive behind
     /// descriptors.
+    #[cold]
     fn arrive_with_descriptors(
         &mut self,
         bytes: &[u8],
         mut arrive: impl FnMut(&[u8], &[i32]) -> Result<(), Status>,
-    ) -> Arrival {
+    ) -> Option<Ending> {
+        self.came += self.descriptors.len();
         let mut numbers = SmallVec::<[i32; MOST_DESCRIPTORS]>::new();
         for descriptor in &self.descriptors {
             numbers.push(descriptor.as_raw_fd());
@@ -112,14 +131,14 @@ impl Inbox {
             Err(Status::TOO_MANY_DESCRIPTORS) => {
                 // The bytes first, and then one descriptor after the other.
                 if arrive(bytes, &[]).is_err() {
-                    return self.fail(Errno::PROTO);
+                    return Some(self.fail(Errno::PROTO));
                 }
                 self.give(arrive);
             }
             // The client is gone.
             Err(_) => self.descriptors.clear(),
         }
-        Arrival::Came(Received::Some)
+        None
     }
 
     /// Hands over as many descriptors as there is room for, and answers how many these were.
@@ -135,20 +154,11 @@ impl Inbox {
         before - self.descriptors.len()
     }
 
-    fn fail(&mut self, error: Errno) -> Arrival {
+    #[cold]
+    fn fail(&mut self, error: Errno) -> Ending {
         self.descriptors.clear();
         self.fault = Some(error);
-        Arrival::Failed(error)
-    }
-
-    /// How many messages have come as a whole since this was asked before. None, if they are not counted.
-    pub(crate) fn take_count(&mut self) -> usize {
-        self.frames.as_mut().map_or(0, Frames::take_count)
-    }
-
-    /// How many bytes have come since this was asked before.
-    pub(crate) fn take_bytes(&mut self) -> usize {
-        std::mem::take(&mut self.bytes)
+        Ending::Failed(error)
     }
 
     /// How many descriptors have come so far.
@@ -159,5 +169,45 @@ impl Inbox {
     /// Why receiving failed.
     pub(crate) fn fault(&self) -> Option<Errno> {
         self.fault
+    }
+}
+
+#[cfg(test)]
+mod tests {
+    use std::fs::File;
+    use std::os::fd::AsFd;
+    use std::os::unix::net::UnixStream;
+
+    use super::*;
+    use crate::socket::CONTROL_ROOM;
+
+    #[test]
+    fn it_is_known_how_many_messages_there_are_if_none_is_cut_and_no_descriptor_came() {
+        const MESSAGE: [u8; 8] = [1, 0, 0, 0, 0, 0, 8, 0];
+        let (ours, theirs) = UnixStream::pair().unwrap();
+        let mut inbox = Inbox::default();
+        let mut receive = |expected_received, bytes: &[u8], descriptors: &[BorrowedFd<'_>]| {
+            socket::send_with(theirs.as_fd(), bytes, descriptors).unwrap();
+            let (buffer, control) = (&mut [0; 64][..], &mut [0; CONTROL_ROOM][..]);
+            let (receipt, ending) = inbox.receive(ours.as_fd(), (buffer, control), |came, _| {
+                assert_eq!(came, bytes);
+                Ok(())
+            });
+            assert!(ending.is_none());
+            assert_eq!(
+                (receipt.received, receipt.bytes),
+                (expected_received, bytes.len())
+            );
+            (receipt.messages, receipt.most)
+        };
+        let two = [MESSAGE, MESSAGE].concat();
+        assert_eq!(receive(Received::All, &two, &[]), (2, 2));
+        assert_eq!(receive(Received::All, &two[..11], &[]), (1, usize::MAX));
+        assert_eq!(receive(Received::All, &two[3..], &[]), (2, 2));
+        let descriptor = File::open("/dev/null").unwrap();
+        let came = receive(Received::Some, &two, &[descriptor.as_fd()]);
+        assert_eq!(came, (2, usize::MAX));
+        let many = MESSAGE.repeat(8);
+        assert_eq!(receive(Received::Some, &many, &[]), (8, usize::MAX));
     }
 }

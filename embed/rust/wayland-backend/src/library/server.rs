@@ -1,5 +1,6 @@
 //! A server's session.
 
+use std::mem;
 use std::os::fd::{BorrowedFd, OwnedFd};
 
 use numbyroga_sys as sys;
@@ -7,11 +8,11 @@ use rustix::io::Errno;
 use smallvec::SmallVec;
 
 use super::messages::Lent;
-use super::receiving::{Arrival, Inbox};
+use super::receiving::{Ending, Inbox};
 use super::rows::table_answer;
 use super::{
     answer, done, send_once, take_back, Action, Arguments, Outgoing, RawArgument, RawClientId,
-    RawGlobalId, RawGlobalInfo, RawObjectId, RawObjectInfo, Received, Rows, Sent, Status,
+    RawGlobalId, RawGlobalInfo, RawObjectId, RawObjectInfo, Receipt, Rows, Sent, Status,
     TableFault,
 };
 
@@ -28,7 +29,7 @@ pub(crate) enum Note {
         /// The client.
         client: RawClientId,
         /// Why, if it was for a protocol error.
-        error: Option<ClientError>,
+        error: Option<Box<ClientError>>,
     },
     /// An object with data is gone.
     Destroyed {
@@ -63,13 +64,36 @@ pub(crate) struct Gone<'a> {
     pub(crate) descriptors: SmallVec<[OwnedFd; 4]>,
 }
 
+/// As many bytes are ready to be sent to a client before more has to wait until some of them were sent.
+const ROOM: u32 = sys::NB_MOST_BYTES as u32;
+
+/// Which clients the session may have something to send to, that it has not told of.
+#[derive(Clone, Copy, Debug, PartialEq, Eq)]
+enum Writable {
+    Nobody,
+    /// The client in this slot, if anybody.
+    One(u32),
+    Anybody,
+}
+
 /// A server's session. Its clients' sockets are the caller's.
+///
+/// It keeps what it needs to know when there is nothing to ask the library for.
 #[derive(Debug)]
 pub(crate) struct Server {
     place: sys::nb_server,
     lent: Lent,
     /// The note that was taken last.
     note: sys::nb_note,
+    /// How many descriptors the session has.
+    descriptors: usize,
+    may_have_notes: bool,
+    may_clean_up: bool,
+    writable: Writable,
+    /// The slot of the client that the session told of last, if nothing was sent to it since.
+    told: Option<u32>,
+    /// How many clients were killed, as far as the notes were taken.
+    kills: usize,
 }
 
 impl Server {
@@ -98,7 +122,54 @@ impl Server {
             place,
             lent: Lent::new(),
             note: sys::nb_note::default(),
+            descriptors: 0,
+            may_have_notes: false,
+            may_clean_up: false,
+            writable: Writable::Nobody,
+            told: None,
+            kills: 0,
         }
+    }
+
+    /// A client may have been killed, or an object may have ended.
+    #[inline]
+    fn mark(&mut self) {
+        self.may_have_notes = true;
+        self.may_clean_up = true;
+    }
+
+    /// There may be something to be sent to the client.
+    #[inline]
+    fn list(&mut self, client: &RawClientId) {
+        self.writable = match self.writable {
+            Writable::Nobody => Writable::One(client.slot),
+            Writable::One(slot) if slot == client.slot => return,
+            _ => Writable::Anybody,
+        };
+    }
+
+    /// All clients may have been told something.
+    fn mark_all(&mut self) {
+        self.mark();
+        self.writable = Writable::Anybody;
+    }
+
+    /// How many clients were killed, as far as the notes were taken.
+    #[inline]
+    pub(crate) fn kills(&self) -> usize {
+        self.kills
+    }
+
+    /// Whether there may be notes.
+    #[inline]
+    pub(crate) fn may_have_notes(&self) -> bool {
+        self.may_have_notes
+    }
+
+    /// Whether there are no notes, nothing to be cleaned up and no descriptors to be closed.
+    #[inline]
+    pub(crate) fn is_clean(&self) -> bool {
+        !self.may_have_notes && !self.may_clean_up && self.descriptors == 0
     }
 
     /// Appends interfaces to the table: all of them, or none.
@@ -154,6 +225,7 @@ impl Server {
         hidden: &[RawGlobalId],
     ) -> Result<RawClientId, Status> {
         let mut client = RawClientId::default();
+        self.mark_all();
         // SAFETY: the slice is lent with its own length.
         let status = unsafe {
             sys::nb_server_insert_client(
@@ -181,19 +253,27 @@ impl Server {
 
     /// Kills a client, as if its connection had ended. An unknown one is no error.
     pub(crate) fn kill_client(&mut self, client: &RawClientId) {
+        self.mark();
+        self.list(client);
         done(sys::nb_server_kill_client(&mut self.place, client));
     }
 
     /// Receives once from a client's socket. The end of the stream and a failure are told to the session, which answers
     /// them when its actions are taken.
+    #[inline]
     pub(crate) fn receive(
         &mut self,
         client: &RawClientId,
         from: BorrowedFd<'_>,
         inbox: &mut Inbox,
-    ) -> Received {
-        let (place, room) = (&mut self.place, self.lent.receiving());
-        let arrival = inbox.receive(from, room, |bytes, numbers| {
+    ) -> Receipt {
+        let Server {
+            place,
+            lent,
+            descriptors,
+            ..
+        } = self;
+        let (receipt, ending) = inbox.receive(from, lent.receiving(), |bytes, numbers| {
             // SAFETY: each slice is lent with its own length.
             answer(unsafe {
                 sys::nb_server_received(
@@ -204,20 +284,22 @@ impl Server {
                     numbers.as_ptr(),
                     numbers.len(),
                 )
-            })
+            })?;
+            *descriptors += numbers.len();
+            Ok(())
         });
         // A client that is gone is told nothing more: that is no error.
-        match arrival {
-            Arrival::Came(received) => return received,
-            Arrival::Ended => {
+        match ending {
+            None => {}
+            Some(Ending::Ended) => {
                 let _ = sys::nb_server_received_end(&mut self.place, client);
             }
-            Arrival::Failed(error) => {
+            Some(Ending::Failed(error)) => {
                 let number = error.raw_os_error();
                 let _ = sys::nb_server_receive_failed(&mut self.place, client, number);
             }
         }
-        Received::Some
+        receipt
     }
 
     /// The next action of a client. It is open until it is finished. Its arguments are appended to `arguments`; `id` answers
@@ -233,6 +315,8 @@ impl Server {
         arguments: &mut Arguments<Id>,
         mut id: impl FnMut(&Action, &RawArgument) -> Id,
     ) -> Result<usize, Status> {
+        // The session may have answered by itself.
+        self.list(client);
         loop {
             let Lent {
                 arguments, bytes, ..
@@ -249,21 +333,27 @@ impl Server {
                     bytes.len(),
                 )
             };
-            if status != sys::NB_TOO_SMALL {
-                answer(status)?;
-                break;
+            match status {
+                sys::NB_OK => break,
+                sys::NB_TOO_SMALL => self.lent.grow(action.arguments, action.bytes),
+                sys::NB_WOULD_BLOCK => return Err(Status::WOULD_BLOCK),
+                other => {
+                    self.mark();
+                    answer(other)?;
+                }
             }
-            self.lent.grow(action.arguments, action.bytes);
         }
         // SAFETY: the session has just handed the message out.
-        Ok(unsafe {
+        let descriptors = unsafe {
             self.lent
                 .take(action.arguments, arguments, |argument| id(action, argument))
-        })
+        };
+        self.descriptors -= descriptors;
+        Ok(descriptors)
     }
 
     /// Finishes the open request, with the data of the object that it made. The answer is whether that object has the
-    /// data now; if it is gone, no note will name them.
+    /// data now; if it is gone, no note will name them. `ends_sender` says whether it is a destructor.
     ///
     /// Statuses: `INVALID_ID`, `NOT_OPEN`, `WRONG_KIND`, `MISSING_DATA`, `UNEXPECTED_DATA`.
     #[inline]
@@ -271,8 +361,14 @@ impl Server {
         &mut self,
         client: &RawClientId,
         data: Option<u64>,
+        ends_sender: bool,
     ) -> Result<bool, Status> {
         let mut is_kept = 0;
+        if ends_sender {
+            // If that kills the client, a note says so before there is something to be cleaned up.
+            self.may_have_notes = true;
+            self.list(client);
+        }
         answer(match data {
             Some(data) => {
                 sys::nb_server_finish_request_with(&mut self.place, client, data, &mut is_kept)
@@ -296,13 +392,19 @@ impl Server {
         Ok(is_kept != 0)
     }
 
-    /// Sends an event. If it succeeds, the descriptors of the message are the session's.
+    /// Sends an event, which may end its sender or not. If it succeeds, the descriptors of the message are the session's.
     pub(crate) fn send_event(
         &mut self,
         sender: &RawObjectId,
         opcode: u16,
         message: &mut Outgoing,
+        may_end: bool,
     ) -> Result<(), Status> {
+        // The end of an object is noted when it is cleaned up. If there is no room and the client is killed, that is noted
+        // before.
+        self.may_have_notes = true;
+        self.may_clean_up |= may_end;
+        self.list(&sender.client);
         // SAFETY: each slice is lent with its own length.
         let status = unsafe {
             sys::nb_server_send_event(
@@ -316,12 +418,14 @@ impl Server {
             )
         };
         answer(status)?;
-        message.give_up_descriptors();
+        self.descriptors += message.give_up_descriptors();
         Ok(())
     }
 
     /// Ends a client for an error of this object. The message has no zero byte: what stands behind one is left out.
     pub(crate) fn post_error(&mut self, object: &RawObjectId, code: u32, message: &[u8]) {
+        self.mark();
+        self.list(&object.client);
         let message = message.split(|&byte| byte == 0).next().unwrap_or_default();
         // SAFETY: the slice is lent with its own length.
         done(unsafe {
@@ -360,6 +464,8 @@ impl Server {
 
     /// Destroys an object. Statuses: `INVALID_ID`.
     pub(crate) fn destroy_object(&mut self, object: &RawObjectId) -> Result<(), Status> {
+        self.mark();
+        self.list(&object.client);
         answer(sys::nb_server_destroy_object(&mut self.place, object))
     }
 
@@ -448,6 +554,7 @@ impl Server {
         hidden: &[RawClientId],
     ) -> Result<RawGlobalId, Status> {
         let mut global = RawGlobalId::default();
+        self.mark_all();
         // SAFETY: the slice is lent with its own length.
         let status = unsafe {
             sys::nb_server_create_global(
@@ -467,11 +574,13 @@ impl Server {
 
     /// Announces a global no more. An unknown one is no error.
     pub(crate) fn disable_global(&mut self, global: &RawGlobalId) {
+        self.mark_all();
         done(sys::nb_server_disable_global(&mut self.place, global));
     }
 
     /// Removes a global. An unknown one is no error.
     pub(crate) fn remove_global(&mut self, global: &RawGlobalId) {
+        self.mark_all();
         done(sys::nb_server_remove_global(&mut self.place, global));
     }
 
@@ -507,9 +616,17 @@ impl Server {
 
     /// The next client to which something is to be sent. Each comes once, until more is to be sent to it.
     pub(crate) fn next_writable(&mut self) -> Option<RawClientId> {
+        if self.writable == Writable::Nobody {
+            return None;
+        }
         let mut client = RawClientId::default();
-        answer(sys::nb_server_next_writable(&mut self.place, &mut client)).ok()?;
-        Some(client)
+        let status = sys::nb_server_next_writable(&mut self.place, &mut client);
+        let is_one = answer(status).is_ok();
+        if !is_one || self.writable != Writable::Anybody {
+            self.writable = Writable::Nobody;
+        }
+        self.told = is_one.then_some(client.slot);
+        is_one.then_some(client)
     }
 
     /// Sends once to a client's socket what the session has ready for it. For a client that is gone that is nothing.
@@ -537,15 +654,31 @@ impl Server {
         if answer(status).is_err() {
             return Ok(Sent::Nothing);
         }
-        let place = &mut self.place;
-        send_once(to, is_full, counts, bytes, numbers, |count| {
+        let Server {
+            place, descriptors, ..
+        } = self;
+        let sent = send_once(to, is_full, counts, bytes, numbers, |count| {
             done(sys::nb_server_sent(place, client, count));
-        })
+            *descriptors -= counts.descriptors as usize;
+        });
+        // There may be more for which there was no room when the session told of the client.
+        let is_told = self.told.take() == Some(client.slot);
+        let is_short = counts.bytes < ROOM && counts.descriptors == 0;
+        if !(is_told && is_short && sent == Ok(Sent::All)) {
+            self.list(client);
+        }
+        sent
     }
 
-    /// Takes the clients out that were killed: each comes by [`Server::next_gone`], and its objects are noted.
-    pub(crate) fn cleanup(&mut self) {
+    /// Takes the clients out that were killed: each comes by [`Server::next_gone`], and its objects are noted. The answer
+    /// is whether there may have been anything to do. That is known when all notes were taken.
+    pub(crate) fn cleanup(&mut self) -> bool {
+        if !mem::take(&mut self.may_clean_up) {
+            return false;
+        }
         done(sys::nb_server_cleanup(&mut self.place));
+        self.may_have_notes = true;
+        true
     }
 
     /// The next client that was taken out.
@@ -575,7 +708,9 @@ impl Server {
             answer(status).ok()?;
             break;
         }
-        let descriptors = self.lent.descriptors[..gone.waiting.descriptors as usize]
+        let numbers = &self.lent.descriptors[..gone.waiting.descriptors as usize];
+        self.descriptors -= numbers.len();
+        let descriptors = numbers
             .iter()
             // SAFETY: the session has just handed these out.
             .map(|&number| unsafe { take_back(number) })
@@ -591,6 +726,9 @@ impl Server {
     /// The next note, the oldest first.
     #[inline]
     pub(crate) fn next_note(&mut self) -> Option<Note> {
+        if !self.may_have_notes {
+            return None;
+        }
         loop {
             let text = &mut self.lent.bytes;
             // SAFETY: the slice is lent with its own length.
@@ -603,8 +741,8 @@ impl Server {
                 )
             };
             if status != sys::NB_TOO_SMALL {
-                answer(status).ok()?;
-                return Some(self.note());
+                self.may_have_notes = answer(status).is_ok();
+                return self.may_have_notes.then(|| self.note());
             }
             self.lent
                 .grow(0, self.note.message_length + self.note.interface_length);
@@ -612,8 +750,12 @@ impl Server {
     }
 
     /// The note that was taken last.
-    fn note(&self) -> Note {
+    fn note(&mut self) -> Note {
         let note = &self.note;
+        if note.kind == sys::NB_KILLED {
+            self.kills += 1;
+            self.may_clean_up = true;
+        }
         match note.kind {
             sys::NB_INSERTED => Note::Inserted(note.client),
             sys::NB_KILLED => Note::Killed {
@@ -621,12 +763,12 @@ impl Server {
                 error: (note.is_protocol_error != 0).then(|| {
                     let (message, interface) =
                         self.lent.texts(note.message_length, note.interface_length);
-                    ClientError {
+                    Box::new(ClientError {
                         code: note.code,
                         object: note.object_number,
                         interface,
                         message,
-                    }
+                    })
                 }),
             },
             _ => Note::Destroyed {
@@ -639,7 +781,10 @@ impl Server {
     /// Closes the descriptors that the session had and will not hand out.
     pub(crate) fn close_dropped(&mut self) {
         let mut number = -1;
-        while sys::nb_server_next_dropped(&mut self.place, &mut number) == sys::NB_OK {
+        while self.descriptors > 0
+            && sys::nb_server_next_dropped(&mut self.place, &mut number) == sys::NB_OK
+        {
+            self.descriptors -= 1;
             // SAFETY: the session has just handed it out.
             drop(unsafe { take_back(number) });
         }
@@ -652,6 +797,7 @@ impl Drop for Server {
         for client in self.clients() {
             self.kill_client(&client);
         }
+        self.mark();
         self.cleanup();
         while self.next_gone().is_some() {}
         self.close_dropped();

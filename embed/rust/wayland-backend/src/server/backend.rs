@@ -1,7 +1,6 @@
 //! The server itself: it reads, and calls the handlers.
 
 use std::{
-    cell::Cell,
     fmt, io,
     os::fd::{AsFd, BorrowedFd, OwnedFd},
     sync::{
@@ -10,15 +9,14 @@ use std::{
     },
 };
 
-use rustix::{event::epoll, io::retry_on_intr};
-use smallvec::SmallVec;
+use rustix::event::epoll;
 
 use super::{
     state::{lock, Bound, Called, Data, State, Unused},
     ClientId, Handle, InitError, ObjectId,
 };
 use crate::{
-    library::{Received, Status},
+    library::{Arguments, RawClientId, Ready, Received, Status},
     panics::Panics,
     protocol::Message,
 };
@@ -48,6 +46,8 @@ pub struct Backend<D: 'static> {
     poll: Arc<OwnedFd>,
     /// How often the program has done what may end an object.
     ends: Arc<AtomicUsize>,
+    /// The clients that are ready.
+    ready: Ready,
 }
 
 impl<D> fmt::Debug for Backend<D> {
@@ -74,6 +74,7 @@ impl<D> Backend<D> {
             state,
             poll,
             ends,
+            ready: Ready::with_room_for(MOST_READY),
         })
     }
 
@@ -116,8 +117,8 @@ impl<D> Backend<D> {
         let mut panics = Panics::default();
         let state = lock(&self.state);
         let until = Until::Blocked;
-        let answer = self.read(state, data, &client_id, until, &mut panics);
-        self.clean(data, &mut panics);
+        let (state, answer) = self.read(state, data, &client_id, until, &mut panics);
+        self.clean(state, data, &mut panics);
         panics.go_on();
         answer.count
     }
@@ -135,26 +136,24 @@ impl<D> Backend<D> {
     ///
     /// As [`Self::dispatch_single_client`].
     pub fn dispatch_all_clients(&mut self, data: &mut D) -> io::Result<usize> {
-        let mut ready = take_ready();
         let mut dispatched = 0;
         let mut panics = Panics::default();
         let (mut rounds, mut most_rounds) = (0, MOST_TURNS);
         while rounds < most_rounds {
-            let waited = retry_on_intr(|| epoll::wait(&*self.poll, &mut ready, 0));
-            if let Err(error) = waited {
+            if let Err(error) = self.ready.wait(self.poll.as_fd()) {
                 panics.go_on();
                 return Err(error.into());
             }
-            if ready.is_empty() {
+            if self.ready.count() == 0 {
                 break;
             }
             let calls = panics.calls();
-            let (count, has_more) = self.read_ready(&ready, data, &mut panics);
+            let (state, count, has_more) = self.read_ready(data, &mut panics);
             dispatched += count;
-            self.clean(data, &mut panics);
+            self.clean(state, data, &mut panics);
             // All that was there was read, and no code of the program has run that could have sent more. What other threads
             // have sent meanwhile is there for the next dispatch.
-            if ready.len() < MOST_READY && !has_more && panics.calls() == calls {
+            if self.ready.count() < MOST_READY && !has_more && panics.calls() == calls {
                 break;
             }
             rounds += 1;
@@ -164,35 +163,34 @@ impl<D> Backend<D> {
                 most_rounds *= 1 + clients / MOST_READY;
             }
         }
-        _ = READY.try_with(|kept| kept.set(Some(ready)));
         panics.go_on();
         Ok(dispatched)
     }
 
-    /// Reads the clients that are ready. The answer is how many requests were read, and whether there may be more.
+    /// Reads the clients that are ready. The answer is how many requests were read, and whether there may be more; and the
+    /// state, which is locked.
     fn read_ready(
         &self,
-        ready: &epoll::EventVec,
         data: &mut D,
         panics: &mut Panics,
-    ) -> (usize, bool) {
+    ) -> (MutexGuard<'_, State<D>>, usize, bool) {
         let (mut count, mut has_more) = (0, false);
-        for event in ready.iter() {
-            let state = lock(&self.state);
-            let Some(client) = state.core.client_at(event.data.u64() as u32) else {
+        let mut state = lock(&self.state);
+        for (slot, flags) in self.ready.iter() {
+            let Some(client) = state.core.client_at(slot as u32) else {
                 continue;
             };
-            let flags = event.flags;
             let until = if flags.intersects(HAS_ENDED) {
                 Until::Blocked
             } else {
                 Until::Short
             };
-            let read = self.read(state, data, &client, until, panics);
+            let read;
+            (state, read) = self.read(state, data, &client, until, panics);
             count += read.count.unwrap_or(0);
             has_more |= read.has_more;
         }
-        (count, has_more)
+        (state, count, has_more)
     }
 
     /// Receives from the client, and calls the handlers for what it asks.
@@ -203,75 +201,90 @@ impl<D> Backend<D> {
         client: &ClientId,
         until: Until,
         panics: &mut Panics,
-    ) -> WasRead {
-        let mut bytes = 0;
+    ) -> (MutexGuard<'a, State<D>>, WasRead) {
+        let (mut bytes, mut count) = (0, 0);
         let (status, received) = loop {
-            let received = state.core.receive(client);
-            bytes += state.core.take_bytes(client);
-            // They are asked for in any case: a client that was killed has none.
-            let status;
-            (state, status) = self.call_all(state, data, client, panics);
-            let has_more = match received {
+            let kills = state.core.kills();
+            let receipt = state.core.receive(client);
+            bytes += receipt.bytes;
+            count += receipt.messages;
+            let expected = (receipt.most, kills);
+            let no_request = self.call_all(state, data, client, expected, panics);
+            state = no_request.state;
+            let status = no_request.status;
+            let has_more = match receipt.received {
                 Received::Nothing => false,
                 Received::All => until == Until::Blocked,
                 Received::Some => until == Until::Blocked || bytes < MOST_BYTES_IN_TURN,
             };
             if status != Status::WOULD_BLOCK || !has_more {
-                break (status, received);
+                break (status, receipt.received);
             }
         };
         let has_more = received == Received::Some;
-        let count = state.core.take_count(client);
         if status == Status::WOULD_BLOCK && count > 0 {
-            return WasRead {
-                count: Ok(count),
-                has_more,
-            };
+            let count = Ok(count);
+            return (state, WasRead { count, has_more });
         }
-        let error = state.core.error_of(client, status);
+        let count = Err(state.core.error_of(client, status));
         if status != Status::WOULD_BLOCK {
-            let before = state.core.put();
-            state.core.unwatch(client);
-            state.core.take_notes();
-            let due = state.core.due_of(client, before);
-            drop(state);
-            if let Some(due) = due {
-                panics.catch(|| due.tell());
-            }
+            state = self.tell_of(state, client, panics);
         }
-        WasRead {
-            count: Err(error),
-            has_more,
-        }
+        (state, WasRead { count, has_more })
+    }
+
+    /// Tells the program of a client that was killed. It is not read any more.
+    #[cold]
+    fn tell_of<'a>(
+        &'a self,
+        mut state: MutexGuard<'a, State<D>>,
+        client: &ClientId,
+        panics: &mut Panics,
+    ) -> MutexGuard<'a, State<D>> {
+        let before = state.core.put();
+        state.core.unwatch(client);
+        state.core.take_notes();
+        let Some(due) = state.core.due_of(client, before) else {
+            return state;
+        };
+        drop(state);
+        panics.catch(|| due.tell());
+        lock(&self.state)
     }
 
     /// Calls the handlers for what the client asks, until there is no whole request any more. No lock is held while one
-    /// runs. If one panics, its request counts as handled, and the others are called. The answer says why there is no
-    /// request; the state is locked again.
+    /// runs. If one panics, its request counts as handled, and the others are called.
+    ///
+    /// There are at most `most` requests, if no more clients were killed than before. Of one that was killed it has to be
+    /// asked why.
     fn call_all<'a>(
         &'a self,
         mut state: MutexGuard<'a, State<D>>,
         data: &mut D,
         client: &ClientId,
+        (most, kills): (usize, usize),
         panics: &mut Panics,
-    ) -> (MutexGuard<'a, State<D>>, Status) {
+    ) -> NoRequest<'a, D> {
         let raw = client.raw();
-        let mut message = None;
+        let mut count = 0;
         loop {
-            let called = match state.next_call(&raw, message.insert(no_message())) {
-                Ok(called) => called,
-                Err(status) => return (state, status),
-            };
-            drop(state);
-            let is_plain = matches!(called, Called::Plain(_));
+            if count >= most && state.core.kills() == kills {
+                let status = Status::WOULD_BLOCK;
+                return NoRequest { state, status };
+            }
             let mut is_told = false;
-            let answer =
-                panics.catch(|| self.call(data, client, called, &mut message, &mut is_told));
-            let has_answered = answer.is_some();
-            let answer = answer.flatten();
+            let called = panics.attempt(|| self.call(state, data, client, &raw, &mut is_told));
+            let has_answered = called.is_some();
+            let answer = match called {
+                Some(Err(no_request)) => return no_request,
+                Some(Ok(answer)) => answer,
+                None => None,
+            };
+            panics.count_call();
+            count += 1;
             state = lock(&self.state);
-            if is_plain && answer.is_none() {
-                state.finish_alone(&raw);
+            if state.is_plain() && answer.is_none() {
+                state.finish_plain(&raw);
                 continue;
             }
             let mut unused = Unused::new();
@@ -288,64 +301,83 @@ impl<D> Backend<D> {
         }
     }
 
-    /// Calls a handler. Where an object ends, and the program is told so, that is noted.
+    /// Calls the handler for the next thing that the client asks, and answers what it answers. The state is not locked
+    /// then. Where an object ends, and the program is told so, that is noted.
     #[inline]
-    fn call(
-        &self,
+    fn call<'a>(
+        &'a self,
+        mut state: MutexGuard<'a, State<D>>,
         data: &mut D,
         client: &ClientId,
-        called: Called<D>,
-        message: &mut Option<Message<ObjectId, OwnedFd>>,
+        raw: &RawClientId,
         is_told: &mut bool,
-    ) -> Option<Data<D>> {
-        // The message is taken where it is handed over, since it is large.
-        let mut message = || message.take().expect("a request has a message");
-        match called {
-            Called::Plain(object) | Called::Making(object) => {
-                object.request(&self.handle, data, client.clone(), message())
+    ) -> Result<Option<Data<D>>, NoRequest<'a, D>> {
+        let mut args = Arguments::new();
+        let object = match state.next_call(raw, &mut args) {
+            Ok(Called::Object(object)) => object,
+            Ok(Called::Global(bound)) => {
+                drop(state);
+                return Ok(self.call_global(data, client, *bound));
             }
-            Called::Last(object) => self.call_last(data, client, object, message(), is_told),
-            Called::Global(bound) => {
-                let Bound {
-                    handler,
-                    global,
-                    object,
-                } = *bound;
-                handler.map(|it| it.bind(&self.handle, data, client.clone(), global, object))
+            Err(status) => return Err(NoRequest { state, status }),
+        };
+        let (sender_id, opcode) = state.core.sender();
+        let ending = state.is_last().then(|| (object.clone(), sender_id.clone()));
+        drop(state);
+        let ends = self.ends.load(Ordering::Relaxed);
+        // The message is large: it is put together where it is handed over.
+        let answer = object.request(
+            &self.handle,
+            data,
+            client.clone(),
+            Message {
+                sender_id,
+                opcode,
+                args,
+            },
+        );
+        if let Some((object, id)) = ending {
+            *is_told = self.is_there(&id, ends);
+            if *is_told {
+                object.destroyed(&self.handle, data, client.clone(), id);
             }
         }
+        Ok(answer)
     }
 
-    /// Calls the handler of a destructor, and tells the program then that the object ends.
-    fn call_last(
-        &self,
-        data: &mut D,
-        client: &ClientId,
-        object: Data<D>,
-        message: Message<ObjectId, OwnedFd>,
-        is_told: &mut bool,
-    ) -> Option<Data<D>> {
-        let (again, id) = (object.clone(), message.sender_id.clone());
-        let ends = self.ends.load(Ordering::Relaxed);
-        let answer = object.request(&self.handle, data, client.clone(), message);
-        // If the handler has destroyed the object by itself, the program is told by the next clean-up.
-        let is_there = self.ends.load(Ordering::Relaxed) == ends
+    /// Whether the handler of a destructor has left its object to the destructor. If it has destroyed it by itself, the
+    /// program is told by the next clean-up. `ends` is how often the program had done what may end an object before.
+    fn is_there(&self, id: &ObjectId, ends: usize) -> bool {
+        self.ends.load(Ordering::Relaxed) == ends
             || lock(&self.state)
                 .core
                 .server
                 .object_info(&id.raw())
-                .is_some();
-        if is_there {
-            *is_told = true;
-            again.destroyed(&self.handle, data, client.clone(), id);
-        }
-        answer
+                .is_some()
+    }
+
+    /// Calls the handler of a global, if that is still there.
+    #[cold]
+    fn call_global(&self, data: &mut D, client: &ClientId, bound: Bound<D>) -> Option<Data<D>> {
+        let Bound {
+            handler,
+            global,
+            object,
+        } = bound;
+        handler.map(|it| it.bind(&self.handle, data, client.clone(), global, object))
     }
 
     /// Tells the program of objects that are gone, and takes the clients out that were killed. If another thread tells the
     /// program that a client is gone, this waits for it: the objects of the client come after it.
-    fn clean(&self, data: &mut D, panics: &mut Panics) {
-        let mut state = lock(&self.state);
+    #[inline]
+    fn clean(&self, state: MutexGuard<'_, State<D>>, data: &mut D, panics: &mut Panics) {
+        if !state.is_clean() {
+            self.clean_all(state, data, panics);
+        }
+    }
+
+    #[cold]
+    fn clean_all(&self, mut state: MutexGuard<'_, State<D>>, data: &mut D, panics: &mut Panics) {
         let killed = state.clean();
         let count = state.gather_ended();
         let due = state.core.all_due();
@@ -366,32 +398,18 @@ impl<D> Backend<D> {
     }
 }
 
+/// A client asks for nothing more now, and why. The state is locked.
+struct NoRequest<'a, D: 'static> {
+    state: MutexGuard<'a, State<D>>,
+    status: Status,
+}
+
 /// How a client was read.
 struct WasRead {
     /// How many requests were read.
     count: io::Result<usize>,
     /// Whether more of what the client has sent may be there.
     has_more: bool,
-}
-
-thread_local! {
-    /// Where the system tells which clients are ready. It is kept for its memory.
-    static READY: Cell<Option<epoll::EventVec>> = const { Cell::new(None) };
-}
-
-/// Memory for as many clients as are told of at once.
-fn take_ready() -> epoll::EventVec {
-    let kept = READY.try_with(Cell::take).ok().flatten();
-    kept.unwrap_or_else(|| epoll::EventVec::with_capacity(MOST_READY))
-}
-
-/// A message without arguments, of no object.
-fn no_message() -> Message<ObjectId, OwnedFd> {
-    Message {
-        sender_id: ObjectId::null(),
-        opcode: 0,
-        args: SmallVec::new(),
-    }
 }
 
 /// How long a client is read.

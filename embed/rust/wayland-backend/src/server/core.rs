@@ -24,8 +24,8 @@ use super::{
 use crate::{
     debug,
     library::{
-        Action, Inbox, Note, Outgoing, RawArgument, RawClientId, RawGlobalId, RawObjectId,
-        Received, Sent, Server, Status,
+        Action, Arguments, Inbox, Note, Outgoing, RawArgument, RawClientId, RawGlobalId,
+        RawObjectId, Receipt, Sent, Server, Status,
     },
     protocol::{same_interface, Argument, Interface, Message, ProtocolError, ANONYMOUS_INTERFACE},
     socket,
@@ -125,6 +125,7 @@ impl Names {
     }
 
     /// The id of an object among the arguments of a request.
+    #[inline]
     fn argument(&self, client: &RawClientId, action: &Action, argument: &RawArgument) -> ObjectId {
         let object = &argument.object;
         if object.number == 0 {
@@ -151,9 +152,10 @@ impl Names {
     }
 
     /// Notes which static an object was made with, if it is not the first of its name.
-    pub(super) fn keep(&mut self, object: &ObjectId, row: u32, data: u64) {
-        if !std::ptr::eq(self.table.interface(row), object.interface) {
-            self.others.insert(data, object.interface);
+    #[inline]
+    pub(super) fn keep(&mut self, interface: &'static Interface, row: u32, data: u64) {
+        if !std::ptr::eq(self.table.interface(row), interface) {
+            self.others.insert(data, interface);
         }
     }
 
@@ -262,7 +264,14 @@ impl Core {
     }
 
     /// Takes the session's notes. The program is to be told of them when no lock is held.
+    #[inline]
     pub(super) fn take_notes(&mut self) {
+        if self.server.may_have_notes() {
+            self.take_all_notes();
+        }
+    }
+
+    fn take_all_notes(&mut self) {
         while let Some(note) = self.server.next_note() {
             match note {
                 // Who has inserted it tells its data.
@@ -293,6 +302,13 @@ impl Core {
                 }
             }
         }
+    }
+
+    /// How many clients were killed so far.
+    #[inline]
+    pub(super) fn kills(&mut self) -> usize {
+        self.take_notes();
+        self.server.kills()
     }
 
     // ---- Clients
@@ -351,7 +367,7 @@ impl Core {
             serial: raw.serial,
             stream,
             data,
-            inbox: Inbox::counting(),
+            inbox: Inbox::default(),
             handed_out: 0,
             is_watched: false,
             is_listed: false,
@@ -400,12 +416,26 @@ impl Core {
         }
     }
 
+    /// Whether there is nothing to be taken out, to be told or to be closed.
+    #[inline]
+    pub(super) fn is_clean(&self) -> bool {
+        self.server.is_clean() && self.ended.is_empty() && self.told == self.put
+    }
+
     /// Takes the clients out that were killed. What is answered is to be dropped after the program was told of them: then
     /// their sockets are closed.
     pub(super) fn take_killed(&mut self) -> Vec<Connection> {
         let mut taken = Vec::new();
         self.take_notes(); // while the clients are still there
-        self.server.cleanup();
+        if self.server.cleanup() {
+            self.take_gone(&mut taken);
+            self.take_notes();
+        }
+        self.server.close_dropped();
+        taken
+    }
+
+    fn take_gone(&mut self, taken: &mut Vec<Connection>) {
         let Core {
             server,
             connections,
@@ -426,14 +456,11 @@ impl Core {
                     .map(|descriptor| descriptor.as_fd())
                     .collect();
                 // What the socket does not take is lost with the connection.
-                let _ = socket::send(connection.stream.as_fd(), gone.bytes, &descriptors);
+                let _ = socket::send_with(connection.stream.as_fd(), gone.bytes, &descriptors);
             }
             connection.unwatch(poll);
             taken.push(connection);
         }
-        self.take_notes();
-        self.server.close_dropped();
-        taken
     }
 
     // ---- Objects
@@ -501,44 +528,32 @@ impl Core {
     // ---- Requests
 
     /// Receives once from the client's socket.
-    pub(super) fn receive(&mut self, id: &ClientId) -> Received {
+    pub(super) fn receive(&mut self, id: &ClientId) -> Receipt {
         let Core {
             server,
             connections,
             ..
         } = self;
         let Some(Some(connection)) = connections.get_mut(id.slot as usize) else {
-            return Received::Nothing;
+            return Receipt::NOTHING;
         };
         if connection.serial != id.serial {
-            return Received::Nothing;
+            return Receipt::NOTHING;
         }
         let (raw, socket) = (id.raw(), connection.stream.as_fd());
-        let received = server.receive(&raw, socket, &mut connection.inbox);
+        let receipt = server.receive(&raw, socket, &mut connection.inbox);
         if connection.inbox.came() - connection.handed_out > MOST_UNREAD {
             server.kill_client(&raw);
         }
-        received
+        receipt
     }
 
-    /// How many bytes have come from the client since this was asked before.
-    pub(super) fn take_bytes(&mut self, id: &ClientId) -> usize {
-        self.connection(id)
-            .map_or(0, |connection| connection.inbox.take_bytes())
-    }
-
-    /// How many messages have come from the client since this was asked before.
-    pub(super) fn take_count(&mut self, id: &ClientId) -> usize {
-        self.connection(id)
-            .map_or(0, |connection| connection.inbox.take_count())
-    }
-
-    /// The next thing that the client asks: it is in `self.action`. A request is written into the message.
+    /// The next thing that the client asks: it is in `self.action`. The arguments of a request are appended to `args`.
     #[inline]
     pub(super) fn next_action(
         &mut self,
         client: &RawClientId,
-        message: &mut Message<ObjectId, OwnedFd>,
+        args: &mut Arguments<ObjectId>,
     ) -> Result<(), Status> {
         let Core {
             server,
@@ -546,23 +561,24 @@ impl Core {
             action,
             ..
         } = self;
-        let Message {
-            sender_id,
-            opcode,
-            args,
-        } = message;
         let descriptors = server.next_action(client, action, args, |action, argument| {
             names.argument(client, action, argument)
         })?;
-        *sender_id = names.id(&action.sender, action.data);
-        *opcode = action.opcode as u16;
         if descriptors > 0 {
             self.hand_out(client, descriptors);
         }
         if self.is_logging {
-            self.log_request(message);
+            self.log_request(args);
         }
         Ok(())
+    }
+
+    /// The sender of the request that is in `self.action`, and its opcode.
+    #[inline]
+    pub(super) fn sender(&self) -> (ObjectId, u16) {
+        let action = &self.action;
+        let id = self.names.id(&action.sender, action.data);
+        (id, action.opcode as u16)
     }
 
     /// So many descriptors are not unread any more.
@@ -603,11 +619,12 @@ impl Core {
             return self.send_without_descriptor(message);
         }
         let size = self.outgoing.size();
-        // It may be a destructor.
+        let may_end = self.names.table.may_end(sender_id.interface, *opcode);
+        // The client may be killed, too.
         self.count_end();
         let answer = self
             .server
-            .send_event(&sender_id.raw(), *opcode, &mut self.outgoing);
+            .send_event(&sender_id.raw(), *opcode, &mut self.outgoing, may_end);
         if answer.is_err() {
             self.outgoing.clear();
             return answer;
@@ -643,7 +660,7 @@ impl Core {
         self.outgoing.set_numbers(signature.len() + 1);
         let answer = self
             .server
-            .send_event(&sender_id.raw(), *opcode, &mut self.outgoing);
+            .send_event(&sender_id.raw(), *opcode, &mut self.outgoing, true);
         self.outgoing.clear();
         let types = args.iter().map(Argument::get_type);
         let is_fitting = signature.len() == args.len()
@@ -706,7 +723,9 @@ impl Core {
                 full.push_back(slot);
             }
         }
-        self.listed = full;
+        if !full.is_empty() {
+            self.listed = full;
+        }
         self.server.close_dropped();
         self.take_notes();
     }
@@ -740,16 +759,12 @@ impl Core {
     }
 
     #[cold]
-    fn log_request(&self, message: &Message<ObjectId, OwnedFd>) {
+    fn log_request(&self, args: &Arguments<ObjectId>) {
         if self.action.kind != sys::NB_BIND {
-            let Message {
-                sender_id,
-                opcode,
-                args,
-            } = message;
-            let request = sender_id.interface.requests.get(usize::from(*opcode));
+            let (sender, opcode) = self.sender();
+            let request = sender.interface.requests.get(usize::from(opcode));
             let name = request.map_or("?", |request| request.name);
-            debug::print_dispatched(Logged(sender_id), name, debug::List(args));
+            debug::print_dispatched(Logged(&sender), name, debug::List(args));
         }
     }
 

@@ -495,14 +495,14 @@ impl Handle {
     }
 
     /// Calls the closure with the core, and tells the program then what came out of it.
+    #[inline]
     fn with_core<R>(&self, call: impl FnOnce(&mut Core) -> R) -> R {
         let mut state = lock(&*self.state);
         let core = state.core();
         let before = core.put();
         let answer = call(core);
-        let due = core.due(before);
-        drop(state);
-        if let Some(due) = due {
+        if let Some(due) = core.due(before) {
+            drop(state);
             due.tell();
         }
         answer

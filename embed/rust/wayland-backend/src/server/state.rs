@@ -19,8 +19,8 @@ use super::{
 };
 use crate::{
     data::Slab,
-    library::{RawClientId, Status},
-    protocol::{Argument, Interface, Message},
+    library::{Arguments, RawClientId, Status},
+    protocol::{Argument, Interface, Message, ANONYMOUS_INTERFACE},
     table::BadInterface,
 };
 
@@ -65,8 +65,8 @@ pub(super) struct State<D: 'static> {
     globals: Vec<Option<Global<D>>>,
     /// Objects that are gone. A dispatch tells the program of them.
     ended: VecDeque<(Data<D>, ObjectId)>,
-    /// The request or bind whose handler was called last.
-    open: Open,
+    /// The interface of the object that the last request or bind makes, if it makes one.
+    created: &'static Interface,
     /// The handler of a request or bind may have given data to the object that it makes, before it answered others.
     is_given: bool,
 }
@@ -113,24 +113,10 @@ impl<D> AnyState for State<D> {
     }
 }
 
-/// What becomes of a request or bind that was handed out, when it is finished.
-#[derive(Default)]
-struct Open {
-    is_bind: bool,
-    /// The object that it makes, with the number that the library has for its interface.
-    created: Option<(ObjectId, u32)>,
-    /// Of a destructor: the data of its sender.
-    ends: Option<u64>,
-}
-
 /// Whose handler is to be called.
 pub(super) enum Called<D: 'static> {
-    /// An object's, for a request that makes nothing and ends nothing.
-    Plain(Data<D>),
-    /// An object's, for a request that makes an object.
-    Making(Data<D>),
-    /// An object's, for the request that ends it.
-    Last(Data<D>),
+    /// An object's, for a request.
+    Object(Data<D>),
     Global(Box<Bound<D>>),
 }
 
@@ -180,7 +166,7 @@ impl<D> State<D> {
             objects: Slab::new(),
             globals: Vec::new(),
             ended: VecDeque::new(),
-            open: Open::default(),
+            created: &ANONYMOUS_INTERFACE,
             is_given: false,
         }
     }
@@ -218,7 +204,7 @@ impl<D> State<D> {
         if self.core.server.set_object_data(&raw, key).is_err() {
             return (Err(InvalidId), self.objects.remove(key));
         }
-        self.core.names.keep(id, info.interface, key);
+        self.core.names.keep(id.interface, info.interface, key);
         self.is_given = true;
         (Ok(()), None)
     }
@@ -243,7 +229,7 @@ impl<D> State<D> {
         {
             Ok(raw) => {
                 let id = ObjectId::of(&raw, interface);
-                self.core.names.keep(&id, row, key);
+                self.core.names.keep(interface, row, key);
                 return (Ok(id), None);
             }
             Err(status) => status,
@@ -329,34 +315,39 @@ impl<D> State<D> {
 
     // ---- Requests
 
-    /// Whose handler is to be called for the next thing that the client asks. A request is written into the message.
+    /// Whose handler is to be called for the next thing that the client asks: it is in `core.action`. The arguments of a
+    /// request are appended to `args`.
     #[inline]
     pub(super) fn next_call(
         &mut self,
         client: &RawClientId,
-        message: &mut Message<ObjectId, OwnedFd>,
+        args: &mut Arguments<ObjectId>,
     ) -> Result<Called<D>, Status> {
-        self.core.next_action(client, message)?;
+        self.core.next_action(client, args)?;
         let action = &self.core.action;
         if action.kind == sys::NB_BIND {
             return Ok(self.bind());
         }
-        let makes = action.created.number != 0;
-        let ends = action.is_destructor != 0;
-        self.open = Open {
-            is_bind: false,
-            created: makes.then(|| (created_in(message), action.created.interface)),
-            ends: ends.then_some(action.data),
-        };
         let object = match self.objects.get(action.data) {
             Some(object) => object.clone(),
             None => Arc::new(NoData),
         };
-        Ok(match (makes, ends) {
-            (false, false) => Called::Plain(object),
-            (true, false) => Called::Making(object),
-            (_, true) => Called::Last(object),
-        })
+        if action.created.number != 0 {
+            self.created = created_in(args);
+        }
+        Ok(Called::Object(object))
+    }
+
+    /// Whether the request that was handed out last neither makes nor ends an object.
+    #[inline]
+    pub(super) fn is_plain(&self) -> bool {
+        self.core.action.created.number == 0 && !self.is_last()
+    }
+
+    /// Whether the request that was handed out last ends its sender.
+    #[inline]
+    pub(super) fn is_last(&self) -> bool {
+        self.core.action.is_destructor != 0
     }
 
     #[cold]
@@ -369,11 +360,7 @@ impl<D> State<D> {
             None => self.core.names.id(&action.created, 0),
         };
         let handler = bound.map(|bound| bound.handler.clone());
-        self.open = Open {
-            is_bind: true,
-            created: Some((object.clone(), action.created.interface)),
-            ends: None,
-        };
+        self.created = object.interface;
         Called::Global(Box::new(Bound {
             handler,
             global,
@@ -390,81 +377,81 @@ impl<D> State<D> {
         is_sender_told: bool,
         unused: &mut Unused<D>,
     ) -> Option<Misuse> {
-        let is_bind = self.open.is_bind;
-        let (created, ends) = (self.open.created.take(), self.open.ends.take());
-        let misuse = match (created, answer) {
-            (None, None) => {
-                self.finish_alone(client);
-                None
-            }
-            (None, Some(object)) => {
-                self.finish_alone(client);
-                unused.push(object);
-                Some(Misuse::UnexpectedData)
-            }
-            (Some(created), answer) => self.finish_with(client, is_bind, &created, answer, unused),
+        let action = &self.core.action;
+        let sender = action.data;
+        let misuse = if action.created.number != 0 {
+            self.finish_making(client, answer, unused)
+        } else {
+            let is_last = self.is_last();
+            let finished = self.core.server.finish_request(client, None, is_last);
+            debug_assert!(
+                matches!(finished, Ok(_) | Err(Status::INVALID_ID)),
+                "{finished:?}"
+            );
+            let misuse = answer.is_some().then_some(Misuse::UnexpectedData);
+            unused.extend(answer);
+            misuse
         };
         if is_sender_told {
-            if let Some(object) = ends.and_then(|key| self.forget(key)) {
+            if let Some(object) = self.forget(sender) {
                 unused.push(object);
             }
         }
         misuse
     }
 
-    /// Finishes a request that made no object.
+    /// The same for a request that neither makes nor ends an object, and was not answered by data.
     #[inline]
-    pub(super) fn finish_alone(&mut self, client: &RawClientId) {
-        let answer = self.core.server.finish_request(client, None);
+    pub(super) fn finish_plain(&mut self, client: &RawClientId) {
+        let finished = self.core.server.finish_request(client, None, false);
         debug_assert!(
-            matches!(answer, Ok(_) | Err(Status::INVALID_ID)),
-            "{answer:?}"
+            matches!(finished, Ok(_) | Err(Status::INVALID_ID)),
+            "{finished:?}"
         );
     }
 
     /// Finishes a request or bind that made an object.
-    fn finish_with(
+    fn finish_making(
         &mut self,
         client: &RawClientId,
-        is_bind: bool,
-        created: &(ObjectId, u32),
         answer: Option<Data<D>>,
         unused: &mut Unused<D>,
     ) -> Option<Misuse> {
-        let (id, _) = created;
+        let created = &self.core.action.created;
         if mem::take(&mut self.is_given) {
-            let key = self.core.server.object_data(&id.raw());
+            let key = self.core.server.object_data(created);
             unused.extend(key.and_then(|key| self.forget(key)));
         }
         let Some(object) = answer else {
             // A client that was killed needs no data for its new object.
-            if self.core.server.finish_request(client, None).is_err() {
-                self.give(client, is_bind, created, Arc::new(NoData), unused);
-                return Some(Misuse::NoData(id.clone()));
+            let is_last = self.is_last();
+            let finished = self.core.server.finish_request(client, None, is_last);
+            if finished.is_err() {
+                let id = ObjectId::of(&self.core.action.created, self.created);
+                self.give(client, Arc::new(NoData), unused);
+                return Some(Misuse::NoData(id));
             }
             return None;
         };
-        self.give(client, is_bind, created, object, unused);
+        self.give(client, object, unused);
         None
     }
 
     /// Finishes with the data of the object that was made.
-    fn give(
-        &mut self,
-        client: &RawClientId,
-        is_bind: bool,
-        (id, row): &(ObjectId, u32),
-        object: Data<D>,
-        unused: &mut Unused<D>,
-    ) {
+    fn give(&mut self, client: &RawClientId, object: Data<D>, unused: &mut Unused<D>) {
         let key = self.objects.insert(object);
-        let server = &mut self.core.server;
-        let answer = match is_bind {
+        let Core {
+            server,
+            names,
+            action,
+            ..
+        } = &mut self.core;
+        let answer = match action.kind == sys::NB_BIND {
             true => server.finish_bind(client, key),
-            false => server.finish_request(client, Some(key)),
+            false => server.finish_request(client, Some(key), action.is_destructor != 0),
         };
         match answer {
-            Ok(true) => self.core.names.keep(id, *row, key),
+            Ok(true) => names.keep(self.created, action.created.interface, key),
             _ => unused.extend(self.objects.remove(key)),
         }
     }
@@ -474,17 +461,22 @@ impl<D> State<D> {
         self.objects.remove(key)
     }
 
+    /// Whether [`State::clean`] and [`State::gather_ended`] have nothing to do, and the program knows all.
+    #[inline]
+    pub(super) fn is_clean(&self) -> bool {
+        self.core.is_clean() && self.ended.is_empty()
+    }
+
     /// Takes the clients out that were killed. They are to be dropped after the program was told of them.
     pub(super) fn clean(&mut self) -> Vec<Connection> {
         self.core.take_killed()
     }
 }
 
-/// The object that a request makes: one of its arguments.
-fn created_in(message: &Message<ObjectId, OwnedFd>) -> ObjectId {
-    let mut arguments = message.args.iter();
-    let created = arguments.find_map(|argument| match argument {
-        Argument::NewId(object) => Some(object.clone()),
+/// The interface of the object that a request makes: one of its arguments.
+fn created_in(args: &Arguments<ObjectId>) -> &'static Interface {
+    let created = args.iter().find_map(|argument| match argument {
+        Argument::NewId(object) => Some(object.interface),
         _ => None,
     });
     created.expect("what a request makes is among its arguments")

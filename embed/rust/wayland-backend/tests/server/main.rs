@@ -771,6 +771,21 @@ fn dispatching_says_how_many_requests_were_read() {
 }
 
 #[test]
+fn requests_of_a_client_that_its_handler_kills_do_not_count() {
+    let mut server = Server::with_maker(|| {
+        Object::handling("maker", |handle, _, client, _| {
+            handle.kill_client(client.clone(), DisconnectReason::ConnectionClosed);
+            None
+        })
+    });
+    let (peer, _, told) = server.connect_and_bind();
+    peer.send(3, maker::POKE, &[]);
+    assert_eq!(server.round(), 0);
+    assert_eq!(told.take(), ["closed"]);
+    assert_eq!(server.program.take_log(), ["poke maker@3", "gone maker@3"]);
+}
+
+#[test]
 fn the_descriptor_can_be_read_when_a_client_has_sent_something() {
     use rustix::event::{poll, PollFd, PollFlags};
     let mut server = plain_server();
