@@ -63,10 +63,7 @@ fn reads(link: &mut BufferedSocket<Memory>, message: &Message<u32, Token>) -> Re
 }
 
 /// Whether the message is read, if a first receive does not bring it to its end and a second does.
-fn reads_in_two(
-    link: &mut BufferedSocket<Memory>,
-    message: &Message<u32, Token>,
-) -> Result<bool> {
+fn reads_in_two(link: &mut BufferedSocket<Memory>, message: &Message<u32, Token>) -> Result<bool> {
     link.fill_incoming_buffers()?;
     let half = lacks_data(link);
     link.fill_incoming_buffers()?;
