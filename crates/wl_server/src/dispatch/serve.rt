@@ -127,6 +127,7 @@ impl<T: Transport + Drop, U: Drop, G: GlobalHandler<C> + Drop, C: Drop> Backend<
         ensures { MakesRounds (over T.sends T.receives G.views) (answering H.requests H.binds) id.now handler.old reading.old self.old result handler.new reading.new self.new }
     {
         let left = reading.turns_left;
+        // This loop ends since bytes get fewer, and that of `serve` since receives do. A receive brings bytes, so it ends this one.
         loop {
             if let Some(fault) = self.serve_action(handler, id, reading, action) {
                 return Some(fault);

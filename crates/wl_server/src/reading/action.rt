@@ -73,7 +73,8 @@ pub struct NoAction {
     pub refused: bool,
 }
 
-/// An action that is handed out, without the arguments of a request.
+/// An action that is handed out, without the arguments of a request. An `Action` is large and is not to be moved, so what finds
+/// one is lent a `Found` and the arguments apart, and fills them.
 #[derive(Clone, Copy)]
 pub enum Found {
     /// A request: the object that it was sent to, its opcode, whether it is a destructor, and the object that it made.

@@ -143,6 +143,7 @@ impl<U: Drop, G: GlobalHandler<C> + Drop, C: Drop> Backend<Memory, U, G, C> {
     fn perform(&mut self, step: Step<Memory, U, G, C>) -> Reply<Memory, U>
         ensures { Calls (over_scripts G.views) self.old step result self.new }
     {
+        // One `match` over all steps is too large for the borrow checker, so each group of them has a function of its own.
         match step {
             Step::SetObjectData(..)
             | Step::CreateObject(..)
