@@ -21,10 +21,7 @@ use std::alloc::Global;
 use std::marker::Model;
 use std::{fmt, mem};
 use wl_link::{BufferedSocket, MessagePlace, ObjectMap, Transport};
-use wl_wire::{Interface, OutOfMemory, Protocol, TableError, WL_DISPLAY_INTERFACE};
-
-/// The number of the display, `wl_display`.
-pub(crate) const DISPLAY: u32 = 1;
+use wl_wire::{DISPLAY, Interface, OutOfMemory, Protocol, TableError, WL_DISPLAY_INTERFACE};
 
 /// A client's session with its server.
 ///

@@ -6,13 +6,8 @@ ghost use Rattle.wl_client.specs.Inside.ReadingLoop.{told_by};
 
 use crate::objects::Kept;
 use wl_link::ObjectMap;
+use wl_wire::opcodes::{DELETE_ID, ERROR};
 use wl_wire::{Argument, CString, Message, Token};
-
-/// The opcode of `wl_display.error`.
-const ERROR: u16 = 0;
-
-/// The opcode of `wl_display.delete_id`.
-pub const DELETE_ID: u16 = 1;
 
 /// What an event of the display says.
 #[derive(Clone, Copy)]

@@ -13,15 +13,16 @@ ghost use Rattle.wl_client.specs.Requests.{session_content};
 ghost use Rattle.wl_client.specs.Inside.InPlace.{DeleteWaits, HandledInPlace, IsNumber, NumbersAre, NumbersWait, number_argument};
 ghost use Rattle.wl_client.specs.Inside.ReadingLoop.{GaveEvent, HandlesMessage, IsHeader, WentOn};
 
-use crate::backend::{Backend, DISPLAY};
-use crate::display::{DELETE_ID, delete_id};
+use crate::backend::Backend;
+use crate::display::delete_id;
 use crate::event::OpenEvent;
 use crate::message::{desc_of, event_desc};
 use crate::object_id::ObjectId;
 use crate::objects::{Kept, id_at};
 use smallvec::SmallVec;
 use wl_link::{BufferedSocket, ObjectMap, Transport};
-use wl_wire::{Argument, ArgumentType, INLINE_ARGS, Message, Protocol, Token};
+use wl_wire::opcodes::DELETE_ID;
+use wl_wire::{Argument, ArgumentType, DISPLAY, INLINE_ARGS, Message, Protocol, Token};
 
 /// What the handling of a message in place came to.
 #[derive(Clone, Copy)]

@@ -22,7 +22,7 @@ ghost use Rattle.wl_client.specs.declared.event.OpenEvent.{OpenEvent as OpenEven
 ghost use Rattle.wl_client.specs.ObjectId.{IdParts};
 ghost use Rattle.wl_client.specs.Inside.ReadingLoop.{Carries, IsHeader, NotTaken, NotTakenTo, Stores, TakenTo, TookWith, HandlesMessage, message_result};
 
-use crate::backend::{Backend, DISPLAY};
+use crate::backend::Backend;
 use crate::display::{DisplayMessage, delete_id, display_event};
 use crate::error::{EventError, WaylandError};
 use crate::event::{OpenEvent, handle_event};
@@ -34,8 +34,8 @@ use smallvec::SmallVec;
 use std::alloc::Global;
 use wl_link::{BufferedSocket, Object, ObjectMap, Transport, clear_message};
 use wl_wire::{
-    Argument, INLINE_ARGS, IoFault, Message, MessageDesc, MessageParseError, OutOfMemory, Protocol,
-    ProtocolError, Text, Token,
+    Argument, DISPLAY, INLINE_ARGS, IoFault, Message, MessageDesc, MessageParseError, OutOfMemory,
+    Protocol, ProtocolError, Text, Token,
 };
 
 /// Why a reading handed out no event, and whether memory was refused.

@@ -13,11 +13,11 @@ ghost use Rattle.wl_client.specs.Steps.{refused_destroy};
 ghost use Rattle.wl_client.specs.declared.step.Reply.TheVariants as reply;
 ghost use Rattle.wl_client.specs.declared.step.Step.TheVariants as step;
 
-use crate::backend::{Backend, DISPLAY};
+use crate::backend::Backend;
 use crate::error::{DestroyError, InvalidId};
 use crate::object_id::ObjectId;
 use wl_link::{Object, ObjectMap};
-use wl_wire::{InterfaceId, ObjectInfo, OutOfMemory};
+use wl_wire::{DISPLAY, InterfaceId, ObjectInfo, OutOfMemory};
 
 /// What the session keeps of an object, beside its interface and version.
 #[derive(Drop)]

@@ -11,6 +11,30 @@ use crate::interface::{
 };
 use std::alloc::{AllocError, Global};
 
+/// The number of the display, in each session.
+pub const DISPLAY: u32 = 1;
+
+/// Opcodes of the fixed interfaces: where a message stands among the requests or the events of its interface in the table below.
+pub mod opcodes {
+    /// The request `wl_display.sync`.
+    pub const SYNC: u16 = 0;
+
+    /// The event `wl_display.error`.
+    pub const ERROR: u16 = 0;
+
+    /// The event `wl_display.delete_id`.
+    pub const DELETE_ID: u16 = 1;
+
+    /// The event `wl_registry.global`.
+    pub const GLOBAL: u16 = 0;
+
+    /// The event `wl_registry.global_remove`.
+    pub const GLOBAL_REMOVE: u16 = 1;
+
+    /// The event `wl_callback.done`.
+    pub const DONE: u16 = 0;
+}
+
 /// A request or an event of a fixed interface. It is there from version 1 of its interface on.
 struct FixedMessage {
     name: &'static str,

@@ -44,6 +44,7 @@ mod write;
 pub use argument::{AllowNull, Argument, ArgumentType, Token};
 pub use byte_array::ByteArray;
 pub use c_string::{CString, ZeroByte};
+pub use core_interfaces::{DISPLAY, opcodes};
 pub use enums::{WEnum, WEnumError, WaylandEnum};
 pub use error::{IoFault, MessageParseError, MessageWriteError, OutOfMemory, ProtocolError};
 pub use interface::{

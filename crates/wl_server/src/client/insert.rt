@@ -27,7 +27,6 @@ use crate::backend::Backend;
 use crate::client::Client;
 use crate::client::touched::Touched;
 use crate::error::InsertClientError;
-use crate::events::display::DISPLAY;
 use crate::globals::handler::GlobalHandler;
 use crate::ids::client_id::ClientId;
 use crate::notes::Happening;
@@ -36,7 +35,7 @@ use crate::objects::{ClientObjects, Kept, fresh_object};
 use crate::reading::open_place::OpenPlace;
 use std::alloc::Global;
 use wl_link::{BufferedSocket, ObjectMap, Transport};
-use wl_wire::{OutOfMemory, WL_DISPLAY_INTERFACE};
+use wl_wire::{DISPLAY, OutOfMemory, WL_DISPLAY_INTERFACE};
 
 /// The objects and the notes of a client that was just inserted. Its one object is the display. Its one note says that it
 /// was inserted, and there is room for the note of its end. If there is no memory, no number of a note is used up.

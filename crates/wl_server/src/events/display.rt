@@ -12,19 +12,8 @@ ghost use Rattle.wl_server.specs.Telling.{deletions, done_message, error_message
 use smallvec::SmallVec;
 use std::alloc::Global;
 use wl_link::{BufferedSocket, NumberMessage, SERVER_ID_LIMIT, Transport, clear_message};
-use wl_wire::{Argument, CString, IoFault, Message, Token};
-
-/// The number of the display.
-pub const DISPLAY: u32 = 1;
-
-/// The opcode of `wl_display.error`.
-const ERROR: u16 = 0;
-
-/// The opcode of `wl_callback.done`.
-const DONE: u16 = 0;
-
-/// The opcode of `wl_display.delete_id`.
-const DELETE_ID: u16 = 1;
+use wl_wire::opcodes::{DELETE_ID, DONE, ERROR};
+use wl_wire::{Argument, CString, DISPLAY, IoFault, Message, Token};
 
 /// How many bytes `put_done_at_once` writes.
 pub const DONE_SIZE: usize = 24;

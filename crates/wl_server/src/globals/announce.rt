@@ -17,10 +17,8 @@ use std::alloc::Global;
 use std::marker::Model;
 use std::mem;
 use wl_link::{BufferedSocket, Object, Transport};
+use wl_wire::opcodes::GLOBAL;
 use wl_wire::{Argument, CString, InterfaceId, IoFault, Message, OutOfMemory, Protocol, Token};
-
-/// The opcode of `wl_registry.global`.
-const GLOBAL: u16 = 0;
 
 /// The name of an interface, as an argument. It is put into the memory of `bytes`, which grows if it is too small. What
 /// was in `bytes` is dropped.

@@ -24,9 +24,7 @@ use crate::globals::{KeptGlobal, disable, global_in, remove};
 use crate::ids::global_id::GlobalId;
 use crate::notes::queues::NoteNumbers;
 use wl_link::{ObjectMap, Transport};
-
-/// The opcode of `wl_registry.global_remove`.
-const GLOBAL_REMOVE: u16 = 1;
+use wl_wire::opcodes::GLOBAL_REMOVE;
 
 /// Whether the id names a global that is not disabled.
 fn is_enabled<G: Drop>(globals: &ObjectMap<KeptGlobal<G>>, id: &GlobalId) -> bool

@@ -19,13 +19,13 @@ use crate::backend::Backend;
 use crate::client::Client;
 use crate::client::stored::stored_mut;
 use crate::error::DestroyError;
-use crate::events::display::{DISPLAY, is_out_of_memory, put_delete_id};
+use crate::events::display::{is_out_of_memory, put_delete_id};
 use crate::globals::handler::GlobalHandler;
 use crate::ids::object_id::ObjectId;
 use crate::notes::queues::NoteNumbers;
 use crate::objects::{Kept, named_in, reserve_note, take_out_noted};
 use wl_link::{Object, ObjectMap, Transport};
-use wl_wire::OutOfMemory;
+use wl_wire::{DISPLAY, OutOfMemory};
 
 /// The object that the id names, if there is one and the program may destroy it: the display may not be destroyed.
 fn destroyable<'a, U: Drop>(

@@ -18,10 +18,8 @@ use crate::objects::{ClientObjects, Registry};
 use crate::reading::Surroundings;
 use crate::reading::arguments::make_object;
 use crate::reading::response::{Breach, Response};
+use wl_wire::opcodes::SYNC;
 use wl_wire::{Argument, Message, Token, WL_CALLBACK_INTERFACE, WL_REGISTRY_INTERFACE};
-
-/// The opcode of `wl_display.sync`.
-pub const SYNC: u16 = 0;
 
 /// Handles a request to a display, and returns what is still to be done for it.
 pub fn display_request<'m, U: Drop, G: GlobalHandler<C>, C>(

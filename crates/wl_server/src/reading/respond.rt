@@ -22,7 +22,7 @@ ghost use Rattle.wl_server.specs.Telling.{Kills, core_of, deletions, done_messag
 ghost use Rattle.wl_server.specs.Inside.ReadingLoop.{Ended, IsHandled, Live, around_of, message_result};
 
 use crate::client::Client;
-use crate::events::display::{DISPLAY, put_done};
+use crate::events::display::put_done;
 use crate::globals::handler::GlobalHandler;
 use crate::globals::new_registry::put_globals;
 use crate::ids::object_id::ObjectId;
@@ -34,7 +34,9 @@ use crate::reading::response::Breach;
 use crate::reading::texts::{bind_text, fault_text, new_id_text, since_text};
 use std::alloc::Global;
 use wl_link::Transport;
-use wl_wire::{CString, IoFault, Message, OutOfMemory, Protocol, Token, WL_DISPLAY_INTERFACE};
+use wl_wire::{
+    CString, DISPLAY, IoFault, Message, OutOfMemory, Protocol, Token, WL_DISPLAY_INTERFACE,
+};
 
 /// The code and the text of the error that is posted for a breach of the protocol.
 #[cold]

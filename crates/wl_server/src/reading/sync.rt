@@ -7,15 +7,15 @@ ghost use Rattle.wl_server.specs.Inside.Syncing.{LeavesNoTrace, SyncWaits};
 ghost use Rattle.wl_server.specs.NoteOrder.{IsNumbered};
 
 use crate::client::Client;
-use crate::events::display::{DISPLAY, DONE_SIZE, put_done_at_once};
+use crate::events::display::{DONE_SIZE, put_done_at_once};
 use crate::globals::handler::GlobalHandler;
 use crate::objects::ClientObjects;
 use crate::reading::Surroundings;
 use crate::reading::action::Reading;
-use crate::reading::display::SYNC;
 use crate::reading::message::request_desc;
 use wl_link::{SERVER_ID_LIMIT, Transport};
-use wl_wire::{Protocol, WL_DISPLAY_INTERFACE};
+use wl_wire::opcodes::SYNC;
+use wl_wire::{DISPLAY, Protocol, WL_DISPLAY_INTERFACE};
 
 /// Whether a client may make an object at this number, and the object, if it is removed at once, changes nothing of the
 /// client's objects but the last serial. The number was in use before, so no memory is needed.
