@@ -12,10 +12,9 @@ ghost use Rattle.wl_client.specs.Inside.Conversion.{CanMake, Converts, EndsWhole
 use crate::object_id::ObjectId;
 use crate::objects::{Kept, id_at};
 use crate::protocol_error::EventFault;
-use smallvec::SmallVec;
 use wl_link::{InsertError, Object, ObjectMap, SERVER_ID_LIMIT};
 use wl_wire::{
-    ANONYMOUS_INTERFACE, Argument, INLINE_ARGS, InterfaceId, Token, same_interface_or_anonymous,
+    ANONYMOUS_INTERFACE, Args, Argument, InterfaceId, Token, same_interface_or_anonymous,
 };
 
 /// What has to be known of the object that the event is for (its *receiver*), to make a new object.
@@ -182,8 +181,8 @@ pub fn convert<U: Drop>(
     last_serial: &mut u64,
     receiver: Receiver,
     progress: &mut Progress<'_>,
-    args: &mut SmallVec<Argument<u32, Token>, INLINE_ARGS>,
-    converted: &mut SmallVec<Argument<ObjectId, Token>, INLINE_ARGS>,
+    args: &mut Args<u32>,
+    converted: &mut Args<ObjectId>,
 ) -> Result<(), EventFault>
     requires can_make { CanMake progress.old (reverse args.old.items) objects.old }
     requires room { HasRoomFor converted.old (length args.old.items) }

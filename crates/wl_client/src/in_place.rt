@@ -19,10 +19,9 @@ use crate::event::OpenEvent;
 use crate::message::{desc_of, event_desc};
 use crate::object_id::ObjectId;
 use crate::objects::{Kept, id_at};
-use smallvec::SmallVec;
 use wl_link::{BufferedSocket, ObjectMap, Transport};
 use wl_wire::opcodes::DELETE_ID;
-use wl_wire::{Argument, ArgumentType, DISPLAY, INLINE_ARGS, Message, Protocol, Token};
+use wl_wire::{Args, Argument, ArgumentType, DISPLAY, INLINE_ARGS, Message, Protocol, Token};
 
 /// What the handling of a message in place came to.
 #[derive(Clone, Copy)]
@@ -110,11 +109,7 @@ fn front_word(payload: &[u8]) -> u32
 }
 
 /// Appends the arguments under this signature, which are numbers. The payload has their words.
-fn push_numbers(
-    signature: &[ArgumentType],
-    payload: &[u8],
-    args: &mut SmallVec<Argument<ObjectId, Token>, INLINE_ARGS>,
-)
+fn push_numbers(signature: &[ArgumentType], payload: &[u8], args: &mut Args<ObjectId>)
     requires numbers { AllByRecursion IsNumber signature.now }
     requires words { 4 * length signature.now ≤ length payload.now }
     requires room { HasRoomFor args.old (length signature.now) }

@@ -30,11 +30,10 @@ use crate::in_place::InPlace;
 use crate::object_id::ObjectId;
 use crate::objects::Kept;
 use crate::protocol_error::{EventFault, fault_text, told_error};
-use smallvec::SmallVec;
 use std::alloc::Global;
 use wl_link::{BufferedSocket, Object, ObjectMap, Transport, clear_message};
 use wl_wire::{
-    Argument, DISPLAY, INLINE_ARGS, IoFault, Message, MessageDesc, MessageParseError, OutOfMemory,
+    Args, DISPLAY, INLINE_ARGS, IoFault, Message, MessageDesc, MessageParseError, OutOfMemory,
     Protocol, ProtocolError, Text, Token,
 };
 
@@ -91,7 +90,7 @@ pub fn desc_of<'p, U: Drop>(
 /// If the message is not complete, this asks for no memory.
 fn make_room<T: Drop, U: Drop>(
     objects: &mut ObjectMap<Kept<U>>,
-    converted: &mut SmallVec<Argument<ObjectId, Token>, INLINE_ARGS>,
+    converted: &mut Args<ObjectId>,
     socket: &BufferedSocket<T>,
     desc: &MessageDesc,
 ) -> Result<(), OutOfMemory>
@@ -129,7 +128,7 @@ fn take<'p, T: Drop, U: Drop>(
     socket: &mut BufferedSocket<T>,
     header: (u32, u16),
     message: &mut Message<u32, Token>,
-    converted: &mut SmallVec<Argument<ObjectId, Token>, INLINE_ARGS>,
+    converted: &mut Args<ObjectId>,
 ) -> Result<&'p MessageDesc, MessageParseError>
     requires header { IsHeader socket.old header }
     requires inline { INLINE_ARGS ≤ converted.old.capacity }

@@ -6,7 +6,7 @@
 ghost use Rattle.std.specs.Prelude.{◌≡◌, false};
 ghost use Rattle.wl_server.specs.Server.{new_server};
 
-use crate::client::Client;
+use crate::client::Slots;
 use crate::client::touched::Touched;
 use crate::globals::KeptGlobal;
 use crate::notes::Note;
@@ -42,8 +42,8 @@ pub struct Backend<T, U, G, C> {
     pub(crate) default_limit: usize,
     /// The serial of the client that was inserted last; 0 if none was.
     pub(crate) last_client: u64,
-    /// The clients by slot, which is an index of 32 bits. `None` is a free slot.
-    pub(crate) clients: Vec<Option<Client<T, U, C>>>,
+    /// The clients by slot.
+    pub(crate) clients: Slots<T, U, C>,
     /// Which of them were touched: for no other does anything wait.
     pub(crate) touched: Touched,
     /// The first slot that may be free: each slot below it has a client. The search for a free slot begins here.

@@ -20,6 +20,9 @@ use std::alloc::Global;
 use std::marker::Model;
 use wl_link::BufferedSocket;
 
+/// The clients by slot, which is an index of 32 bits. `None` is a free slot.
+pub type Slots<T, U, C> = Vec<Option<Client<T, U, C>>>;
+
 /// What is kept of a client.
 #[derive(Drop)]
 pub struct Client<T, U, C> {

@@ -52,7 +52,7 @@ pub use interface::{
     WL_DISPLAY_INTERFACE, WL_REGISTRY_INTERFACE,
 };
 pub use log_text::{KnownObjects, push_argument, push_message};
-pub use message::{INLINE_ARGS, Message};
+pub use message::{Args, INLINE_ARGS, Message};
 pub use numbering::{Numbering, OwnNumbers};
 pub use parse::{
     MessageHeader, fd_places, message_header, message_is_there, parse_into, parse_message,

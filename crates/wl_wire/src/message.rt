@@ -3,12 +3,15 @@
 ghost use Rattle.std.specs.Prelude.{◌≡◌, ◌≤◌, [], length, IfOk, IfErr, IsOk};
 ghost use Rattle.wl_wire.specs.MapFd.{MapsFd, MapsFds};
 
-use crate::argument::Argument;
+use crate::argument::{Argument, Token};
 use smallvec::SmallVec;
 use std::alloc::AllocError;
 
 /// How many arguments a message holds without an allocation.
 pub const INLINE_ARGS: usize = 4;
+
+/// The arguments of a message, in order. Up to four of them (`INLINE_ARGS`) need no memory.
+pub type Args<Id> = SmallVec<Argument<Id, Token>, INLINE_ARGS>;
 
 /// A request or an event. `Id` is the type of object ids, and `Fd` that of file descriptors.
 #[derive(Debug, PartialEq, Eq, Drop)]

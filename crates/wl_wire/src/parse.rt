@@ -19,7 +19,7 @@ use crate::argument::{Argument, ArgumentType, Token};
 use crate::byte_array::ByteArray;
 use crate::c_string::CString;
 use crate::error::MessageParseError;
-use crate::message::{INLINE_ARGS, Message};
+use crate::message::{Args, INLINE_ARGS, Message};
 use smallvec::SmallVec;
 use std::alloc::{AllocError, Global};
 use std::collections::VecDeque;
@@ -173,10 +173,7 @@ fn read_argument<'b>(
 }
 
 /// Makes room for `count` arguments. Up to four fit already, and take no memory. The error says that there was no memory.
-fn make_room(
-    args: &mut SmallVec<Argument<u32, Token>, INLINE_ARGS>,
-    count: usize,
-) -> Result<(), AllocError>
+fn make_room(args: &mut Args<u32>, count: usize) -> Result<(), AllocError>
     requires { HasRoomFor args.old INLINE_ARGS }
     ensures items { args.new.items ≡ args.old.items }
     ensures room { OnOk result (HasRoomFor args.new count) }
@@ -195,7 +192,7 @@ fn read_arguments(
     signature: &[ArgumentType],
     payload: &[u8],
     fds: &VecDeque<Token>,
-    args: &mut SmallVec<Argument<u32, Token>, INLINE_ARGS>,
+    args: &mut Args<u32>,
 ) -> Result<usize, MessageParseError>
     requires { HasRoomFor args.old INLINE_ARGS }
     ensures found { ReadsAs (λ used. (args.new.items, drop used fds.now.items)) result (with_front args.old.items (arguments_at signature.now payload.now fds.now.items)) }

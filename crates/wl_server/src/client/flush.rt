@@ -18,8 +18,8 @@ ghost use Rattle.wl_server.specs.declared.runs.step.Reply.TheVariants as reply;
 ghost use Rattle.wl_server.specs.declared.runs.step.Step.TheVariants as step;
 
 use crate::backend::Backend;
-use crate::client::Client;
 use crate::client::stored::stored_mut;
+use crate::client::{Client, Slots};
 use crate::events::display::is_out_of_memory;
 use crate::globals::handler::GlobalHandler;
 use crate::ids::client_id::ClientId;
@@ -60,9 +60,7 @@ fn flush_at<T: Transport + Drop, U: Drop, C: Drop>(
 }
 
 /// Sends what waits for each killed client. Faults are dropped. Returns whether memory was refused.
-pub fn flush_killed<T: Transport + Drop, U: Drop, C: Drop>(
-    clients: &mut Vec<Option<Client<T, U, C>>>,
-) -> bool
+pub fn flush_killed<T: Transport + Drop, U: Drop, C: Drop>(clients: &mut Slots<T, U, C>) -> bool
     ensures felt { AllFeel (λ id p lacked did q. FlushesKilled T.sends p lacked did q) result (length clients.old.items) clients.old.items clients.new.items }
     ensures times { map times_of clients.new.items ≡ map times_of clients.old.items }
     ensures numbered { AllNumbered clients.old.items → AllNumbered clients.new.items }
@@ -87,7 +85,7 @@ fn has_sent<T, U, C>(client: &Option<Client<T, U, C>>) -> bool
 /// Sends what waits for each live client, of those for which something may wait. Faults are dropped. Returns whether memory
 /// was refused.
 pub fn flush_live<T: Transport + Drop, U: Drop, C: Drop>(
-    clients: &mut Vec<Option<Client<T, U, C>>>,
+    clients: &mut Slots<T, U, C>,
     to_send: &mut SlotSet,
 ) -> bool
     requires { AllSent to_send.old.words.items clients.old.items }

@@ -24,8 +24,8 @@ ghost use Rattle.wl_server.specs.declared.runs.step.Reply.TheVariants as reply;
 ghost use Rattle.wl_server.specs.declared.runs.step.Step.TheVariants as step;
 
 use crate::backend::Backend;
-use crate::client::Client;
 use crate::client::touched::Touched;
+use crate::client::{Client, Slots};
 use crate::error::InsertClientError;
 use crate::globals::handler::GlobalHandler;
 use crate::ids::client_id::ClientId;
@@ -114,7 +114,7 @@ impl<T: Drop, U: Drop, C: Drop> Client<T, U, C> {
 
 /// Makes room for a client at the slot, and for its bits. The slot is in the list, or is the first one after it.
 fn reserve_slot<T, U, C>(
-    clients: &mut Vec<Option<Client<T, U, C>>>,
+    clients: &mut Slots<T, U, C>,
     touched: &mut Touched,
     slot: usize,
 ) -> Result<(), OutOfMemory>
@@ -145,7 +145,7 @@ fn free_slot<T, U, C>(clients: &[Option<Client<T, U, C>>], from: usize) -> Optio
 
 /// Puts a client at a slot that is in the list and has no client.
 fn put_within<T: Drop, U: Drop, C: Drop>(
-    clients: &mut Vec<Option<Client<T, U, C>>>,
+    clients: &mut Slots<T, U, C>,
     slot: usize,
     client: Client<T, U, C>,
 )
@@ -158,7 +158,7 @@ fn put_within<T: Drop, U: Drop, C: Drop>(
 
 /// Puts a client at a slot that has no client. There is room for it.
 fn put_at<T: Drop, U: Drop, C: Drop>(
-    clients: &mut Vec<Option<Client<T, U, C>>>,
+    clients: &mut Slots<T, U, C>,
     slot: usize,
     client: Client<T, U, C>,
 )
@@ -178,7 +178,7 @@ fn put_at<T: Drop, U: Drop, C: Drop>(
 /// memory, nothing changes.
 fn put_new<T: Drop, U: Drop, C: Drop>(
     alloc: Global,
-    clients: &mut Vec<Option<Client<T, U, C>>>,
+    clients: &mut Slots<T, U, C>,
     touched: &mut Touched,
     numbers: &mut NoteNumbers,
     id: &ClientId,

@@ -9,15 +9,12 @@ ghost use Rattle.wl_server.specs.Inside.Lookup.{LendsStored};
 ghost use Rattle.wl_server.specs.Inside.Touched.{AreTouched};
 ghost use Rattle.wl_server.specs.Server.{Stored, client_at};
 
-use crate::client::Client;
 use crate::client::touched::Touched;
+use crate::client::{Client, Slots};
 use crate::ids::client_id::ClientId;
 
 /// Whether the client is stored.
-fn is_stored<T: Drop, U: Drop, C: Drop>(
-    clients: &Vec<Option<Client<T, U, C>>>,
-    id: &ClientId,
-) -> bool
+fn is_stored<T: Drop, U: Drop, C: Drop>(clients: &Slots<T, U, C>, id: &ClientId) -> bool
     ensures stored { result ≡ is_some (client_at id.now clients.now.items) }
     ensures within { IsTrue result → id.now.slot < length clients.now.items }
 {
@@ -29,7 +26,7 @@ fn is_stored<T: Drop, U: Drop, C: Drop>(
 
 /// The client, borrowed mutably, if it is stored. It does not count as touched: what waits for it has to stay as it is.
 pub fn lend_stored<'a, T: Drop, U: Drop, C: Drop>(
-    clients: &'a mut Vec<Option<Client<T, U, C>>>,
+    clients: &'a mut Slots<T, U, C>,
     id: &ClientId,
 ) -> Option<&'a mut Client<T, U, C>>
     ensures* lends { sem 𝓛 (LendsStored T.row U.row C.row clients.entry id.now result) }
@@ -45,7 +42,7 @@ pub fn lend_stored<'a, T: Drop, U: Drop, C: Drop>(
 /// The client, borrowed mutably, if it is stored. It counts as touched from then on, whatever becomes of it. The function
 /// takes these fields and not the whole server, so a call can use the server's other fields beside the client.
 pub fn stored_mut<'a, T: Drop, U: Drop, C: Drop>(
-    clients: &'a mut Vec<Option<Client<T, U, C>>>,
+    clients: &'a mut Slots<T, U, C>,
     touched: &mut Touched,
     id: &ClientId,
 ) -> Option<&'a mut Client<T, U, C>>

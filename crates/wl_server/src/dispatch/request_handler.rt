@@ -16,7 +16,7 @@ use crate::ids::object_id::ObjectId;
 use smallvec::SmallVec;
 use std::mem;
 use wl_link::Transport;
-use wl_wire::{Argument, INLINE_ARGS, Token};
+use wl_wire::{Args, Argument, Token};
 
 /// A program's handler of the actions of its clients, which `Backend::dispatch_single_client` and
 /// `Backend::dispatch_all_clients` call.
@@ -42,7 +42,7 @@ pub trait Handler<T: Transport, U, G: GlobalHandler<C>, C> {
         client: &ClientId,
         sender: ObjectId,
         opcode: u16,
-        args: SmallVec<Argument<ObjectId, Token>, INLINE_ARGS>,
+        args: Args<ObjectId>,
         created: Option<ObjectId>,
     ) -> Option<U>
         ensures answers { requests self.old backend.old client.now sender opcode args.items created result self.new backend.new }
@@ -58,7 +58,7 @@ pub trait Handler<T: Transport, U, G: GlobalHandler<C>, C> {
         client: &ClientId,
         sender: ObjectId,
         opcode: u16,
-        args: &mut SmallVec<Argument<ObjectId, Token>, INLINE_ARGS>,
+        args: &mut Args<ObjectId>,
         created: Option<ObjectId>,
     ) -> Option<U>
         ensures answers { requests self.old backend.old client.now sender opcode args.old.items created result self.new backend.new }

@@ -18,8 +18,8 @@ ghost use Rattle.wl_server.specs.declared.runs.step.Reply.TheVariants as reply;
 ghost use Rattle.wl_server.specs.declared.runs.step.Step.TheVariants as step;
 
 use crate::backend::Backend;
-use crate::client::Client;
 use crate::client::flush::flush_killed;
+use crate::client::{Client, Slots};
 use crate::globals::handler::GlobalHandler;
 use crate::ids::client_id::ClientId;
 use crate::notes::Note;
@@ -62,7 +62,7 @@ fn leave_at<T: Drop, U: Drop, C: Drop>(
 
 /// Takes all killed clients out, by ascending slot.
 pub fn leave_all<T: Drop, U: Drop, C: Drop>(
-    clients: &mut Vec<Option<Client<T, U, C>>>,
+    clients: &mut Slots<T, U, C>,
     notes: &mut Vec<Note<U>>,
     given: &mut Vec<(ClientId, T)>,
 )
@@ -205,7 +205,7 @@ pub fn memory_for<T: Drop, U: Drop, C: Drop>(
 /// gathers. No note waits then, so the numbers of those that wait begin at 0 again. Returns whether memory was refused in a
 /// flush.
 fn clean_up<T: Transport + Drop, U: Drop, C: Drop>(
-    clients: &mut Vec<Option<Client<T, U, C>>>,
+    clients: &mut Slots<T, U, C>,
     numbers: &mut NoteNumbers,
     notes: &mut Vec<Note<U>>,
     memory: &mut CleanupMemory<T>,

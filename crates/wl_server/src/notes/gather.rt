@@ -11,7 +11,7 @@ ghost use Rattle.wl_server.specs.Inside.NoteOrder.{AreNumbered, NoneNumbered, co
 ghost use Rattle.wl_server.specs.Inside.Touched.{AllQuiet, IsQuiet};
 ghost use Rattle.wl_server.specs.Server.{note_of as the_note};
 
-use crate::client::Client;
+use crate::client::{Client, Slots};
 use crate::ids::client_id::ClientId;
 use crate::notes::queues::NotePlace;
 use crate::notes::{Happening, Note};
@@ -78,7 +78,7 @@ fn move_note<T, U, C>(
 /// `order` has the place of each note. Its slots say of which client the next note is taken. The notes of one client keep
 /// their order.
 pub fn gather<T, U, C>(
-    clients: &mut Vec<Option<Client<T, U, C>>>,
+    clients: &mut Slots<T, U, C>,
     waits: bool,
     order: &[NotePlace],
     notes: &mut Vec<Note<U>>,
@@ -201,7 +201,7 @@ pub fn order_of<T, U, C>(
 /// is changed. If there are no such notes, it allocates nothing.
 pub fn gather_made<T, U, C>(
     alloc: Global,
-    clients: &mut Vec<Option<Client<T, U, C>>>,
+    clients: &mut Slots<T, U, C>,
     to_note: &mut SlotSet,
     notes: &mut Vec<Note<U>>,
 ) -> Result<(), OutOfMemory>

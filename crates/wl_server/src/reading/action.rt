@@ -8,8 +8,7 @@ ghost use Rattle.wl_server.specs.declared.reading.action.Found.TheVariants as fo
 
 use crate::ids::global_id::GlobalId;
 use crate::ids::object_id::ObjectId;
-use smallvec::SmallVec;
-use wl_wire::{Argument, INLINE_ARGS, IoFault, Token};
+use wl_wire::{Args, IoFault};
 
 /// What a client asks of the program. `finish_request` or `finish_bind` ends it.
 #[derive(Debug, Drop)]
@@ -21,7 +20,7 @@ pub enum Action {
         /// The index of the request among those of the object's interface.
         opcode: u16,
         /// The arguments, in order.
-        args: SmallVec<Argument<ObjectId, Token>, INLINE_ARGS>,
+        args: Args<ObjectId>,
         /// Whether it is a destructor, which ends the object.
         is_destructor: bool,
         /// The object that it made, if it made one.
@@ -93,7 +92,7 @@ impl Found {
 
     /// The action, with these arguments if it is a request.
     #[inline(always)]
-    pub fn with_args(self, args: SmallVec<Argument<ObjectId, Token>, INLINE_ARGS>) -> Action
+    pub fn with_args(self, args: Args<ObjectId>) -> Action
         ensures { handed result ≡ found_with self args.items }
     {
         match self {

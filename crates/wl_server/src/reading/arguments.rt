@@ -12,12 +12,11 @@ use crate::ids::client_id::ClientId;
 use crate::ids::object_id::ObjectId;
 use crate::objects::{ClientObjects, Kept, fresh_object, id_at};
 use crate::reading::response::RequestFault;
-use smallvec::SmallVec;
 use std::mem;
 use wl_link::{InsertError, ObjectMap, SERVER_ID_LIMIT};
 use wl_wire::{
-    ANONYMOUS_INTERFACE, AllowNull, Argument, ArgumentType, ByteArray, INLINE_ARGS, InterfaceId,
-    Token, same_interface_or_anonymous,
+    ANONYMOUS_INTERFACE, AllowNull, Args, Argument, ArgumentType, ByteArray, InterfaceId, Token,
+    same_interface_or_anonymous,
 };
 
 /// What is left to do while the arguments of a request are converted from left to right.
@@ -155,7 +154,7 @@ fn convert_object<U: Drop>(
     objects: &ClientObjects<U>,
     progress: &mut Progress<'_>,
     number: u32,
-    converted: &mut SmallVec<Argument<ObjectId, Token>, INLINE_ARGS>,
+    converted: &mut Args<ObjectId>,
 ) -> Result<(), RequestFault>
     requires { HasRoomFor converted.old 1 }
     ensures appends { (version : ℕ) → Appends client version (state objects.now progress.old) converted.old.items (argument.Object number)
@@ -179,7 +178,7 @@ fn convert_new_id<U: Drop>(
     objects: &mut ClientObjects<U>,
     progress: &mut Progress<'_>,
     number: u32,
-    converted: &mut SmallVec<Argument<ObjectId, Token>, INLINE_ARGS>,
+    converted: &mut Args<ObjectId>,
 ) -> Result<(), RequestFault>
     requires reserved { progress.old.child ≢ None → objects.old.map.reserved ≡ true }
     requires room { HasRoomFor converted.old 1 }
@@ -200,10 +199,7 @@ fn convert_new_id<U: Drop>(
 /// Puts an argument that names no object behind those in `converted`, which has room for it. A text or an array is taken out
 /// of the argument.
 #[inline(always)]
-fn put_plain(
-    arg: &mut Argument<u32, Token>,
-    converted: &mut SmallVec<Argument<ObjectId, Token>, INLINE_ARGS>,
-)
+fn put_plain(arg: &mut Argument<u32, Token>, converted: &mut Args<ObjectId>)
     requires plain { IsSome (plain arg.old) }
     requires room { HasRoomFor converted.old 1 }
     ensures put { IfSome (plain arg.old) (λ a. converted.new.items ≡ converted.old.items ++ a ∷ []) }
@@ -231,7 +227,7 @@ fn convert_one<U: Drop>(
     objects: &mut ClientObjects<U>,
     progress: &mut Progress<'_>,
     arg: &mut Argument<u32, Token>,
-    converted: &mut SmallVec<Argument<ObjectId, Token>, INLINE_ARGS>,
+    converted: &mut Args<ObjectId>,
 ) -> Result<(), RequestFault>
     requires can_make { CanMake progress.old objects.old }
     requires kind { IsNextKind progress.old.kinds.now arg.old }
@@ -266,7 +262,7 @@ pub fn convert<U: Drop>(
     objects: &mut ClientObjects<U>,
     progress: &mut Progress<'_>,
     args: &mut [Argument<u32, Token>],
-    converted: &mut SmallVec<Argument<ObjectId, Token>, INLINE_ARGS>,
+    converted: &mut Args<ObjectId>,
 ) -> Result<Option<ObjectId>, RequestFault>
     requires can_make { CanMake progress.old objects.old }
     requires kinds { Matches progress.old.kinds.now args.old }

@@ -29,10 +29,9 @@ use crate::reading::Surroundings;
 use crate::reading::action::{Found, MessageEnd, NoAction, Reading};
 use crate::reading::request::{Sender, request};
 use crate::reading::response::Response;
-use smallvec::SmallVec;
 use wl_link::{BufferedSocket, ObjectMap, Transport, clear_message};
 use wl_wire::{
-    Argument, INLINE_ARGS, IoFault, Message, MessageDesc, MessageParseError, OutOfMemory, Protocol,
+    Args, INLINE_ARGS, IoFault, Message, MessageDesc, MessageParseError, OutOfMemory, Protocol,
     Token,
 };
 
@@ -63,7 +62,7 @@ pub fn request_desc<'p, U: Drop>(
 /// that it may make, which may be a registry. If the message is not there, it allocates nothing.
 fn make_room<T: Drop, U: Drop>(
     objects: &mut ClientObjects<U>,
-    converted: &mut SmallVec<Argument<ObjectId, Token>, INLINE_ARGS>,
+    converted: &mut Args<ObjectId>,
     socket: &BufferedSocket<T>,
     desc: &MessageDesc,
 ) -> Result<(), OutOfMemory>
@@ -107,7 +106,7 @@ fn take<'p, T: Drop, U: Drop>(
     socket: &mut BufferedSocket<T>,
     header: (u32, u16),
     message: &mut Message<u32, Token>,
-    converted: &mut SmallVec<Argument<ObjectId, Token>, INLINE_ARGS>,
+    converted: &mut Args<ObjectId>,
 ) -> Result<(&'p MessageDesc, Sender), MessageParseError>
     requires header { IsHeader socket.old header }
     requires inline { INLINE_ARGS ≤ converted.old.capacity }
@@ -154,7 +153,7 @@ fn take_request<'m, T: Drop, U: Drop, G: GlobalHandler<C> + Drop, C>(
     header: (u32, u16),
     message: &'m mut Message<u32, Token>,
     found: &mut Found,
-    args: &mut SmallVec<Argument<ObjectId, Token>, INLINE_ARGS>,
+    args: &mut Args<ObjectId>,
 ) -> Result<Response<'m>, MessageParseError>
     requires protocol { protocol.now ≡ around.now.protocol.now }
     requires header { IsHeader socket.old header }
@@ -192,7 +191,7 @@ impl<T: Transport + Drop, U: Drop, C: Drop> Client<T, U, C> {
         reading: &mut Reading,
         message: &mut Message<u32, Token>,
         found: &mut Found,
-        args: &mut SmallVec<Argument<ObjectId, Token>, INLINE_ARGS>,
+        args: &mut Args<ObjectId>,
     ) -> MessageEnd
         requires live { Live self.old.part }
         requires place { INLINE_ARGS ≤ message.old.args.capacity }
@@ -230,7 +229,7 @@ impl<T: Transport + Drop, U: Drop, C: Drop> Client<T, U, C> {
         header: (u32, u16),
         message: &mut Message<u32, Token>,
         found: &mut Found,
-        args: &mut SmallVec<Argument<ObjectId, Token>, INLINE_ARGS>,
+        args: &mut Args<ObjectId>,
     ) -> MessageEnd
         requires live { Live self.old.part }
         requires header { IsHeader self.old.part.link header }

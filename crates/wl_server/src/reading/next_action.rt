@@ -33,7 +33,7 @@ use crate::reading::Surroundings;
 use crate::reading::action::{Action, Found, MessageEnd, NoAction, Reading};
 use smallvec::SmallVec;
 use wl_link::{MessagePlace, Transport};
-use wl_wire::{Argument, INLINE_ARGS, IoFault, Message, Token};
+use wl_wire::{Args, INLINE_ARGS, IoFault, Message, Token};
 
 /// How many receives a reading makes at most, if the program sets no other number.
 pub const READ_TURNS: u32 = 64;
@@ -61,7 +61,7 @@ impl<T: Transport + Drop, U: Drop, C: Drop> Client<T, U, C> {
         reading: &mut Reading,
         message: &mut Message<u32, Token>,
         found: &mut Found,
-        args: &mut SmallVec<Argument<ObjectId, Token>, INLINE_ARGS>,
+        args: &mut Args<ObjectId>,
     ) -> Option<Result<(), NoAction>>
         requires live { Live self.old.part }
         requires place { INLINE_ARGS ≤ message.old.args.capacity }
@@ -122,7 +122,7 @@ impl<T: Transport + Drop, U: Drop, C: Drop> Client<T, U, C> {
         reading: &mut Reading,
         message: &mut Message<u32, Token>,
         found: &mut Found,
-        args: &mut SmallVec<Argument<ObjectId, Token>, INLINE_ARGS>,
+        args: &mut Args<ObjectId>,
     ) -> Result<(), NoAction>
         requires live { Live self.old.part }
         requires place { INLINE_ARGS ≤ message.old.args.capacity }
@@ -160,7 +160,7 @@ impl<T: Transport + Drop, U: Drop, C: Drop> Client<T, U, C> {
         reading: &mut Reading,
         place: &mut MessagePlace,
         found: &mut Found,
-        args: &mut SmallVec<Argument<ObjectId, Token>, INLINE_ARGS>,
+        args: &mut Args<ObjectId>,
     ) -> (Result<(), ActionError>, bool)
         requires { INLINE_ARGS ≤ args.old.capacity }
         ensures does { Does self.old (λ p did q. NextAction T.sends T.receives (around_of G.views around.now) reading.old p (action_of result.0 found.new args.new.items) reading.new result.1 did q) self.new }
@@ -297,7 +297,7 @@ impl<T: Transport + Drop, U: Drop, G: GlobalHandler<C> + Drop, C: Drop> Backend<
         id: &ClientId,
         reading: &mut Reading,
         found: &mut Found,
-        args: &mut SmallVec<Argument<ObjectId, Token>, INLINE_ARGS>,
+        args: &mut Args<ObjectId>,
     ) -> Result<(), ActionError>
         requires { INLINE_ARGS ≤ args.old.capacity }
         ensures fresh { (answer : Result ActionOf ActionErrorOf) → action_content answer ≡ action_of result found.new args.new.items → reading.old ≡ new_reading

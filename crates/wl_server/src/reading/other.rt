@@ -25,8 +25,7 @@ use crate::reading::action::Found;
 use crate::reading::arguments::{Progress, convert};
 use crate::reading::request::Sender;
 use crate::reading::response::{Breach, RequestFault, Response};
-use smallvec::SmallVec;
-use wl_wire::{Argument, INLINE_ARGS, Message, MessageDesc, Token};
+use wl_wire::{Args, Message, MessageDesc, Token};
 
 /// Converts the arguments of a request, and returns the object that the request makes. `version` is the version of the
 /// object that it was sent to. The arguments are put into `args`, which has room for them, and their texts and arrays are
@@ -37,7 +36,7 @@ fn convert_request<U: Drop>(
     desc: &MessageDesc,
     objects: &mut ClientObjects<U>,
     message: &mut Message<u32, Token>,
-    args: &mut SmallVec<Argument<ObjectId, Token>, INLINE_ARGS>,
+    args: &mut Args<ObjectId>,
 ) -> Result<Option<ObjectId>, RequestFault>
     requires can_make { row_creates (message_row desc.now) ≡ true → objects.old.map.reserved ≡ true }
     requires kinds { Matches desc.now.signature.items message.old.args.items }
@@ -79,7 +78,7 @@ pub fn other_request<'m, U: Drop, G: GlobalHandler<C>, C>(
     sender: Sender,
     message: &mut Message<u32, Token>,
     found: &mut Found,
-    args: &mut SmallVec<Argument<ObjectId, Token>, INLINE_ARGS>,
+    args: &mut Args<ObjectId>,
 ) -> Response<'m>
     requires can_make { row_creates (message_row desc.now) ≡ true → objects.old.map.reserved ≡ true }
     requires kinds { Matches desc.now.signature.items message.old.args.items }

@@ -23,10 +23,8 @@ use crate::reading::display::display_request;
 use crate::reading::other::other_request;
 use crate::reading::registry::registry_request;
 use crate::reading::response::Response;
-use smallvec::SmallVec;
 use wl_wire::{
-    Argument, INLINE_ARGS, InterfaceId, Message, MessageDesc, Token, WL_DISPLAY_INTERFACE,
-    WL_REGISTRY_INTERFACE,
+    Args, InterfaceId, Message, MessageDesc, Token, WL_DISPLAY_INTERFACE, WL_REGISTRY_INTERFACE,
 };
 
 /// What the sender of a request is. It is found before the request is read, and handed on.
@@ -50,7 +48,7 @@ pub fn request<'m, U: Drop, G: GlobalHandler<C> + Drop, C>(
     sender: Sender,
     message: &'m mut Message<u32, Token>,
     found: &mut Found,
-    args: &mut SmallVec<Argument<ObjectId, Token>, INLINE_ARGS>,
+    args: &mut Args<ObjectId>,
 ) -> Response<'m>
     requires can_make { row_creates (message_row desc.now) ≡ true → objects.old.map.reserved ≡ true }
     requires can_register { row_creates (message_row desc.now) ≡ true → vec_len objects.old.registries < vec_capacity objects.old.registries }

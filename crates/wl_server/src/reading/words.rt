@@ -19,11 +19,11 @@ use crate::reading::Surroundings;
 use crate::reading::action::{Found, Reading};
 use crate::reading::message::request_desc;
 use crate::reading::request::Sender;
-use smallvec::SmallVec;
 use wl_link::{BufferedSocket, ObjectMap, Transport};
 use wl_wire::{
-    ANONYMOUS_INTERFACE, AllowNull, Argument, ArgumentType, INLINE_ARGS, InterfaceId, MessageDesc,
-    Protocol, Token, WL_DISPLAY_INTERFACE, WL_REGISTRY_INTERFACE, same_interface_or_anonymous,
+    ANONYMOUS_INTERFACE, AllowNull, Args, Argument, ArgumentType, INLINE_ARGS, InterfaceId,
+    MessageDesc, Protocol, WL_DISPLAY_INTERFACE, WL_REGISTRY_INTERFACE,
+    same_interface_or_anonymous,
 };
 
 /// The word at the front of the bytes.
@@ -130,7 +130,7 @@ fn put_word<U: Drop>(
     objects: &ObjectMap<Kept<U>>,
     kind: ArgumentType,
     word: u32,
-    args: &mut SmallVec<Argument<ObjectId, Token>, INLINE_ARGS>,
+    args: &mut Args<ObjectId>,
 )
     requires { HasRoomFor args.old 1 }
     ensures put { args.new.items ≡ args.old.items ++ handed_word client objects.now.store kind word ∷ [] }
@@ -148,7 +148,7 @@ fn put_word<U: Drop>(
 }
 
 /// Empties the arguments. Most often there are none.
-fn empty(args: &mut SmallVec<Argument<ObjectId, Token>, INLINE_ARGS>)
+fn empty(args: &mut Args<ObjectId>)
     ensures items { args.new.items ≡ [] }
     ensures capacity { args.new.capacity ≡ args.old.capacity }
 {
@@ -163,7 +163,7 @@ fn put_words<U: Drop>(
     objects: &ObjectMap<Kept<U>>,
     desc: &MessageDesc,
     payload: &[u8],
-    args: &mut SmallVec<Argument<ObjectId, Token>, INLINE_ARGS>,
+    args: &mut Args<ObjectId>,
 )
     requires few { length desc.now.signature.items ≤ INLINE_ARGS }
     requires words { 4 * length desc.now.signature.items ≤ length payload.now }
@@ -228,7 +228,7 @@ impl<T: Transport + Drop, U: Drop, C: Drop> Client<T, U, C> {
         around: &Surroundings<'_, G>,
         reading: &mut Reading,
         header: (u32, u16),
-        args: &mut SmallVec<Argument<ObjectId, Token>, INLINE_ARGS>,
+        args: &mut Args<ObjectId>,
     ) -> Option<(ObjectId, bool)>
         requires live { Live self.old.part }
         requires header { IsHeader self.old.part.link header }
@@ -267,7 +267,7 @@ impl<T: Transport + Drop, U: Drop, C: Drop> Client<T, U, C> {
         reading: &mut Reading,
         header: (u32, u16),
         found: &mut Found,
-        args: &mut SmallVec<Argument<ObjectId, Token>, INLINE_ARGS>,
+        args: &mut Args<ObjectId>,
     ) -> bool
         requires live { Live self.old.part }
         requires header { IsHeader self.old.part.link header }
