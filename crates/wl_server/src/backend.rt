@@ -1,7 +1,4 @@
 //! The server as a program uses it, and the fields that it keeps.
-//!
-//! The *slot* of a client is its index in the server's list of clients. A *note* tells the program what happened to a
-//! client or an object (`Note`).
 
 ghost use Rattle.std.specs.Prelude.{◌≡◌, false};
 ghost use Rattle.wl_server.specs.Server.{new_server};

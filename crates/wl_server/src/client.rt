@@ -3,7 +3,8 @@
 //! A method of `Client` is what a call does to the client, after the call has looked the client up. It stands with that
 //! call: in `objects`, `events`, `reading`, or here.
 //!
-//! A client is *live* as long as it is stored and not killed.
+//! A client is *stored* from its insertion until `Backend::cleanup` takes it out. It is *live* as long as it is stored
+//! and not killed. Its *slot* is its index in the server's list of clients.
 
 pub mod flush;
 pub mod insert;
@@ -38,8 +39,7 @@ pub struct Client<T, U, C> {
     pub is_killed: bool,
     /// The action that was handed out and is not finished yet.
     pub action: OpenPlace,
-    /// The notes that the next cleanup hands on. A *note* tells the program what happened to a client or to an object
-    /// (`Note`).
+    /// The notes that the next cleanup hands on.
     pub waiting: WaitingNotes<U>,
     /// The notes that were made and are not gathered in the server's list yet. A live client has capacity for one more
     /// here. So killing it needs no memory.

@@ -2,8 +2,6 @@
 //!
 //! An *action* is a request or a bind that the program has to do something about (`Action`). The handler's answer
 //! finishes it.
-//!
-//! A client is *stored* from its insertion until `Backend::cleanup` takes it out.
 
 ghost use Rattle.std.specs.Prelude.{◌≡◌, false};
 ghost use Rattle.wl_server.specs.Dispatch.{DispatchesAll, DispatchesClient, answering, after_cleanup, total_with};

@@ -1,10 +1,7 @@
 //! The errors of a server's calls.
 //!
 //! If several reasons for a refusal hold at once, the first one in the order of the variants is returned, unless the call
-//! says otherwise.
-//!
-//! A client is *stored* from its insertion until `Backend::cleanup` takes it out. The *slot* of a client is its index in
-//! the server's list of clients.
+//! says otherwise. The page of the module `client` says which clients are *stored*, and what a *slot* is.
 
 use std::fmt;
 use thiserror::Error;

@@ -11,6 +11,9 @@
 //! The `ghost use` lines at the top of a file name the files in which the words of its contracts are defined:
 //! `Rattle.wl_server.specs.Part` is `specs/Part.antt`, and `Rattle.wl_link.specs.Link` is that file of the crate `wl_link`.
 //!
+//! The page of the module `client` says which clients are *stored* and *live*, and what a *slot* is. That of `notes` says what
+//! a *note* is, and that of `reading` what a *reading* and an *action* are.
+//!
 //! | Calls | Code | Relations, in `specs/` |
 //! |---|---|---|
 //! | `insert_client`, `next_client_id`, `kill_client`, `flush`, the limits | `client::insert`, `client::kill`, `client::flush`, `client::limits` | `PartStep`, `Felt`, `Telling`, `Next` |

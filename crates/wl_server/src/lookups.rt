@@ -1,6 +1,4 @@
 //! Look-ups of clients and objects. None of them changes the server.
-//!
-//! A client is *stored* from its insertion until `Backend::cleanup` takes it out.
 
 ghost use Rattle.std.specs.Prelude.{◌≡◌, MatchResult, None, Some, option_copied};
 ghost use Rattle.wl_server.specs.Lookups.{client_by, client_data_of, object_data_of, object_for_number, object_info_of, transport_of};

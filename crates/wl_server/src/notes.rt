@@ -1,4 +1,4 @@
-//! Notes: what happened to clients and their objects, for the program to know.
+//! Notes: a *note* tells the program what happened to a client or an object (`Note`).
 //!
 //! A note is *made* when something happens. `take_notes` hands out the notes that were made. Some notes of destroyed
 //! objects *wait* first, until the next cleanup makes them. Until they are *gathered* in one list of the server, notes

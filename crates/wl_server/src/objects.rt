@@ -1,6 +1,4 @@
 //! The objects of a client: what is kept of each, how one is found, and how one is removed.
-//!
-//! A *note* tells the program what happened to a client or an object (`Note`).
 
 ghost use Rattle.std.specs.Prelude.{◌≡◌, ◌<◌, ◌++◌, true, IfSome, IsSome, Ok, OnErr, OnOk, MatchOption, if◌then◌else◌, is_some, map, not, option_copied};
 ghost use Rattle.std.specs.List.{filter};

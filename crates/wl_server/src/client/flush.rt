@@ -1,7 +1,4 @@
 //! Sends what waits in the buffers of clients.
-//!
-//! A client is *stored* from its insertion until `Backend::cleanup` takes it out. It is *live* as long as it is stored
-//! and not killed. The *slot* of a client is its index in the server's list of clients.
 
 ghost use Rattle.std.specs.Prelude.{◌≡◌, ℕ, IsTrue, List, length, map, Some};
 ghost use Rattle.wl_link.specs.Puts.{lacks_memory};

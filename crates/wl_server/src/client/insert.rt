@@ -1,7 +1,4 @@
 //! New clients.
-//!
-//! The *slot* of a client is its index in the server's list of clients. A *note* tells the program what happened to a
-//! client or an object (`Note`).
 
 ghost use Rattle.std.specs.Prelude.{◌≡◌, ℕ, ◌<◌, ◌≤◌, None, Some, IfOk, OnErr, OnOk, IsSome, ◌∷◌, [], map, MatchOption, MatchResult, length, vec_capacity, vec_len};
 ghost use Rattle.std.specs.VecDeque.{deque_capacity, deque_len};

@@ -1,7 +1,4 @@
 //! The killing of a client.
-//!
-//! A client is *stored* from its insertion until `Backend::cleanup` takes it out. A *note* tells the program what
-//! happened to a client or an object (`Note`).
 
 ghost use Rattle.std.specs.Prelude.{◌≡◌, if◌then◌else◌, MatchResult, Some};
 ghost use Rattle.wl_link.specs.Puts.{lacks_memory};

@@ -1,6 +1,4 @@
 //! How far the buffers of clients may grow.
-//!
-//! A client is *stored* from its insertion until `Backend::cleanup` takes it out.
 
 ghost use Rattle.std.specs.Prelude.{Some, false};
 ghost use Rattle.wl_server.specs.Backend.{Calls};

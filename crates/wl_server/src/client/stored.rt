@@ -1,6 +1,4 @@
 //! The look-up of a stored client by its id, to change it.
-//!
-//! A client is *stored* from its insertion until `Backend::cleanup` takes it out.
 
 ghost use Rattle.std.specs.Borrow.{sem};
 ghost use Rattle.std.specs.Option.{option_copied_mut};

@@ -1,7 +1,4 @@
 //! Which clients were touched since nothing waited for them. `flush(None)`, `cleanup` and `take_notes` look for work only among these.
-//!
-//! The *slot* of a client is its index in the server's list of clients. A *note* tells the program what happened to a
-//! client or an object (`Note`).
 
 ghost use Rattle.std.specs.Prelude.{ℕ};
 ghost use Rattle.wl_sets.specs.SlotSets.{Adds, IsOut};

@@ -1,7 +1,4 @@
 //! A client's transport, borrowed mutably.
-//!
-//! A client is *stored* from its insertion until `Backend::cleanup` takes it out. The *slot* of a client is its index in
-//! the server's list of clients.
 
 ghost use Rattle.std.specs.Prelude.{◌≡◌, MatchResult, None, OnOk, Some};
 ghost use Rattle.std.specs.Borrow.{sem};

@@ -1,7 +1,4 @@
 //! Errors that are posted on objects.
-//!
-//! A client is *stored* from its insertion until `Backend::cleanup` takes it out. It is *live* as long as it is stored
-//! and not killed. A *note* tells the program what happened to a client or an object (`Note`).
 
 ghost use Rattle.std.specs.Prelude.{◌≡◌, IsSome, true, false, Some};
 ghost use Rattle.wl_link.specs.Link.{Wrote};

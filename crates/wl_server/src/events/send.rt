@@ -1,6 +1,4 @@
 //! The sending of an event.
-//!
-//! A *note* tells the program what happened to a client or an object (`Note`).
 
 ghost use Rattle.std.specs.Prelude.{◌≡◌, ◌<◌, ◌++◌, IfSome, OnErr, OnOk, map, Some};
 ghost use Rattle.std.specs.VecDeque.{deque_capacity, deque_len};

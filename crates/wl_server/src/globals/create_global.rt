@@ -1,7 +1,4 @@
 //! The creation of a global.
-//!
-//! A client is *live* as long as it is stored and not killed. It is *stored* from its insertion until `Backend::cleanup`
-//! takes it out. The *slot* of a client is its index in the server's list of clients.
 
 ghost use Rattle.std.specs.Prelude.{◌≡◌, ◌≤◌, IfSome, length, map};
 ghost use Rattle.wl_link.specs.Identity.{names};

@@ -1,6 +1,4 @@
 //! Look-ups of globals. None of them changes the server.
-//!
-//! A client is *stored* from its insertion until `Backend::cleanup` takes it out.
 
 ghost use Rattle.std.specs.Prelude.{◌≡◌, MatchResult, Some};
 ghost use Rattle.wl_server.specs.Globals.{disabled};

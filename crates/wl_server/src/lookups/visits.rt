@@ -1,7 +1,4 @@
 //! Calls a closure for each live client, or for each object of a client.
-//!
-//! A client is *stored* from its insertion until `Backend::cleanup` takes it out. It is *live* as long as it is stored
-//! and not killed. The *slot* of a client is its index in the server's list of clients.
 
 ghost use Rattle.std.specs.Prelude.{◌≡◌, ◌≤◌, Err, MatchOption, Ok, length, option_to_list};
 ghost use Rattle.std.specs.List.{FoldsTo};

@@ -1,7 +1,4 @@
 //! Walks over the live clients, and over the objects of a client.
-//!
-//! A client is *stored* from its insertion until `Backend::cleanup` takes it out. It is *live* as long as it is stored
-//! and not killed. The *slot* of a client is its index in the server's list of clients.
 
 ghost use Rattle.std.specs.Prelude.{◌≡◌, MatchResult, None, Some};
 ghost use Rattle.std.specs.Iterator.{YieldsFirst, item_count};

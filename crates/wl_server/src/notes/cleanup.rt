@@ -1,7 +1,6 @@
 //! The cleanup: takes out the clients that were killed, and makes the notes that waited for it.
 //!
-//! The *slot* of a client is its index in the server's list of clients. The page of the module `notes` explains what
-//! notes are, and which of them are made, wait, or are gathered.
+//! The page of the module `notes` explains what notes are, and which of them are made, wait, or are gathered.
 
 ghost use Rattle.std.specs.Prelude.{◌≡◌, ℕ, map, ◌+◌, ◌++◌, ◌<◌, ◌≤◌, [], length, true, IfOk, OnErr, OnOk};
 ghost use Rattle.std.specs.Vec.{vec_capacity, vec_len};

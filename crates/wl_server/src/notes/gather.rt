@@ -1,7 +1,7 @@
 //! Gathers the notes of all clients in one list, in order of time.
 //!
-//! In this file `waits` says whether the notes that wait for a cleanup are gathered, too, after those that were made. The
-//! page of the module `notes` explains these words. The *slot* of a client is its index in the server's list of clients.
+//! In this file `waits` says whether the notes that wait for a cleanup are gathered, too, after those that were made.
+//! The page of the module `notes` explains these words.
 
 ghost use Rattle.std.specs.Prelude.{◌≡◌, ℕ, ◌+◌, ◌++◌, ◌≤◌, ◌<◌, ◌==◌, ◌∷◌, [], if◌then◌else◌, length, map, false, None, Some, MatchOption, IfOk, IsPermutation, IsTrue, OnErr, OnOk};
 ghost use Rattle.std.specs.Vec.{vec_capacity, vec_len};

@@ -1,6 +1,4 @@
 //! The objects of clients that are taken out.
-//!
-//! A *note* tells the program what happened to a client or an object (`Note`).
 
 ghost use Rattle.std.specs.Prelude.{◌≡◌, ◌+◌, ◌++◌, ◌<◌, ◌≤◌, length, map};
 ghost use Rattle.std.specs.FinMap.{entries};

@@ -1,7 +1,6 @@
 //! The notes that are kept with a client, each with its number.
 //!
-//! The page of the module `notes` says which notes are made, and which wait. The *slot* of a client is its index in the
-//! server's list of clients.
+//! The page of the module `notes` says which notes are made, and which wait.
 //!
 //! The numbers and the queues are private to this file. So a note gets its number when it is put into a queue, and the
 //! place of a note has the number that is kept with it.

@@ -1,6 +1,4 @@
 //! Hands the notes out to the program.
-//!
-//! A *note* tells the program what happened to a client or an object (`Note`).
 
 ghost use Rattle.wl_server.specs.Backend.{Calls};
 ghost use Rattle.wl_server.specs.PartStep.{over};

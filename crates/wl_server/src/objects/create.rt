@@ -1,6 +1,4 @@
 //! Objects that the server creates.
-//!
-//! A client is *stored* from its insertion until `Backend::cleanup` takes it out.
 
 ghost use Rattle.std.specs.Prelude.{◌≡◌, [], Some};
 ghost use Rattle.wl_server.specs.NoteOrder.{IsNumbered};

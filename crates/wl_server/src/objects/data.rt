@@ -1,6 +1,4 @@
 //! The user data of objects.
-//!
-//! A client is *stored* from its insertion until `Backend::cleanup` takes it out.
 
 ghost use Rattle.std.specs.Fn.{FnOnceReturnsAtMut};
 ghost use Rattle.std.specs.Prelude.{◌≡◌, ◌<◌, false, Err, None, Ok, Some, MatchOption};

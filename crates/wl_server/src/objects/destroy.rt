@@ -1,7 +1,4 @@
 //! Objects that the program destroys.
-//!
-//! A client is *stored* from its insertion until `Backend::cleanup` takes it out. A *note* tells the program what
-//! happened to a client or an object (`Note`).
 
 ghost use Rattle.std.specs.Prelude.{◌≡◌, ◌==◌, if◌then◌else◌, None, option_copied, Some};
 ghost use Rattle.wl_server.specs.NoteOrder.{IsNumbered, NotesInTime};

@@ -1,7 +1,4 @@
 //! Finishes an action that was handed out.
-//!
-//! A client is *stored* from its insertion until `Backend::cleanup` takes it out. A *note* tells the program what
-//! happened to a client or an object (`Note`).
 
 ghost use Rattle.std.specs.Prelude.{◌≡◌, ◌+◌, ◌<◌, ◌≤◌, ◌++◌, if◌then◌else◌, IsSome, MatchOption, IfOk, Ok, Some, OnErr, OnOk, false, is_some, true, map, option_copied};
 ghost use Rattle.std.specs.Result.{result_and};

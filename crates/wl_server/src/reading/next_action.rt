@@ -1,6 +1,4 @@
 //! A reading: handles messages, and receives more if no whole message waits.
-//!
-//! A client is *stored* from its insertion until `Backend::cleanup` takes it out.
 
 ghost use Rattle.std.specs.Prelude.{◌≡◌, ◌≤◌, Ok, OnErr, Result, option_map, Some};
 ghost use Rattle.std.specs.Result.{result_and};

@@ -1,6 +1,4 @@
 //! What the server may do after a request was handled: it writes to the client, or kills it.
-//!
-//! A client is *live* as long as it is stored and not killed.
 
 ghost use Rattle.std.specs.Prelude.{◌≡◌, ◌∷◌, List, [], false, Err, IfOk, MatchResult, Some};
 ghost use Rattle.wl_wire.specs.declared.argument.Argument.{Argument as Arg};

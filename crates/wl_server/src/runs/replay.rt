@@ -1,6 +1,4 @@
 //! Carries out a list of calls over transports by script (`wl_link::Memory`).
-//!
-//! A *note* tells the program what happened to a client or an object (`Note`).
 
 ghost use Rattle.std.specs.Prelude.{◌≡◌, ◌++◌, Bool, List, [], true, false, IfOk, IfErr, IsOk, is_err, length};
 ghost use Rattle.wl_link.specs.Runs.{AllSame, RunEntry, entries};

@@ -1,6 +1,6 @@
 //! The calls of a client's transport by script, as steps of its server.
 //!
-//! A client is *stored* from its insertion until `Backend::cleanup` takes it out. A *token* stands for a file descriptor.
+//! A *token* stands for a file descriptor.
 
 ghost use Rattle.std.specs.Prelude.{◌≡◌, Ok};
 ghost use Rattle.wl_server.specs.Backend.{Calls};
