@@ -46,7 +46,7 @@ pub struct Backend<T, U> {
     pub(crate) open_event: Option<OpenEvent>,
     /// The notes that were not taken yet, the oldest first.
     pub(crate) notes: Vec<Note>,
-    /// Whether memory was refused in the last call that took `&mut self`.
+    /// Whether memory ran out in the last call that took `&mut self`.
     pub(crate) refused: bool,
     /// The message that is being read. It is kept here, so that no new one is made for each message.
     pub(crate) place: MessagePlace,
@@ -155,7 +155,7 @@ impl<T: Drop, U: Drop> Backend<T, U> {
         self.socket.waiting()
     }
 
-    /// Whether memory was refused in the last call that took `&mut self`, in the session or in its transport. A call of
+    /// Whether memory ran out in the last call that took `&mut self`, in the session or in its transport. A call of
     /// `transport_mut` does not count as one.
     pub fn memory_refused(&self) -> bool
         ensures { result ≡ self.now.refused }

@@ -17,7 +17,7 @@ use crate::object_id::ObjectId;
 use crate::objects::{give_data, named_in, note_end};
 use wl_wire::OutOfMemory;
 
-/// Why an event that made this object cannot be ended with these data, if memory is not refused.
+/// Why an event that made this object cannot be ended with these data, if memory does not run out.
 fn refusal<U>(created: &Option<ObjectId>, user_data: &Option<U>) -> Option<FinishError>
     ensures { result ≡ refusal created.now user_data.now }
 {

@@ -50,7 +50,7 @@ use wl_link::Transport;
 /// and then none.
 ///
 /// It holds of every history from `connect` on. Each id in a reply is made in the step of that reply. The id of a new object,
-/// of a request or an event, is that of an object which this step made. The law also holds where memory was refused in a
+/// of a request or an event, is that of an object which this step made. The law also holds where memory ran out in a
 /// step.
 pub fn each_id_names_its_own_object<T: Transport, U>()
     ensures every { (table : List InterfaceRow) (transport : T) (before after : SessionState T U) (deeds : List (Deed T U)) →
@@ -156,7 +156,7 @@ pub fn calls_of_a_script_are_steps<U>()
         History StepOf mid (Changed t ∷ later) after → History StepOf begun (earlier ++ Called e ∷ later) after }
 {}
 
-/// If memory is not refused, each step over the transport by script has one outcome (`step`), and so has each run (`run`) and
+/// If memory does not run out, each step over the transport by script has one outcome (`step`), and so has each run (`run`) and
 /// each history of steps (`script`).
 ///
 /// The session before a step, and the step, determine the reply and the session after it. This leaves open only the
@@ -187,7 +187,7 @@ pub fn each_run_has_one_outcome<T: Transport, U>()
 /// A session *serves* bytes and tokens: it handles them as if they had all come at once, and hands out events. If the
 /// session before a reading serves the whole stream, it first hands out the events of the reading. Then it hands out what
 /// the session after the reading hands out if it serves the rest of the stream (`reading`). Each receive of the reading
-/// must have brought a byte or have returned `WouldBlock`, and memory must not have been refused.
+/// must have brought a byte or have returned `WouldBlock`, and memory must not have run out.
 ///
 /// If the session has no error and accepts a finish, that is the next of the finishes (`finish`). Both are said of each call
 /// that reads or finishes, too (`call`). A session can always serve what waits (`some`), and that has one outcome (`one`).
@@ -206,7 +206,7 @@ pub fn cutting_does_not_matter_to_a_client<T: Transport, U>()
 {}
 
 /// The same for a part of a history over any transport, in which events are read and finished. The program may change the
-/// transport in it, but no other call is made, and memory is not refused.
+/// transport in it, but no other call is made, and memory does not run out.
 ///
 /// Such a part has *turns*: the receives and messages of its readings, one after another (`heard`). If each receive brought a
 /// byte or would have blocked, then the session before the part, served over all that was received, first hands out the
@@ -225,7 +225,7 @@ pub fn cutting_does_not_matter_to_a_history<T: Transport, U>()
 /// A stretch hands out the same, and leads to the same, as if the session served all that arrived, with the finishes that
 /// were accepted (`served`). So two stretches with the same bytes and tokens, however they are cut, and with the same
 /// finishes hand out the same and lead to the same (`same`). Each arrival must bring a byte or be `WouldBlock`, memory must
-/// not be refused, and no receive may find the buffer full.
+/// not run out, and no receive may find the buffer full.
 ///
 /// No receive finds the buffer full if each message is no longer than the incoming buffer may become, and its tokens come
 /// no later than its last byte (`within`).
@@ -253,7 +253,7 @@ pub fn a_reading_receives_64_times()
 /// answer is one of these:
 ///
 /// - `WouldBlock`: the last receive answered so; or no receive is left, and the message at the front lacks bytes or tokens.
-/// - `OutOfMemory`: the last receive answered so; or memory was refused, and the message at the front asks for some, or a receive
+/// - `OutOfMemory`: the last receive answered so; or memory ran out, and the message at the front asks for some, or a receive
 ///   does.
 /// - `Failed`: the session has an error now. This is the fault that the last receive answered, or comes of what the last turn found
 ///   at the front. That is `wl_display.error` with a text: the session's error is the one that it tells. Else the session's error

@@ -37,12 +37,12 @@ use wl_wire::{
     Protocol, ProtocolError, Text, Token,
 };
 
-/// Why a reading handed out no event, and whether memory was refused.
+/// Why a reading handed out no event, and whether memory ran out.
 #[derive(Clone, Copy)]
 pub struct NoEvent {
     /// The error that `next_event` returns.
     pub error: EventError,
-    /// Whether memory was refused.
+    /// Whether memory ran out.
     pub refused: bool,
 }
 

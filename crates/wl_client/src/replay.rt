@@ -109,7 +109,7 @@ impl<U: Drop> Backend<Memory, U> {
     }
 
     /// Makes the calls of the steps, one after another, and puts their replies into the list, which is empty. It stops at
-    /// the step in which memory is refused. Room for the replies is made first.
+    /// the step in which memory runs out. Room for the replies is made first.
     fn perform_all(&mut self, steps: &mut Vec<Step<U>>, replies: &mut Vec<Reply<U>>)
         requires { replies.old.items ≡ [] }
         ensures none { steps.old.items ≡ [] → self.new.refused ≡ false }
@@ -136,7 +136,7 @@ impl<U: Drop> Backend<Memory, U> {
 
     /// Makes the calls of the steps, one after another, and returns their replies.
     ///
-    /// Room for the replies is made first. At the first step in which memory is refused, the run stops. The error names
+    /// Room for the replies is made first. At the first step in which memory runs out, the run stops. The error names
     /// that step, and has the replies to those before it; the later steps are dropped. If there was no room for the
     /// replies, it names step 0, and no call was made. A run of no steps needs no room.
     ///

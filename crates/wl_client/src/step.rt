@@ -89,10 +89,10 @@ impl<U> fmt::Debug for Reply<U> {
     }
 }
 
-/// The error of `Backend::replay`: memory was refused in a step.
+/// The error of `Backend::replay`: memory ran out in a step.
 #[derive(Drop)]
 pub struct Stopped<U> {
-    /// The step in which memory was refused, counted from 0.
+    /// The step in which memory ran out, counted from 0.
     pub step: usize,
     /// The replies to the steps before it.
     pub replies: Vec<Reply<U>>,

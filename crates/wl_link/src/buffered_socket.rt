@@ -517,7 +517,7 @@ impl<T: Transport> BufferedSocket<T> {
     ///
     /// - `OutOfMemory` if there is no memory to double the buffer, or to make room for the 28 tokens that a receive may give.
     ///   That room is there unless more than 28 tokens wait. So a receive that finds a byte free and no more tokens is not
-    ///   refused memory. After this error nothing was received;
+    ///   out of memory. After this error nothing was received;
     /// - `Pipe` if no bytes came: the stream has ended, or no byte of the buffer is free. Tokens that came without bytes
     ///   wait all the same;
     /// - a fault of the transport. It may be `OutOfMemory` too.

@@ -75,7 +75,7 @@ impl TokenQueue {
     }
 
     /// Takes `count` tokens off the front of the other queue, which has them, and appends them to this one. If there is no
-    /// memory for them, nothing is changed. Memory is refused only if more than 28 tokens would wait, and never for none.
+    /// memory for them, nothing is changed. Memory runs out only if more than 28 tokens would wait, and never for none.
     pub fn append_from(
         &mut self,
         tokens: &mut VecDeque<Token>,
@@ -101,7 +101,7 @@ impl TokenQueue {
     /// Writes the message at the front of the slice, with the numbers that `numbers` gives its ids, and appends its tokens
     /// to the queue. Returns how many bytes were written.
     ///
-    /// The errors are those of `write_to_buffers`. An error changes nothing. Memory is refused only if more than 28 tokens would
+    /// The errors are those of `write_to_buffers`. An error changes nothing. Memory runs out only if more than 28 tokens would
     /// wait.
     pub fn write<Id, N: Numbering<Id>>(
         &mut self,

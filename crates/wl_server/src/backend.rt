@@ -127,7 +127,7 @@ impl<T: Drop, U: Drop, G: Drop, C: Drop> Backend<T, U, G, C> {
         &self.protocol
     }
 
-    /// Whether memory was refused in the last call that took `&mut self`, in the server or in a transport. A call of
+    /// Whether memory ran out in the last call that took `&mut self`, in the server or in a transport. A call of
     /// `transport_mut` does not count as one.
     ///
     /// It may be `true` even if that call returned no error: for instance, if a client could not be told something and

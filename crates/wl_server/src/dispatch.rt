@@ -60,7 +60,7 @@ impl<T: Transport + Drop, U: Drop, G: GlobalHandler<C> + Drop, C: Drop> Backend<
     /// - `InvalidInput`: the client is not stored, an action of it was open before the call, or an action cannot be
     ///   finished with the handler's answer.
     /// - `Pipe`: the client was killed or broke the protocol.
-    /// - `OutOfMemory`: memory was refused in a reading, in the end of an action, or in the cleanup. An action that could
+    /// - `OutOfMemory`: memory ran out in a reading, in the end of an action, or in the cleanup. An action that could
     ///   not be finished stays open, and the user data that the handler gave for it are dropped.
     /// - Any other fault that ended the reading, as `next_action` returns it.
     ///
@@ -118,7 +118,7 @@ impl<T: Transport + Drop, U: Drop, G: GlobalHandler<C> + Drop, C: Drop> Backend<
         answer_after_cleanup(cleaned, answer)
     }
 
-    /// Begins a dispatch: no memory was refused yet.
+    /// Begins a dispatch: memory did not run out yet.
     fn begin_dispatch(&mut self)
         ensures { self.new ≡ record self.old { refused = false } }
     {

@@ -145,7 +145,7 @@ pub enum ActionError {
     /// - `Proto`: the client sent bytes that are no message that it may send.
     /// - `Pipe`: the client was killed, or broke the protocol in another way.
     /// - `InvalidInput`: the client is not stored.
-    /// - `OutOfMemory`: memory was refused.
+    /// - `OutOfMemory`: memory ran out.
     /// - Any fault with which the transport failed.
     #[error("Io error: {0}")]
     Io(IoFault),

@@ -85,11 +85,11 @@ pub fn each_client_is_alone<T: Transport, U, G: GlobalHandler<C>, C>()
 
 /// What a server does with a client has one outcome, over every transport whose answers follow from its value.
 ///
-/// If memory is not refused, a call determines its deeds with each client, and what is held of the client afterwards. (For
+/// If memory does not run out, a call determines its deeds with each client, and what is held of the client afterwards. (For
 /// `insert_client` and `create_global` that is said of the same new id; each run has one outcome of that, too.) If the call
 /// is the client's own or a shared one, it also determines the reply to this client, up to where lists lie in memory. The
 /// same holds of a list of a client's own calls and the shared ones, and of two runs of a server, whatever other clients do
-/// in them. So the definitions of the calls leave no choice except whether memory is refused. The globals and limits that a
+/// in them. So the definitions of the calls leave no choice except whether memory runs out. The globals and limits that a
 /// client finds at its insertion are determined by the shared calls before it.
 ///
 /// All of this holds of steps over the transport by script, what calls of that transport answer included (clause `script`).
@@ -103,7 +103,7 @@ pub fn each_client_has_one_outcome<T: Transport, U, G: GlobalHandler<C>, C>()
 
 /// A run of a server has one outcome, over every transport whose answers follow from its value.
 ///
-/// Take two runs of the same calls, in which memory is not refused, from servers that look the same to their program.
+/// Take two runs of the same calls, in which memory does not run out, from servers that look the same to their program.
 /// Their replies are the same, and the servers look the same afterwards: what is held of each client id, the globals and
 /// limits, how many clients were inserted, and the order of the notes that are not taken yet. A program does not see where
 /// lists lie in memory. The same holds if the order of the notes of different clients is left out (`ordered` is `false`),
@@ -326,7 +326,7 @@ pub fn each_client_of_a_script_is_accounted_for<U, G: GlobalHandler<C>, C>()
 /// The law of cutting, for every transport: it does not matter how bytes and tokens are cut into receives.
 ///
 /// What is *served* of a client is what it gets if all bytes and tokens had come at once: the messages that are put, what
-/// is done, and the actions that are handed out. Take a reading in which memory is not refused, and each receive brings a
+/// is done, and the actions that are handed out. Take a reading in which memory does not run out, and each receive brings a
 /// byte or says that the transport would block. What is served of the client before the reading, from what the reading
 /// received and from all that comes later, has two parts. The first is what the reading gave. The second is what is
 /// served of the client after the reading, from what comes later. This holds whatever comes later, and however later
@@ -363,8 +363,8 @@ pub fn cutting_does_not_matter_to_a_client<T: Transport, U, G, C>()
 /// accepted. So take two stretches in which the same bytes and tokens arrive, however they are cut, and the same finishes
 /// are accepted. They do the same, answer the same, and leave the client the same.
 ///
-/// A stretch begins with a live client. Each arrival brings a byte or says that the transport would block. Memory is not
-/// refused, and no receive finds the buffer full. The last holds if each message is no longer than the incoming buffer
+/// A stretch begins with a live client. Each arrival brings a byte or says that the transport would block. Memory does not
+/// run out, and no receive finds the buffer full. The last holds if each message is no longer than the incoming buffer
 /// may become, and its tokens come no later than its last byte.
 pub fn cutting_does_not_matter_to_a_run<U, G: GlobalHandler<C>, C>()
     ensures served { (id : ClientParts) (offer : Offer G) (before after : Seen Script U C) (p q : Part Script U C) (run : List (Own Script U G C)) →
@@ -398,7 +398,7 @@ pub fn a_reading_receives_64_times()
 /// number of the new object. A fault is what the last receive answered, or one of these four:
 ///
 /// - `WouldBlock`: no receive is left, and the message at the front lacks bytes or tokens.
-/// - `OutOfMemory`: memory was refused, and the message at the front asks for some, or a receive does. A message of at most
+/// - `OutOfMemory`: memory ran out, and the message at the front asks for some, or a receive does. A message of at most
 ///   four arguments asks for none if it has no string and no array, and makes no object. A receive asks for none if a byte
 ///   of the buffer is free and no more than 28 tokens wait.
 /// - `Proto`: the last turn found bytes at the front that are no message by the table, or a message to a display or a registry

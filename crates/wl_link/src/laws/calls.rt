@@ -55,7 +55,7 @@ pub fn read_takes_first_message<T>()
         ReadTakes (λ sender opcode found. found ≡ look_up sender opcode) before answer after }
 {}
 
-/// A call has one outcome, if the transport is deterministic and memory is not refused.
+/// A call has one outcome, if the transport is deterministic and memory does not run out.
 ///
 /// A transport is deterministic if its value before a call, and what the call is given, determine the answer and the value
 /// after.

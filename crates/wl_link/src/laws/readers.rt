@@ -39,7 +39,7 @@ pub fn nothing_that_is_put_is_lost<T: Transport, Core, Event, Finish>()
         LosesNothing es before.link.outgoing (spelled_all (messages_of (queued_in gave))) after.link.outgoing }
 {}
 
-/// Putting messages has one outcome, if the sends of the transport are deterministic and memory is not refused.
+/// Putting messages has one outcome, if the sends of the transport are deterministic and memory does not run out.
 pub fn putting_has_one_outcome<T: Transport>()
     ensures { IsFunction T.sends → (messages : List Said) (before x y : LinkState T) (es fs : List Sending)
         (put others : List Said) (a b : _) → a ≢ Err fault.OutOfMemory → b ≢ Err fault.OutOfMemory →
@@ -47,7 +47,7 @@ pub fn putting_has_one_outcome<T: Transport>()
         SamePut put others a b x y }
 {}
 
-/// A reading has one outcome, if the transport is deterministic and memory is not refused.
+/// A reading has one outcome, if the transport is deterministic and memory does not run out.
 pub fn a_reading_has_one_outcome<T: Transport, Core, Event, Finish>()
     ensures { IsFunction T.sends → IsReceiveFunction T.receives → (reader : Reader Core Event Finish) (left : ℕ)
         (before x y : ReaderState T Core) (turns others : List Turn) (a b : Gives Event) → a.refused ≡ false → b.refused ≡ false →
@@ -55,7 +55,7 @@ pub fn a_reading_has_one_outcome<T: Transport, Core, Event, Finish>()
         SameReading a b x y }
 {}
 
-/// A relation that each verdict of a reader keeps is kept by each of its readings and finishes, even if memory is refused.
+/// A relation that each verdict of a reader keeps is kept by each of its readings and finishes, even if memory runs out.
 /// It may be a relation of the cores before and after and of what was given between them, or of the cores alone.
 ///
 /// A clause cannot speak of every relation. So these clauses are about relations that are given as functions to `Bool`. The
@@ -77,7 +77,7 @@ pub fn readings_respect_what_verdicts_do<T: Transport, Core, Event, Finish>()
 ///
 /// If the reader serves the whole stream, it first gives what the reading or the accepted finish gave. Then it gives what
 /// the reader as it is after that gives if it serves the rest of the stream. Each receive of the reading must have brought
-/// a byte or have returned `WouldBlock`, and memory must not have been refused.
+/// a byte or have returned `WouldBlock`, and memory must not have run out.
 ///
 /// The sends may go to any deterministic transport (`reading`, `finish`), or their answers may be given as a list (`told`,
 /// `told_finish`).
@@ -135,7 +135,7 @@ pub fn something_is_always_served<S: Transport, Core, Event, Finish>()
 ///
 /// A stretch gives the same as the reader gives if it serves all that arrived, with the same finishes (`served`). So two
 /// stretches with the same arrivals, joined, and the same finishes give the same and lead to the same (`same`). Each
-/// arrival must bring a byte or be `WouldBlock`, memory must not be refused, and no receive may find the buffer full.
+/// arrival must bring a byte or be `WouldBlock`, memory must not run out, and no receive may find the buffer full.
 ///
 /// No receive finds the buffer full if each message is no longer than the incoming buffer may become, and its tokens come
 /// no later than its last byte (`within`).

@@ -5,8 +5,8 @@
 ghost use Rattle.std.specs.Prelude.{◌≡◌, ◌++◌, Bool, IsTrue, List, length};
 ghost use Rattle.wl_link.specs.Runs.{AllSame, RunEntry, HasOneOutcome, Leads, entries};
 
-/// Two runs, one after the other, are one run (`joined`). If each step has one outcome, each run in which memory is not
-/// refused has one (`outcome`).
+/// Two runs, one after the other, are one run (`joined`). If each step has one outcome, each run in which memory does not
+/// run out has one (`outcome`).
 ///
 /// A clause cannot speak of every relation. So these clauses are about relations that are given as functions to `Bool`. The
 /// lemmas in `proofs/OverRuns/RunLaws`, which the proofs of the crates above cite, are about every relation.

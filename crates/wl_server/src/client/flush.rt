@@ -36,7 +36,7 @@ impl<T: Transport + Drop, U: Drop, C: Drop> Client<T, U, C> {
 }
 
 /// Sends what waits for the client of a slot: only if it is killed, or only if it is live, as `killed` says. A fault is
-/// dropped. Returns whether memory was refused.
+/// dropped. Returns whether memory ran out.
 fn flush_at<T: Transport + Drop, U: Drop, C: Drop>(
     client: &mut Option<Client<T, U, C>>,
     killed: bool,
@@ -56,7 +56,7 @@ fn flush_at<T: Transport + Drop, U: Drop, C: Drop>(
     }
 }
 
-/// Sends what waits for each killed client. Faults are dropped. Returns whether memory was refused.
+/// Sends what waits for each killed client. Faults are dropped. Returns whether memory ran out.
 pub fn flush_killed<T: Transport + Drop, U: Drop, C: Drop>(clients: &mut Slots<T, U, C>) -> bool
     ensures felt { AllFeel (λ id p lacked did q. FlushesKilled T.sends p lacked did q) result (length clients.old.items) clients.old.items clients.new.items }
     ensures times { map times_of clients.new.items ≡ map times_of clients.old.items }
@@ -80,7 +80,7 @@ fn has_sent<T, U, C>(client: &Option<Client<T, U, C>>) -> bool
 }
 
 /// Sends what waits for each live client, of those for which something may wait. Faults are dropped. Returns whether memory
-/// was refused.
+/// ran out.
 pub fn flush_live<T: Transport + Drop, U: Drop, C: Drop>(
     clients: &mut Slots<T, U, C>,
     to_send: &mut SlotSet,

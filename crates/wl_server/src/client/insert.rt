@@ -237,7 +237,7 @@ impl<T: Transport + Drop, U: Drop, G: GlobalHandler<C> + Drop, C: Drop> Backend<
     /// # Errors
     ///
     /// - `Full`: each slot has a client, or no serial is left.
-    /// - `OutOfMemory`: memory was refused.
+    /// - `OutOfMemory`: memory ran out.
     ///
     /// After an error nothing is changed, and the transport and the data are dropped.
     pub fn insert_client(

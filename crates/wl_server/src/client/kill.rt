@@ -40,7 +40,7 @@ impl<T: Drop, U: Drop, C: Drop> Client<T, U, C> {
     }
 
     /// Kills the client with the reason `ConnectionClosed`, if a write to it was answered by a fault. Returns whether
-    /// memory was refused.
+    /// memory ran out.
     pub fn kill_unless_written(
         &mut self,
         numbers: &mut NoteNumbers,

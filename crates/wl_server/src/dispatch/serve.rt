@@ -81,7 +81,7 @@ impl<T: Transport + Drop, U: Drop, G: GlobalHandler<C> + Drop, C: Drop> Backend<
         }
     }
 
-    /// Sets `memory_refused` to whether memory was refused before or in the last call.
+    /// Sets `memory_refused` to whether memory ran out before or in the last call.
     pub(crate) fn keep_refused(&mut self, before: bool)
         ensures { self.new ≡ record self.old { refused = before || self.old.refused } }
     {

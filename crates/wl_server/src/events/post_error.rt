@@ -36,7 +36,7 @@ impl<T: Transport + Drop, U: Drop, C: Drop> Client<T, U, C> {
     /// The client is told of the error if it is live and the object is there. Then what waits is flushed, also if that
     /// failed. Then the client is killed: for the error, or with the reason `ConnectionClosed` if it could not be told.
     /// If there is no memory for the texts of the error, nothing is told or flushed, and the client is killed with the
-    /// reason `ConnectionClosed`. Returns whether memory was refused.
+    /// reason `ConnectionClosed`. Returns whether memory ran out.
     pub fn posts(
         &mut self,
         protocol: &Protocol,
@@ -67,7 +67,7 @@ impl<T: Transport + Drop, U: Drop, C: Drop> Client<T, U, C> {
     }
 
     /// Posts an error on an object, as the program asks. A null id is of no object, and nothing is done. Returns whether
-    /// memory was refused.
+    /// memory ran out.
     pub fn post_error(
         &mut self,
         protocol: &Protocol,
@@ -101,7 +101,7 @@ impl<T: Transport + Drop, U: Drop, C: Drop> Client<T, U, C> {
         put_error(alloc, &mut self.socket, id.protocol_id(), code, text)
     }
 
-    /// Flushes what waits. A fault of that is dropped. Returns whether memory was refused.
+    /// Flushes what waits. A fault of that is dropped. Returns whether memory ran out.
     fn flush_dropped(&mut self) -> bool
         ensures flushed { (es : _) × FlushesOut T.sends true self.old.part.link es result self.new.part.link }
         ensures rest { self.new ≡ record self.old { part = with_link self.old.part self.new.part.link } }

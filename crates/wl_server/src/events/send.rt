@@ -87,7 +87,7 @@ fn put_end<T: Transport>(
 impl<T: Transport + Drop, U: Drop, C: Drop> Client<T, U, C> {
     /// Tells the client that the object of this number is gone, if the event that was written ends it. If the event could
     /// not be written, or the client could not be told, the client is killed with the reason `ConnectionClosed`. Returns
-    /// whether memory was refused.
+    /// whether memory ran out.
     fn tell_end(
         &mut self,
         numbers: &mut NoteNumbers,
@@ -104,8 +104,8 @@ impl<T: Transport + Drop, U: Drop, C: Drop> Client<T, U, C> {
         self.kill_unless_written(numbers, answer)
     }
 
-    /// Sends an event of one of the client's objects. To a killed client nothing is sent. Also returns whether memory was
-    /// refused.
+    /// Sends an event of one of the client's objects. To a killed client nothing is sent. Also returns whether memory ran
+    /// out.
     ///
     /// If the event ends its sender, the sender is taken out, also if the event could not be written. If there is no
     /// memory, nothing is done. The sender is looked up by its id only once; only a destructor goes to its number again, to

@@ -24,7 +24,7 @@ use crate::notes::queues::NoteNumbers;
 use wl_link::{Object, ObjectMap, Transport};
 use wl_wire::{InterfaceId, Protocol};
 
-/// Tells the client of a slot of a new global, if it is live and may see it. Returns whether memory was refused.
+/// Tells the client of a slot of a new global, if it is live and may see it. Returns whether memory ran out.
 fn tell_new_at<T: Transport + Drop, U: Drop, G: GlobalHandler<C>, C: Drop>(
     client: &mut Option<Client<T, U, C>>,
     numbers: &mut NoteNumbers,
@@ -53,7 +53,7 @@ fn tell_new_at<T: Transport + Drop, U: Drop, G: GlobalHandler<C>, C: Drop>(
     }
 }
 
-/// Tells each live client that may see it of a new global. Returns whether memory was refused.
+/// Tells each live client that may see it of a new global. Returns whether memory ran out.
 fn tell_new<T: Transport + Drop, U: Drop, G: GlobalHandler<C>, C: Drop>(
     clients: &mut [Option<Client<T, U, C>>],
     numbers: &mut NoteNumbers,
@@ -81,8 +81,8 @@ fn tell_new<T: Transport + Drop, U: Drop, G: GlobalHandler<C>, C: Drop>(
     refused
 }
 
-/// Tells each live client that may see it of the global that the id names, if there is one. Returns whether memory was
-/// refused.
+/// Tells each live client that may see it of the global that the id names, if there is one. Returns whether memory ran
+/// out.
 fn tell_named<T: Transport + Drop, U: Drop, G: GlobalHandler<C> + Drop, C: Drop>(
     clients: &mut [Option<Client<T, U, C>>],
     numbers: &mut NoteNumbers,

@@ -34,7 +34,7 @@ fn is_enabled<G: Drop>(globals: &ObjectMap<KeptGlobal<G>>, id: &GlobalId) -> boo
 }
 
 /// Tells the client of a slot, if it is live, by `wl_registry.global_remove` that the global of that name is gone.
-/// Returns whether memory was refused.
+/// Returns whether memory ran out.
 fn tell_loss_at<T: Transport + Drop, U: Drop, C: Drop>(
     client: &mut Option<Client<T, U, C>>,
     numbers: &mut NoteNumbers,
@@ -55,8 +55,8 @@ fn tell_loss_at<T: Transport + Drop, U: Drop, C: Drop>(
     }
 }
 
-/// Tells each live client by `wl_registry.global_remove` that the global of that name is gone. Returns whether memory was
-/// refused.
+/// Tells each live client by `wl_registry.global_remove` that the global of that name is gone. Returns whether memory ran
+/// out.
 fn tell_loss<T: Transport + Drop, U: Drop, C: Drop>(
     clients: &mut [Option<Client<T, U, C>>],
     numbers: &mut NoteNumbers,

@@ -201,7 +201,7 @@ pub fn memory_for<T: Drop, U: Drop, C: Drop>(
 }
 
 /// Flushes the killed clients, gathers all notes, and takes the killed clients out. If no client was killed, it only
-/// gathers. No note waits then, so the numbers of those that wait begin at 0 again. Returns whether memory was refused in a
+/// gathers. No note waits then, so the numbers of those that wait begin at 0 again. Returns whether memory ran out in a
 /// flush.
 fn clean_up<T: Transport + Drop, U: Drop, C: Drop>(
     clients: &mut Slots<T, U, C>,

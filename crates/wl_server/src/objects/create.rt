@@ -94,7 +94,7 @@ impl<T: Transport + Drop, U: Drop, G: GlobalHandler<C> + Drop, C: Drop> Backend<
     /// - `UnknownInterface`: the interface is not in the table.
     /// - `IdsExhausted`: no number is left.
     /// - `SerialsExhausted`: no serial is left.
-    /// - `OutOfMemory`: memory was refused.
+    /// - `OutOfMemory`: memory ran out.
     ///
     /// After an error nothing is changed.
     pub fn create_object(

@@ -68,7 +68,7 @@ pub struct Reading {
 pub struct NoAction {
     /// The fault that the reading returns.
     pub fault: IoFault,
-    /// Whether memory was refused.
+    /// Whether memory ran out.
     pub refused: bool,
 }
 

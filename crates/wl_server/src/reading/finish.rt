@@ -37,7 +37,7 @@ use std::alloc::Global;
 use wl_link::{Object, ObjectMap, Transport};
 use wl_wire::{IoFault, OutOfMemory};
 
-/// The error if a request cannot be finished with this user data if memory is not refused. For a killed client the data
+/// The error if a request cannot be finished with this user data if memory does not run out. For a killed client the data
 /// may be missing.
 fn refusal_of<U>(
     is_killed: bool,

@@ -150,7 +150,7 @@ impl<T: Transport + Drop, U: Drop, C: Drop> Client<T, U, C> {
     }
 
     /// Finds the next action of the client, if none is open and the client was not killed. The action is then in `found`,
-    /// and its arguments are in `args`. It stays open until it is finished. Also returns whether memory was refused.
+    /// and its arguments are in `args`. It stays open until it is finished. Also returns whether memory ran out.
     pub fn find_action<G: GlobalHandler<C> + Drop>(
         &mut self,
         numbers: &mut NoteNumbers,
@@ -210,7 +210,7 @@ impl<T: Transport + Drop, U: Drop, G: GlobalHandler<C> + Drop, C: Drop> Backend<
     /// is less, and its tokens come no later than its last byte. A *token* stands for a file descriptor. So such a message
     /// never kills the client because the buffer is full.
     ///
-    /// If each receive brings a byte or would block, and memory is not refused, it does not matter how bytes and tokens
+    /// If each receive brings a byte or would block, and memory does not run out, it does not matter how bytes and tokens
     /// were cut into receives.
     ///
     /// Which message an action is of, or why there is none, is said by `laws::each_reading_ends_for_a_reason` (clause

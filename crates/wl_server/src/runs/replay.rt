@@ -167,7 +167,7 @@ impl<U: Drop, G: GlobalHandler<C> + Drop, C: Drop> Backend<Memory, U, G, C> {
     }
 
     /// Makes the calls of the steps, one after another, and puts their replies into the list, which is empty. It stops
-    /// after the first step in which memory is refused. Room for the replies is allocated first.
+    /// after the first step in which memory runs out. Room for the replies is allocated first.
     fn perform_all(
         &mut self,
         steps: &mut Vec<Step<Memory, U, G, C>>,
@@ -199,7 +199,7 @@ impl<U: Drop, G: GlobalHandler<C> + Drop, C: Drop> Backend<Memory, U, G, C> {
 
     /// Makes the calls of the steps, one after another, and returns their replies.
     ///
-    /// It stops at the first step in which memory is refused. Then the error `Stopped` has the index of that step and the
+    /// It stops at the first step in which memory runs out. Then the error `Stopped` has the index of that step and the
     /// replies to the steps before it. The later steps are dropped. Room for the replies is allocated first. If there is
     /// none, `Stopped` has index 0, and nothing was done. A list without steps never stops.
     ///

@@ -42,7 +42,7 @@ fn arrived(answer: Result<(), ArriveError>) -> Result<(), ScriptError>
     }
 }
 
-/// What a call returned that fails only if memory is refused, as the server's program gets it.
+/// What a call returned that fails only if memory runs out, as the server's program gets it.
 fn scripted(answer: Result<(), OutOfMemory>) -> Result<(), ScriptError>
     ensures { result ≡ scripted_as answer }
 {

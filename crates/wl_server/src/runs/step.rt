@@ -134,10 +134,10 @@ impl<T, U> fmt::Debug for Reply<T, U> {
     }
 }
 
-/// A run that stopped because memory was refused.
+/// A run that stopped because memory ran out.
 #[derive(Drop)]
 pub struct Stopped<T, U> {
-    /// The index of the step in which memory was refused, counted from 0. It is 0 also if there was no memory for the
+    /// The index of the step in which memory ran out, counted from 0. It is 0 also if there was no memory for the
     /// replies, and nothing was done.
     pub step: usize,
     /// The replies to the steps before it.
