@@ -37,7 +37,7 @@ impl<T: Transport + Drop, U: Drop, C: Drop> Client<T, U, C> {
     /// failed. Then the client is killed: for the error, or with the reason `ConnectionClosed` if it could not be told.
     /// If there is no memory for the texts of the error, nothing is told or flushed, and the client is killed with the
     /// reason `ConnectionClosed`. Returns whether memory ran out.
-    pub fn posts(
+    pub fn tell_error_and_kill(
         &mut self,
         protocol: &Protocol,
         numbers: &mut NoteNumbers,
@@ -84,7 +84,7 @@ impl<T: Transport + Drop, U: Drop, C: Drop> Client<T, U, C> {
         if id.is_null() {
             return false;
         }
-        self.posts(protocol, numbers, id, code, text)
+        self.tell_error_and_kill(protocol, numbers, id, code, text)
     }
 
     /// Tells the live client of an error on the object, if that is there.

@@ -258,10 +258,12 @@ impl<T: Transport + Drop, U: Drop, C: Drop> Client<T, U, C> {
         };
         reading.read = read.saturating_add(1);
         match response {
-            Response::Garbled => MessageEnd::Ends(self.garbled(numbers)),
-            Response::Breaks(breach) => MessageEnd::Ends(self.ends_by(numbers, around, &breach)),
-            Response::Syncs(callback) => self.synced(numbers, message, &callback),
-            Response::Registers(registry) => self.registered(numbers, around, &registry),
+            Response::Garbled => MessageEnd::Ends(self.kill_for_malformed(numbers)),
+            Response::Breaks(breach) => MessageEnd::Ends(self.kill_for_breach(
+                numbers, around, &breach,
+            )),
+            Response::Syncs(callback) => self.tell_done(numbers, message, &callback),
+            Response::Registers(registry) => self.tell_globals(numbers, around, &registry),
             Response::HandsOut => {
                 self.action.open_action(found);
                 MessageEnd::Acts
@@ -285,7 +287,7 @@ impl<T: Transport + Drop, U: Drop, C: Drop> Client<T, U, C> {
     {
         match error {
             MessageParseError::MissingData | MessageParseError::MissingFD => MessageEnd::Lacks,
-            MessageParseError::Malformed => MessageEnd::Ends(self.garbled(numbers)),
+            MessageParseError::Malformed => MessageEnd::Ends(self.kill_for_malformed(numbers)),
             MessageParseError::OutOfMemory => MessageEnd::Ends(NoAction {
                 fault: IoFault::OutOfMemory,
                 refused: true,

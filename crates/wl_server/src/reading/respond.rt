@@ -69,7 +69,7 @@ impl<T: Transport + Drop, U: Drop, C: Drop> Client<T, U, C> {
     /// Kills the client with the reason `ConnectionClosed`, because it sent bytes that are no message that it may send.
     #[cold]
     #[inline(never)]
-    pub fn garbled(&mut self, numbers: &mut NoteNumbers) -> NoAction
+    pub fn kill_for_malformed(&mut self, numbers: &mut NoteNumbers) -> NoAction
         ensures handled { IsHandled T.sends (garbled (core_of self.old.part)) self.old (Ended result) self.new }
         ensures in_time { NotesInTime self.old.times numbers.old self.new.times numbers.new }
         ensures numbered { IsNumbered (Some self.old) → IsNumbered (Some self.new) }
@@ -85,7 +85,7 @@ impl<T: Transport + Drop, U: Drop, C: Drop> Client<T, U, C> {
     /// for the text, the client is killed with the reason `ConnectionClosed`.
     #[cold]
     #[inline(never)]
-    pub fn ends_by<G: GlobalHandler<C>>(
+    pub fn kill_for_breach<G: GlobalHandler<C>>(
         &mut self,
         numbers: &mut NoteNumbers,
         around: &Surroundings<'_, G>,
@@ -106,7 +106,7 @@ impl<T: Transport + Drop, U: Drop, C: Drop> Client<T, U, C> {
             };
         };
         let display = ObjectId::from_parts(DISPLAY, 0, around.client, WL_DISPLAY_INTERFACE);
-        let refused = self.posts(around.protocol, numbers, &display, code, text);
+        let refused = self.tell_error_and_kill(around.protocol, numbers, &display, code, text);
         NoAction {
             fault: IoFault::Pipe,
             refused,
@@ -115,7 +115,11 @@ impl<T: Transport + Drop, U: Drop, C: Drop> Client<T, U, C> {
 
     /// What the handling of a request comes to after the answer was written, with this result. If the write failed, the
     /// client is killed.
-    pub fn replied(&mut self, numbers: &mut NoteNumbers, wrote: Result<(), IoFault>) -> MessageEnd
+    pub fn kill_unless_answered(
+        &mut self,
+        numbers: &mut NoteNumbers,
+        wrote: Result<(), IoFault>,
+    ) -> MessageEnd
         ensures replied { MatchResult wrote
             (λ _. (result ≡ came.Continues) × (self.new ≡ self.old))
             (λ f. (result ≡ came.Ends (record { fault = io.Pipe; refused = lacks_memory (Err f) }))
@@ -134,7 +138,7 @@ impl<T: Transport + Drop, U: Drop, C: Drop> Client<T, U, C> {
     }
 
     /// Tells a new registry of a live client of the globals.
-    pub fn registered<G: GlobalHandler<C> + Drop>(
+    pub fn tell_globals<G: GlobalHandler<C> + Drop>(
         &mut self,
         numbers: &mut NoteNumbers,
         around: &Surroundings<'_, G>,
@@ -149,13 +153,13 @@ impl<T: Transport + Drop, U: Drop, C: Drop> Client<T, U, C> {
     {
         let alloc = self.alloc();
         let wrote = put_globals(alloc, &mut self.socket, around, &self.data, registry);
-        self.replied(numbers, wrote)
+        self.kill_unless_answered(numbers, wrote)
     }
 
     /// Tells a live client that its callback is done, and that the callback's number is free again if it is one of the
     /// client's own. The callback is already removed. If a write fails, the client is killed. `message` is overwritten with
     /// what the client is told.
-    pub fn synced(
+    pub fn tell_done(
         &mut self,
         numbers: &mut NoteNumbers,
         message: &mut Message<u32, Token>,
@@ -169,6 +173,6 @@ impl<T: Transport + Drop, U: Drop, C: Drop> Client<T, U, C> {
         ensures numbered { IsNumbered (Some self.old) → IsNumbered (Some self.new) }
     {
         let wrote = put_done(message, &mut self.socket, callback.protocol_id());
-        self.replied(numbers, wrote)
+        self.kill_unless_answered(numbers, wrote)
     }
 }

@@ -66,7 +66,7 @@ impl<U: Drop, G: GlobalHandler<C> + Drop, C: Drop> Backend<Memory, U, G, C> {
     }
 
     /// Makes the call of a step that is about globals, or that kills a client or limits its buffers.
-    fn perform_global(&mut self, step: Step<Memory, U, G, C>) -> Reply<Memory, U>
+    fn perform_other(&mut self, step: Step<Memory, U, G, C>) -> Reply<Memory, U>
         requires { IsOfGlobals step }
         ensures { Calls (over_scripts G.views) self.old step result self.new }
     {
@@ -156,7 +156,7 @@ impl<U: Drop, G: GlobalHandler<C> + Drop, C: Drop> Backend<Memory, U, G, C> {
             | Step::DisableGlobal(_)
             | Step::RemoveGlobal(_)
             | Step::KillClient(..)
-            | Step::SetClientMaxBufferSize(..) => self.perform_global(step),
+            | Step::SetClientMaxBufferSize(..) => self.perform_other(step),
             Step::Arrive(..)
             | Step::ArriveFault(..)
             | Step::Accept(..)

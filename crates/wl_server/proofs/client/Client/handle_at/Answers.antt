@@ -10,25 +10,25 @@ pub returns-in-Garbled-clause-handles : goal.returns-in-Garbled-clause-handles
 returns-in-Garbled-clause-handles g c = rw (← c.self.view_is)
     (message_taken g.T.Transport.sends g.T.Transport.receives (around_of g.G.GlobalHandler.views c.args.around.now) _ c.args.reading.now _ c.take_request-taken.new.socket
     c.self.inside.objects c.take_request-taken.new.objects response.Garbled c.take_request-taken.new.found c.take_request-taken.new.args.items _ _
-    (rw (← c.self.view_is) at c.requires.live) refl (rw c.in-Garbled.is at c.in-Ok.ensures.took) c.garbled.ensures.handled c.in-Ok.ensures.fewer refl c.saturating_add-reading.ensures)
+    (rw (← c.self.view_is) at c.requires.live) refl (rw c.in-Garbled.is at c.in-Ok.ensures.took) c.kill_for_malformed.ensures.handled c.in-Ok.ensures.fewer refl c.saturating_add-reading.ensures)
 
 pub returns-in-Breaks-clause-handles : goal.returns-in-Breaks-clause-handles
 returns-in-Breaks-clause-handles g c = rw (← c.self.view_is)
     (message_taken g.T.Transport.sends g.T.Transport.receives (around_of g.G.GlobalHandler.views c.args.around.now) _ c.args.reading.now _ c.take_request-taken.new.socket
     c.self.inside.objects c.take_request-taken.new.objects (response.Breaks c.in-Breaks.breach) c.take_request-taken.new.found c.take_request-taken.new.args.items _ _
-    (rw (← c.self.view_is) at c.requires.live) refl (rw c.in-Breaks.is at c.in-Ok.ensures.took) c.ends_by.ensures.handled c.in-Ok.ensures.fewer refl c.saturating_add-reading.ensures)
+    (rw (← c.self.view_is) at c.requires.live) refl (rw c.in-Breaks.is at c.in-Ok.ensures.took) c.kill_for_breach.ensures.handled c.in-Ok.ensures.fewer refl c.saturating_add-reading.ensures)
 
 pub returns-in-Syncs-clause-handles : goal.returns-in-Syncs-clause-handles
 returns-in-Syncs-clause-handles g c = rw (← c.self.view_is)
     (message_taken g.T.Transport.sends g.T.Transport.receives (around_of g.G.GlobalHandler.views c.args.around.now) _ c.args.reading.now _ c.take_request-taken.new.socket
     c.self.inside.objects c.take_request-taken.new.objects (response.Syncs c.in-Syncs.callback) c.take_request-taken.new.found c.take_request-taken.new.args.items _ _
-    (rw (← c.self.view_is) at c.requires.live) refl (rw c.in-Syncs.is at c.in-Ok.ensures.took) (c.synced.ensures.handled c.take_request-taken.new.found c.take_request-taken.new.args.items) c.in-Ok.ensures.fewer refl c.saturating_add-reading.ensures)
+    (rw (← c.self.view_is) at c.requires.live) refl (rw c.in-Syncs.is at c.in-Ok.ensures.took) (c.tell_done.ensures.handled c.take_request-taken.new.found c.take_request-taken.new.args.items) c.in-Ok.ensures.fewer refl c.saturating_add-reading.ensures)
 
 pub returns-in-Registers-clause-handles : goal.returns-in-Registers-clause-handles
 returns-in-Registers-clause-handles g c = rw (← c.self.view_is)
     (message_taken g.T.Transport.sends g.T.Transport.receives (around_of g.G.GlobalHandler.views c.args.around.now) _ c.args.reading.now _ c.take_request-taken.new.socket
     c.self.inside.objects c.take_request-taken.new.objects (response.Registers c.in-Registers.registry) c.take_request-taken.new.found c.take_request-taken.new.args.items _ _
-    (rw (← c.self.view_is) at c.requires.live) refl (rw c.in-Registers.is at c.in-Ok.ensures.took) (c.registered.ensures.handled c.take_request-taken.new.found c.take_request-taken.new.args.items) c.in-Ok.ensures.fewer refl c.saturating_add-reading.ensures)
+    (rw (← c.self.view_is) at c.requires.live) refl (rw c.in-Registers.is at c.in-Ok.ensures.took) (c.tell_globals.ensures.handled c.take_request-taken.new.found c.take_request-taken.new.args.items) c.in-Ok.ensures.fewer refl c.saturating_add-reading.ensures)
 
 pub returns-in-HandsOut-clause-handles : goal.returns-in-HandsOut-clause-handles
 returns-in-HandsOut-clause-handles g c = rw (← c.self.view_is, c.open_action.ensures)

@@ -49,8 +49,8 @@ returns-then-is_null-clause-does g c =
 
 pub returns-clause-does : goal.returns-clause-does
 returns-clause-does g c =
-    post_error_posts g.T.Transport.sends c.args.protocol.now c.args.self.now c.args.id.now c.args.code c.args.text c.posts.new.self c.posts.result
-    (null_is false _ c.if-is_null.ensures) c.posts.ensures.carried
+    post_error_posts g.T.Transport.sends c.args.protocol.now c.args.self.now c.args.id.now c.args.code c.args.text c.tell_error_and_kill.new.self c.tell_error_and_kill.result
+    (null_is false _ c.if-is_null.ensures) c.tell_error_and_kill.ensures.carried
 
 pub returns-then-is_null-clause-exactly : goal.returns-then-is_null-clause-exactly
 returns-then-is_null-clause-exactly g c = λ live kept. absurd (false≢true (sym (null_none c.args.self.now.part.store c.args.id.now (null_is true _ c.if-is_null.ensures)) ∙ kept))

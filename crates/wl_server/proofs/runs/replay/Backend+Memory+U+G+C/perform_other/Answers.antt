@@ -1,5 +1,5 @@
 use Rattle.wl_server.proofs.CallSteps.OverScripts.{over_script}
-use Rattle.wl_server.proofs.runs.replay.Backend+Memory+U+G+C.perform_global.Goals as goal
+use Rattle.wl_server.proofs.runs.replay.Backend+Memory+U+G+C.perform_other.Goals as goal
 
 pub returns-in-CreateGlobal : goal.returns-in-CreateGlobal
 returns-in-CreateGlobal g c = rw c.in-CreateGlobal.is (over_script g.G.GlobalHandler.views _ _ _ _ c.create_global.ensures.call)

@@ -1,12 +1,12 @@
 use Rattle.wl_server.specs.Inside.Responses.{code_of, text_of}
 use Rattle.wl_server.specs.Inside.ReadingLoop.{around_of}
 use Rattle.wl_server.proofs.Readings.Handling.{broke, broke_starved}
-use Rattle.wl_server.proofs.client.Client.ends_by.Goals as goal
+use Rattle.wl_server.proofs.client.Client.kill_for_breach.Goals as goal
 
 pub returns-clause-handled : goal.returns-clause-handled
 returns-clause-handled g c =
-    rw (← c.in-Ok.ensures.text, ← c.in-Ok.ensures.code) (broke g.T.Transport.sends (around_of g.G.GlobalHandler.views c.args.around.now) c.args.self.now c.posts-refused.new.self c.in-Ok.code c.in-Ok.text c.posts-refused.result
-    (rw c.from_parts-display.ensures at c.posts-refused.ensures.carried))
+    rw (← c.in-Ok.ensures.text, ← c.in-Ok.ensures.code) (broke g.T.Transport.sends (around_of g.G.GlobalHandler.views c.args.around.now) c.args.self.now c.tell_error_and_kill-refused.new.self c.in-Ok.code c.in-Ok.text c.tell_error_and_kill-refused.result
+    (rw c.from_parts-display.ensures at c.tell_error_and_kill-refused.ensures.carried))
 
 pub returns-in_default-clause-handled : goal.returns-in_default-clause-handled
 returns-in_default-clause-handled g c =

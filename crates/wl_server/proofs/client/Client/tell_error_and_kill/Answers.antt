@@ -3,7 +3,7 @@ use Rattle.wl_server.specs.NoteOrder.{NotesInTime}
 use Rattle.wl_server.proofs.CallSteps.Numbering.{in_time_both}
 use Rattle.wl_server.proofs.ObjectCalls.Posting.{posted_dead, posted_live, posted_starved}
 use Rattle.wl_server.proofs.ObjectCalls.Told.{lacked_exactly, not_live, told_exactly}
-use Rattle.wl_server.proofs.client.Client.posts.Goals as goal
+use Rattle.wl_server.proofs.client.Client.tell_error_and_kill.Goals as goal
 use Rattle.wl_server.specs.Server.{NoteTimes, Stored}
 
 pub returns-then-self-clause-carried : goal.returns-then-self-clause-carried
