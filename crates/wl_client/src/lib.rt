@@ -33,6 +33,7 @@ mod arguments;
 mod backend;
 mod display;
 mod error;
+mod error_texts;
 mod event;
 mod finish_event;
 mod flush;

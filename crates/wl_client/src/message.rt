@@ -25,11 +25,12 @@ ghost use Rattle.wl_client.specs.Inside.ReadingLoop.{Carries, IsHeader, NotTaken
 use crate::backend::Backend;
 use crate::display::{DisplayMessage, delete_id, display_event};
 use crate::error::{EventError, WaylandError};
+use crate::error_texts::{fault_text, told_error};
 use crate::event::{OpenEvent, handle_event};
 use crate::in_place::InPlace;
 use crate::object_id::ObjectId;
 use crate::objects::Kept;
-use crate::protocol_error::{EventFault, fault_text, told_error};
+use crate::protocol_error::EventFault;
 use std::alloc::Global;
 use wl_link::{BufferedSocket, Object, ObjectMap, Transport, clear_message};
 use wl_wire::{

@@ -47,6 +47,7 @@ mod backend;
 mod client;
 mod dispatch;
 mod error;
+mod error_texts;
 mod events;
 mod globals;
 mod ids;

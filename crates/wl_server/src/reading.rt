@@ -5,19 +5,17 @@
 
 pub mod action;
 pub mod arguments;
-pub mod display;
+pub mod display_request;
 pub mod finish;
 pub mod lent;
 pub mod message;
 pub mod next_action;
+pub mod object_request;
 pub mod open_place;
-pub mod other;
-pub mod registry;
+pub mod registry_request;
 pub mod request;
-pub mod respond;
 pub mod response;
 pub mod sync;
-pub mod texts;
 pub mod words;
 
 use crate::globals::KeptGlobal;

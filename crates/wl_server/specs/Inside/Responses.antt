@@ -18,7 +18,7 @@ use Rattle.wl_server.specs.declared.reading.action.OpenAction.TheVariants as ope
 use Rattle.wl_server.specs.declared.objects.ClientObjects.{ClientObjects}
 use Rattle.wl_server.specs.declared.objects.Kept.{Kept}
 use Rattle.wl_server.specs.declared.globals.KeptGlobal.{KeptGlobal}
-use Rattle.wl_server.specs.declared.reading.registry.Bind.{Bind}
+use Rattle.wl_server.specs.declared.reading.registry_request.Bind.{Bind}
 use Rattle.wl_server.specs.declared.reading.response.Breach.{Breach}
 use Rattle.wl_server.specs.declared.reading.response.Breach.TheVariants as broke
 use Rattle.wl_server.specs.declared.reading.response.Response.{Response}

@@ -17,7 +17,7 @@ ghost use Rattle.wl_server.specs.declared.runs.step.Step.TheVariants as step;
 use crate::backend::Backend;
 use crate::client::stored::stored_mut;
 use crate::client::{Client, Slots};
-use crate::events::display::is_out_of_memory;
+use crate::events::own_events::is_out_of_memory;
 use crate::globals::handler::GlobalHandler;
 use crate::ids::client_id::ClientId;
 use wl_link::Transport;

@@ -18,7 +18,7 @@ use crate::client::Client;
 use crate::client::stored::stored_mut;
 use crate::error::EventError;
 use crate::events::check::check_event;
-use crate::events::display::{is_out_of_memory, put_delete_id};
+use crate::events::own_events::{is_out_of_memory, put_delete_id};
 use crate::globals::handler::GlobalHandler;
 use crate::ids::object_id::ObjectId;
 use crate::notes::queues::{NoteNumbers, WaitingNotes};

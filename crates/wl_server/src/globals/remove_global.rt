@@ -14,7 +14,7 @@ ghost use Rattle.wl_server.specs.declared.runs.step.Step.TheVariants as step;
 
 use crate::backend::Backend;
 use crate::client::Client;
-use crate::events::display::message_of_number;
+use crate::events::own_events::message_of_number;
 use crate::globals::announce::put_to_each;
 use crate::globals::handler::GlobalHandler;
 use crate::globals::{KeptGlobal, disable, global_in, remove};

@@ -24,7 +24,7 @@ use crate::backend::Backend;
 use crate::client::Client;
 use crate::client::stored::stored_mut;
 use crate::error::{FinishError, FinishRefused};
-use crate::events::display::{is_out_of_memory, put_delete_id};
+use crate::events::own_events::{is_out_of_memory, put_delete_id};
 use crate::globals::handler::GlobalHandler;
 use crate::ids::client_id::ClientId;
 use crate::ids::object_id::ObjectId;

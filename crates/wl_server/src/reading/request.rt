@@ -19,9 +19,9 @@ use crate::ids::object_id::ObjectId;
 use crate::objects::ClientObjects;
 use crate::reading::Surroundings;
 use crate::reading::action::Found;
-use crate::reading::display::display_request;
-use crate::reading::other::other_request;
-use crate::reading::registry::registry_request;
+use crate::reading::display_request::display_request;
+use crate::reading::object_request::object_request;
+use crate::reading::registry_request::registry_request;
 use crate::reading::response::Response;
 use wl_wire::{
     Args, InterfaceId, Message, MessageDesc, Token, WL_DISPLAY_INTERFACE, WL_REGISTRY_INTERFACE,
@@ -70,7 +70,7 @@ pub fn request<'m, U: Drop, G: GlobalHandler<C> + Drop, C>(
     if interface == WL_REGISTRY_INTERFACE {
         return registry_request(around, client_data, objects, message, found);
     }
-    other_request(
+    object_request(
         around,
         client_data,
         objects,

@@ -1,7 +1,40 @@
-//! What is still to be done for a request that was handled.
+//! What is still to be done for a request that was handled, and how it is done: the client is written to, or killed.
 
+ghost use Rattle.std.specs.Prelude.{◌≡◌, ◌∷◌, List, [], false, Err, IfOk, MatchResult, Some};
+ghost use Rattle.wl_wire.specs.declared.argument.Argument.{Argument as Arg};
+ghost use Rattle.wl_wire.specs.declared.argument.Token.{Token as TokenParts};
+ghost use Rattle.wl_wire.specs.declared.error.IoFault.TheVariants as io;
+ghost use Rattle.wl_link.specs.Puts.{lacks_memory};
+ghost use Rattle.wl_server.specs.NoteOrder.{IsNumbered, NotesInTime};
+ghost use Rattle.wl_server.specs.declared.notes.DisconnectReason.TheVariants.{ConnectionClosed};
+ghost use Rattle.wl_server.specs.declared.reading.action.Found.{Found as FoundOf};
+ghost use Rattle.wl_server.specs.declared.reading.action.MessageEnd.TheVariants as came;
+ghost use Rattle.wl_server.specs.Inside.Client.{Does};
+ghost use Rattle.wl_server.specs.Deeds.{Remembered};
+ghost use Rattle.wl_server.specs.Globals.{shown};
+ghost use Rattle.wl_server.specs.Ids.{IdParts};
+ghost use Rattle.wl_server.specs.Part.{id_of};
+ghost use Rattle.wl_server.specs.Reading.{breaks, garbled, replies};
+ghost use Rattle.wl_server.specs.Inside.Responses.{HasName, code_of, text_of};
+ghost use Rattle.wl_server.specs.Telling.{Kills, core_of, deletions, done_message, introductions};
+ghost use Rattle.wl_server.specs.Inside.ReadingLoop.{Ended, IsHandled, Live, around_of, message_result};
+
+use crate::client::Client;
+use crate::error_texts::{bind_text, fault_text, new_id_text, since_text};
+use crate::events::own_events::put_done;
+use crate::globals::handler::GlobalHandler;
+use crate::globals::new_registry::put_globals;
 use crate::ids::object_id::ObjectId;
-use wl_wire::{CString, InterfaceId, MessageDesc};
+use crate::notes::DisconnectReason;
+use crate::notes::queues::NoteNumbers;
+use crate::reading::Surroundings;
+use crate::reading::action::{MessageEnd, NoAction};
+use std::alloc::Global;
+use wl_link::Transport;
+use wl_wire::{
+    CString, DISPLAY, InterfaceId, IoFault, Message, MessageDesc, OutOfMemory, Protocol, Token,
+    WL_DISPLAY_INTERFACE,
+};
 
 /// Why an argument of a request is wrong. The client is killed for it.
 #[derive(Drop)]
@@ -44,4 +77,145 @@ pub enum Response<'m> {
     Registers(ObjectId),
     /// An action was found, and is handed out. It is open from then on.
     HandsOut,
+}
+
+/// The code and the text of the error that is posted for a breach of the protocol.
+#[cold]
+#[inline(never)]
+fn breach_error(
+    alloc: Global,
+    protocol: &Protocol,
+    breach: &Breach<'_>,
+) -> Result<(u32, CString), OutOfMemory>
+    requires { HasName breach.now }
+    ensures code { IfOk result (λ error. error.0 ≡ code_of breach.now) }
+    ensures text { IfOk result (λ error. error.1 ≡ text_of protocol.now breach.now) }
+{
+    match breach {
+        Breach::InvalidNewId(number) => Ok((0, new_id_text(alloc, *number)?)),
+        Breach::RefusedBind(global, version, interface) => {
+            Ok((0, bind_text(alloc, interface, *version, *global)?))
+        }
+        Breach::SinceLater(opcode, version, since, interface, number) => {
+            let text = since_text(
+                alloc, protocol, *opcode, *version, *since, *interface, *number,
+            )?;
+            Ok((1, text))
+        }
+        Breach::WrongArgument(interface, desc, wrong) => {
+            Ok((0, fault_text(alloc, protocol, *interface, desc, wrong)?))
+        }
+    }
+}
+
+impl<T: Transport + Drop, U: Drop, C: Drop> Client<T, U, C> {
+    /// Kills the client with the reason `ConnectionClosed`, because it sent bytes that are no message that it may send.
+    #[cold]
+    #[inline(never)]
+    pub fn kill_for_malformed(&mut self, numbers: &mut NoteNumbers) -> NoAction
+        ensures handled { IsHandled T.sends (garbled (core_of self.old.part)) self.old (Ended result) self.new }
+        ensures in_time { NotesInTime self.old.times numbers.old self.new.times numbers.new }
+        ensures numbered { IsNumbered (Some self.old) → IsNumbered (Some self.new) }
+    {
+        self.kill(numbers, DisconnectReason::ConnectionClosed);
+        NoAction {
+            fault: IoFault::Proto,
+            refused: false,
+        }
+    }
+
+    /// Kills a live client that broke the protocol: posts the breach as an error on its display. If there is no memory
+    /// for the text, the client is killed with the reason `ConnectionClosed`.
+    #[cold]
+    #[inline(never)]
+    pub fn kill_for_breach<G: GlobalHandler<C>>(
+        &mut self,
+        numbers: &mut NoteNumbers,
+        around: &Surroundings<'_, G>,
+        breach: &Breach<'_>,
+    ) -> NoAction
+        requires live { self.old.part.is_killed ≡ false }
+        requires name { HasName breach.now }
+        ensures handled { IsHandled T.sends (breaks (around_of G.views around.now) (core_of self.old.part) (code_of breach.now) (text_of around.now.protocol.now breach.now)) self.old (Ended result) self.new }
+        ensures in_time { NotesInTime self.old.times numbers.old self.new.times numbers.new }
+        ensures numbered { IsNumbered (Some self.old) → IsNumbered (Some self.new) }
+    {
+        let alloc = self.alloc();
+        let Ok((code, text)) = breach_error(alloc, around.protocol, breach) else {
+            let refused = self.kill_unless_written(numbers, Err(IoFault::OutOfMemory));
+            return NoAction {
+                fault: IoFault::Pipe,
+                refused,
+            };
+        };
+        let display = ObjectId::from_parts(DISPLAY, 0, around.client, WL_DISPLAY_INTERFACE);
+        let refused = self.tell_error_and_kill(around.protocol, numbers, &display, code, text);
+        NoAction {
+            fault: IoFault::Pipe,
+            refused,
+        }
+    }
+
+    /// What the handling of a request comes to after the answer was written, with this result. If the write failed, the
+    /// client is killed.
+    pub fn kill_unless_answered(
+        &mut self,
+        numbers: &mut NoteNumbers,
+        wrote: Result<(), IoFault>,
+    ) -> MessageEnd
+        ensures replied { MatchResult wrote
+            (λ _. (result ≡ came.Continues) × (self.new ≡ self.old))
+            (λ f. (result ≡ came.Ends (record { fault = io.Pipe; refused = lacks_memory (Err f) }))
+            × Does self.old (λ p did q. Kills p ConnectionClosed did q) self.new) }
+        ensures in_time { NotesInTime self.old.times numbers.old self.new.times numbers.new }
+        ensures numbered { IsNumbered (Some self.old) → IsNumbered (Some self.new) }
+    {
+        if wrote.is_ok() {
+            return MessageEnd::Continues;
+        }
+        let refused = self.kill_unless_written(numbers, wrote);
+        MessageEnd::Ends(NoAction {
+            fault: IoFault::Pipe,
+            refused,
+        })
+    }
+
+    /// Tells a new registry of a live client of the globals.
+    pub fn tell_globals<G: GlobalHandler<C> + Drop>(
+        &mut self,
+        numbers: &mut NoteNumbers,
+        around: &Surroundings<'_, G>,
+        registry: &ObjectId,
+    ) -> MessageEnd
+        requires { Live self.old.part }
+        ensures handled { (f : FoundOf) (args : List (Arg IdParts TokenParts)) → IsHandled T.sends
+            (replies (core_of self.old.part) (introductions around.now.protocol.now (id_of registry.now) 0 (shown G.views (around_of G.views around.now).globals around.now.client self.old.part.client_data))
+            (Remembered (id_of registry.now) ∷ [])) self.old (message_result result f args) self.new }
+        ensures in_time { NotesInTime self.old.times numbers.old self.new.times numbers.new }
+        ensures numbered { IsNumbered (Some self.old) → IsNumbered (Some self.new) }
+    {
+        let alloc = self.alloc();
+        let wrote = put_globals(alloc, &mut self.socket, around, &self.data, registry);
+        self.kill_unless_answered(numbers, wrote)
+    }
+
+    /// Tells a live client that its callback is done, and that the callback's number is free again if it is one of the
+    /// client's own. The callback is already removed. If a write fails, the client is killed. `message` is overwritten with
+    /// what the client is told.
+    pub fn tell_done(
+        &mut self,
+        numbers: &mut NoteNumbers,
+        message: &mut Message<u32, Token>,
+        callback: &ObjectId,
+    ) -> MessageEnd
+        requires { Live self.old.part }
+        ensures handled { (f : FoundOf) (args : List (Arg IdParts TokenParts)) → IsHandled T.sends
+            (replies (core_of self.old.part) (done_message (id_of callback.now) ∷ deletions callback.now.number) [])
+            self.old (message_result result f args) self.new }
+        ensures in_time { NotesInTime self.old.times numbers.old self.new.times numbers.new }
+        ensures numbered { IsNumbered (Some self.old) → IsNumbered (Some self.new) }
+    {
+        let wrote = put_done(message, &mut self.socket, callback.protocol_id());
+        self.kill_unless_answered(numbers, wrote)
+    }
 }

@@ -7,7 +7,7 @@ ghost use Rattle.wl_server.specs.Inside.Syncing.{LeavesNoTrace, SyncWaits};
 ghost use Rattle.wl_server.specs.NoteOrder.{IsNumbered};
 
 use crate::client::Client;
-use crate::events::display::{DONE_SIZE, put_done_at_once};
+use crate::events::own_events::{DONE_SIZE, put_done_at_once};
 use crate::globals::handler::GlobalHandler;
 use crate::objects::ClientObjects;
 use crate::reading::Surroundings;

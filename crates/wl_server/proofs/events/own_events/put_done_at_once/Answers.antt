@@ -1,7 +1,7 @@
 use Rattle.std.proofs.Common.{[], ◌∷◌, List, refl}
 use Rattle.wl_link.specs.Puts.{Said}
 use Rattle.wl_server.specs.Telling.{delete_message, done_message}
-use Rattle.wl_server.proofs.events.display.put_done_at_once.Goals as goal
+use Rattle.wl_server.proofs.events.own_events.put_done_at_once.Goals as goal
 
 pub returns : goal.returns
 returns g c = λ serial.

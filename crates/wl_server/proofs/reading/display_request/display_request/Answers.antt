@@ -2,7 +2,7 @@ use Rattle.std.proofs.Common.{sym, ◌∙◌}
 use Rattle.wl_server.specs.Inside.Responses.{core_with}
 use Rattle.wl_server.specs.Inside.ReadingLoop.{around_of}
 use Rattle.wl_server.proofs.Readings.Requesting.{display_garbled, display_registry, display_sync, one_new}
-use Rattle.wl_server.proofs.reading.display.display_request.Goals as goal
+use Rattle.wl_server.proofs.reading.display_request.display_request.Goals as goal
 
 pub returns-in_default-clause-responds : goal.returns-in_default-clause-responds
 returns-in_default-clause-responds g c c' f args = display_garbled (around_of g.G.GlobalHandler.views c.args.around.now) (core_with c' c.args.client_data.now c.args.objects.now) c.args.message.now.opcode c.args.message.now.args.items (sym c.new_id_in.ensures ∙ c.in_default.is)

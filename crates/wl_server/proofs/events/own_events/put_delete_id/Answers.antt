@@ -3,7 +3,7 @@ use Rattle.wl_wire.specs.Message.{WireMessage}
 use Rattle.wl_link.specs.Link.{Wrote}
 use Rattle.wl_server.specs.Telling.{delete_message}
 use Rattle.wl_server.proofs.GlobalCalls.Putting.{puts_none, puts_one}
-use Rattle.wl_server.proofs.events.display.put_delete_id.Goals as goal
+use Rattle.wl_server.proofs.events.own_events.put_delete_id.Goals as goal
 
 pub returns-then-number-ge-SERVER_ID_LIMIT : goal.returns-then-number-ge-SERVER_ID_LIMIT
 returns-then-number-ge-SERVER_ID_LIMIT g c =

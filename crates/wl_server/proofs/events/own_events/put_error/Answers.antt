@@ -3,7 +3,7 @@ use Rattle.wl_wire.specs.Message.{WireMessage}
 use Rattle.wl_link.specs.Link.{Wrote}
 use Rattle.wl_server.specs.Telling.{error_message}
 use Rattle.wl_server.proofs.GlobalCalls.Putting.{puts_one}
-use Rattle.wl_server.proofs.events.display.put_error.Goals as goal
+use Rattle.wl_server.proofs.events.own_events.put_error.Goals as goal
 
 pub returns-clause-wrote : goal.returns-clause-wrote
 returns-clause-wrote g c =

@@ -2,7 +2,7 @@ use Rattle.std.proofs.Common.{option_map}
 use Rattle.wl_server.specs.Inside.Responses.{bind_of, core_with}
 use Rattle.wl_server.specs.Inside.ReadingLoop.{around_of}
 use Rattle.wl_server.proofs.Readings.Requesting.{registry_bound}
-use Rattle.wl_server.proofs.reading.registry.registry_request.Goals as goal
+use Rattle.wl_server.proofs.reading.registry_request.registry_request.Goals as goal
 
 pub returns-clause-responds : goal.returns-clause-responds
 returns-clause-responds g c c' args =

@@ -1,4 +1,4 @@
-//! The messages that the server sends by itself.
+//! The events of the display and of callbacks, which the server sends by itself.
 
 ghost use Rattle.std.specs.Prelude.{◌≡◌, ◌∷◌, ℕ, [], false, IsTrue, Ok, Some};
 ghost use Rattle.wl_wire.specs.declared.argument.Argument.TheVariants as arg;

@@ -70,7 +70,7 @@ fn convert_request<U: Drop>(
 /// Handles a request to an object that is neither a display nor a registry, and returns what is still to be done for it.
 /// What its arguments own is taken out of the message. If it is handed out, it is in `found` then, and its arguments are in
 /// `args`, converted.
-pub fn other_request<'m, U: Drop, G: GlobalHandler<C>, C>(
+pub fn object_request<'m, U: Drop, G: GlobalHandler<C>, C>(
     around: &Surroundings<'_, G>,
     client_data: &C,
     objects: &mut ClientObjects<U>,

@@ -3,7 +3,7 @@ use Rattle.wl_wire.specs.Message.{WireMessage}
 use Rattle.wl_link.specs.Link.{Wrote}
 use Rattle.wl_server.specs.Telling.{delete_message, deletions, done_message}
 use Rattle.wl_server.proofs.GlobalCalls.Putting.{puts_failed, puts_more, puts_one}
-use Rattle.wl_server.proofs.events.display.put_done.Goals as goal
+use Rattle.wl_server.proofs.events.own_events.put_done.Goals as goal
 
 pub returns : goal.returns
 returns g c serial =
