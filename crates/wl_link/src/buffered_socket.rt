@@ -41,9 +41,9 @@ use wl_wire::{
 pub struct BufferedSocket<T> {
     transport: T,
     incoming: Buffer,
-    fds_in: VecDeque<Token>,
+    tokens_in: VecDeque<Token>,
     outgoing: Buffer,
-    fds_out: TokenQueue,
+    tokens_out: TokenQueue,
     limit: Option<usize>,
 }
 
@@ -63,15 +63,15 @@ impl<T> Model for BufferedSocket<T> {
 
     ghost view = { λ s. record {
       transport = s.transport;
-      incoming = beside s.incoming.bytes s.fds_in.items;
+      incoming = beside s.incoming.bytes s.tokens_in.items;
       incoming_capacity = s.incoming.size;
-      outgoing = beside s.outgoing.bytes s.fds_out;
+      outgoing = beside s.outgoing.bytes s.tokens_out;
       outgoing_capacity = s.outgoing.size;
       limit = s.limit;
     } };
 
     // So there is room for what a receive may give, unless more than 28 tokens wait.
-    ghost invariant = { λ s. 56 ≤ deque_capacity s.fds_in };
+    ghost invariant = { λ s. 56 ≤ deque_capacity s.tokens_in };
 }
 
 impl<T> BufferedSocket<T> {
@@ -95,14 +95,14 @@ impl<T> BufferedSocket<T> {
     {
         let incoming = Buffer::new(alloc, DEFAULT_MAX_BUFFER_SIZE)?;
         let outgoing = Buffer::new(alloc, DEFAULT_MAX_BUFFER_SIZE)?;
-        let fds_in = VecDeque::with_capacity(alloc, 2 * MAX_FDS_OUT)?;
-        let fds_out = TokenQueue::new(alloc)?;
+        let tokens_in = VecDeque::with_capacity(alloc, 2 * MAX_FDS_OUT)?;
+        let tokens_out = TokenQueue::new(alloc)?;
         Ok(BufferedSocket {
             transport,
             incoming,
-            fds_in,
+            tokens_in,
             outgoing,
-            fds_out,
+            tokens_out,
             limit: rounded(max_buffer_size),
         })
     }
@@ -130,9 +130,9 @@ impl<T> BufferedSocket<T> {
     {
         [
             self.incoming.len(),
-            self.fds_in.len(),
+            self.tokens_in.len(),
             self.outgoing.len(),
-            self.fds_out.len(),
+            self.tokens_out.len(),
         ]
     }
 
@@ -194,7 +194,7 @@ impl<T> BufferedSocket<T> {
     pub fn holds_message(&self, signature: &[ArgumentType]) -> bool
         ensures { IsTrue result ↔ IsThere self.now.incoming.bytes signature.now self.now.incoming.tokens }
     {
-        message_is_there(self.incoming.bytes(), signature, self.fds_in.len())
+        message_is_there(self.incoming.bytes(), signature, self.tokens_in.len())
     }
 
     /// Takes the first message off what was received, and reads it under the signature that the closure gives for its
@@ -229,7 +229,7 @@ impl<T> BufferedSocket<T> {
         let mut message = Message {
             sender_id: 0,
             opcode: 0,
-            args: SmallVec::new(*self.fds_in.allocator()),
+            args: SmallVec::new(*self.tokens_in.allocator()),
         };
         self.read_under(signature, &mut message)?;
         Ok(message)
@@ -282,9 +282,9 @@ impl<T> BufferedSocket<T> {
         ensures unchanged { OnErr result (self.new ≡ self.old) }
         ensures capacity { INLINE_ARGS ≤ message.new.args.capacity }
     {
-        let alloc = *self.fds_in.allocator();
+        let alloc = *self.tokens_in.allocator();
         let bytes = self.incoming.bytes();
-        let rest = parse_into(alloc, bytes, signature, &mut self.fds_in, message)?;
+        let rest = parse_into(alloc, bytes, signature, &mut self.tokens_in, message)?;
         let len = bytes.len() - rest.len();
         self.incoming.consume(len);
         Ok(())
@@ -341,7 +341,7 @@ impl<T> BufferedSocket<T> {
         ensures put { Put self.old (numbered (N.object_number numbers.now) (N.new_number numbers.now) message.now) result self.new }
         ensures message { OnOk result (IsMessage (numbered (N.object_number numbers.now) (N.new_number numbers.now) message.now)) }
     {
-        let written = self.outgoing.put(message, numbers, &mut self.fds_out);
+        let written = self.outgoing.put(message, numbers, &mut self.tokens_out);
         write_answer(written).unwrap_or(Err(IoFault::TooBig))
     }
 
@@ -352,9 +352,9 @@ impl<T> BufferedSocket<T> {
         let BufferedSocket {
             transport,
             incoming: _,
-            fds_in: _,
+            tokens_in: _,
             outgoing: _,
-            fds_out: _,
+            tokens_out: _,
             limit: _,
         } = self;
         transport
@@ -390,17 +390,17 @@ impl<T: Transport> BufferedSocket<T> {
         ensures drained { FlushDrains T.sends self.old result self.new }
     {
         while self.outgoing.len() > 0 {
-            let bytes = first_bytes(self.outgoing.bytes(), self.fds_out.len());
-            let fds = self.fds_out.first(MAX_FDS_OUT);
+            let bytes = first_bytes(self.outgoing.bytes(), self.tokens_out.len());
+            let fds = self.tokens_out.first(MAX_FDS_OUT);
             match self.transport.send_msg(bytes, fds) {
                 Err(fault) => return Err(fault),
                 Ok(0) => {
-                    self.fds_out.drop_first(MAX_FDS_OUT);
+                    self.tokens_out.drop_first(MAX_FDS_OUT);
                     return Ok(());
                 }
                 Ok(count) => {
                     self.outgoing.consume(count);
-                    self.fds_out.drop_first(MAX_FDS_OUT);
+                    self.tokens_out.drop_first(MAX_FDS_OUT);
                 }
             }
         }
@@ -449,7 +449,7 @@ impl<T: Transport> BufferedSocket<T> {
         ensures kept { WriteKeeps T.sends self.old (numbered (N.object_number numbers.now) (N.new_number numbers.now) message.now) result self.new }
         ensures message { OnOk result (IsMessage (numbered (N.object_number numbers.now) (N.new_number numbers.now) message.now)) }
     {
-        match write_answer(self.outgoing.write(message, numbers, &mut self.fds_out)) {
+        match write_answer(self.outgoing.write(message, numbers, &mut self.tokens_out)) {
             Some(answer) => answer,
             None => self.make_room_and_write(message, numbers),
         }
@@ -530,13 +530,15 @@ impl<T: Transport> BufferedSocket<T> {
         ensures full { (free_room self.old ≡ 0) ↔ IsFull self.old }
     {
         let size = size_with_room(&self.incoming, self.limit);
-        let Ok(()) = reserve_tokens(&mut self.fds_in) else {
+        let Ok(()) = reserve_tokens(&mut self.tokens_in) else {
             return Err(IoFault::OutOfMemory);
         };
         let Ok(()) = self.incoming.grow(size) else {
             return Err(IoFault::OutOfMemory);
         };
-        let received = self.incoming.receive(&mut self.transport, &mut self.fds_in);
+        let received = self
+            .incoming
+            .receive(&mut self.transport, &mut self.tokens_in);
         answer_of(received)
     }
 }

@@ -85,9 +85,9 @@ impl<T> BufferedSocket<T> {
         ensures unchanged { self.new ≡ self.old }
         ensures capacity { INLINE_ARGS ≤ message.new.args.capacity }
     {
-        let alloc = *self.fds_in.allocator();
+        let alloc = *self.tokens_in.allocator();
         let bytes = self.incoming.bytes();
-        peek_into(alloc, bytes, signature, &mut self.fds_in, message)
+        peek_into(alloc, bytes, signature, &mut self.tokens_in, message)
     }
 
     /// Takes out all that was received and not read yet: the bytes and the tokens. They are copied into lists of their size, and
@@ -101,11 +101,11 @@ impl<T> BufferedSocket<T> {
         ensures unchanged { OnErr result (self.new ≡ self.old) }
         ensures memory { OnErr result (self.old.incoming ≢ nothing) }
     {
-        let alloc = *self.fds_in.allocator();
+        let alloc = *self.tokens_in.allocator();
         let bytes = copy_of(alloc, self.incoming.bytes())?;
-        let tokens = copy_of(alloc, self.fds_in.make_contiguous())?;
+        let tokens = copy_of(alloc, self.tokens_in.make_contiguous())?;
         self.incoming.consume(bytes.len());
-        self.fds_in.clear();
+        self.tokens_in.clear();
         Ok((bytes, tokens))
     }
 
@@ -130,7 +130,7 @@ impl<T> BufferedSocket<T> {
         if !to.has_room(len) {
             return Err(HandOnError::NoRoom);
         }
-        let Ok(()) = to.put_raw(&bytes[..len], &mut self.fds_in, count) else {
+        let Ok(()) = to.put_raw(&bytes[..len], &mut self.tokens_in, count) else {
             return Err(HandOnError::OutOfMemory);
         };
         self.incoming.consume(len);
@@ -169,7 +169,7 @@ impl<T> BufferedSocket<T> {
             return Err(HandOnError::MissingData);
         }
         let count = fd_places(signature);
-        if self.fds_in.len() < count {
+        if self.tokens_in.len() < count {
             return Err(HandOnError::MissingFD);
         }
         self.hand_front(header.len, count, to)
@@ -189,7 +189,7 @@ impl<T> BufferedSocket<T> {
         ensures carried { Carries self.old to.old self.new to.new }
         ensures other_way { LeavesOtherWay self.old to.old self.new to.new }
     {
-        let (len, count) = (self.incoming.len(), self.fds_in.len());
+        let (len, count) = (self.incoming.len(), self.tokens_in.len());
         self.hand_front(len, count, to)
     }
 
@@ -209,7 +209,7 @@ impl<T> BufferedSocket<T> {
         ensures many { OnErr result (28 < length self.old.outgoing.tokens + count) }
         ensures capacity { deque_capacity tokens.new ≡ deque_capacity tokens.old }
     {
-        self.fds_out.append_from(tokens, count)?;
+        self.tokens_out.append_from(tokens, count)?;
         self.outgoing.append(bytes);
         Ok(())
     }

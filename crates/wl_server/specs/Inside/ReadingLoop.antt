@@ -95,7 +95,7 @@ pub data MessageResult : Type 0 where
 
 -- what was found, and the arguments of a request, stand in places of their own
 abbrev pub message_result : MessageEnd → Found → List (Argument IdParts Token) → MessageResult
-message_result came.Acts f args = Acts (found_with f args)
+message_result came.HandsOut f args = Acts (found_with f args)
 message_result came.Continues f args = WentOn
 message_result came.Lacks f args = LacksMore
 message_result (came.Ends e) f args = Ended e

@@ -82,7 +82,7 @@ opened_of (found.Bind global object) = opened.Bind object
 module _ {U G C : Type 0} (a : Around G C) where
   -- what is yet to be done, as a verdict; an action that is handed out was found so, with these arguments
   abbrev pub response_to : Core U C → Response → Found → List (Argument IdParts Token) → Verdict (Core U C) (Told U)
-  response_to c response.Garbled f args = garbled c
+  response_to c response.Malformed f args = garbled c
   response_to c (response.Breaks b) f args = breaks a c (code_of b) (text_of a.table b)
   response_to c (response.Syncs id) f args = replies c (done_message (id_of id) ∷ deletions id.number) []
   response_to c (response.Registers id) f args =

@@ -85,9 +85,7 @@ impl<T: Transport + Drop, U: Drop, G: GlobalHandler<C> + Drop, C: Drop> Backend<
     pub(crate) fn keep_refused(&mut self, before: bool)
         ensures { self.new ≡ record self.old { refused = before || self.old.refused } }
     {
-        let mut refused = before;
-        refused |= self.refused;
-        self.refused = refused;
+        self.refused = before | self.refused;
     }
 
     /// Reads the client's next action into `action`, and handles it. Returns the fault that ends the dispatch, if one does.

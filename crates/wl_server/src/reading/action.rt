@@ -114,7 +114,7 @@ impl Found {
 #[derive(Drop)]
 pub enum MessageEnd {
     /// An action was found. It is to be handed out.
-    Acts,
+    HandsOut,
     /// A message was handled, and the reading goes on.
     Continues,
     /// No whole message waits.

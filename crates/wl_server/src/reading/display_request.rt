@@ -36,7 +36,7 @@ pub fn display_request<'m, U: Drop, G: GlobalHandler<C>, C>(
         ≡ response_to (around_of G.views around.now) (core_with c client_data.now objects.new) result f args }
 {
     let Some(number) = new_id_in(message) else {
-        return Response::Garbled;
+        return Response::Malformed;
     };
     if message.opcode == SYNC {
         return sync(around, client_data, objects, number);

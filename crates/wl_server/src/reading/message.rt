@@ -211,7 +211,7 @@ impl<T: Transport + Drop, U: Drop, C: Drop> Client<T, U, C> {
         }
         // Most requests have few arguments, all of them words.
         if self.find_words(around, reading, header, found, args) {
-            return MessageEnd::Acts;
+            return MessageEnd::HandsOut;
         }
         let end = self.handle_at(numbers, around, reading, header, message, found, args);
         clear_message(message);
@@ -258,7 +258,7 @@ impl<T: Transport + Drop, U: Drop, C: Drop> Client<T, U, C> {
         };
         reading.read = read.saturating_add(1);
         match response {
-            Response::Garbled => MessageEnd::Ends(self.kill_for_malformed(numbers)),
+            Response::Malformed => MessageEnd::Ends(self.kill_for_malformed(numbers)),
             Response::Breaks(breach) => MessageEnd::Ends(self.kill_for_breach(
                 numbers, around, &breach,
             )),
@@ -266,7 +266,7 @@ impl<T: Transport + Drop, U: Drop, C: Drop> Client<T, U, C> {
             Response::Registers(registry) => self.tell_globals(numbers, around, &registry),
             Response::HandsOut => {
                 self.action.open_action(found);
-                MessageEnd::Acts
+                MessageEnd::HandsOut
             }
         }
     }

@@ -76,7 +76,7 @@ impl<T: Transport + Drop, U: Drop, C: Drop> Client<T, U, C> {
             match self.handle_message(numbers, around, reading, message, found, args) {
                 MessageEnd::Continues => {}
                 MessageEnd::Lacks => return None,
-                MessageEnd::Acts => return Some(Ok(())),
+                MessageEnd::HandsOut => return Some(Ok(())),
                 MessageEnd::Ends(end) => return Some(Err(end)),
             }
         }

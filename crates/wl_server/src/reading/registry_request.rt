@@ -100,7 +100,7 @@ pub fn registry_request<'m, U: Drop, G: GlobalHandler<C> + Drop, C>(
         ≡ response_to (around_of G.views around.now) (core_with c client_data.now objects.new) result found.new args }
 {
     let Some(bind) = bind_in(message) else {
-        return Response::Garbled;
+        return Response::Malformed;
     };
     bind_to(around, client_data, objects, &bind, found)
 }

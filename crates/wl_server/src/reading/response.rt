@@ -68,7 +68,7 @@ pub enum Breach<'m> {
 #[derive(Drop)]
 pub enum Response<'m> {
     /// The client may not send it, and is killed with the reason `ConnectionClosed`.
-    Garbled,
+    Malformed,
     /// The client broke the protocol.
     Breaks(Breach<'m>),
     /// It was a `sync`, and its callback is already removed. The client is told that the callback is done.

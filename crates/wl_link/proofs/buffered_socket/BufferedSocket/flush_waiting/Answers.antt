@@ -9,7 +9,7 @@ use Rattle.wl_link.proofs.buffered_socket.BufferedSocket.flush_waiting.Goals as 
 
 pub returns-in-Err-clause-flushed : goal.returns-in-Err-clause-flushed
 returns-in-Err-clause-flushed g c =
-    let q = beside c.loop-self.self-inside.outgoing.bytes c.loop-self.self-inside.fds_out in
+    let q = beside c.loop-self.self-inside.outgoing.bytes c.loop-self.self-inside.tokens_out in
     let offer = offered q _ _ _ _ c.first_bytes-bytes.ensures c.bytes.ensures c.len-in-loop-self.ensures c.first-fds.ensures in
     flush_fails g.T.Transport.sends c.args.self.now _ c.in-Err.fault c.send_msg.new.self c.loop-self.invariant.0
     (some_bytes _ _ c.len.ensures.len c.loop-self-test.true)
@@ -17,7 +17,7 @@ returns-in-Err-clause-flushed g c =
 
 pub returns-in-Ok-eq0-clause-flushed : goal.returns-in-Ok-eq0-clause-flushed
 returns-in-Ok-eq0-clause-flushed g c =
-    let q = beside c.loop-self.self-inside.outgoing.bytes c.loop-self.self-inside.fds_out in
+    let q = beside c.loop-self.self-inside.outgoing.bytes c.loop-self.self-inside.tokens_out in
     let offer = offered q _ _ _ _ c.first_bytes-bytes.ensures c.bytes.ensures c.len-in-loop-self.ensures c.first-fds.ensures in
     let send = subst (λ (o : Queue). g.T.Transport.sends c.loop-self.self-inside.transport o (Ok c.in-Ok-eq0.field-0) c.send_msg.new.self) offer c.in-Ok-eq0.ensures in
     rw c.drop_first.ensures
@@ -27,7 +27,7 @@ returns-in-Ok-eq0-clause-flushed g c =
 
 pub loop-self-preserved : goal.loop-self-preserved
 loop-self-preserved g c =
-    let q = beside c.loop-self.self-inside.outgoing.bytes c.loop-self.self-inside.fds_out in
+    let q = beside c.loop-self.self-inside.outgoing.bytes c.loop-self.self-inside.tokens_out in
     let offer = offered q _ _ _ _ c.first_bytes-bytes.ensures c.bytes.ensures c.len-in-loop-self.ensures c.first-fds.ensures in (
       rw (c.consume.ensures, c.drop_first-in-Ok.ensures)
           (flush_goes_on g.T.Transport.sends c.args.self.now _ c.in-Ok.count c.send_msg.new.self c.loop-self.invariant.0

@@ -14,12 +14,12 @@ returns-clause-handed g c =
     let len = c.args.len in
     let count = c.args.count in
     let bytes : c.bytes-bytes.result.now ≡ c.args.self.now.incoming.bytes = search rules in
-    let tokens : c.self.inside.fds_in.items ≡ c.args.self.now.incoming.tokens = ap (λ (l : LinkState _). l.incoming.tokens) c.self.view_is in
+    let tokens : c.self.inside.tokens_in.items ≡ c.args.self.now.incoming.tokens = ap (λ (l : LinkState _). l.incoming.tokens) c.self.view_is in
     let state : Waiting → List Token → LinkState _ = λ w ts. record {
       transport = c.self.inside.transport;
       incoming = beside w.bytes ts;
       incoming_capacity = w.size;
-      outgoing = beside c.self.inside.outgoing.bytes c.self.inside.fds_out;
+      outgoing = beside c.self.inside.outgoing.bytes c.self.inside.tokens_out;
       outgoing_capacity = c.self.inside.outgoing.size;
       limit = c.self.inside.limit;
     } in (

@@ -19,7 +19,7 @@ returns-in-Some-clause-kept g c =
 pub returns-in-None-clause-wrote : goal.returns-in-None-clause-wrote
 returns-in-None-clause-wrote g c =
     let before = waits c.self.inside.outgoing.bytes c.self.inside.outgoing.size in
-    let a = subst (λ (r : Result (Unit {0}) MessageWriteError). Appended before c.self.inside.fds_out (numbered (g.N.Numbering.object_number c.args.numbers.now) (g.N.Numbering.new_number c.args.numbers.now) c.args.message.now) r c.write.new.self c.write.new.fds) c.in-None.ensures c.write.ensures.appended in
+    let a = subst (λ (r : Result (Unit {0}) MessageWriteError). Appended before c.self.inside.tokens_out (numbered (g.N.Numbering.object_number c.args.numbers.now) (g.N.Numbering.new_number c.args.numbers.now) c.args.message.now) r c.write.new.self c.write.new.fds) c.in-None.ensures c.write.ensures.appended in
     rw (← c.self.view_is) (rw (a.1, a.2) at c.make_room_and_write.ensures.wrote)
 
 pub returns-in-None-clause-kept : goal.returns-in-None-clause-kept

@@ -6,11 +6,11 @@ use Rattle.wl_server.proofs.Readings.Handling.{handed_out}
 use Rattle.wl_server.proofs.Readings.OneMessage.{message_taken}
 use Rattle.wl_server.proofs.client.Client.handle_at.Goals as goal
 
-pub returns-in-Garbled-clause-handles : goal.returns-in-Garbled-clause-handles
-returns-in-Garbled-clause-handles g c = rw (← c.self.view_is)
+pub returns-in-Malformed-clause-handles : goal.returns-in-Malformed-clause-handles
+returns-in-Malformed-clause-handles g c = rw (← c.self.view_is)
     (message_taken g.T.Transport.sends g.T.Transport.receives (around_of g.G.GlobalHandler.views c.args.around.now) _ c.args.reading.now _ c.take_request-taken.new.socket
-    c.self.inside.objects c.take_request-taken.new.objects response.Garbled c.take_request-taken.new.found c.take_request-taken.new.args.items _ _
-    (rw (← c.self.view_is) at c.requires.live) refl (rw c.in-Garbled.is at c.in-Ok.ensures.took) c.kill_for_malformed.ensures.handled c.in-Ok.ensures.fewer refl c.saturating_add-reading.ensures)
+    c.self.inside.objects c.take_request-taken.new.objects response.Malformed c.take_request-taken.new.found c.take_request-taken.new.args.items _ _
+    (rw (← c.self.view_is) at c.requires.live) refl (rw c.in-Malformed.is at c.in-Ok.ensures.took) c.kill_for_malformed.ensures.handled c.in-Ok.ensures.fewer refl c.saturating_add-reading.ensures)
 
 pub returns-in-Breaks-clause-handles : goal.returns-in-Breaks-clause-handles
 returns-in-Breaks-clause-handles g c = rw (← c.self.view_is)
@@ -39,8 +39,8 @@ returns-in-HandsOut-clause-handles g c = rw (← c.self.view_is, c.open_action.e
 pub returns-in-Err-clause-handles : goal.returns-in-Err-clause-handles
 returns-in-Err-clause-handles g c = grind (arith, common_steps)
 
-pub returns-in-Garbled-clause-in_time : goal.returns-in-Garbled-clause-in_time
-returns-in-Garbled-clause-in_time g c = grind (arith, common_steps)
+pub returns-in-Malformed-clause-in_time : goal.returns-in-Malformed-clause-in_time
+returns-in-Malformed-clause-in_time g c = grind (arith, common_steps)
 
 pub returns-in-Syncs-clause-in_time : goal.returns-in-Syncs-clause-in_time
 returns-in-Syncs-clause-in_time g c = grind (arith, common_steps)

@@ -27,10 +27,10 @@ loop-end-preserved g c = record {
   numbered = λ is. c.handle_message.ensures.numbered (c.loop-end.invariant.numbered is);
 }
 
-pub returns-in-Acts-clause-waited : goal.returns-in-Acts-clause-waited
-returns-in-Acts-clause-waited g c =
+pub returns-in-HandsOut-clause-waited : goal.returns-in-HandsOut-clause-waited
+returns-in-HandsOut-clause-waited g c =
     goes_ends g.T.Transport.sends g.T.Transport.receives (around_of g.G.GlobalHandler.views c.args.around.now) c.args.self.now c.loop-end.self c.handle_message.new.self c.args.reading.now c.loop-end.reading c.handle_message.new.reading _
-    c.loop-end.invariant.goes c.in-Acts.ensures.handles
+    c.loop-end.invariant.goes c.in-HandsOut.ensures.handles
 
 pub returns-in-Ends-clause-waited : goal.returns-in-Ends-clause-waited
 returns-in-Ends-clause-waited g c =
@@ -40,8 +40,8 @@ returns-in-Ends-clause-waited g c =
 pub returns-in-Lacks-clause-in_time : goal.returns-in-Lacks-clause-in_time
 returns-in-Lacks-clause-in_time g c = in_time_both _ _ _ _ _ _ c.loop-end.invariant.in_time c.handle_message.ensures.in_time
 
-pub returns-in-Acts-clause-in_time : goal.returns-in-Acts-clause-in_time
-returns-in-Acts-clause-in_time g c = in_time_both _ _ _ _ _ _ c.loop-end.invariant.in_time c.handle_message.ensures.in_time
+pub returns-in-HandsOut-clause-in_time : goal.returns-in-HandsOut-clause-in_time
+returns-in-HandsOut-clause-in_time g c = in_time_both _ _ _ _ _ _ c.loop-end.invariant.in_time c.handle_message.ensures.in_time
 
 pub returns-in-Ends-clause-in_time : goal.returns-in-Ends-clause-in_time
 returns-in-Ends-clause-in_time g c = in_time_both _ _ _ _ _ _ c.loop-end.invariant.in_time c.handle_message.ensures.in_time
@@ -49,8 +49,8 @@ returns-in-Ends-clause-in_time g c = in_time_both _ _ _ _ _ _ c.loop-end.invaria
 pub returns-in-Lacks-clause-numbered : goal.returns-in-Lacks-clause-numbered
 returns-in-Lacks-clause-numbered g c is = c.handle_message.ensures.numbered (c.loop-end.invariant.numbered is)
 
-pub returns-in-Acts-clause-numbered : goal.returns-in-Acts-clause-numbered
-returns-in-Acts-clause-numbered g c is = c.handle_message.ensures.numbered (c.loop-end.invariant.numbered is)
+pub returns-in-HandsOut-clause-numbered : goal.returns-in-HandsOut-clause-numbered
+returns-in-HandsOut-clause-numbered g c is = c.handle_message.ensures.numbered (c.loop-end.invariant.numbered is)
 
 pub returns-in-Ends-clause-numbered : goal.returns-in-Ends-clause-numbered
 returns-in-Ends-clause-numbered g c is = c.handle_message.ensures.numbered (c.loop-end.invariant.numbered is)
