@@ -81,8 +81,7 @@ pub fn desc_of<'p, U: Drop>(
 ) -> Option<&'p MessageDesc>
     ensures { option_map message_row (option_copied result) ≡ row_in protocol.now (Some object.now) opcode }
 {
-    let interface = protocol.get(object.interface)?;
-    interface.events.get(opcode as usize)
+    protocol.event(object.interface, opcode)
 }
 
 /// Makes room for what the first message becomes, if it is complete: for its arguments, and for the object that it may

@@ -167,10 +167,7 @@ pub(crate) fn check_request<U: Drop>(
     let Some(sender) = named_in(objects, &message.sender_id) else {
         return Err(RequestError::InvalidId);
     };
-    let Some(interface) = protocol.get(sender.interface) else {
-        return Err(RequestError::UnknownOpcode);
-    };
-    let Some(desc) = interface.requests.get(message.opcode as usize) else {
+    let Some(desc) = protocol.request(sender.interface, message.opcode) else {
         return Err(RequestError::UnknownOpcode);
     };
     if let Some(error) = refusal(protocol, objects, sender, desc, message, has_data, spec) {

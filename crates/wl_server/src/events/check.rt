@@ -145,10 +145,7 @@ pub fn check_event<'a, U: Drop>(
     let Some(sender) = named_in(objects, &message.sender_id) else {
         return Err(EventError::InvalidId);
     };
-    let Some(interface) = protocol.get(sender.interface) else {
-        return Err(EventError::UnknownOpcode);
-    };
-    let Some(desc) = interface.events.get(message.opcode as usize) else {
+    let Some(desc) = protocol.event(sender.interface, message.opcode) else {
         return Err(EventError::UnknownOpcode);
     };
     let args = message.args.as_slice();
