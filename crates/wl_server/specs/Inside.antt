@@ -4,6 +4,7 @@ pub mod ReadingLoop
 pub mod Responses
 pub mod Syncing
 pub mod Words
+pub mod InPlace
 pub mod Client
 pub mod Lookup
 pub mod Puts

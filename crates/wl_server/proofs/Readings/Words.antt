@@ -1,5 +1,5 @@
--- A request of words that is handed out where it stands is handled as any other.
-use Rattle.std.proofs.Common.{◌≡◌, ◌∙◌, ℕ, ◌*◌, ◌<◌, ◌≤◌, Bool, true, false, ◌==◌, nat_le, nat_lt, if◌then◌else◌, List, [], ◌∷◌, ◌++◌, append-nil, append_assoc, drop, length, take, Option, None, Some, option_map, Result, Ok, Err, refl, sym, ap, ap₂, subst, arith, true≢false}
+-- A request that is handed out where it stands is handled as any other.
+use Rattle.std.proofs.Common.{◌≡◌, ◌∙◌, ℕ, ◌*◌, ◌<◌, ◌≤◌, Bool, true, false, ◌==◌, ◌&&◌, nat_le, nat_lt, if◌then◌else◌, List, [], ◌∷◌, ◌++◌, append-nil, append_assoc, drop, length, take, Option, None, Some, option_map, Result, Ok, Err, refl, sym, ap, ap₂, subst, arith, true≢false}
 use Rattle.std.proofs.lemmas.List.{length-drop, length-take-le, take-append-drop}
 use Rattle.std.proofs.lemmas.Bool.{and_parts, le-leb, le-ltb, leb-true}
 use Rattle.std.specs.Int.{w32, cast_signed}
@@ -34,13 +34,18 @@ use Rattle.wl_server.specs.declared.reading.response.RequestFault.TheVariants as
 use Rattle.wl_server.specs.Deeds.{Handed, Request}
 use Rattle.wl_server.specs.Ids.{ClientParts, IdParts}
 use Rattle.wl_server.specs.Inside.ReadingLoop.{Acts, HandlesMessage, IsHandled, IsSenderOf, Live, counted, linked}
-use Rattle.wl_server.specs.Inside.Words.{MayStand, WordsWait, asked_after, first_word, handed_object, handed_word, handed_words, held_fits, held_id, object_fits, word_fits, words_fit}
-use Rattle.wl_server.specs.Part.{id_at, null_id}
+use Rattle.wl_wire.specs.Inside.Cursor.{◌>>=◌, argument_at, counted_at, text_of}
+use Rattle.wl_wire.proofs.Spelling.CursorLaws.{IsRead, argument_reads}
+use Rattle.wl_server.specs.Inside.Conversion.{MakesObject}
+use Rattle.wl_server.specs.Inside.InPlace.{Front, HandsOut, front_of, fronts, word_front}
+use Rattle.wl_server.specs.Inside.Words.{MayStand, RequestWaits, asked_after, first_word, handed_object, handed_word, handed_words, held_fits, held_id, object_fits, word_fits, words_fit}
+use Rattle.wl_server.specs.Part.{id_at, null_id, objects_of}
 use Rattle.wl_server.specs.Reading.{Around, hands_out, request, row_in, server}
-use Rattle.wl_server.specs.Requests.{Converting, Whole, allows_null, convert, convert_one, going_on, object_argument, object_found, with_object_argument}
+use Rattle.wl_server.specs.Requests.{Converting, Whole, allows_null, convert, convert_one, going_on, kinds_after, object_argument, object_found, start, with_object_argument}
 use Rattle.wl_server.specs.Server.{Stored}
-use Rattle.wl_server.specs.Telling.{Core, core_of, objects_in, reader_part}
-use Rattle.wl_server.proofs.Readings.Handling.{handed_out}
+use Rattle.wl_server.specs.Telling.{Core, Told, core_of, reader_part, with_objects}
+use Rattle.wl_link.specs.Reader.{Verdict}
+use Rattle.wl_server.proofs.Readings.Handling.{from_there, handed_out}
 use Rattle.wl_server.proofs.Readings.OneMessage.{message_handled}
 use Rattle.wl_server.proofs.Readings.Syncing.{taken}
 
@@ -55,7 +60,31 @@ long_enough store (k ∷ kinds) asked bytes fit =
     let rest = long_enough store kinds (asked_after k asked) (drop 4 bytes) q.1 in
     omega (arith, long, rest, length-drop 4 bytes)
 
--- ---- the words are converted to what is handed out
+-- ---- the arguments are converted to what is handed out
+
+-- a step that may find nothing has found something
+found_first : {A B : Type 0} (r : Option A) (f : A → Option B) (y : B) → (r >>= f) ≡ Some y → (x : A) × (r ≡ Some x) × (f x ≡ Some y)
+found_first (Some x) f y e = (x, refl, e)
+found_first None f y e = absurd cc
+
+found_if : {A : Type 0} (b : Bool) (x y : A) → (if b then Some x else None) ≡ Some y → (b ≡ true) × (x ≡ y)
+found_if true x y e = (refl, cc)
+found_if false x y e = absurd cc
+
+abbrev text_found : Option (List ℕ) → List ℕ → Front
+text_found text rest = Some (arg.Str text, rest)
+
+abbrev array_found : List ℕ → List ℕ → Front
+array_found content rest = Some (arg.Array content, rest)
+
+text_read : (null : AllowNull) (bytes content rest : List ℕ) (text : Option (List ℕ)) (fds : List Token) → counted_at bytes ≡ Some (content, rest) → text_of content ≡ Some text
+    → IsRead (kind.Str null) bytes fds (arg.Str text, rest, fds)
+unfolding argument_at
+text_read null bytes content rest text fds counted is = argument_reads (kind.Str null) bytes fds (arg.Str text, rest, fds) (rw (counted, is) refl)
+
+array_read : (bytes content rest : List ℕ) (fds : List Token) → counted_at bytes ≡ Some (content, rest) → IsRead kind.Array bytes fds (arg.Array content, rest, fds)
+unfolding argument_at
+array_read bytes content rest fds counted = argument_reads kind.Array bytes fds (arg.Array content, rest, fds) (rw counted refl)
 
 module _ {U : Type 0} (client : ClientParts) (version : ℕ) (objects : Objects (Kept U)) (child : Option InterfaceId) where
   abbrev at : List ArgumentType → List InterfaceId → Converting U
@@ -64,27 +93,24 @@ module _ {U : Type 0} (client : ClientParts) (version : ℕ) (objects : Objects 
   abbrev word_of : ArgumentType → List ℕ → Argument IdParts Token
   word_of k bytes = handed_word client objects.store k (first_word bytes)
 
-  -- the bytes are arguments of these types, which take no token, and these are converted to the words behind `done`
-  abbrev Converts : List ArgumentType → List InterfaceId → List ℕ → List Token → List (Argument IdParts Token) → Type 0
-  Converts kinds asked bytes fds done =
+  -- the bytes are arguments of these types, which take no token, and these are converted, behind `done`, to all that is handed out
+  abbrev Converts : List ArgumentType → List InterfaceId → List ℕ → List Token → List (Argument IdParts Token) → List (Argument IdParts Token) → Type 0
+  Converts kinds asked bytes fds done handed =
       (args : List WireArgument) × ReadsArgs kinds args bytes fds × (fd_count kinds ≡ 0)
-      × ((left : List InterfaceId) × (convert client version (at kinds asked) done args ≡ Whole (at [] left) (done ++ handed_words client objects.store kinds bytes)))
+      × ((left : List InterfaceId) × (convert client version (at kinds asked) done args ≡ Whole (at [] left) handed))
 
-  -- one word before others
-  before : (k : ArgumentType) (kinds : List ArgumentType) (asked : List InterfaceId) (bytes : List ℕ) (fds : List Token) (done : List (Argument IdParts Token)) (a : WireArgument)
-      → fds ≡ token a ++ fds → fd_count (k ∷ kinds) ≡ fd_count kinds → IsPiece k a (take 4 bytes)
-      → convert_one client version (at (k ∷ kinds) asked) a ≡ Ok (word_of k bytes, at kinds (asked_after k asked))
-      → Converts kinds (asked_after k asked) (drop 4 bytes) fds (done ++ word_of k bytes ∷ []) → Converts (k ∷ kinds) asked bytes fds done
+  -- one argument before others
+  before : (k : ArgumentType) (kinds : List ArgumentType) (asked : List InterfaceId) (bytes piece rest : List ℕ) (fds : List Token)
+      (done handed : List (Argument IdParts Token)) (a : WireArgument) (b : Argument IdParts Token)
+      → bytes ≡ piece ++ rest → fds ≡ token a ++ fds → fd_count (k ∷ kinds) ≡ fd_count kinds → IsPiece k a piece
+      → convert_one client version (at (k ∷ kinds) asked) a ≡ Ok (b, at kinds (asked_after k asked))
+      → Converts kinds (asked_after k asked) rest fds (done ++ b ∷ []) handed → Converts (k ∷ kinds) asked bytes fds done handed
   unfolding ReadsArgs
-  before k kinds asked bytes fds done a none same piece converts (args, reads, no_fd, (left, is)) = (
+  before k kinds asked bytes piece rest fds done handed a b bytes_are none same is_piece converts (args, reads, no_fd, (left, is)) = (
     a ∷ args,
-    (take 4 bytes, drop 4 bytes, fds, sym (take-append-drop 4 bytes), none, piece, reads),
+    (piece, rest, fds, bytes_are, none, is_piece, reads),
     same ∙ no_fd,
-    (
-      left,
-      ap (λ o. going_on o objects (λ b next. convert client version next (done ++ b ∷ []) args)) converts ∙ is
-          ∙ ap (Whole (at [] left)) (append_assoc done (word_of k bytes ∷ []) (handed_words client objects.store kinds (drop 4 bytes))),
-    ),
+    (left, ap (λ o. going_on o objects (λ b next. convert client version next (done ++ b ∷ []) args)) converts ∙ is),
   )
 
   found_is : (null : Bool) (asked : InterfaceId) (n : ℕ) (zero : Bool) (o : Option (Object (Kept U))) → (if zero then null else held_fits asked o) ≡ true
@@ -103,35 +129,140 @@ module _ {U : Type 0} (client : ClientParts) (version : ℕ) (objects : Objects 
   a_word : (bytes : List ℕ) → 4 ≤ length bytes → IsWord (first_word bytes) (take 4 bytes)
   a_word bytes long = record { four = length-take-le 4 bytes long; value = refl }
 
-  one_word : (k : ArgumentType) (kinds : List ArgumentType) (asked : List InterfaceId) (bytes : List ℕ) (fds : List Token) (done : List (Argument IdParts Token))
+  one_word : (k : ArgumentType) (kinds : List ArgumentType) (asked : List InterfaceId) (bytes : List ℕ) (fds : List Token) (done handed : List (Argument IdParts Token))
       → 4 ≤ length bytes → word_fits objects.store k (next_interface asked) (first_word bytes) ≡ true
-      → Converts kinds (asked_after k asked) (drop 4 bytes) fds (done ++ word_of k bytes ∷ []) → Converts (k ∷ kinds) asked bytes fds done
+      → Converts kinds (asked_after k asked) (drop 4 bytes) fds (done ++ word_of k bytes ∷ []) handed → Converts (k ∷ kinds) asked bytes fds done handed
   unfolding IsPiece
-  one_word kind.Int kinds asked bytes fds done long fit rest =
-      before kind.Int kinds asked bytes fds done (arg.Int (cast_signed w32 (first_word bytes))) refl refl (first_word bytes, a_word bytes long, refl) refl rest
-  one_word kind.Uint kinds asked bytes fds done long fit rest =
-      before kind.Uint kinds asked bytes fds done (arg.Uint (first_word bytes)) refl refl (a_word bytes long) refl rest
-  one_word kind.Fixed kinds asked bytes fds done long fit rest =
-      before kind.Fixed kinds asked bytes fds done (arg.Fixed (cast_signed w32 (first_word bytes))) refl refl (first_word bytes, a_word bytes long, refl) refl rest
-  one_word (kind.Object null) kinds asked bytes fds done long fit rest =
-      before (kind.Object null) kinds asked bytes fds done (arg.Object (first_word bytes)) refl refl (a_word bytes long)
+  one_word kind.Int kinds asked bytes fds done handed long fit rest =
+      before kind.Int kinds asked bytes (take 4 bytes) (drop 4 bytes) fds done handed (arg.Int (cast_signed w32 (first_word bytes))) (word_of kind.Int bytes)
+      (sym (take-append-drop 4 bytes)) refl refl (first_word bytes, a_word bytes long, refl) refl rest
+  one_word kind.Uint kinds asked bytes fds done handed long fit rest =
+      before kind.Uint kinds asked bytes (take 4 bytes) (drop 4 bytes) fds done handed (arg.Uint (first_word bytes)) (word_of kind.Uint bytes)
+      (sym (take-append-drop 4 bytes)) refl refl (a_word bytes long) refl rest
+  one_word kind.Fixed kinds asked bytes fds done handed long fit rest =
+      before kind.Fixed kinds asked bytes (take 4 bytes) (drop 4 bytes) fds done handed (arg.Fixed (cast_signed w32 (first_word bytes))) (word_of kind.Fixed bytes)
+      (sym (take-append-drop 4 bytes)) refl refl (first_word bytes, a_word bytes long, refl) refl rest
+  one_word (kind.Object null) kinds asked bytes fds done handed long fit rest =
+      before (kind.Object null) kinds asked bytes (take 4 bytes) (drop 4 bytes) fds done handed (arg.Object (first_word bytes)) (word_of (kind.Object null) bytes)
+      (sym (take-append-drop 4 bytes)) refl refl (a_word bytes long)
       (ap (with_object_argument (at (kind.Object null ∷ kinds) asked)) (object_is null kinds (next_interface asked) (first_word bytes) fit)) rest
-  one_word (kind.Str _) kinds asked bytes fds done long fit rest = absurd (true≢false (sym fit))
-  one_word kind.NewId kinds asked bytes fds done long fit rest = absurd (true≢false (sym fit))
-  one_word kind.Array kinds asked bytes fds done long fit rest = absurd (true≢false (sym fit))
-  one_word kind.Fd kinds asked bytes fds done long fit rest = absurd (true≢false (sym fit))
+  one_word (kind.Str _) kinds asked bytes fds done handed long fit rest = absurd (true≢false (sym fit))
+  one_word kind.NewId kinds asked bytes fds done handed long fit rest = absurd (true≢false (sym fit))
+  one_word kind.Array kinds asked bytes fds done handed long fit rest = absurd (true≢false (sym fit))
+  one_word kind.Fd kinds asked bytes fds done handed long fit rest = absurd (true≢false (sym fit))
 
   words_convert : (kinds : List ArgumentType) (asked : List InterfaceId) (bytes : List ℕ) (fds : List Token) (done : List (Argument IdParts Token))
-      → words_fit objects.store kinds asked bytes ≡ true → Converts kinds asked bytes fds done
+      → words_fit objects.store kinds asked bytes ≡ true → Converts kinds asked bytes fds done (done ++ handed_words client objects.store kinds bytes)
   unfolding ReadsArgs
   words_convert [] asked bytes fds done fit = ([], tt, refl, (asked, ap (Whole (at [] asked)) (sym (append-nil done))))
   words_convert (k ∷ kinds) asked bytes fds done fit =
       let p = and_parts (nat_le 4 (length bytes)) _ fit in
       let q = and_parts (word_fits objects.store k (next_interface asked) (first_word bytes)) _ p.1 in
-      one_word k kinds asked bytes fds done (leb-true 4 (length bytes) p.0) q.0
-      (words_convert kinds (asked_after k asked) (drop 4 bytes) fds (done ++ word_of k bytes ∷ []) q.1)
+      let rest = words_convert kinds (asked_after k asked) (drop 4 bytes) fds (done ++ word_of k bytes ∷ []) q.1 in
+      one_word k kinds asked bytes fds done (done ++ handed_words client objects.store (k ∷ kinds) bytes) (leb-true 4 (length bytes) p.0) q.0
+      (subst (λ (handed : List (Argument IdParts Token)). Converts kinds (asked_after k asked) (drop 4 bytes) fds (done ++ word_of k bytes ∷ []) handed)
+      (append_assoc done (word_of k bytes ∷ []) (handed_words client objects.store kinds (drop 4 bytes))) rest)
 
--- ---- a request of words
+  -- ---- texts and arrays among them
+
+  by_word : (k : ArgumentType) (kinds : List ArgumentType) (asked : List InterfaceId) (bytes : List ℕ) (fds : List Token) (done handed : List (Argument IdParts Token))
+      (x : Argument IdParts Token × List ℕ) → word_front client objects.store k (next_interface asked) bytes ≡ Some x
+      → Converts kinds (asked_after k asked) x.1 fds (done ++ x.0 ∷ []) handed → Converts (k ∷ kinds) asked bytes fds done handed
+  by_word k kinds asked bytes fds done handed x found rest =
+      let word : Argument IdParts Token × List ℕ = (word_of k bytes, drop 4 bytes) in
+      let f = found_if (nat_le 4 (length bytes) && word_fits objects.store k (next_interface asked) (first_word bytes)) word x found in
+      let p = and_parts (nat_le 4 (length bytes)) _ f.0 in
+      one_word k kinds asked bytes fds done handed (leb-true 4 (length bytes) p.0) p.1
+      (subst (λ (y : Argument IdParts Token × List ℕ). Converts kinds (asked_after k asked) y.1 fds (done ++ y.0 ∷ []) handed) (sym f.1) rest)
+
+  one_front : (k : ArgumentType) (kinds : List ArgumentType) (asked : List InterfaceId) (bytes : List ℕ) (fds : List Token) (done handed : List (Argument IdParts Token))
+      (x : Argument IdParts Token × List ℕ) → front_of client objects.store k (next_interface asked) bytes ≡ Some x
+      → Converts kinds (asked_after k asked) x.1 fds (done ++ x.0 ∷ []) handed → Converts (k ∷ kinds) asked bytes fds done handed
+  one_front (kind.Str null) kinds asked bytes fds done handed x found rest =
+      let c = found_first (counted_at bytes) (λ counted. text_of counted.0 >>= λ text. text_found text counted.1) x found in
+      let t = found_first (text_of c.0.0) (λ text. text_found text c.0.1) x c.2 in
+      let read = text_read null bytes c.0.0 c.0.1 t.0 fds c.1 t.1 in
+      let is : (arg.Str t.0, c.0.1) ≡ x = let h = t.2 in cc in
+      before (kind.Str null) kinds asked bytes read.piece c.0.1 fds done handed (arg.Str t.0) (arg.Str t.0) read.bytes refl refl read.is_piece refl
+      (subst (λ (y : Argument IdParts Token × List ℕ). Converts kinds asked y.1 fds (done ++ y.0 ∷ []) handed) (sym is) rest)
+  one_front kind.Array kinds asked bytes fds done handed x found rest =
+      let c = found_first (counted_at bytes) (λ counted. array_found counted.0 counted.1) x found in
+      let read = array_read bytes c.0.0 c.0.1 fds c.1 in
+      let is : (arg.Array c.0.0, c.0.1) ≡ x = let h = c.2 in cc in
+      before kind.Array kinds asked bytes read.piece c.0.1 fds done handed (arg.Array c.0.0) (arg.Array c.0.0) read.bytes refl refl read.is_piece refl
+      (subst (λ (y : Argument IdParts Token × List ℕ). Converts kinds asked y.1 fds (done ++ y.0 ∷ []) handed) (sym is) rest)
+  one_front kind.Int kinds asked bytes fds done handed x found rest = by_word kind.Int kinds asked bytes fds done handed x found rest
+  one_front kind.Uint kinds asked bytes fds done handed x found rest = by_word kind.Uint kinds asked bytes fds done handed x found rest
+  one_front kind.Fixed kinds asked bytes fds done handed x found rest = by_word kind.Fixed kinds asked bytes fds done handed x found rest
+  one_front (kind.Object null) kinds asked bytes fds done handed x found rest = by_word (kind.Object null) kinds asked bytes fds done handed x found rest
+  one_front kind.NewId kinds asked bytes fds done handed x found rest = by_word kind.NewId kinds asked bytes fds done handed x found rest
+  one_front kind.Fd kinds asked bytes fds done handed x found rest = by_word kind.Fd kinds asked bytes fds done handed x found rest
+
+  fronts_convert : (kinds : List ArgumentType) (asked : List InterfaceId) (bytes : List ℕ) (fds : List Token) (done handed : List (Argument IdParts Token))
+      → fronts client objects.store done kinds asked bytes ≡ Some handed → Converts kinds asked bytes fds done handed
+  unfolding ReadsArgs
+  fronts_convert [] asked bytes fds done handed found = ([], tt, refl, (asked, ap (Whole (at [] asked)) (all_done done handed found)))
+    where
+      all_done : (one two : List (Argument IdParts Token)) → Some one ≡ Some two → one ≡ two
+      all_done one two e = cc
+  fronts_convert (k ∷ kinds) asked bytes fds done handed found =
+      let f = found_first (front_of client objects.store k (next_interface asked) bytes)
+      (λ x. fronts client objects.store (done ++ x.0 ∷ []) kinds (asked_after k asked) x.1) handed found in
+      one_front k kinds asked bytes fds done handed f.0 f.1
+      (fronts_convert kinds (asked_after k asked) f.0.1 fds (done ++ f.0.0 ∷ []) handed f.2)
+
+-- ---- what is handed out
+
+module _ {U : Type 0} (client : ClientParts) (version : ℕ) (objects : Objects (Kept U)) (row : MessageRow) (payload : List ℕ) (fds : List Token) where
+  pub words_hand_out : (handed : List (Argument IdParts Token)) → words_fit objects.store row.signature row.arg_interfaces payload ≡ true
+      → handed ≡ handed_words client objects.store row.signature payload → HandsOut client version objects row payload fds None objects handed
+  words_hand_out handed fit is =
+      let c = words_convert client version objects row.child_interface row.signature row.arg_interfaces payload fds [] fit in
+      record {
+        args = c.0;
+        reads = c.1;
+        no_fd = c.2;
+        done = at client version objects row.child_interface [] c.3.0;
+        converts = c.3.1 ∙ ap (Whole (at client version objects row.child_interface [] c.3.0)) (sym is);
+        objects_are = refl;
+        created_is = refl;
+      }
+
+  pub fronts_hand_out : (handed : List (Argument IdParts Token)) → fronts client objects.store [] row.signature row.arg_interfaces payload ≡ Some handed
+      → HandsOut client version objects row payload fds None objects handed
+  fronts_hand_out handed found =
+      let c = fronts_convert client version objects row.child_interface row.signature row.arg_interfaces payload fds [] handed found in
+      record {
+        args = c.0;
+        reads = c.1;
+        no_fd = c.2;
+        done = at client version objects row.child_interface [] c.3.0;
+        converts = c.3.1;
+        objects_are = refl;
+        created_is = refl;
+      }
+
+  -- the one argument is a new id, whose object is made
+  pub new_hands_out : (i : InterfaceId) (id : IdParts) (after : Objects (Kept U)) (handed : List (Argument IdParts Token))
+      → row.signature ≡ kind.NewId ∷ [] → row.child_interface ≡ Some i → 4 ≤ length payload
+      → MakesObject client objects i version (first_word payload) (Some id) after → handed ≡ arg.NewId id ∷ []
+      → HandsOut client version objects row payload fds (Some id) after handed
+  unfolding ReadsArgs IsPiece
+  new_hands_out i id after handed one child long (valid, after_is, id_is) is =
+      let n = first_word payload in
+      let reads : ReadsArgs (kind.NewId ∷ []) (arg.NewId n ∷ []) payload fds
+      = (take 4 payload, drop 4 payload, fds, sym (take-append-drop 4 payload), refl, record { four = length-take-le 4 payload long; value = refl }, tt) in
+      record {
+        args = arg.NewId n ∷ [];
+        reads = subst (λ (kinds : List ArgumentType). ReadsArgs kinds (arg.NewId n ∷ []) payload fds) (sym one) reads;
+        no_fd = ap fd_count one;
+        done = record { objects = after; kinds = kinds_after row.signature; asked = row.arg_interfaces; child = None; created = Some id };
+        converts = rw (child, valid, is, after_is, id_is) refl;
+        objects_are = refl;
+        created_is = refl;
+      }
+
+-- ---- a request that is handed out
 
 receiver_of : {U : Type 0} (table : List InterfaceRow) (o : Option (Object (Kept U))) (opcode : ℕ) (row : MessageRow) → Some row ≡ row_in table o opcode
     → (x : Object (Kept U)) × (o ≡ Some x)
@@ -143,10 +274,10 @@ module _ {T U : Type 0} (table : List InterfaceRow) (store : Store (Kept U)) (li
   abbrev raw : List ℕ
   raw = link.incoming.bytes
 
-  pub words_wait : IsWhole raw → front ≡ take (length_of raw) raw → payload ≡ drop 8 front
+  pub request_waits : IsWhole raw → front ≡ take (length_of raw) raw → payload ≡ drop 8 front
       → Some row ≡ row_in table (held store (sender_of raw)) (opcode_of raw) → ((x : Object (Kept U)) → held store (sender_of raw) ≡ Some x → IsSenderOf sender x)
-      → MayStand row sender → words_fit store row.signature row.arg_interfaces payload ≡ true → WordsWait table store link row sender payload
-  words_wait whole front_is payload_is asked is_sender stands fit =
+      → MayStand row sender → RequestWaits table store link row sender payload
+  request_waits whole front_is payload_is asked is_sender stands =
       let x = receiver_of table (held store (sender_of raw)) (opcode_of raw) row asked in
       record {
         receiver = x.0;
@@ -156,38 +287,34 @@ module _ {T U : Type 0} (table : List InterfaceRow) (store : Store (Kept U)) (li
         stands = stands;
         whole = whole;
         payload = payload_is ∙ ap (drop 8) front_is;
-        fit = fit;
       }
 
 module _ {T U G C : Type 0} (sends : T → Queue → Result ℕ IoFault → T → Type 0) (receives : T → ℕ → Result Queue IoFault → T → Type 0) (a : Around G C)
     (s : Stored T U C) (row : MessageRow) (sender : Sender) (payload : List ℕ) (live : Live s.part)
-    (waits : WordsWait a.table s.part.store s.part.link row sender payload) where
+    (waits : RequestWaits a.table s.part.store s.part.link row sender payload)
+    (created : Option IdParts) (objects : Objects (Kept U)) (handed_args : List (Argument IdParts Token))
+    (hands : HandsOut a.client sender.version (objects_of s.part) row payload s.part.link.incoming.tokens created objects handed_args) where
   abbrev bytes : List ℕ
   bytes = s.part.link.incoming.bytes
 
   abbrev core : Core U C
   core = core_of s.part
 
-  abbrev kept : Objects (Kept U)
-  kept = objects_in core
-
-  words : Converts a.client waits.receiver.version kept row.child_interface row.signature row.arg_interfaces payload s.part.link.incoming.tokens []
-  words = words_convert a.client waits.receiver.version kept row.child_interface row.signature row.arg_interfaces payload s.part.link.incoming.tokens [] waits.fit
-
   abbrev message : WireMessage
-  message = record { sender = sender_of bytes; opcode = opcode_of bytes; args = words.0 }
+  message = record { sender = sender_of bytes; opcode = opcode_of bytes; args = hands.args }
 
   abbrev receiver_id : IdParts
   receiver_id = id_at a.client (sender_of bytes) waits.receiver
 
-  abbrev handed_args : List (Argument IdParts Token)
-  handed_args = handed_words a.client s.part.store row.signature payload
+  -- what is handed out, and the verdict of that, if this is the object that was made, and the objects are so
+  abbrev action : Option IdParts → OpenAction
+  action made = opened.Request receiver_id row.is_destructor made
 
-  abbrev action : OpenAction
-  action = opened.Request receiver_id row.is_destructor None
+  abbrev handed : Option IdParts → Handed
+  handed made = Request receiver_id (opcode_of bytes) handed_args row.is_destructor made
 
-  abbrev handed : Handed
-  handed = Request receiver_id (opcode_of bytes) handed_args row.is_destructor None
+  abbrev verdict : Option IdParts → Objects (Kept U) → Verdict (Core U C) (Told U)
+  verdict made kept = hands_out (with_objects core kept) (action made) (handed made)
 
   row_is : row_in a.table (held s.part.store (sender_of bytes)) (opcode_of bytes) ≡ Some row
   row_is = ap (λ o. row_in a.table o (opcode_of bytes)) waits.holds ∙ waits.has
@@ -202,9 +329,9 @@ module _ {T U G C : Type 0} (sends : T → Queue → Result ℕ IoFault → T �
             whole = waits.whole;
             sender = refl;
             opcode = refl;
-            args = subst (λ (p : List ℕ). ReadsArgs row.signature words.0 p s.part.link.incoming.tokens) waits.payload words.1;
+            args = subst (λ (p : List ℕ). ReadsArgs row.signature hands.args p s.part.link.incoming.tokens) waits.payload hands.reads;
           },
-          ap (λ (n : ℕ). with_incoming s.part.link s.part.link.transport (record { bytes = drop (length_of bytes) bytes; tokens = drop n s.part.link.incoming.tokens })) (sym words.2),
+          ap (λ (n : ℕ). with_incoming s.part.link s.part.link.transport (record { bytes = drop (length_of bytes) bytes; tokens = drop n s.part.link.incoming.tokens })) (sym hands.no_fd),
         ),
       )
 
@@ -217,37 +344,47 @@ module _ {T U G C : Type 0} (sends : T → Queue → Result ℕ IoFault → T �
   has_request : nat_lt waits.receiver.version row.since ≡ false
   has_request = ap (λ (n : ℕ). nat_lt n row.since) waits.is_sender.2 ∙ le-ltb sender.version row.since waits.stands.since
 
-  to_receiver : request a core message (Some waits.receiver) (Some row) ≡ hands_out core action handed
-  to_receiver = rw (no_display, no_registry, has_request, words.3.1) refl
+  converts : convert a.client waits.receiver.version (start (objects_of s.part) row) [] hands.args ≡ Whole hands.done handed_args
+  converts = ap (λ (n : ℕ). convert a.client n (start (objects_of s.part) row) [] hands.args) waits.is_sender.2 ∙ hands.converts
 
-  is_handled : hands_out core action handed ≡ (server a).handles core message
-  is_handled = sym to_receiver ∙ sym (ap₂ (request a core message) waits.holds row_is)
+  to_receiver : request a core message (Some waits.receiver) (Some row) ≡ verdict hands.done.created hands.done.objects
+  to_receiver = rw (no_display, no_registry, has_request, converts) refl
 
-  takes : Takes sends (server a) (reader_part s.part) (hands_out core action handed) (taken s.part.link)
+  is_handled : verdict created objects ≡ (server a).handles core message
+  is_handled = sym (to_receiver ∙ ap₂ verdict hands.created_is hands.objects_are) ∙ sym (ap₂ (request a core message) waits.holds row_is)
+
+  takes : Takes sends (server a) (reader_part s.part) (verdict created objects) (taken s.part.link)
   takes = (message, reads, is_handled)
 
   fewer : length (drop (length_of bytes) bytes) < length bytes
   fewer = let header = waits.whole.counts_header in let there = waits.whole.there in omega (arith, length-drop (length_of bytes) bytes, header, there)
 
-  -- the part once it is handed out
-  abbrev acted : LinkState T → IdParts → Bool → Stored T U C
-  acted link id is_destructor = record s { part = record s.part { link = link; action = Some (opened.Request id is_destructor None) } }
+  -- the client once the objects are so, and the message is taken
+  abbrev mid : Stored T U C
+  mid = record s { part = record s.part { link = taken s.part.link; store = objects.store; last_serial = objects.last_serial } }
 
-  pub words_handed : (r r' : Reading) (link : LinkState T) (after : Stored T U C) (number opcode : ℕ) (args : List (Argument IdParts Token))
-      → number ≡ sender_of bytes → opcode ≡ opcode_of bytes → args ≡ handed_args → link ≡ taken s.part.link
+  -- the client once the request is handed out
+  abbrev acted : LinkState T → IdParts → Stored T U C
+  acted link id = record s {
+    part = record s.part { link = link; store = objects.store; last_serial = objects.last_serial; action = Some (opened.Request id row.is_destructor created) };
+  }
+
+  pub request_handed : (r r' : Reading) (link : LinkState T) (after : Stored T U C) (number opcode : ℕ) → number ≡ sender_of bytes → opcode ≡ opcode_of bytes
+      → link ≡ taken s.part.link
       → (let id : IdParts = record { number = number; serial = sender.serial; client = a.client; interface = sender.interface } in
-      after ≡ acted link id row.is_destructor → r'.turns_left ≡ r.turns_left → r'.read ≡ counted r.read 1
-      → HandlesMessage sends receives a s r (Acts (Request id opcode args row.is_destructor None)) after r')
-  words_handed r r' link after number opcode args number_is opcode_is args_is link_is after_is left read =
+      after ≡ acted link id → r'.turns_left ≡ r.turns_left → r'.read ≡ counted r.read 1
+      → HandlesMessage sends receives a s r (Acts (Request id opcode handed_args row.is_destructor created)) after r')
+  request_handed r r' link after number opcode number_is opcode_is link_is after_is left read =
       let id : IdParts = record { number = number; serial = sender.serial; client = a.client; interface = sender.interface } in
       let id_is : receiver_id ≡ id
       = rw (number_is, ← waits.is_sender.0, ← waits.is_sender.1) refl in
-      let handed_is : handed ≡ Request id opcode args row.is_destructor None
-      = rw (id_is, opcode_is, args_is) refl in
-      let same : acted (taken s.part.link) receiver_id row.is_destructor ≡ after
-      = ap₂ (λ (l : LinkState T) (i : IdParts). acted l i row.is_destructor) (sym link_is) id_is ∙ sym after_is in
-      let there : IsHandled sends (hands_out core action handed) (linked s (taken s.part.link)) (Acts handed) after
-      = subst (λ (x : Stored T U C). IsHandled sends (hands_out core action handed) (linked s (taken s.part.link)) (Acts handed) x) same
-      (handed_out sends (linked s (taken s.part.link)) action handed) in
+      let handed_is : handed created ≡ Request id opcode handed_args row.is_destructor created
+      = rw (id_is, opcode_is) refl in
+      let same : acted (taken s.part.link) receiver_id ≡ after
+      = ap₂ acted (sym link_is) id_is ∙ sym after_is in
+      let there : IsHandled sends (verdict created objects) mid (Acts (handed created)) after
+      = subst (λ (x : Stored T U C). IsHandled sends (verdict created objects) mid (Acts (handed created)) x) same
+      (handed_out sends mid (action created) (handed created)) in
       subst (λ (h : Handed). HandlesMessage sends receives a s r (Acts h) after r') handed_is
-      (message_handled sends receives a s r r' live (hands_out core action handed) (taken s.part.link) (Acts handed) after takes there fewer left read)
+      (message_handled sends receives a s r r' live (verdict created objects) (taken s.part.link) (Acts (handed created)) after takes
+      (from_there sends (verdict created objects) (linked s (taken s.part.link)) mid after (Acts (handed created)) refl refl refl there) fewer left read)

@@ -1,4 +1,4 @@
--- Requests whose arguments are words: they are handed out where they stand.
+-- Requests that are handed out where they stand, and their arguments that are words.
 use Rattle.std.specs.Prelude.{◌≡◌, ◌≤◌, ℕ, List, [], ◌∷◌, Bool, true, false, ◌&&◌, ◌==◌, nat_le, if◌then◌else◌, Option, None, Some, length, take, drop}
 use Rattle.std.specs.Int.{w32, cast_signed, from_le_bytes}
 use Rattle.wl_wire.specs.declared.argument.Argument.{Argument}
@@ -30,8 +30,8 @@ abbrev pub asked_after : ArgumentType → List InterfaceId → List InterfaceId
 asked_after (kind.Object _) asked = rest_of asked
 asked_after _ asked = asked
 
--- A request of this row to an object of this kind may be handed out where it stands, if its arguments are words: the object is
--- neither a display nor a registry, it is of a version that has the request, and there are at most four arguments.
+-- A request of this row to an object of this kind may be handed out where it stands: the object is neither a display nor a
+-- registry, it is of a version that has the request, and there are at most four arguments.
 pub record MayStand (row : MessageRow) (sender : Sender) : Type 0 where
   pub no_display : (sender.interface.0 == display_id.0) ≡ false
   pub no_registry : (sender.interface.0 == registry_id.0) ≡ false
@@ -86,9 +86,9 @@ module _ {U : Type 0} where
 
   -- ---- the request at the front
 
-  -- The message at the front is a request of this row, to an object of this kind, that is handed out where it stands. It is there
-  -- whole, and these bytes are its arguments.
-  pub record WordsWait {T : Type 0} (table : List InterfaceRow) (store : Store (Kept U)) (link : LinkState T) (row : MessageRow) (sender : Sender)
+  -- The message at the front is a request of this row, to an object of this kind, that may be handed out where it stands. It is
+  -- there whole, and these bytes are its arguments.
+  pub record RequestWaits {T : Type 0} (table : List InterfaceRow) (store : Store (Kept U)) (link : LinkState T) (row : MessageRow) (sender : Sender)
       (bytes : List ℕ) : Type 0 where
     pub receiver : Object (Kept U)
     pub holds : held store (sender_of link.incoming.bytes) ≡ Some receiver
@@ -97,4 +97,3 @@ module _ {U : Type 0} where
     pub stands : MayStand row sender
     pub whole : IsWhole link.incoming.bytes
     pub payload : bytes ≡ payload_of link.incoming.bytes
-    pub fit : words_fit store row.signature row.arg_interfaces bytes ≡ true

@@ -1,4 +1,4 @@
-//! Readings into an action that the program lends. A request of words that waits is written into it where it stands.
+//! Readings into an action that the program lends. Most requests that wait are written into it where they stand.
 
 ghost use Rattle.std.specs.Prelude.{◌≡◌, false, IfSome, MatchBool, Ok, OnErr, Some};
 ghost use Rattle.std.specs.Result.{result_and};
@@ -36,8 +36,8 @@ impl<T: Transport + Drop, U: Drop, C: Drop> Client<T, U, C> {
         self.socket.next_header()
     }
 
-    /// Hands the request at the front out into `action`, if the client may be read, its arguments are at most four words and
-    /// make no object, and `action` is a request too. If not, nothing is changed.
+    /// Hands the request at the front out into `action`, if the client may be read, that can be done where the request stands,
+    /// and `action` is a request too. If not, nothing is changed.
     fn act_at_once<G: GlobalHandler<C> + Drop>(
         &mut self,
         around: &Surroundings<'_, G>,
@@ -65,7 +65,7 @@ impl<T: Transport + Drop, U: Drop, C: Drop> Client<T, U, C> {
                     *sender = request.0;
                     *opcode = header.1;
                     *is_destructor = request.1;
-                    *created = None;
+                    *created = request.2;
                     true
                 }
                 None => false,

@@ -209,7 +209,7 @@ impl<T: Transport + Drop, U: Drop, C: Drop> Client<T, U, C> {
         if self.answer_sync(around, reading, header) {
             return MessageEnd::Continues;
         }
-        // Most requests have few arguments, all of them words.
+        // Most requests can be handed out where they stand.
         if self.find_words(around, reading, header, found, args) {
             return MessageEnd::HandsOut;
         }
@@ -219,7 +219,7 @@ impl<T: Transport + Drop, U: Drop, C: Drop> Client<T, U, C> {
     }
 
     /// Does the same as `handle_message` for a message with this header, but does not clear `message`: what is left of the
-    /// request is still in it, or the answer to a sync. It is not inlined, so that it costs nothing for a request of words.
+    /// request is still in it, or the answer to a sync. It is not inlined, so that it costs nothing for other requests.
     #[inline(never)]
     fn handle_at<G: GlobalHandler<C> + Drop>(
         &mut self,

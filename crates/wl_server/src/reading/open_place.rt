@@ -72,13 +72,7 @@ impl OpenPlace {
     {
         match found {
             Found::Request(sender, _, is_destructor, created) => {
-                self.object = *sender;
-                self.is_destructor = *is_destructor;
-                self.has_created = created.is_some();
-                if let Some(id) = created {
-                    self.created = *id;
-                }
-                self.kind = OpenKind::Request;
+                self.open_request(*sender, *is_destructor, created);
             }
             Found::Bind(_, object) => {
                 self.object = *object;
@@ -87,13 +81,22 @@ impl OpenPlace {
         }
     }
 
-    /// Opens a request that made no object.
-    pub fn open_request(&mut self, sender: ObjectId, is_destructor: bool)
-        ensures { self.new ≡ Some (opened.Request sender is_destructor None) }
+    /// Opens a request.
+    #[inline(always)]
+    pub fn open_request(
+        &mut self,
+        sender: ObjectId,
+        is_destructor: bool,
+        created: &Option<ObjectId>,
+    )
+        ensures { self.new ≡ Some (opened.Request sender is_destructor created.now) }
     {
         self.object = sender;
         self.is_destructor = is_destructor;
-        self.has_created = false;
+        self.has_created = created.is_some();
+        if let Some(id) = created {
+            self.created = *id;
+        }
         self.kind = OpenKind::Request;
     }
 

@@ -1,4 +1,4 @@
-//! Requests whose arguments are words: they are handed out where they stand, without being read into a message.
+//! Requests that are handed out where they stand, without being read into a message, and their arguments that are words.
 
 ghost use Rattle.std.specs.Prelude.{◌≡◌, ◌≤◌, ◌*◌, ◌++◌, ◌∷◌, [], true, None, IfSome, IsTrue, MatchBool, MatchOption, Some, length};
 ghost use Rattle.smallvec.specs.SmallVec.{HasRoomFor};
@@ -8,7 +8,7 @@ ghost use Rattle.wl_server.specs.Requests.{allows_null};
 ghost use Rattle.wl_server.specs.NoteOrder.{IsNumbered};
 ghost use Rattle.wl_server.specs.Deeds.{Request};
 ghost use Rattle.wl_server.specs.Inside.ReadingLoop.{Acts, HandlesMessage, IsHeader, Live, around_of, found_with};
-ghost use Rattle.wl_server.specs.Inside.Words.{MayStand, WordsWait, asked_after, first_word, handed_object, handed_word, handed_words, object_fits, word_fits, words_fit};
+ghost use Rattle.wl_server.specs.Inside.Words.{MayStand, RequestWaits, asked_after, first_word, handed_object, handed_word, handed_words, object_fits, word_fits, words_fit};
 
 use crate::client::Client;
 use crate::globals::handler::GlobalHandler;
@@ -17,6 +17,7 @@ use crate::ids::object_id::ObjectId;
 use crate::objects::{Kept, id_at};
 use crate::reading::Surroundings;
 use crate::reading::action::{Found, Reading};
+use crate::reading::in_place::put_arguments;
 use crate::reading::message::request_desc;
 use crate::reading::request::Sender;
 use wl_link::{BufferedSocket, ObjectMap, Transport};
@@ -27,7 +28,7 @@ use wl_wire::{
 };
 
 /// The word at the front of the bytes.
-fn first_word(bytes: &[u8]) -> u32
+pub fn first_word(bytes: &[u8]) -> u32
     requires { 4 ≤ length bytes.now }
     ensures { result ≡ first_word bytes.now }
 {
@@ -45,7 +46,7 @@ fn next_asked(asked: &[InterfaceId]) -> InterfaceId
 }
 
 /// The interfaces that are left after an argument of this type.
-fn asked_after(kind: ArgumentType, asked: &[InterfaceId]) -> &[InterfaceId]
+pub fn asked_after(kind: ArgumentType, asked: &[InterfaceId]) -> &[InterfaceId]
     ensures { result.now ≡ asked_after kind asked.now }
 {
     match (kind, asked) {
@@ -73,7 +74,7 @@ fn object_fits<U: Drop>(
 }
 
 /// Whether the word may stand for an argument of this type, which makes no object.
-fn word_fits<U: Drop>(
+pub fn word_fits<U: Drop>(
     objects: &ObjectMap<Kept<U>>,
     kind: ArgumentType,
     asked: &[InterfaceId],
@@ -92,7 +93,7 @@ fn word_fits<U: Drop>(
 }
 
 /// Whether the bytes begin with the arguments of the request, all of them words that make no object.
-fn words_fit<U: Drop>(objects: &ObjectMap<Kept<U>>, desc: &MessageDesc, payload: &[u8]) -> bool
+pub fn words_fit<U: Drop>(objects: &ObjectMap<Kept<U>>, desc: &MessageDesc, payload: &[u8]) -> bool
     ensures { result ≡ words_fit objects.now.store desc.now.signature.items desc.now.arg_interfaces.items payload.now }
 {
     let mut kinds = desc.signature.as_slice();
@@ -123,6 +124,24 @@ fn handed_object<U: Drop>(client: ClientId, objects: &ObjectMap<Kept<U>>, number
     }
 }
 
+/// The argument of this type that a word is.
+#[inline(always)]
+pub fn handed_word<U: Drop>(
+    client: ClientId,
+    objects: &ObjectMap<Kept<U>>,
+    kind: ArgumentType,
+    word: u32,
+) -> Argument<ObjectId, Token>
+    ensures { result ≡ handed_word client objects.now.store kind word }
+{
+    match kind {
+        ArgumentType::Int => Argument::Int(word.cast_signed()),
+        ArgumentType::Fixed => Argument::Fixed(word.cast_signed()),
+        ArgumentType::Object(_) => Argument::Object(handed_object(client, objects, word)),
+        _ => Argument::Uint(word),
+    }
+}
+
 /// Puts the argument of this type that a word is behind those in `args`, which has room for it.
 #[inline(always)]
 fn put_word<U: Drop>(
@@ -148,7 +167,7 @@ fn put_word<U: Drop>(
 }
 
 /// Empties the arguments. Most often there are none.
-fn empty(args: &mut Args<ObjectId>)
+pub fn empty(args: &mut Args<ObjectId>)
     ensures items { args.new.items ≡ [] }
     ensures capacity { args.new.capacity ≡ args.old.capacity }
 {
@@ -158,7 +177,7 @@ fn empty(args: &mut Args<ObjectId>)
 }
 
 /// Puts the arguments of the request, which are at most four words, into `args`, which is emptied first.
-fn put_words<U: Drop>(
+pub fn put_words<U: Drop>(
     client: ClientId,
     objects: &ObjectMap<Kept<U>>,
     desc: &MessageDesc,
@@ -183,8 +202,8 @@ fn put_words<U: Drop>(
     }
 }
 
-/// Whether a request to this object may be handed out where it stands, if its arguments are words: those to displays and
-/// registries are answered, and those that the object's version does not have are refused.
+/// Whether a request to this object may be handed out where it stands: those to displays and registries are answered, those
+/// that the object's version does not have are refused, and more than four arguments need memory.
 fn may_stand(desc: &MessageDesc, sender: Sender) -> bool
     ensures { IsTrue result → MayStand (message_row desc.now) sender }
 {
@@ -193,16 +212,16 @@ fn may_stand(desc: &MessageDesc, sender: Sender) -> bool
     !is_answered && sender.version >= desc.since && desc.signature.len() <= INLINE_ARGS
 }
 
-/// The request at the front, which has this header, if it can be handed out where it stands: its description in the table,
-/// what its sender is, and the bytes of its arguments. They are at most four words, and make no object.
-fn waiting_words<'a, T: Drop, U: Drop>(
-    protocol: &'a Protocol,
+/// The request at the front, which has this header, if it is complete and may be handed out where it stands: its description
+/// in the table, what its sender is, and the bytes of its arguments.
+fn waiting_request<'p, 's, T: Drop, U: Drop>(
+    protocol: &'p Protocol,
     objects: &ObjectMap<Kept<U>>,
-    socket: &'a BufferedSocket<T>,
+    socket: &'s BufferedSocket<T>,
     header: (u32, u16),
-) -> Option<(&'a MessageDesc, Sender, &'a [u8])>
+) -> Option<(&'p MessageDesc, Sender, &'s [u8])>
     requires { IsHeader socket.now header }
-    ensures { IfSome result (λ w. WordsWait protocol.now objects.now.store socket.now (message_row w.0.now) w.1 w.2.now) }
+    ensures { IfSome result (λ w. RequestWaits protocol.now objects.now.store socket.now (message_row w.0.now) w.1 w.2.now) }
 {
     let front = socket.front()?;
     let asked = request_desc(protocol, objects, header.0, header.1)?;
@@ -211,17 +230,14 @@ fn waiting_words<'a, T: Drop, U: Drop>(
     if !may_stand(desc, sender) {
         return None;
     }
-    let payload = front.split_at(8).1;
-    if !words_fit(objects, desc, payload) {
-        return None;
-    }
-    Some((desc, sender, payload))
+    Some((desc, sender, front.split_at(8).1))
 }
 
 impl<T: Transport + Drop, U: Drop, C: Drop> Client<T, U, C> {
-    /// Hands out the request at the front, which has this header, if its arguments are at most four words and make no object.
-    /// Returns the object that it was sent to and whether it is a destructor. Its arguments are in `args` then. If it is no
-    /// such request, or is not complete, nothing is changed.
+    /// Hands out the request at the front, which has this header, if that can be done where it stands: it has at most four
+    /// arguments, without a descriptor, and makes no object or has no argument but that. Returns the object that it was sent
+    /// to, whether it is a destructor, and the object that it made. Its arguments are in `args` then. If it is no such request,
+    /// or is not complete, nothing is changed.
     #[inline(always)]
     pub fn take_words<G: GlobalHandler<C> + Drop>(
         &mut self,
@@ -229,23 +245,33 @@ impl<T: Transport + Drop, U: Drop, C: Drop> Client<T, U, C> {
         reading: &mut Reading,
         header: (u32, u16),
         args: &mut Args<ObjectId>,
-    ) -> Option<(ObjectId, bool)>
+    ) -> Option<(ObjectId, bool, Option<ObjectId>)>
         requires live { Live self.old.part }
         requires header { IsHeader self.old.part.link header }
         ensures handles { MatchOption result
             ((self.new ≡ self.old) × (reading.new ≡ reading.old) × (args.new ≡ args.old))
             (λ w. HandlesMessage T.sends T.receives (around_of G.views around.now) self.old reading.old
-            (Acts (Request w.0 header.1 args.new.items w.1 None)) self.new reading.new) }
-        ensures capacity { args.new.capacity ≡ args.old.capacity }
+            (Acts (Request w.0 header.1 args.new.items w.1 w.2)) self.new reading.new) }
+        ensures inline { INLINE_ARGS ≤ args.old.capacity → INLINE_ARGS ≤ args.new.capacity }
         ensures times { self.new.times ≡ self.old.times }
         ensures numbered { IsNumbered (Some self.old) → IsNumbered (Some self.new) }
     {
-        let waiting = waiting_words(around.protocol, &self.objects.map, &self.socket, header);
+        let waiting = waiting_request(around.protocol, &self.objects.map, &self.socket, header);
         let Some(request) = waiting else {
             return None;
         };
         let desc = request.0;
-        put_words(around.client, &self.objects.map, desc, request.2, args);
+        let put = put_arguments(
+            around.client,
+            request.1.version,
+            desc,
+            &mut self.objects,
+            request.2,
+            args,
+        );
+        let Some(created) = put else {
+            return None;
+        };
         let sender = ObjectId::from_parts(
             header.0,
             request.1.serial,
@@ -253,10 +279,10 @@ impl<T: Transport + Drop, U: Drop, C: Drop> Client<T, U, C> {
             request.1.interface,
         );
         let is_destructor = desc.is_destructor;
-        self.action.open_request(sender, is_destructor);
+        self.action.open_request(sender, is_destructor, &created);
         self.socket.skip_message();
         reading.read = reading.read.saturating_add(1);
-        Some((sender, is_destructor))
+        Some((sender, is_destructor, created))
     }
 
     /// Does the same as `take_words`, and puts what is handed out into `found`. Returns whether something is.
@@ -281,7 +307,7 @@ impl<T: Transport + Drop, U: Drop, C: Drop> Client<T, U, C> {
     {
         match self.take_words(around, reading, header, args) {
             Some(request) => {
-                *found = Found::Request(request.0, header.1, request.1, None);
+                *found = Found::Request(request.0, header.1, request.1, request.2);
                 true
             }
             None => false,

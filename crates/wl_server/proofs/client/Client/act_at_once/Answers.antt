@@ -1,4 +1,4 @@
-use Rattle.std.proofs.Common.{None, Ok}
+use Rattle.std.proofs.Common.{Ok}
 use Rattle.wl_server.specs.Deeds.{Request}
 use Rattle.wl_server.specs.Inside.ReadingLoop.{around_of}
 use Rattle.wl_server.proofs.Readings.OneMessage.{reading_done}
@@ -8,4 +8,4 @@ pub returns-in-Some-take_words-clause-done : goal.returns-in-Some-take_words-cla
 returns-in-Some-take_words-clause-done g c =
     let request = c.in-Some-take_words.request in
     reading_done g.T.Transport.sends g.T.Transport.receives (around_of g.G.GlobalHandler.views c.args.around.now) _ c.take_words.new.self c.args.reading.now c.take_words.new.reading
-    (Ok (Request request.0 c.in-Some.header.1 c.take_words.new.args.items request.1 None)) c.in-Some.ensures.0 c.in-Some-take_words.ensures.handles
+    (Ok (Request request.0 c.in-Some.header.1 c.take_words.new.args.items request.1 request.2)) c.in-Some.ensures.0 c.in-Some-take_words.ensures.handles
