@@ -23,7 +23,7 @@ use crate::reading::request::Sender;
 use wl_link::{BufferedSocket, ObjectMap, Transport};
 use wl_wire::{
     ANONYMOUS_INTERFACE, AllowNull, Args, Argument, ArgumentType, INLINE_ARGS, InterfaceId,
-    MessageDesc, Protocol, WL_DISPLAY_INTERFACE, WL_REGISTRY_INTERFACE,
+    MessageDesc, Protocol, Token, WL_DISPLAY_INTERFACE, WL_REGISTRY_INTERFACE,
     same_interface_or_anonymous,
 };
 
