@@ -1,9 +1,10 @@
 //! The descriptors of a message replaced by others.
 
-use std::alloc::Global;
+use smallvec::SmallVec;
+use std::alloc::{AllocError, Global};
 use std::test::Fail;
 use test_kit::message::{Arg, message};
-use wl_wire::{Argument, Message};
+use wl_wire::{Argument, Message, Token};
 
 /// A message whose descriptors are replaced by 0, 1 and so on, in the order in which they are asked for.
 fn counted(alloc: Global, header: (u32, u16), args: &[Arg]) -> Result<Message<u32, u32>, Fail> {
@@ -21,7 +22,11 @@ fn counted(alloc: Global, header: (u32, u16), args: &[Arg]) -> Result<Message<u3
 }
 
 /// Whether the message has this sender and opcode and these arguments.
-fn has(message: &Message<u32, u32>, header: (u32, u16), args: &[Argument<u32, u32>]) -> bool {
+fn has<Fd: PartialEq>(
+    message: &Message<u32, Fd>,
+    header: (u32, u16),
+    args: &[Argument<u32, Fd>],
+) -> bool {
     (message.sender_id, message.opcode) == header && message.args.as_slice() == args
 }
 
@@ -39,23 +44,49 @@ fn descriptors_are_mapped_from_left_to_right(rt: HostRuntime) -> Result<(), Fail
     Ok(())
 }
 
-/// More arguments than lie in the message itself.
-#[test]
-fn descriptors_of_five_arguments_are_mapped(rt: HostRuntime) -> Result<(), Fail> {
-    let args = [
-        Arg::Fd(5),
-        Arg::Int(1),
-        Arg::Fd(6),
-        Arg::Uint(2),
-        Arg::Fd(7),
-    ];
+/// Whether the descriptors of this message of five arguments become 0, 1 and 2, or there is no memory, and the message comes
+/// back without a call.
+fn is_mapped_or_given_back(message: Message<u32, Token>) -> bool {
+    let mut count = 0i32;
+    let mapped = message.map_fd(|_| {
+        let token = Token(count);
+        count = count.wrapping_add(1);
+        token
+    });
+    let (fds, calls) = match &mapped {
+        Ok(_) => ([0, 1, 2], 3),
+        Err(_) => ([5, 6, 7], 0),
+    };
     let expected = [
-        Argument::Fd(0),
+        Argument::Fd(Token(fds[0])),
         Argument::Int(1),
-        Argument::Fd(1),
+        Argument::Fd(Token(fds[1])),
         Argument::Uint(2),
-        Argument::Fd(2),
+        Argument::Fd(Token(fds[2])),
     ];
-    assert!(rt; maps(rt.alloc(), &args, &expected)?);
-    Ok(())
+    match &mapped {
+        Ok(message) | Err(message) => has(message, (42, 7), &expected) && count == calls,
+    }
+}
+
+/// A message of more arguments than lie in it: their list needs memory.
+fn five_arguments(alloc: Global) -> Result<Message<u32, Token>, AllocError> {
+    let mut args = SmallVec::new(alloc);
+    args.push(Argument::Fd(Token(5)))?;
+    args.push(Argument::Int(1))?;
+    args.push(Argument::Fd(Token(6)))?;
+    args.push(Argument::Uint(2))?;
+    args.push(Argument::Fd(Token(7)))?;
+    Ok(Message {
+        sender_id: 42,
+        opcode: 7,
+        args,
+    })
+}
+
+#[test]
+fn drill_of_five_arguments(rt: HostRuntime) {
+    if let Ok(message) = five_arguments(rt.alloc()) {
+        assert!(rt; is_mapped_or_given_back(message));
+    }
 }
