@@ -5,10 +5,10 @@
 //! | objects and requests as data | `values` |
 //! | the steps of a run by `replay` as data | `steps` |
 //! | what a client's calls answer, a line each | `told` |
-//! | values that count their drops | `counted` |
+//! | a transport that counts its drop | `line` |
 //! | a table in which an event names a child interface and has no new id | `table` |
 
-pub mod counted;
+pub mod line;
 pub mod steps;
 pub mod table;
 pub mod told;

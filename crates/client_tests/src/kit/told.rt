@@ -3,15 +3,30 @@
 use std::alloc::AllocError;
 use std::fmt::{Display, Write};
 use wl_client::{
-    DestroyError, EventError, FinishRefused, FlushError, Note, ObjectId, OpenEvent, Reply,
-    RequestError, WaylandError,
+    EventError, FinishRefused, Note, ObjectId, OpenEvent, Reply, RequestError, WaylandError,
 };
 use wl_wire::{Argument, CString, Message, Token};
 
-/// Writes whether something was done, or why not.
-pub fn write_done<E: Display>(log: &mut String, answer: &Result<(), E>) -> Result<(), AllocError> {
+/// Writes this word if something was done, or why not.
+pub fn write_done<E: Display>(
+    log: &mut String,
+    word: &str,
+    answer: &Result<(), E>,
+) -> Result<(), AllocError> {
     match answer {
-        Ok(()) => writeln!(log, "done"),
+        Ok(()) => writeln!(log, "{word}"),
+        Err(error) => writeln!(log, "{error}"),
+    }
+}
+
+/// Writes a value after its name, or why there is none.
+pub fn write_or<T: Display, E: Display>(
+    log: &mut String,
+    name: &str,
+    answer: &Result<T, E>,
+) -> Result<(), AllocError> {
+    match answer {
+        Ok(value) => writeln!(log, "{name} {value}"),
         Err(error) => writeln!(log, "{error}"),
     }
 }
@@ -135,36 +150,12 @@ pub fn write_finished(
     }
 }
 
-/// Writes the answer to the destruction of an object.
-pub fn write_destroyed(
-    log: &mut String,
-    answer: &Result<(), DestroyError>,
-) -> Result<(), AllocError> {
-    match answer {
-        Ok(()) => writeln!(log, "destroyed"),
-        Err(error) => writeln!(log, "{error}"),
-    }
-}
-
-/// Writes the answer to a flush.
-pub fn write_flushed(log: &mut String, answer: &Result<(), FlushError>) -> Result<(), AllocError> {
-    match answer {
-        Ok(()) => writeln!(log, "flushed"),
-        Err(error) => writeln!(log, "{error}"),
-    }
-}
-
-/// Writes the number and the serial of what was destroyed.
-fn write_note(log: &mut String, note: &Note) -> Result<(), AllocError> {
-    let Note::Destroyed(id) = note;
-    write!(log, " {}, {}", id.protocol_id(), id.serial())
-}
-
-/// Writes what was destroyed.
+/// Writes what was destroyed: the number and the serial of each.
 pub fn write_notes(log: &mut String, notes: &[Note]) -> Result<(), AllocError> {
     write!(log, "notes:")?;
     for note in notes {
-        write_note(log, note)?;
+        let Note::Destroyed(id) = note;
+        write!(log, " {}, {}", id.protocol_id(), id.serial())?;
     }
     writeln!(log)
 }
@@ -215,18 +206,18 @@ fn write_dispatched(
 /// Writes a reply.
 pub fn write_reply(log: &mut String, reply: &Reply<u32>) -> Result<(), AllocError> {
     match reply {
-        Reply::SetData(answer) => write_done(log, answer),
-        Reply::DestroyObject(answer) => write_destroyed(log, answer),
+        Reply::SetData(answer) => write_done(log, "done", answer),
+        Reply::DestroyObject(answer) => write_done(log, "destroyed", answer),
         Reply::SendRequest(answer) => write_sent(log, answer),
-        Reply::Flush(answer) => write_flushed(log, answer),
+        Reply::Flush(answer) => write_done(log, "flushed", answer),
         Reply::NextEvent(answer) => write_read(log, answer),
         Reply::FinishEvent(answer) => write_finished(log, answer),
         Reply::DispatchInnerQueue(answer) => write_dispatched(log, answer),
         Reply::SetMaxBufferSize => writeln!(log, "limit set"),
         Reply::TakeNotes(notes) => write_notes(log, notes.as_slice()),
-        Reply::Arrive(answer) => write_done(log, answer),
+        Reply::Arrive(answer) => write_done(log, "done", answer),
         Reply::ArriveFault(answer) | Reply::Accept(answer) | Reply::AcceptFault(answer) => {
-            write_done(log, answer)
+            write_done(log, "done", answer)
         }
         Reply::TakeSent(sent) => write_taken(log, sent.as_slice()),
     }

@@ -165,15 +165,6 @@ fn push_text(alloc: Global, args: &mut Arguments, string: Option<&str>) -> Resul
     Ok(())
 }
 
-/// So many bytes, each of which is 1.
-fn ones(alloc: Global, len: usize) -> Result<ByteArray, Fail> {
-    let mut bytes = Vec::new(alloc);
-    for _ in 0..len {
-        bytes.push(1)?;
-    }
-    Ok(ByteArray::new(bytes))
-}
-
 /// Appends a string, or none, so many bytes, each of which is 1, and a descriptor to the arguments.
 fn push_payload(
     alloc: Global,
@@ -183,7 +174,7 @@ fn push_payload(
     descriptor: i32,
 ) -> Result<(), Fail> {
     push_text(alloc, args, string)?;
-    args.push(Argument::Array(ones(alloc, len)?))?;
+    args.push(Argument::Array(ByteArray::new(Vec::from_elem(alloc, 1, len)?)))?;
     args.push(Argument::Fd(Token(descriptor)))?;
     Ok(())
 }

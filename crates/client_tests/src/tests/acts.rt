@@ -1,18 +1,15 @@
 //! What a run has a client do, as plain data, and the calls of it.
 
-ghost use Rattle.std.specs.Prelude.{◌<◌};
-
 use super::replayed::replay;
 use super::ways::{Read, Way, read_in, send_in};
 use crate::kit::steps::Call;
 use crate::kit::told::*;
 use crate::kit::values::{Child, Object, Request, message};
 use std::alloc::{AllocError, Global};
-use std::fmt::Write;
+use std::fmt::{Display, Write};
 use std::test::Fail;
 use test_kit::cuts::{Cut, Stream};
 use test_kit::log::row_tells;
-use test_kit::message::padded;
 use test_kit::quad::{destructor, push_interface, quad_table};
 use wl_client::{Backend, EventError};
 use wl_link::Memory;
@@ -88,10 +85,6 @@ pub enum Cue {
     Arrive(&'static [u8]),
     /// Bytes that are to arrive with a descriptor.
     ArriveWith(&'static [u8], i32),
-    /// Bytes that are to arrive, and zeros after them, of that length in all, in chunks of 4096.
-    ArriveInChunks(&'static [u8], usize),
-    /// The same, each byte by itself.
-    ArriveBytewise(&'static [u8], usize),
     /// A stream that is to arrive, cut so.
     ArriveCut(Stream, Cut),
     /// A fault after what is to arrive.
@@ -111,12 +104,6 @@ fn told(client: &Client, written: Result<(), AllocError>) -> Result<(), Fail> {
         Ok(()) => Ok(()),
         Err(_) => Err(Fail::new("there was no memory for the line")),
     }
-}
-
-/// Sets the limit of the buffers.
-fn limit(client: &mut Client, bytes: usize) -> Result<(), Fail> {
-    client.set_max_buffer_size(Some(bytes));
-    told(client, Ok(()))
 }
 
 /// Sends the request, with these data and this wish for the object that it makes.
@@ -167,13 +154,6 @@ fn send_in_want(
 fn bound(alloc: Global, client: &mut Client, log: &mut String, way: Way) -> Result<(), Fail> {
     send(alloc, client, log, way, Request::GetRegistry)?;
     send(alloc, client, log, way, Request::Bind)
-}
-
-/// Sends what waits.
-fn flush(client: &mut Client, log: &mut String) -> Result<(), Fail> {
-    let answer = client.flush();
-    let written = write_flushed(log, &answer);
-    told(client, written)
 }
 
 /// Reads the next event.
@@ -250,11 +230,34 @@ fn serve(alloc: Global, client: &mut Client, log: &mut String, way: Way) -> Resu
     Err(Fail::new("there is more to read"))
 }
 
-/// Gives the object these data.
-fn set_data(client: &mut Client, log: &mut String, object: Object, data: u32) -> Result<(), Fail> {
-    let answer = client.set_data(&object.id(), data);
-    let written = write_done(log, &answer);
+/// Tells this word if a call of the client was done, or why not.
+fn done<E: Display>(
+    client: &Client,
+    log: &mut String,
+    word: &str,
+    answer: &Result<(), E>,
+) -> Result<(), Fail> {
+    let written = write_done(log, word, answer);
     told(client, written)
+}
+
+/// Makes a call that is done or refused, and tells that.
+fn change(client: &mut Client, log: &mut String, act: Act) -> Result<(), Fail> {
+    match act {
+        Act::Flush => {
+            let answer = client.flush();
+            done(client, log, "flushed", &answer)
+        }
+        Act::SetData(object, data) => {
+            let answer = client.set_data(&object.id(), data);
+            done(client, log, "done", &answer)
+        }
+        Act::Destroy(object) => {
+            let answer = client.destroy_object(&object.id());
+            done(client, log, "destroyed", &answer)
+        }
+        _ => Err(Fail::new("the call changes nothing")),
+    }
 }
 
 /// Adds to the object's data, and tells what they were.
@@ -269,17 +272,7 @@ fn add_to_data(
         *data = before.wrapping_add(more);
         before
     });
-    let written = match answer {
-        Ok(before) => writeln!(log, "lent {before}"),
-        Err(error) => writeln!(log, "{error}"),
-    };
-    told(client, written)
-}
-
-/// Destroys the object.
-fn destroy(client: &mut Client, log: &mut String, object: Object) -> Result<(), Fail> {
-    let answer = client.destroy_object(&object.id());
-    let written = write_destroyed(log, &answer);
+    let written = write_or(log, "lent", &answer);
     told(client, written)
 }
 
@@ -290,24 +283,6 @@ fn notes(client: &mut Client, log: &mut String) -> Result<(), Fail> {
     told(client, written)
 }
 
-/// Tells the version of the object.
-fn info(client: &Client, log: &mut String, object: Object) -> Result<(), Fail> {
-    let written = match client.info(&object.id()) {
-        Ok(info) => writeln!(log, "version {}", info.version),
-        Err(error) => writeln!(log, "{error}"),
-    };
-    told(client, written)
-}
-
-/// Tells the data of the object.
-fn data(client: &Client, log: &mut String, object: Object) -> Result<(), Fail> {
-    let written = match client.get_data(&object.id()) {
-        Ok(data) => writeln!(log, "data {data}"),
-        Err(error) => writeln!(log, "{error}"),
-    };
-    told(client, written)
-}
-
 /// Tells the text of the object's id.
 fn text(alloc: Global, client: &Client, log: &mut String, object: Object) -> Result<(), Fail> {
     let text = object.id().display(alloc, client.protocol())?;
@@ -315,96 +290,36 @@ fn text(alloc: Global, client: &Client, log: &mut String, object: Object) -> Res
     told(client, written)
 }
 
-/// Tells the session's error.
-fn last_error(client: &Client, log: &mut String) -> Result<(), Fail> {
-    let written = match client.last_error() {
+/// Writes the session's error.
+fn write_last_error(client: &Client, log: &mut String) -> Result<(), AllocError> {
+    match client.last_error() {
         Some(error) => writeln!(log, "{error}"),
         None => writeln!(log, "no error"),
-    };
-    told(client, written)
+    }
 }
 
-/// Tells the event that is open.
-fn open(client: &Client, log: &mut String) -> Result<(), Fail> {
-    let written = write_open(log, &client.open_event());
-    told(client, written)
-}
-
-/// Appends the bytes to what is to arrive.
-fn arrive(alloc: Global, client: &mut Client, bytes: &[u8]) -> Result<(), Fail> {
-    let bytes = Vec::from_slice(alloc, bytes)?;
-    client.transport_mut().arrive(bytes, Vec::new(alloc))?;
-    Ok(())
-}
-
-/// Appends the bytes with the descriptor to what is to arrive.
-fn arrive_with(
+/// Appends the bytes to what is to arrive, with the descriptor if there is one.
+fn arrive(
     alloc: Global,
     client: &mut Client,
     bytes: &[u8],
-    descriptor: i32,
+    descriptor: Option<i32>,
 ) -> Result<(), Fail> {
     let bytes = Vec::from_slice(alloc, bytes)?;
-    let tokens = Vec::from_slice(alloc, &[Token(descriptor)])?;
+    let mut tokens = Vec::new(alloc);
+    if let Some(number) = descriptor {
+        tokens.push(Token(number))?;
+    }
     client.transport_mut().arrive(bytes, tokens)?;
-    Ok(())
-}
-
-/// Appends the bytes and zeros after them, of that length in all, to what is to arrive, in chunks of that size.
-fn arrive_in_chunks(
-    alloc: Global,
-    client: &mut Client,
-    bytes: &[u8],
-    len: usize,
-    size: usize,
-) -> Result<(), Fail>
-    requires { 0 < size }
-{
-    for chunk in padded(alloc, bytes, len)?.chunks(size) {
-        arrive(alloc, client, chunk)?;
-    }
-    Ok(())
-}
-
-/// Appends the bytes to what is to arrive, in chunks of that size.
-fn arrive_chunks(alloc: Global, client: &mut Client, bytes: &[u8], size: usize) -> Result<(), Fail>
-    requires { 0 < size }
-{
-    for chunk in bytes.chunks(size) {
-        arrive(alloc, client, chunk)?;
-    }
     Ok(())
 }
 
 /// Appends the stream to what is to arrive, cut so.
 fn arrive_cut(alloc: Global, client: &mut Client, stream: Stream, cut: Cut) -> Result<(), Fail> {
-    let bytes = stream.bytes(alloc)?;
-    match cut {
-        Cut::Whole => arrive(alloc, client, bytes.as_slice()),
-        Cut::At(place) => {
-            let (front, back) = bytes.as_slice().split_at(place.min(bytes.len()));
-            arrive(alloc, client, front)?;
-            arrive(alloc, client, back)
-        }
-        Cut::Bytewise => arrive_chunks(alloc, client, bytes.as_slice(), 1),
+    let pieces = stream.pieces(alloc, cut)?;
+    for piece in pieces.as_slice() {
+        arrive(alloc, client, piece.as_slice(), None)?;
     }
-}
-
-/// Appends the fault to what is to arrive.
-fn arrive_fault(client: &mut Client, fault: IoFault) -> Result<(), Fail> {
-    client.transport_mut().arrive_fault(fault)?;
-    Ok(())
-}
-
-/// Appends the fault to the answers to sends.
-fn accept_fault(client: &mut Client, fault: IoFault) -> Result<(), Fail> {
-    client.transport_mut().accept_fault(fault)?;
-    Ok(())
-}
-
-/// Forgets what was sent.
-fn take_sent(client: &mut Client) -> Result<(), Fail> {
-    client.transport_mut().take_sent();
     Ok(())
 }
 
@@ -413,54 +328,39 @@ fn add(alloc: Global, client: &mut Client, log: &mut String, name: &str) -> Resu
     let mut interfaces = Vec::new(alloc);
     push_interface(alloc, &mut interfaces, name, 1, &[], &[destructor("gone")])?;
     let answer = client.add_interfaces(interfaces);
-    let written = write_done(log, &answer);
-    told(client, written)
-}
-
-/// Tells how many arrivals the script has left.
-fn arrivals(client: &Client, log: &mut String) -> Result<(), Fail> {
-    let left = client.transport().arrivals_left();
-    let written = writeln!(log, "{left} arrivals");
-    told(client, written)
-}
-
-/// Tells what was sent, a send a line.
-fn sent(client: &Client, log: &mut String) -> Result<(), Fail> {
-    let written = write_taken(log, client.transport().sent());
-    told(client, written)
-}
-
-/// Tells how many bytes and descriptors were sent, a send a line.
-fn lengths(client: &Client, log: &mut String) -> Result<(), Fail> {
-    let written = write_lengths(log, client.transport().sent());
-    told(client, written)
+    done(client, log, "done", &answer)
 }
 
 /// Tells what is there.
 fn look_at(alloc: Global, client: &Client, log: &mut String, look: Look) -> Result<(), Fail> {
-    match look {
-        Look::Info(object) => info(client, log, object),
-        Look::Data(object) => data(client, log, object),
-        Look::Text(object) => text(alloc, client, log, object),
-        Look::LastError => last_error(client, log),
-        Look::Open => open(client, log),
-        Look::Arrivals => arrivals(client, log),
-        Look::Sent => sent(client, log),
-        Look::Lengths => lengths(client, log),
-    }
+    let written = match look {
+        Look::Info(object) => {
+            let version = client.info(&object.id()).map(|info| info.version);
+            write_or(log, "version", &version)
+        }
+        Look::Data(object) => write_or(log, "data", &client.get_data(&object.id())),
+        Look::Text(object) => return text(alloc, client, log, object),
+        Look::LastError => write_last_error(client, log),
+        Look::Open => write_open(log, &client.open_event()),
+        Look::Arrivals => writeln!(log, "{} arrivals", client.transport().arrivals_left()),
+        Look::Sent => write_taken(log, client.transport().sent()),
+        Look::Lengths => write_lengths(log, client.transport().sent()),
+    };
+    told(client, written)
 }
 
 /// Gives the script what it is given.
 fn play(alloc: Global, client: &mut Client, cue: Cue) -> Result<(), Fail> {
     match cue {
-        Cue::Arrive(bytes) => arrive(alloc, client, bytes),
-        Cue::ArriveWith(bytes, descriptor) => arrive_with(alloc, client, bytes, descriptor),
-        Cue::ArriveInChunks(bytes, len) => arrive_in_chunks(alloc, client, bytes, len, 4096),
-        Cue::ArriveBytewise(bytes, len) => arrive_in_chunks(alloc, client, bytes, len, 1),
+        Cue::Arrive(bytes) => arrive(alloc, client, bytes, None),
+        Cue::ArriveWith(bytes, descriptor) => arrive(alloc, client, bytes, Some(descriptor)),
         Cue::ArriveCut(stream, cut) => arrive_cut(alloc, client, stream, cut),
-        Cue::ArriveFault(fault) => arrive_fault(client, fault),
-        Cue::AcceptFault(fault) => accept_fault(client, fault),
-        Cue::TakeSent => take_sent(client),
+        Cue::ArriveFault(fault) => Ok(client.transport_mut().arrive_fault(fault)?),
+        Cue::AcceptFault(fault) => Ok(client.transport_mut().accept_fault(fault)?),
+        Cue::TakeSent => {
+            client.transport_mut().take_sent();
+            Ok(())
+        }
     }
 }
 
@@ -473,18 +373,19 @@ fn perform(
     act: Act,
 ) -> Result<(), Fail> {
     match act {
-        Act::Limit(bytes) => limit(client, bytes),
+        Act::Limit(bytes) => {
+            client.set_max_buffer_size(Some(bytes));
+            told(client, Ok(()))
+        }
         Act::Send(request) => send(alloc, client, log, way, request),
         Act::SendWith(request, child) => send_with(alloc, client, log, way, request, child),
         Act::SendInWant(request) => send_in_want(alloc, client, log, way, request),
         Act::Bound => bound(alloc, client, log, way),
-        Act::Flush => flush(client, log),
+        Act::Flush | Act::SetData(..) | Act::Destroy(_) => change(client, log, act),
         Act::Next => next(alloc, client, log, way),
         Act::Serve => serve(alloc, client, log, way),
         Act::Finish(data) => finish(client, log, data),
-        Act::SetData(object, data) => set_data(client, log, object, data),
         Act::AddToData(object, more) => add_to_data(client, log, object, more),
-        Act::Destroy(object) => destroy(client, log, object),
         Act::Notes => notes(client, log),
         Act::Add(name) => add(alloc, client, log, name),
         Act::Replay(calls) => replay(alloc, client, log, calls),

@@ -1,15 +1,14 @@
 //! What a call was given and refuses, and what a session gives up, is dropped, once and then: each value counts its drops.
 
-use crate::kit::counted::{Counted, Line};
+use crate::kit::line::Line;
 use crate::kit::values::{Object, Request, message};
 use std::alloc::Global;
 use std::cell::Cell;
 use std::test::Fail;
-use test_kit::log::{row_tells, tells};
+use test_kit::counted::{Counted, tell_drops};
+use test_kit::log::row_tells;
 use test_kit::quad::quad_table;
-use wl_client::{Backend, Step};
-use wl_link::Memory;
-use wl_wire::IoFault;
+use wl_client::Backend;
 
 /// A client whose transport and data count their drops.
 type Client<'a> = Backend<Line<'a>, Counted<'a>>;
@@ -31,14 +30,6 @@ enum Act {
     Notes,
 }
 
-/// Tells what was dropped so far: before the answer of the call is let go of, and after that.
-fn tell<A: Drop>(drops: &Cell<u64>, log: &mut String, answer: A) -> Result<(), Fail> {
-    let by_call = drops.get();
-    drop(answer);
-    let in_all = drops.get();
-    Ok(writeln!(log, "{by_call:06}, {in_all:06}")?)
-}
-
 /// Sends the request with these data.
 fn send<'a>(
     alloc: Global,
@@ -50,7 +41,7 @@ fn send<'a>(
     let message = message(alloc, request)?;
     let (_, wish) = request.child();
     let data = Some(Counted::new(drops, weight));
-    tell(drops, log, client.send_request(message, data, wish))
+    tell_drops(drops, log, client.send_request(message, data, wish))
 }
 
 /// Makes the call, and tells what it dropped.
@@ -65,15 +56,15 @@ fn perform<'a>(
         Act::Send(request, weight) => send(alloc, drops, client, log, (request, weight)),
         Act::SetData(object, weight) => {
             let data = Counted::new(drops, weight);
-            tell(drops, log, client.set_data(&object.id(), data))
+            tell_drops(drops, log, client.set_data(&object.id(), data))
         }
-        Act::Destroy(object) => tell(drops, log, client.destroy_object(&object.id())),
-        Act::Next => tell(drops, log, client.next_event()),
+        Act::Destroy(object) => tell_drops(drops, log, client.destroy_object(&object.id())),
+        Act::Next => tell_drops(drops, log, client.next_event()),
         Act::Finish(weight) => {
             let data = weight.map(|weight| Counted::new(drops, weight));
-            tell(drops, log, client.finish_event(data))
+            tell_drops(drops, log, client.finish_event(data))
         }
-        Act::Notes => tell(drops, log, client.take_notes()),
+        Act::Notes => tell_drops(drops, log, client.take_notes()),
     }
 }
 
@@ -124,7 +115,7 @@ fn log_of(alloc: Global, row: &Row) -> Result<String, Fail> {
     let drops = Cell::new(0);
     let mut log = String::new(alloc);
     run(alloc, &drops, &mut log, row)?;
-    writeln!(log, "{:06}", drops.get())?;
+    writeln!(log, "{:08}", drops.get())?;
     Ok(log)
 }
 
@@ -152,7 +143,7 @@ static ROWS: [Row; 4] = [
             Act::Send(Request::Bind, 1000),
             Act::SetData(Object::Quad, 10_000),
         ],
-        told: "000010, 000010\n000110, 000110\n001110, 001110\n011110, 011110\n011111\n",
+        told: "00000010, 00000010\n00000110, 00000110\n00001110, 00001110\n00011110, 00011110\n00011111\n",
     },
     // Data for which a request makes no object are dropped, and so are those in whose place others come.
     Row {
@@ -170,7 +161,7 @@ static ROWS: [Row; 4] = [
             Act::SetData(Object::Quad, 100_000),
             Act::Notes,
         ],
-        told: "000000, 000000\n000000, 000000\n001000, 001000\n001100, 001100\n001100, 001100\n011100, 011100\n011100, 011100\n111111\n",
+        told: "00000000, 00000000\n00000000, 00000000\n00001000, 00001000\n00001100, 00001100\n00001100, 00001100\n00011100, 00011100\n00011100, 00011100\n00111111\n",
     },
     // The data of an object that the client destroyed are dropped in the reading in which the server gives its number up.
     Row {
@@ -183,7 +174,7 @@ static ROWS: [Row; 4] = [
             Act::Next,
             Act::Send(Request::Sync, 100),
         ],
-        told: "000000, 000000\n000000, 000000\n000000, 000000\n000010, 000010\n000010, 000010\n000111\n",
+        told: "00000000, 00000000\n00000000, 00000000\n00000000, 00000000\n00000010, 00000010\n00000010, 00000010\n00000111\n",
     },
     // Data come back if the end of an event is refused: no event is open, or the event made no object. Those of an object that an
     // event ended are dropped as the server gives its number up.
@@ -202,7 +193,7 @@ static ROWS: [Row; 4] = [
             Act::Finish(None),
             Act::Next,
         ],
-        told: "000000, 000000\n000000, 000000\n000000, 001000\n001000, 001000\n001000, 001000\n001000, 001000\n001000, 001000\n001000, 101000\n101000, 101000\n101100, 101100\n111111\n",
+        told: "00000000, 00000000\n00000000, 00000000\n00000000, 00001000\n00001000, 00001000\n00001000, 00001000\n00001000, 00001000\n00001000, 00001000\n00001000, 00101000\n00101000, 00101000\n00101100, 00101100\n00111111\n",
     },
 ];
 
@@ -213,71 +204,4 @@ fn rows(rt: HostRuntime) -> Result<(), Fail> {
         row_tells(&rt, row.name, log_of(rt.alloc(), row), row.told)?;
     }
     Ok(())
-}
-
-/// The step of that place in a run that stops at the third, for which the transport has no memory.
-fn step<'a>(alloc: Global, drops: &'a Cell<u64>, place: u32) -> Result<Step<Counted<'a>>, Fail> {
-    match place {
-        0 => send_sync(alloc, Counted::new(drops, 1)),
-        1 => Ok(Step::ArriveFault(IoFault::OutOfMemory)),
-        2 => Ok(Step::NextEvent),
-        3 => Ok(Step::SetData(Object::Callback.id(), Counted::new(drops, 10))),
-        4 => send_sync(alloc, Counted::new(drops, 100)),
-        _ => Ok(Step::FinishEvent(Some(Counted::new(drops, 1000)))),
-    }
-}
-
-/// The step that sends a sync with these data.
-fn send_sync<'a>(alloc: Global, data: Counted<'a>) -> Result<Step<Counted<'a>>, Fail> {
-    let sync = message(alloc, Request::Sync)?;
-    Ok(Step::SendRequest(sync, Some(data), None))
-}
-
-/// The steps.
-fn steps<'a>(alloc: Global, drops: &'a Cell<u64>) -> Result<Vec<Step<Counted<'a>>>, Fail> {
-    let mut steps = Vec::new(alloc);
-    for place in 0..6 {
-        steps.push(step(alloc, drops, place)?)?;
-    }
-    Ok(steps)
-}
-
-/// A client over a transport by script.
-fn scripted<'a>(alloc: Global) -> Result<Backend<Memory, Counted<'a>>, Fail> {
-    let table = quad_table(alloc)?;
-    Ok(Backend::connect(alloc, table, Memory::new(alloc))?)
-}
-
-/// Makes the steps, and tells what that dropped.
-fn replay<'a>(
-    alloc: Global,
-    drops: &'a Cell<u64>,
-    client: &mut Backend<Memory, Counted<'a>>,
-    log: &mut String,
-) -> Result<(), Fail> {
-    let steps = steps(alloc, drops)?;
-    tell(drops, log, client.replay(steps))
-}
-
-/// The same of a new client, whose session ends after it.
-fn stopped<'a>(alloc: Global, drops: &'a Cell<u64>, log: &mut String) -> Result<(), Fail> {
-    let mut client = scripted(alloc)?;
-    let answer = replay(alloc, drops, &mut client, log);
-    drop(client);
-    answer
-}
-
-/// What was dropped as the run stopped, and in the end.
-fn log_of_stopped(alloc: Global) -> Result<String, Fail> {
-    let drops = Cell::new(0);
-    let mut log = String::new(alloc);
-    stopped(alloc, &drops, &mut log)?;
-    writeln!(log, "{:06}", drops.get())?;
-    Ok(log)
-}
-
-/// A run that stops drops what its other steps have.
-#[test]
-fn stopped_run_drops_its_other_steps(rt: HostRuntime) -> Result<(), Fail> {
-    tells(&rt, log_of_stopped(rt.alloc()), "001110, 001110\n001111\n")
 }

@@ -4,7 +4,6 @@
 
 mod drill;
 mod drills;
-mod drops;
-mod hints;
 mod no_memory;
+mod refused;
 mod transports;

@@ -3,7 +3,29 @@
 use super::acts::{Act, Cue, Look, Row, rows_tell};
 use crate::kit::values::Request;
 use std::test::Fail;
+use test_kit::cuts::{Cut, Stream};
 use wl_wire::IoFault;
+
+/// The first 100 bytes of a message of the display that has 200.
+const HALF_A_MESSAGE: Stream = Stream {
+    front: &[1, 0, 0, 0, 0, 0, 200, 0],
+    filled: 92,
+    back: &[],
+};
+
+/// `wl_callback.done` of 0, by object 2, in a message of 5000 bytes.
+const DONE_5000: Stream = Stream {
+    front: &[2, 0, 0, 0, 0, 0, 0x88, 0x13, 0, 0, 0, 0],
+    filled: 4988,
+    back: &[],
+};
+
+/// The same of 65532 bytes.
+const DONE_65532: Stream = Stream {
+    front: &[2, 0, 0, 0, 0, 0, 0xfc, 0xff, 0, 0, 0, 0],
+    filled: 65520,
+    back: &[],
+};
 
 /// The runs, and what they tell.
 static ROWS: [Row; 9] = [
@@ -83,7 +105,7 @@ static ROWS: [Row; 9] = [
     Row {
         name: "receives of a reading",
         acts: &[
-            Act::Script(Cue::ArriveBytewise(&[1, 0, 0, 0, 0, 0, 200, 0], 100)),
+            Act::Script(Cue::ArriveCut(HALF_A_MESSAGE, Cut::Bytewise)),
             Act::Next,
             Act::Look(Look::Arrivals),
             Act::Next,
@@ -107,7 +129,7 @@ static ROWS: [Row; 9] = [
         name: "message of 65532 bytes",
         acts: &[
             Act::Send(Request::Sync),
-            Act::Script(Cue::ArriveInChunks(&[2, 0, 0, 0, 0, 0, 0xfc, 0xff], 65532)),
+            Act::Script(Cue::ArriveCut(DONE_65532, Cut::Chunks)),
             Act::Next,
             Act::Look(Look::Arrivals),
             Act::Look(Look::LastError),
@@ -135,4 +157,4 @@ fn rows(rt: HostRuntime) -> Result<(), Fail> {
 }
 
 /// The arrivals of a message of 5000 bytes, which is longer than the buffer of what was received is at first.
-const ARRIVE_5000: Act = Act::Script(Cue::ArriveInChunks(&[2, 0, 0, 0, 0, 0, 0x88, 0x13], 5000));
+const ARRIVE_5000: Act = Act::Script(Cue::ArriveCut(DONE_5000, Cut::Chunks));

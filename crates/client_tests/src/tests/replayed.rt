@@ -28,11 +28,6 @@ fn write_run(
     }
 }
 
-/// Writes whether the client's last call was refused memory.
-fn write_refused(log: &mut String, client: &Backend<Memory, u32>) -> Result<(), AllocError> {
-    writeln!(log, "refused: {}", client.memory_refused())
-}
-
 /// Runs the steps, and writes the replies; if the run stops, also at which step, and whether memory was refused.
 pub fn replay(
     alloc: Global,
@@ -45,7 +40,7 @@ pub fn replay(
     let written = write_run(log, &answer);
     drop(answer);
     written?;
-    Ok(write_refused(log, client)?)
+    Ok(writeln!(log, "refused: {}", client.memory_refused())?)
 }
 
 /// A callback's life, in a run that has each step. `wl_callback.done` and `wl_display.delete_id` end it.

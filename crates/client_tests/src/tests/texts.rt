@@ -1,7 +1,7 @@
 //! The texts of ids and errors.
 
 use std::alloc::{AllocError, Global};
-use std::fmt::Write;
+use std::fmt::{Display, Write};
 use std::test::Fail;
 use test_kit::log::tells;
 use wl_client::{InvalidId, ObjectId, RequestError, WaylandError};
@@ -23,20 +23,6 @@ fn ids_told(alloc: Global, ids: &[ObjectId]) -> Result<String, Fail> {
     Ok(log)
 }
 
-#[test]
-fn texts_of_ids(rt: HostRuntime) -> Result<(), Fail> {
-    let ids = [
-        ObjectId::from_parts(2, 1, WL_CALLBACK_INTERFACE),
-        ObjectId::from_parts(4278190080, 7, InterfaceId(9)),
-        ObjectId::null(),
-    ];
-    tells(
-        &rt,
-        ids_told(rt.alloc(), &ids),
-        "wl_callback@2\n<unknown>@4278190080\n<anonymous>@0\n",
-    )
-}
-
 /// The text.
 fn text(alloc: Global, text: &str) -> Result<Text, Fail> {
     Ok(Text::new(String::from_str(alloc, text)?))
@@ -52,22 +38,17 @@ fn no(alloc: Global) -> Result<ProtocolError, Fail> {
     })
 }
 
-/// Writes the text of a session's error.
-fn write_error(log: &mut String, error: &WaylandError) -> Result<(), AllocError> {
-    writeln!(log, "{error}")
-}
-
-/// Writes the text of a request's error.
-fn write_refusal(log: &mut String, error: RequestError) -> Result<(), AllocError> {
+/// Writes the text of an error.
+fn write_error<E: Display>(log: &mut String, error: &E) -> Result<(), AllocError> {
     writeln!(log, "{error}")
 }
 
 /// Writes the texts of an id's error, of the errors of a request that no run gets, of a fault of a session, and of this error of
 /// one, a line each.
 fn write_errors(log: &mut String, error: &WaylandError) -> Result<(), AllocError> {
-    writeln!(log, "{InvalidId}")?;
-    write_refusal(log, RequestError::IdsExhausted)?;
-    write_refusal(log, RequestError::SerialsExhausted)?;
+    write_error(log, &InvalidId)?;
+    write_error(log, &RequestError::IdsExhausted)?;
+    write_error(log, &RequestError::SerialsExhausted)?;
     write_error(log, &WaylandError::Io(IoFault::Pipe))?;
     write_error(log, error)
 }
@@ -81,7 +62,17 @@ fn errors_told(alloc: Global) -> Result<String, Fail> {
 }
 
 #[test]
-fn texts_of_errors(rt: HostRuntime) -> Result<(), Fail> {
+fn texts_of_ids_and_errors(rt: HostRuntime) -> Result<(), Fail> {
+    let ids = [
+        ObjectId::from_parts(2, 1, WL_CALLBACK_INTERFACE),
+        ObjectId::from_parts(4278190080, 7, InterfaceId(9)),
+        ObjectId::null(),
+    ];
+    tells(
+        &rt,
+        ids_told(rt.alloc(), &ids),
+        "wl_callback@2\n<unknown>@4278190080\n<anonymous>@0\n",
+    )?;
     tells(
         &rt,
         errors_told(rt.alloc()),

@@ -1,8 +1,8 @@
 //! Requests and events of more than four arguments, and a new id of a request that is refused.
 
 use super::run::{Act, Row, rows_tell};
-use crate::kit::steps::Call;
-use crate::kit::values::{Event, FIRST, Thing};
+use server_test_kit::steps::Call;
+use server_test_kit::values::{Event, FIRST, Thing};
 use std::test::Fail;
 use test_kit::quad::{PAIR, QUAD};
 

@@ -2,9 +2,9 @@
 //! tell has rows of its own: data that come back, and ids that are told beforehand.
 
 use super::run::{Act, Beside, Look, Row, rows_tell};
-use crate::kit::arrivals::{BIND, DESTROY, GET_REGISTRY, MAKE, SYNC, UNKNOWN_OPCODE};
-use crate::kit::steps::Call;
-use crate::kit::values::{BOUND, Event, FIRST, Named, SECOND, Thing, Who};
+use server_test_kit::arrivals::{BIND, DESTROY, GET_REGISTRY, MAKE, SYNC, UNKNOWN_OPCODE};
+use server_test_kit::steps::Call;
+use server_test_kit::values::{BOUND, Event, FIRST, Named, SECOND, Thing, Who};
 use std::test::Fail;
 use test_kit::quad::QUAD;
 use wl_wire::InterfaceId;

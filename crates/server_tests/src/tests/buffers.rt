@@ -1,16 +1,13 @@
 //! Buffers that have too little room: they grow as far as the program lets them.
 
 use super::run::{Act, Look, WITH_A_QUAD, log_of};
-use crate::kit::arrivals::{DESTROY, SYNC_AT_4, SYNC_AT_5};
-use crate::kit::steps::Call;
-use crate::kit::values::{BOUND, Event, FIRST, Named, Thing};
+use server_test_kit::arrivals::{DESTROY, SYNC_AT_4, SYNC_AT_5};
+use server_test_kit::steps::Call;
+use server_test_kit::values::{BOUND, Event, FIRST, Named, Thing};
 use std::alloc::Global;
 use std::test::Fail;
-use test_kit::log::{row_tells, tells};
+use test_kit::log::row_tells;
 use test_kit::quad::{PAIR, QUAD};
-
-/// `quad.give`, by object 3, of no string and 4984 bytes, as far as these.
-const LONG_GIVE: [u8; 16] = [3, 0, 0, 0, 4, 0, 0x88, 0x13, 0, 0, 0, 0, 0x78, 0x13, 0, 0];
 
 /// The `pair` that the server makes for the client after those.
 const PAIRED: Thing = Thing(FIRST, 0xFF00_0000, 3, PAIR);
@@ -188,21 +185,4 @@ fn rows(rt: HostRuntime) -> Result<(), Fail> {
         row_tells(&rt, row.name, log, row.told)?;
     }
     Ok(())
-}
-
-/// A request of 5000 bytes, which the first buffer cannot hold.
-#[test]
-fn grows_for_a_long_request(rt: HostRuntime) -> Result<(), Fail> {
-    let acts = [
-        Act::Do(Call::DefaultLimit(8192)),
-        Act::Quietly(&WITH_A_QUAD),
-        Act::Do(Call::ArriveWith(FIRST, &LONG_GIVE, 7)),
-        Act::ArriveZeros(FIRST, 4984),
-        Act::Do(Call::Next(FIRST)),
-    ];
-    tells(
-        &rt,
-        log_of(rt.alloc(), &acts),
-        "request 4 to 3, 2, 4 of 0: no string: 4984 bytes: fd 7\n",
-    )
 }

@@ -1,12 +1,12 @@
 //! What breaks the protocol, in every cutting: whole, in two at each place, and byte by byte.
 
 use super::run::{Act, Look, log_of};
-use crate::kit::arrivals::{
+use server_test_kit::arrivals::{
     GET_REGISTRY, LINK_OF_2, LINK_OF_9, LINK_OF_NONE, MAKE, SYNC_AT_5, SYNC_AT_SERVER,
     UNKNOWN_OPCODE, UNKNOWN_SENDER,
 };
-use crate::kit::steps::Call;
-use crate::kit::values::{FIRST, Named, SECOND};
+use server_test_kit::steps::Call;
+use server_test_kit::values::{FIRST, Named, SECOND};
 use std::alloc::Global;
 use std::test::Fail;
 use test_kit::cuts::{Stream, cut_of, cutting_tells};
@@ -245,7 +245,7 @@ static MANY_GLOBALS: Row = Row {
 /// Puts the calls before the arrival, and the arrival in the cutting of that number.
 fn push_front(acts: &mut Vec<Act>, row: &Row, number: usize, len: usize) -> Result<(), Fail> {
     acts.push(Act::Quietly(row.before))?;
-    acts.push(Act::ArriveCut(FIRST, row.arrives, cut_of(number, len)))?;
+    acts.push(Act::ArriveCut(FIRST, row.arrives, cut_of(number, len), None))?;
     Ok(acts.push(Act::Serve(FIRST))?)
 }
 

@@ -1,8 +1,8 @@
 //! The bytes of a client, cut otherwise: what is answered and sent is the same.
 
 use super::run::{Act, Row, rows_tell};
-use crate::kit::steps::Call;
-use crate::kit::values::FIRST;
+use server_test_kit::steps::Call;
+use server_test_kit::values::FIRST;
 use std::test::Fail;
 use test_kit::quad::QUAD;
 use wl_wire::IoFault;

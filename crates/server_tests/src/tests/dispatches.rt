@@ -2,13 +2,16 @@
 
 use super::handlers::{Contrary, Killing, Numbering, Summing, TakingOut, Working};
 use super::run::{Act, Look, Server, WITH_A_QUAD, perform_all};
-use crate::kit::arrivals::{BIND, DESTROY, GET_REGISTRY, MAKE_BY_SERVER, SYNC};
-use crate::kit::steps::Call;
-use crate::kit::values::{FIRST, SECOND, Shown, Thing};
+use server_test_kit::arrivals::{
+    BIND, DESTROY, GET_REGISTRY, HALF_A_REQUEST, MAKE_BY_SERVER, SYNC,
+};
+use server_test_kit::steps::Call;
+use server_test_kit::values::{FIRST, SECOND, Shown, Thing};
 use std::alloc::Global;
 use std::fmt::Write;
 use std::test::Fail;
-use test_kit::log::{row_tells, tells};
+use test_kit::cuts::Cut;
+use test_kit::log::row_tells;
 use test_kit::quad::{QUAD, quad_table};
 use wl_link::Memory;
 use wl_server::{Backend, Handler};
@@ -102,101 +105,6 @@ fn log_of<H: Handler<Memory, u32, Shown, bool>>(
     answer
 }
 
-/// The same, with a dispatch of the first client.
-fn log_of_first<H: Handler<Memory, u32, Shown, bool>>(
-    alloc: Global,
-    handler: &mut H,
-    around: (&[Act], &[Act]),
-) -> Result<String, Fail> {
-    log_of(alloc, handler, Whom::First, around)
-}
-
-/// A handler kills the client that binds: its answer ends the bind, and becomes the object's data, which are noted as the
-/// client is taken out.
-#[test]
-fn handler_kills_its_client(rt: HostRuntime) -> Result<(), Fail> {
-    let before = [
-        Act::Do(Call::Insert(true)),
-        Act::Do(Call::Global(QUAD, 3)),
-        Act::Do(Call::Arrive(FIRST, &GET_REGISTRY)),
-        Act::Do(Call::Arrive(FIRST, &BIND)),
-    ];
-    let after = [Act::Do(Call::Next(FIRST)), Act::Do(Call::Notes)];
-    tells(
-        &rt,
-        log_of_first(rt.alloc(), &mut Killing(7), (&before, &after)),
-        "client 0, 1\nglobal 1, 1\nbroken pipe\nIo error: invalid input\ninitialized 0, 1\ndisconnected 0, 1: closed\ndestroyed 3, 2, 4 of 0 with 7\n",
-    )
-}
-
-/// A handler calls the server for the client that binds and for another: each is sent an event, gets an object and loses one.
-/// What a request ends is noted at once, and what the program destroys, by the cleanup at the end.
-#[test]
-fn handler_works_for_two_clients(rt: HostRuntime) -> Result<(), Fail> {
-    let before = [
-        Act::Do(Call::Insert(true)),
-        Act::Do(Call::Insert(true)),
-        Act::Do(Call::Global(QUAD, 3)),
-        Act::Do(Call::Create(FIRST, QUAD, 3, 11)),
-        Act::Do(Call::Create(SECOND, QUAD, 3, 12)),
-        Act::Do(Call::Arrive(FIRST, &BIND_AND_DESTROY)),
-    ];
-    let after = [
-        Act::Do(Call::FlushAll),
-        Act::Do(Call::TakeSent(FIRST)),
-        Act::Do(Call::TakeSent(SECOND)),
-        Act::Do(Call::Notes),
-        Act::Look(Look::Data(Thing(FIRST, 0xFF00_0001, 4, QUAD))),
-        Act::Look(Look::Data(Thing(SECOND, 0xFF00_0001, 2, QUAD))),
-        Act::Look(Look::Data(Thing(FIRST, 0xFF00_0000, 1, QUAD))),
-        Act::Look(Look::Data(Thing(SECOND, 0xFF00_0000, 1, QUAD))),
-    ];
-    let mut handler = Working {
-        data: 4,
-        own: Thing(FIRST, 0xFF00_0000, 1, QUAD).id(),
-        other: Thing(SECOND, 0xFF00_0000, 1, QUAD).id(),
-        alloc: rt.alloc(),
-    };
-    tells(
-        &rt,
-        log_of_first(rt.alloc(), &mut handler, (&before, &after)),
-        "client 0, 1\nclient 1, 2\nglobal 1, 1\ncreated 4278190080, 1, 4 of 0\ncreated 4278190080, 1, 4 of 1\ndispatched 3\ndone\n02 00 00 00 00 00 1c 00 01 00 00 00 05 00 00 00 71 75 61 64 00 00 00 00 03 00 00 00 03 00 00 00 00 00 0c 00 07 00 00 00 01 00 00 00 01 00 0c 00 03 00 00 00\n00 00 00 ff 00 00 0c 00 07 00 00 00\ninitialized 0, 1\ninitialized 1, 2\ndestroyed 3, 3, 4 of 0 with 4\ndestroyed 4278190080, 1, 4 of 0 with 11\ndestroyed 4278190080, 1, 4 of 1 with 12\ndata 8\ndata 6\nInvalid Id\nInvalid Id\n",
-    )
-}
-
-/// A handler that wants its arguments lent gets them so, of requests that come together and behind a bind.
-#[test]
-fn handler_is_lent_the_arguments(rt: HostRuntime) -> Result<(), Fail> {
-    let before = [
-        Act::Do(Call::Insert(true)),
-        Act::Do(Call::Global(QUAD, 3)),
-        Act::Do(Call::Arrive(FIRST, &GET_REGISTRY)),
-        Act::Do(Call::Arrive(FIRST, &BIND)),
-        Act::Do(Call::Arrive(FIRST, &TWO_POKES)),
-    ];
-    let mut handler = Summing(0);
-    let log = log_of_first(rt.alloc(), &mut handler, (&before, &[]));
-    tells(&rt, log, "client 0, 1\nglobal 1, 1\ndispatched 4\n")?;
-    assert_eq!(rt; handler.0, 12);
-    Ok(())
-}
-
-/// A handler takes the client out that binds: its answer has nothing to end.
-#[test]
-fn handler_takes_its_client_out(rt: HostRuntime) -> Result<(), Fail> {
-    let before = [
-        Act::Do(Call::Insert(true)),
-        Act::Do(Call::Global(QUAD, 3)),
-        Act::Do(Call::Arrive(FIRST, &BIND_AND_DESTROY)),
-    ];
-    let after = [Act::Do(Call::Next(FIRST)), Act::Do(Call::Notes)];
-    tells(
-        &rt,
-        log_of_first(rt.alloc(), &mut TakingOut(7), (&before, &after)),
-        "client 0, 1\nglobal 1, 1\ninvalid input\nIo error: invalid input\ninitialized 0, 1\ndisconnected 0, 1: closed\n",
-    )
-}
-
 /// A row of a table: what a failing one is named, the calls before a dispatch, what is looked at after it, and what is told.
 struct Row {
     name: &'static str,
@@ -205,14 +113,15 @@ struct Row {
     told: &'static str,
 }
 
-/// Fails if a dispatch of the first client tells something else than its row says.
-fn rows_of_first<H: Handler<Memory, u32, Shown, bool>>(
+/// Fails if a dispatch of the clients tells something else than its row says.
+fn rows_of<H: Handler<Memory, u32, Shown, bool>>(
     rt: &(impl Eprint + AllocGlobal),
     handler: &mut H,
+    whom: Whom,
     rows: &[Row],
 ) -> Result<(), Fail> {
     for row in rows {
-        let log = log_of_first(rt.alloc(), handler, (row.before, row.after));
+        let log = log_of(rt.alloc(), handler, whom, (row.before, row.after));
         row_tells(rt, row.name, log, row.told)?;
     }
     Ok(())
@@ -326,11 +235,6 @@ static ROWS: [Row; 9] = [
     },
 ];
 
-#[test]
-fn rows(rt: HostRuntime) -> Result<(), Fail> {
-    rows_of_first(&rt, &mut Numbering(4), &ROWS)
-}
-
 /// Dispatches of the first client with a handler whose answers do not fit the requests.
 static CONTRARY: [Row; 2] = [
     // An answer without data for a new object ends nothing: the dispatch ends there, and the action stays open.
@@ -365,27 +269,114 @@ static CONTRARY: [Row; 2] = [
     },
 ];
 
-#[test]
-fn rows_of_a_contrary_handler(rt: HostRuntime) -> Result<(), Fail> {
-    rows_of_first(&rt, &mut Contrary(4), &CONTRARY)
-}
-
 /// Two clients with a hundred receives of a byte each: of each of them, a dispatch makes 64.
-#[test]
-fn each_client_has_64_receives(rt: HostRuntime) -> Result<(), Fail> {
-    let before = [
+static LONG: [Row; 1] = [Row {
+    name: "each client has 64 receives",
+    before: &[
         Act::Do(Call::Insert(true)),
         Act::Do(Call::Insert(true)),
-        Act::ArriveBytewise(FIRST, &[1, 0, 0, 0, 0, 0, 200, 0], 100),
-        Act::ArriveBytewise(SECOND, &[1, 0, 0, 0, 0, 0, 200, 0], 100),
-    ];
-    let after = [
+        Act::ArriveCut(FIRST, HALF_A_REQUEST, Cut::Bytewise, None),
+        Act::ArriveCut(SECOND, HALF_A_REQUEST, Cut::Bytewise, None),
+    ],
+    after: &[
         Act::Look(Look::Arrivals(FIRST)),
         Act::Look(Look::Arrivals(SECOND)),
-    ];
-    tells(
-        &rt,
-        log_of(rt.alloc(), &mut Numbering(4), Whom::Both, (&before, &after)),
-        "client 0, 1\nclient 1, 2\ndispatched 0\n36 arrivals\n36 arrivals\n",
-    )
+    ],
+    told: "client 0, 1\nclient 1, 2\ndispatched 0\n36 arrivals\n36 arrivals\n",
+}];
+
+/// Handlers that make no call.
+#[test]
+fn rows(rt: HostRuntime) -> Result<(), Fail> {
+    rows_of(&rt, &mut Numbering(4), Whom::First, &ROWS)?;
+    rows_of(&rt, &mut Numbering(4), Whom::Both, &LONG)?;
+    rows_of(&rt, &mut Contrary(4), Whom::First, &CONTRARY)
+}
+
+/// A handler that wants its arguments lent.
+static LENT: [Row; 1] = [Row {
+    name: "requests that come together, behind a bind",
+    before: &[
+        Act::Do(Call::Insert(true)),
+        Act::Do(Call::Global(QUAD, 3)),
+        Act::Do(Call::Arrive(FIRST, &GET_REGISTRY)),
+        Act::Do(Call::Arrive(FIRST, &BIND)),
+        Act::Do(Call::Arrive(FIRST, &TWO_POKES)),
+    ],
+    after: &[],
+    told: "client 0, 1\nglobal 1, 1\ndispatched 4\n",
+}];
+
+/// A handler that wants its arguments lent gets them so.
+#[test]
+fn handler_is_lent_the_arguments(rt: HostRuntime) -> Result<(), Fail> {
+    let mut handler = Summing(0);
+    rows_of(&rt, &mut handler, Whom::First, &LENT)?;
+    assert_eq!(rt; handler.0, 12);
+    Ok(())
+}
+
+/// A handler kills the client that binds: its answer ends the bind, and becomes the object's data, which are noted as the
+/// client is taken out.
+static KILLING: [Row; 1] = [Row {
+    name: "handler kills its client",
+    before: &[
+        Act::Do(Call::Insert(true)),
+        Act::Do(Call::Global(QUAD, 3)),
+        Act::Do(Call::Arrive(FIRST, &GET_REGISTRY)),
+        Act::Do(Call::Arrive(FIRST, &BIND)),
+    ],
+    after: &[Act::Do(Call::Next(FIRST)), Act::Do(Call::Notes)],
+    told: "client 0, 1\nglobal 1, 1\nbroken pipe\nIo error: invalid input\ninitialized 0, 1\ndisconnected 0, 1: closed\ndestroyed 3, 2, 4 of 0 with 7\n",
+}];
+
+/// A handler takes the client out that binds: its answer has nothing to end.
+static TAKING_OUT: [Row; 1] = [Row {
+    name: "handler takes its client out",
+    before: &[
+        Act::Do(Call::Insert(true)),
+        Act::Do(Call::Global(QUAD, 3)),
+        Act::Do(Call::Arrive(FIRST, &BIND_AND_DESTROY)),
+    ],
+    after: &[Act::Do(Call::Next(FIRST)), Act::Do(Call::Notes)],
+    told: "client 0, 1\nglobal 1, 1\ninvalid input\nIo error: invalid input\ninitialized 0, 1\ndisconnected 0, 1: closed\n",
+}];
+
+/// A handler calls the server for the client that binds and for another: each is sent an event, gets an object and loses one.
+/// What a request ends is noted at once, and what the program destroys, by the cleanup at the end.
+static WORKING: [Row; 1] = [Row {
+    name: "handler works for two clients",
+    before: &[
+        Act::Do(Call::Insert(true)),
+        Act::Do(Call::Insert(true)),
+        Act::Do(Call::Global(QUAD, 3)),
+        Act::Do(Call::Create(FIRST, QUAD, 3, 11)),
+        Act::Do(Call::Create(SECOND, QUAD, 3, 12)),
+        Act::Do(Call::Arrive(FIRST, &BIND_AND_DESTROY)),
+    ],
+    after: &[
+        Act::Do(Call::FlushAll),
+        Act::Do(Call::TakeSent(FIRST)),
+        Act::Do(Call::TakeSent(SECOND)),
+        Act::Do(Call::Notes),
+        Act::Look(Look::Data(Thing(FIRST, 0xFF00_0001, 4, QUAD))),
+        Act::Look(Look::Data(Thing(SECOND, 0xFF00_0001, 2, QUAD))),
+        Act::Look(Look::Data(Thing(FIRST, 0xFF00_0000, 1, QUAD))),
+        Act::Look(Look::Data(Thing(SECOND, 0xFF00_0000, 1, QUAD))),
+    ],
+    told: "client 0, 1\nclient 1, 2\nglobal 1, 1\ncreated 4278190080, 1, 4 of 0\ncreated 4278190080, 1, 4 of 1\ndispatched 3\ndone\n02 00 00 00 00 00 1c 00 01 00 00 00 05 00 00 00 71 75 61 64 00 00 00 00 03 00 00 00 03 00 00 00 00 00 0c 00 07 00 00 00 01 00 00 00 01 00 0c 00 03 00 00 00\n00 00 00 ff 00 00 0c 00 07 00 00 00\ninitialized 0, 1\ninitialized 1, 2\ndestroyed 3, 3, 4 of 0 with 4\ndestroyed 4278190080, 1, 4 of 0 with 11\ndestroyed 4278190080, 1, 4 of 1 with 12\ndata 8\ndata 6\nInvalid Id\nInvalid Id\n",
+}];
+
+/// Handlers that call the server.
+#[test]
+fn rows_of_calling_handlers(rt: HostRuntime) -> Result<(), Fail> {
+    let mut working = Working {
+        data: 4,
+        own: Thing(FIRST, 0xFF00_0000, 1, QUAD).id(),
+        other: Thing(SECOND, 0xFF00_0000, 1, QUAD).id(),
+        alloc: rt.alloc(),
+    };
+    rows_of(&rt, &mut working, Whom::First, &WORKING)?;
+    rows_of(&rt, &mut Killing(7), Whom::First, &KILLING)?;
+    rows_of(&rt, &mut TakingOut(7), Whom::First, &TAKING_OUT)
 }

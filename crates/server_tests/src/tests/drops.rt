@@ -1,20 +1,20 @@
 //! What a call was given and refuses, and what the server gives up, is dropped, once and then: each value counts its drops.
 
-use crate::kit::arrivals::{MAKE_BY_SERVER, SYNC_AT_5};
-use crate::kit::counted::{Counted, Line};
-use crate::kit::values::{FIRST, Named, SECOND, Thing, Who};
+use server_test_kit::arrivals::{MAKE_BY_SERVER, SYNC_AT_5};
+use server_test_kit::counted::{Line, Offered};
+use server_test_kit::values::{FIRST, Named, SECOND, Thing, Who};
 use smallvec::SmallVec;
 use std::alloc::Global;
 use std::cell::Cell;
 use std::test::Fail;
-use test_kit::log::{row_tells, tells};
+use test_kit::counted::{Counted, tell_drops};
+use test_kit::log::row_tells;
 use test_kit::quad::{QUAD, quad_table};
-use wl_link::Memory;
-use wl_server::{Backend, ClientId, DisconnectReason, GlobalId, Handler, ObjectId, Step};
-use wl_wire::{Argument, INLINE_ARGS, InterfaceId, IoFault, Token, WL_CALLBACK_INTERFACE};
+use wl_server::{Backend, ClientId, DisconnectReason, GlobalId, Handler, ObjectId};
+use wl_wire::{Argument, INLINE_ARGS, InterfaceId, Token, WL_CALLBACK_INTERFACE};
 
 /// A server all of whose values count their drops.
-type Server<'a> = Backend<Line<'a>, Counted<'a>, Counted<'a>, Counted<'a>>;
+type Server<'a> = Backend<Line<'a>, Counted<'a>, Offered<'a>, Counted<'a>>;
 
 /// An interface that the table does not have.
 const MISSING: InterfaceId = InterfaceId(99);
@@ -57,14 +57,6 @@ enum Act {
     DispatchTakenOut(Who, u64),
 }
 
-/// Tells what was dropped so far: before the answer of the call is let go of, and after that.
-fn tell<A: Drop>(drops: &Cell<u64>, log: &mut String, answer: A) -> Result<(), Fail> {
-    let by_call = drops.get();
-    drop(answer);
-    let in_all = drops.get();
-    Ok(writeln!(log, "{by_call:08}, {in_all:08}")?)
-}
-
 /// Answers a value to each action, and makes no call.
 #[derive(Drop)]
 struct Answering<'a> {
@@ -81,7 +73,7 @@ impl<'a> Answering<'a> {
     }
 }
 
-impl<'a> Handler<Line<'a>, Counted<'a>, Counted<'a>, Counted<'a>> for Answering<'a> {
+impl<'a> Handler<Line<'a>, Counted<'a>, Offered<'a>, Counted<'a>> for Answering<'a> {
     ghost use Rattle.std.specs.Prelude.{◌≡◌};
 
     ghost requests = { λ h b id sender opcode args created u h' b'. b' ≡ b };
@@ -115,7 +107,7 @@ impl<'a> Handler<Line<'a>, Counted<'a>, Counted<'a>, Counted<'a>> for Answering<
 #[derive(Drop)]
 struct Undoing<'a>(Answering<'a>);
 
-impl<'a> Handler<Line<'a>, Counted<'a>, Counted<'a>, Counted<'a>> for Undoing<'a> {
+impl<'a> Handler<Line<'a>, Counted<'a>, Offered<'a>, Counted<'a>> for Undoing<'a> {
     ghost use Rattle.std.specs.Prelude.{◌≡◌, ⊤};
 
     ghost requests = { λ h b id sender opcode args created u h' b'. b' ≡ b };
@@ -150,7 +142,7 @@ impl<'a> Handler<Line<'a>, Counted<'a>, Counted<'a>, Counted<'a>> for Undoing<'a
 #[derive(Drop)]
 struct TakingOut<'a>(Answering<'a>);
 
-impl<'a> Handler<Line<'a>, Counted<'a>, Counted<'a>, Counted<'a>> for TakingOut<'a> {
+impl<'a> Handler<Line<'a>, Counted<'a>, Offered<'a>, Counted<'a>> for TakingOut<'a> {
     ghost use Rattle.std.specs.Prelude.{⊤};
 
     ghost requests = { λ h b id sender opcode args created u h' b'. ⊤ };
@@ -193,7 +185,7 @@ fn insert<'a>(
 ) -> Result<(), Fail> {
     let line = Line::new(bytes, Counted::new(drops, transport));
     let data = Counted::new(drops, data);
-    tell(drops, log, server.insert_client(line, data))
+    tell_drops(drops, log, server.insert_client(line, data))
 }
 
 /// Makes a call about a client or a global.
@@ -208,16 +200,16 @@ fn perform_shared<'a>(
             insert(drops, server, log, (transport, bytes, data))
         }
         Act::Global(interface, weight) => {
-            let handler = Counted::new(drops, weight);
-            tell(drops, log, server.create_global(interface, 3, handler))
+            let handler = Offered(Counted::new(drops, weight));
+            tell_drops(drops, log, server.create_global(interface, 3, handler))
         }
-        Act::Remove(global) => tell(drops, log, server.remove_global(&global.id())),
+        Act::Remove(global) => tell_drops(drops, log, server.remove_global(&global.id())),
         Act::Kill(who) => {
             let why = DisconnectReason::ConnectionClosed;
-            tell(drops, log, server.kill_client(&who.id(), why))
+            tell_drops(drops, log, server.kill_client(&who.id(), why))
         }
-        Act::Cleanup => tell(drops, log, server.cleanup()),
-        _ => tell(drops, log, server.take_notes()),
+        Act::Cleanup => tell_drops(drops, log, server.cleanup()),
+        _ => tell_drops(drops, log, server.take_notes()),
     }
 }
 
@@ -231,7 +223,7 @@ fn perform_object<'a>(
     match act {
         Act::Create(who, interface, weight) => {
             let data = Counted::new(drops, weight);
-            tell(
+            tell_drops(
                 drops,
                 log,
                 server.create_object(&who.id(), interface, 3, data),
@@ -239,47 +231,46 @@ fn perform_object<'a>(
         }
         Act::SetData(object, weight) => {
             let data = Counted::new(drops, weight);
-            tell(drops, log, server.set_object_data(&object.id(), data))
+            tell_drops(drops, log, server.set_object_data(&object.id(), data))
         }
-        Act::Destroy(object) => tell(drops, log, server.destroy_object(&object.id())),
+        Act::Destroy(object) => tell_drops(drops, log, server.destroy_object(&object.id())),
         _ => Err(Fail::new("the call is about no object")),
     }
 }
 
-/// Dispatches the client with a handler that answers the value of this weight first.
-fn dispatch<'a>(
+/// Dispatches the client with the handler.
+fn dispatch<'a, H: Handler<Line<'a>, Counted<'a>, Offered<'a>, Counted<'a>>>(
     drops: &'a Cell<u64>,
     server: &mut Server<'a>,
     log: &mut String,
-    (who, weight): (Who, u64),
+    who: Who,
+    handler: &mut H,
 ) -> Result<(), Fail> {
-    let mut handler = Answering { drops, weight };
-    let answer = server.dispatch_single_client(&mut handler, &who.id());
-    tell(drops, log, answer)
+    let answer = server.dispatch_single_client(handler, &who.id());
+    tell_drops(drops, log, answer)
 }
 
-/// The same with a handler that destroys what is bound.
-fn dispatch_undone<'a>(
+/// Dispatches a client with a handler that answers the value of this weight first.
+fn perform_dispatch<'a>(
     drops: &'a Cell<u64>,
     server: &mut Server<'a>,
     log: &mut String,
-    (who, weight): (Who, u64),
+    act: Act,
 ) -> Result<(), Fail> {
-    let mut handler = Undoing(Answering { drops, weight });
-    let answer = server.dispatch_single_client(&mut handler, &who.id());
-    tell(drops, log, answer)
-}
-
-/// The same with a handler that takes its client out.
-fn dispatch_taken_out<'a>(
-    drops: &'a Cell<u64>,
-    server: &mut Server<'a>,
-    log: &mut String,
-    (who, weight): (Who, u64),
-) -> Result<(), Fail> {
-    let mut handler = TakingOut(Answering { drops, weight });
-    let answer = server.dispatch_single_client(&mut handler, &who.id());
-    tell(drops, log, answer)
+    match act {
+        Act::Dispatch(who, weight) => {
+            dispatch(drops, server, log, who, &mut Answering { drops, weight })
+        }
+        Act::DispatchUndone(who, weight) => {
+            let mut handler = Undoing(Answering { drops, weight });
+            dispatch(drops, server, log, who, &mut handler)
+        }
+        Act::DispatchTakenOut(who, weight) => {
+            let mut handler = TakingOut(Answering { drops, weight });
+            dispatch(drops, server, log, who, &mut handler)
+        }
+        _ => Err(Fail::new("the call is no dispatch")),
+    }
 }
 
 /// Makes a call that reads, or ends an action.
@@ -290,21 +281,16 @@ fn perform_reading<'a>(
     act: Act,
 ) -> Result<(), Fail> {
     match act {
-        Act::Next(who) => tell(drops, log, server.next_action(&who.id())),
+        Act::Next(who) => tell_drops(drops, log, server.next_action(&who.id())),
         Act::Finish(who, weight) => {
             let data = weight.map(|weight| Counted::new(drops, weight));
-            tell(drops, log, server.finish_request(&who.id(), data))
+            tell_drops(drops, log, server.finish_request(&who.id(), data))
         }
         Act::FinishBind(who, weight) => {
             let data = Counted::new(drops, weight);
-            tell(drops, log, server.finish_bind(&who.id(), data))
+            tell_drops(drops, log, server.finish_bind(&who.id(), data))
         }
-        Act::Dispatch(who, weight) => dispatch(drops, server, log, (who, weight)),
-        Act::DispatchUndone(who, weight) => dispatch_undone(drops, server, log, (who, weight)),
-        Act::DispatchTakenOut(who, weight) => {
-            dispatch_taken_out(drops, server, log, (who, weight))
-        }
-        _ => Err(Fail::new("the call reads nothing")),
+        _ => perform_dispatch(drops, server, log, act),
     }
 }
 
@@ -540,73 +526,4 @@ fn rows(rt: HostRuntime) -> Result<(), Fail> {
         row_tells(&rt, row.name, log_of(rt.alloc(), row.acts), row.told)?;
     }
     Ok(())
-}
-
-/// A server over transports by script, whose values but for the transports count their drops.
-type Scripted<'a> = Backend<Memory, Counted<'a>, Counted<'a>, Counted<'a>>;
-
-/// A step of it.
-type Made<'a> = Step<Memory, Counted<'a>, Counted<'a>, Counted<'a>>;
-
-/// The step of that place in a run that stops at the fourth, for which the transport has no memory.
-fn step<'a>(alloc: Global, drops: &'a Cell<u64>, place: u32) -> Made<'a> {
-    match place {
-        0 => Step::InsertClient(Memory::new(alloc), Counted::new(drops, 1)),
-        1 => Step::CreateObject(FIRST.id(), QUAD, 3, Counted::new(drops, 10)),
-        2 => Step::ArriveFault(FIRST.id(), IoFault::OutOfMemory),
-        3 => Step::NextAction(FIRST.id()),
-        4 => Step::SetObjectData(MADE.id(), Counted::new(drops, 100)),
-        5 => Step::CreateGlobal(QUAD, 3, Counted::new(drops, 1000)),
-        6 => Step::InsertClient(Memory::new(alloc), Counted::new(drops, 10_000)),
-        7 => Step::FinishRequest(FIRST.id(), Some(Counted::new(drops, 100_000))),
-        _ => Step::FinishBind(FIRST.id(), Counted::new(drops, 1_000_000)),
-    }
-}
-
-/// The steps.
-fn steps<'a>(alloc: Global, drops: &'a Cell<u64>) -> Result<Vec<Made<'a>>, Fail> {
-    let mut steps = Vec::new(alloc);
-    for place in 0..9 {
-        steps.push(step(alloc, drops, place))?;
-    }
-    Ok(steps)
-}
-
-/// Makes the steps, and tells what that dropped.
-fn replay<'a>(
-    alloc: Global,
-    drops: &'a Cell<u64>,
-    server: &mut Scripted<'a>,
-    log: &mut String,
-) -> Result<(), Fail> {
-    let steps = steps(alloc, drops)?;
-    tell(drops, log, server.replay(steps))
-}
-
-/// The same of a new server, whose session ends after it.
-fn stopped<'a>(alloc: Global, drops: &'a Cell<u64>, log: &mut String) -> Result<(), Fail> {
-    let protocol = quad_table(alloc)?;
-    let mut server = Backend::new(alloc, protocol);
-    let answer = replay(alloc, drops, &mut server, log);
-    drop(server);
-    answer
-}
-
-/// What was dropped as the run stopped, and in the end.
-fn log_of_stopped(alloc: Global) -> Result<String, Fail> {
-    let drops = Cell::new(0);
-    let mut log = String::new(alloc);
-    stopped(alloc, &drops, &mut log)?;
-    writeln!(log, "{:08}", drops.get())?;
-    Ok(log)
-}
-
-/// A run that stops drops what its other steps have.
-#[test]
-fn stopped_run_drops_its_other_steps(rt: HostRuntime) -> Result<(), Fail> {
-    tells(
-        &rt,
-        log_of_stopped(rt.alloc()),
-        "01111100, 01111100\n01111111\n",
-    )
 }

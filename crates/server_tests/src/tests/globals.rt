@@ -1,9 +1,9 @@
 //! Globals: who is told of them, and who may bind them.
 
 use super::run::{Act, Look, Row, rows_tell};
-use crate::kit::arrivals::{BIND, DESTROY, GET_REGISTRY};
-use crate::kit::steps::Call;
-use crate::kit::values::{BOUND, FIRST, Named, SECOND, THIRD, Who};
+use server_test_kit::arrivals::{BIND, DESTROY, GET_REGISTRY};
+use server_test_kit::steps::Call;
+use server_test_kit::values::{BOUND, FIRST, Named, SECOND, THIRD, Who};
 use std::test::Fail;
 use test_kit::quad::QUAD;
 use wl_wire::{InterfaceId, IoFault};

@@ -1,6 +1,6 @@
 //! Handlers of the dispatches.
 
-use crate::kit::values::Shown;
+use server_test_kit::values::Shown;
 use smallvec::SmallVec;
 use std::alloc::{AllocError, Global};
 use test_kit::quad::QUAD;

@@ -1,20 +1,43 @@
 //! Requests that are longer than the buffer in which they arrive is at first.
 
 use super::run::{Act, Look, Row, WITH_A_QUAD, rows_tell};
-use crate::kit::arrivals::{GIVE_5000, GIVE_65532};
-use crate::kit::steps::Call;
-use crate::kit::values::FIRST;
+use server_test_kit::arrivals::{GIVE_5000, GIVE_65532};
+use server_test_kit::steps::Call;
+use server_test_kit::values::FIRST;
 use std::test::Fail;
+use test_kit::cuts::{Cut, Stream};
+
+/// `quad.give`, by object 3, of no string and 4984 bytes, as far as these.
+const LONG_GIVE: [u8; 16] = [3, 0, 0, 0, 4, 0, 0x88, 0x13, 0, 0, 0, 0, 0x78, 0x13, 0, 0];
+
+/// Its bytes after those.
+const REST: Stream = Stream {
+    front: &[],
+    filled: 4984,
+    back: &[],
+};
 
 /// The runs, and what they tell.
-static ROWS: [Row; 3] = [
+static ROWS: [Row; 4] = [
+    // A request of 5000 bytes, which the first buffer cannot hold, in two pieces.
+    Row {
+        name: "request longer than the first buffer, in two pieces",
+        acts: &[
+            Act::Do(Call::DefaultLimit(8192)),
+            Act::Quietly(&WITH_A_QUAD),
+            Act::Do(Call::ArriveWith(FIRST, &LONG_GIVE, 7)),
+            Act::ArriveCut(FIRST, REST, Cut::Whole, None),
+            Act::Do(Call::Next(FIRST)),
+        ],
+        told: "request 4 to 3, 2, 4 of 0: no string: 4984 bytes: fd 7\n",
+    },
     // The buffer is doubled for a request of 5000 bytes, if the limit allows it.
     Row {
         name: "request longer than the first buffer",
         acts: &[
             Act::Do(Call::DefaultLimit(8192)),
             Act::Quietly(&WITH_A_QUAD),
-            Act::ArriveInChunks(FIRST, &GIVE_5000, 5000, 5),
+            Act::ArriveCut(FIRST, GIVE_5000, Cut::Chunks, Some(5)),
             Act::Do(Call::NextWithin(FIRST, 64)),
             Act::Look(Look::Arrivals(FIRST)),
         ],
@@ -26,7 +49,7 @@ static ROWS: [Row; 3] = [
         acts: &[
             Act::Do(Call::DefaultLimit(65536)),
             Act::Quietly(&WITH_A_QUAD),
-            Act::ArriveInChunks(FIRST, &GIVE_65532, 65532, 5),
+            Act::ArriveCut(FIRST, GIVE_65532, Cut::Chunks, Some(5)),
             Act::Do(Call::NextWithin(FIRST, 64)),
             Act::Look(Look::Arrivals(FIRST)),
         ],
@@ -37,7 +60,7 @@ static ROWS: [Row; 3] = [
         name: "request longer than the limit",
         acts: &[
             Act::Quietly(&WITH_A_QUAD),
-            Act::ArriveInChunks(FIRST, &GIVE_5000, 5000, 5),
+            Act::ArriveCut(FIRST, GIVE_5000, Cut::Chunks, Some(5)),
             Act::Do(Call::NextWithin(FIRST, 64)),
             Act::Look(Look::Arrivals(FIRST)),
             Act::Do(Call::Notes),

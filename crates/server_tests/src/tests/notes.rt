@@ -1,9 +1,9 @@
 //! Notes of several clients, in order of time.
 
 use super::run::{Act, Row, rows_tell};
-use crate::kit::arrivals::{BIND, BIND_AT_4, DESTROY, DESTROY_4, GET_REGISTRY};
-use crate::kit::steps::Call;
-use crate::kit::values::{DISPLAY, Event, FIRST, SECOND, THIRD, Thing, Who};
+use server_test_kit::arrivals::{BIND, BIND_AT_4, DESTROY, DESTROY_4, GET_REGISTRY};
+use server_test_kit::steps::Call;
+use server_test_kit::values::{DISPLAY, Event, FIRST, SECOND, THIRD, Thing, Who};
 use std::test::Fail;
 use test_kit::quad::QUAD;
 

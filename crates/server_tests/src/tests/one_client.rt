@@ -1,12 +1,13 @@
 //! A server with one client: requests of the display, objects, events, errors, and a transport that lacks memory.
 
 use super::run::{Act, Beside, Look, Row, rows_tell};
-use crate::kit::arrivals::{GET_REGISTRY, MAKE_BY_SERVER, SYNC, SYNC_AT_5};
-use crate::kit::steps::Call;
-use crate::kit::told::done;
-use crate::kit::values::{DISPLAY, Event, FIRST, Named, SECOND, Thing};
+use server_test_kit::arrivals::{GET_REGISTRY, HALF_A_REQUEST, MAKE_BY_SERVER, SYNC, SYNC_AT_5};
+use server_test_kit::steps::Call;
+use server_test_kit::told::done;
+use server_test_kit::values::{DISPLAY, Event, FIRST, Named, SECOND, Thing};
 use std::alloc::Global;
 use std::test::Fail;
+use test_kit::cuts::Cut;
 use test_kit::log::tells;
 use test_kit::quad::QUAD;
 use wl_server::{CreateError, GlobalError, InsertClientError, ScriptError};
@@ -61,7 +62,7 @@ static ROWS: [Row; 14] = [
         name: "readings end after 64 receives",
         acts: &[
             Act::Do(Call::Insert(true)),
-            Act::ArriveBytewise(FIRST, &[1, 0, 0, 0, 0, 0, 200, 0], 100),
+            Act::ArriveCut(FIRST, HALF_A_REQUEST, Cut::Bytewise, None),
             Act::Do(Call::Next(FIRST)),
             Act::Look(Look::Arrivals(FIRST)),
             Act::Do(Call::Next(FIRST)),

@@ -1,14 +1,13 @@
 //! The one owner of a server: it makes the calls of a run and looks at what they left.
 
-use crate::kit::steps::{Call, Made, arrive, arrive_with, step};
-use crate::kit::told::{action, done, object, reply};
-use crate::kit::values::{Event, FIRST, Named, Shown, Thing, Who, message};
+use server_test_kit::steps::{Call, Made, arrive, steps};
+use server_test_kit::told::{action, done, object, reply};
+use server_test_kit::values::{Event, FIRST, Named, Shown, Thing, Who, message};
 use std::alloc::Global;
 use std::fmt::Write;
 use std::test::Fail;
 use test_kit::cuts::{Cut, Stream};
 use test_kit::log::row_tells;
-use test_kit::message::padded;
 use test_kit::quad::{QUAD, push_interface, quad_table};
 use wl_link::Memory;
 use wl_server::{Action, ActionError, Backend, ClientId, ObjectId, Reading, Reply};
@@ -24,15 +23,8 @@ pub enum Act {
     Do(Call),
     /// Makes the call, for which there has to be no memory.
     InWant(Call),
-    /// Appends the bytes and zeros after them, of that length in all, to what is to arrive, each byte by itself.
-    ArriveBytewise(Who, &'static [u8], usize),
-    /// Appends the bytes and zeros after them, of that length in all, to what is to arrive, in chunks of 4096 bytes, and
-    /// the descriptor with the first of them.
-    ArriveInChunks(Who, &'static [u8], usize, i32),
-    /// Appends so many zeros to what is to arrive.
-    ArriveZeros(Who, usize),
-    /// Appends the stream to what is to arrive, cut so.
-    ArriveCut(Who, Stream, Cut),
+    /// Appends the stream to what is to arrive, cut so, with the descriptor at its first piece if there is one.
+    ArriveCut(Who, Stream, Cut, Option<i32>),
     /// Reads, and ends each action, until nothing more is there or a reading fails.
     Serve(Who),
     /// Creates a global, for which the transport of some client has to lack memory.
@@ -103,21 +95,6 @@ pub enum Look {
     ObjectWalk(Who),
 }
 
-/// Makes the steps, for which there is to be memory.
-fn made(server: &mut Server, steps: Vec<Made>) -> Result<(), Fail> {
-    match server.replay(steps) {
-        Ok(_) => Ok(()),
-        Err(_) => Err(Fail::new("memory was refused")),
-    }
-}
-
-/// The call as a run.
-fn alone(alloc: Global, call: Call) -> Result<Vec<Made>, Fail> {
-    let mut steps = Vec::new(alloc);
-    steps.push(step(alloc, call)?)?;
-    Ok(steps)
-}
-
 /// Tells the replies.
 fn tell(log: &mut String, replies: &[Reply<Memory, u32>]) -> Result<(), Fail> {
     for one in replies {
@@ -128,7 +105,7 @@ fn tell(log: &mut String, replies: &[Reply<Memory, u32>]) -> Result<(), Fail> {
 
 /// Makes the call by itself, and tells its reply.
 fn perform(alloc: Global, server: &mut Server, log: &mut String, call: Call) -> Result<(), Fail> {
-    let steps = alone(alloc, call)?;
+    let steps = steps(alloc, &[call])?;
     match server.replay(steps) {
         Ok(replies) => tell(log, replies.as_slice()),
         Err(_) => Err(Fail::new("memory was refused")),
@@ -146,124 +123,43 @@ fn quietly(alloc: Global, server: &mut Server, calls: &[Call]) -> Result<(), Fai
 
 /// Makes the call, which has to be refused memory.
 fn in_want(alloc: Global, server: &mut Server, log: &mut String, call: Call) -> Result<(), Fail> {
-    let steps = alone(alloc, call)?;
+    let steps = steps(alloc, &[call])?;
     match server.replay(steps) {
         Ok(_) => Err(Fail::new("the want of memory is not told")),
         Err(stopped) => Ok(writeln!(log, "stopped at {}", stopped.step)?),
     }
 }
 
-/// The steps by which the bytes arrive, each by itself.
-fn bytewise(alloc: Global, who: Who, bytes: &[u8]) -> Result<Vec<Made>, Fail> {
+/// The steps by which the pieces arrive, the first of them with the descriptor.
+fn arrivals_of(
+    alloc: Global,
+    who: Who,
+    pieces: &[Vec<u8>],
+    descriptor: Option<i32>,
+) -> Result<Vec<Made>, Fail> {
+    let mut left = descriptor;
     let mut steps = Vec::new(alloc);
-    for byte in bytes {
-        steps.push(arrive(alloc, who, &[*byte])?)?;
+    for piece in pieces {
+        steps.push(arrive(alloc, who, piece.as_slice(), left)?)?;
+        left = None;
     }
     Ok(steps)
 }
 
-/// Appends the bytes and zeros after them, of that length in all, to what is to arrive, each byte by itself.
-fn arrive_bytewise(
-    alloc: Global,
-    server: &mut Server,
-    who: Who,
-    bytes: &[u8],
-    len: usize,
-) -> Result<(), Fail> {
-    let bytes = padded(alloc, bytes, len)?;
-    let steps = bytewise(alloc, who, bytes.as_slice())?;
-    made(server, steps)
-}
-
-/// Puts the step by which the bytes and the descriptor arrive into the list.
-fn push_with(
-    alloc: Global,
-    steps: &mut Vec<Made>,
-    who: Who,
-    bytes: &[u8],
-    descriptor: i32,
-) -> Result<(), Fail> {
-    Ok(steps.push(arrive_with(alloc, who, bytes, descriptor)?)?)
-}
-
-/// Appends the steps by which the bytes arrive in chunks of 4096 to the others.
-fn push_chunks(alloc: Global, steps: &mut Vec<Made>, who: Who, bytes: &[u8]) -> Result<(), Fail> {
-    for chunk in bytes.chunks(4096) {
-        steps.push(arrive(alloc, who, chunk)?)?;
-    }
-    Ok(())
-}
-
-/// The steps by which the bytes arrive in chunks of 4096, with the descriptor at the first of them.
-fn chunked(alloc: Global, who: Who, bytes: &[u8], descriptor: i32) -> Result<Vec<Made>, Fail> {
-    let (first, others) = bytes.split_at(bytes.len().min(4096));
-    let mut steps = Vec::new(alloc);
-    push_with(alloc, &mut steps, who, first, descriptor)?;
-    push_chunks(alloc, &mut steps, who, others)?;
-    Ok(steps)
-}
-
-/// Appends the bytes and zeros after them, of that length in all, to what is to arrive, in chunks of 4096 bytes, and the
-/// descriptor with the first of them.
-fn arrive_in_chunks(
-    alloc: Global,
-    server: &mut Server,
-    who: Who,
-    (bytes, len): (&[u8], usize),
-    descriptor: i32,
-) -> Result<(), Fail> {
-    let bytes = padded(alloc, bytes, len)?;
-    let steps = chunked(alloc, who, bytes.as_slice(), descriptor)?;
-    made(server, steps)
-}
-
-/// Appends so many zeros to what is to arrive.
-fn arrive_zeros(alloc: Global, server: &mut Server, who: Who, len: usize) -> Result<(), Fail> {
-    let zeros = padded(alloc, &[], len)?;
-    let mut steps = Vec::new(alloc);
-    steps.push(arrive(alloc, who, zeros.as_slice())?)?;
-    made(server, steps)
-}
-
-/// Appends the bytes to what is to arrive.
-fn arrive_whole(alloc: Global, server: &mut Server, who: Who, bytes: &[u8]) -> Result<(), Fail> {
-    let mut steps = Vec::new(alloc);
-    steps.push(arrive(alloc, who, bytes)?)?;
-    made(server, steps)
-}
-
-/// Appends the bytes to what is to arrive, cut so.
-fn arrive_pieces(
-    alloc: Global,
-    server: &mut Server,
-    who: Who,
-    bytes: &[u8],
-    cut: Cut,
-) -> Result<(), Fail> {
-    match cut {
-        Cut::Whole => arrive_whole(alloc, server, who, bytes),
-        Cut::At(place) => {
-            let (front, back) = bytes.split_at(place.min(bytes.len()));
-            arrive_whole(alloc, server, who, front)?;
-            arrive_whole(alloc, server, who, back)
-        }
-        Cut::Bytewise => {
-            let steps = bytewise(alloc, who, bytes)?;
-            made(server, steps)
-        }
-    }
-}
-
-/// Appends the stream to what is to arrive, cut so.
+/// Appends the stream to what is to arrive, cut so, with the descriptor at its first piece.
 fn arrive_cut(
     alloc: Global,
     server: &mut Server,
     who: Who,
-    stream: Stream,
-    cut: Cut,
+    (stream, cut): (Stream, Cut),
+    descriptor: Option<i32>,
 ) -> Result<(), Fail> {
-    let bytes = stream.bytes(alloc)?;
-    arrive_pieces(alloc, server, who, bytes.as_slice(), cut)
+    let pieces = stream.pieces(alloc, cut)?;
+    let steps = arrivals_of(alloc, who, pieces.as_slice(), descriptor)?;
+    match server.replay(steps) {
+        Ok(_) => Ok(()),
+        Err(_) => Err(Fail::new("memory was refused")),
+    }
 }
 
 /// Ends the action: what a bind made gets 9, and what a request made gets 5.
@@ -722,12 +618,9 @@ fn look_at(alloc: Global, server: &Server, log: &mut String, at_what: Look) -> R
 /// Appends something to what is to arrive, or makes calls, and tells nothing of it.
 fn prepare(alloc: Global, server: &mut Server, act: Act) -> Result<(), Fail> {
     match act {
-        Act::ArriveBytewise(who, bytes, len) => arrive_bytewise(alloc, server, who, bytes, len),
-        Act::ArriveInChunks(who, bytes, len, descriptor) => {
-            arrive_in_chunks(alloc, server, who, (bytes, len), descriptor)
+        Act::ArriveCut(who, stream, cut, descriptor) => {
+            arrive_cut(alloc, server, who, (stream, cut), descriptor)
         }
-        Act::ArriveZeros(who, len) => arrive_zeros(alloc, server, who, len),
-        Act::ArriveCut(who, stream, cut) => arrive_cut(alloc, server, who, stream, cut),
         Act::Globals(count) => globals(alloc, server, count),
         Act::Quietly(calls) => quietly(alloc, server, calls),
         _ => Ok(()),

@@ -1,9 +1,9 @@
 //! Walks over clients and over objects.
 
 use super::run::{Act, Look, Row, rows_tell};
-use crate::kit::arrivals::GET_REGISTRY;
-use crate::kit::steps::Call;
-use crate::kit::values::{FIRST, SECOND, Who};
+use server_test_kit::arrivals::GET_REGISTRY;
+use server_test_kit::steps::Call;
+use server_test_kit::values::{FIRST, SECOND, Who};
 use std::test::Fail;
 use test_kit::quad::QUAD;
 

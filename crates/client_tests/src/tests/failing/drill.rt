@@ -15,7 +15,7 @@ use wl_link::Memory;
 use wl_wire::TableError;
 
 /// A client whose objects have numbers as their data.
-type Client = Backend<Memory, u32>;
+pub type Client = Backend<Memory, u32>;
 
 /// A call, and what its reply tells if there is memory.
 pub type Entry = (Call, &'static str);
@@ -137,7 +137,7 @@ fn play(rt: &(impl Eprint + AllocGlobal), client: &mut Client, run: &Run) -> Res
 }
 
 /// What the session's error tells.
-fn error_of(alloc: Global, client: &Client) -> Result<String, Fail> {
+pub fn error_of(alloc: Global, client: &Client) -> Result<String, Fail> {
     let mut text = String::new(alloc);
     match client.last_error() {
         Some(error) => write!(text, "{error}")?,
@@ -146,9 +146,10 @@ fn error_of(alloc: Global, client: &Client) -> Result<String, Fail> {
     Ok(text)
 }
 
-/// Makes the run, and fails if it is not as it has to be, or leaves another error. If there was no memory for the
-/// error's text, the want is the error.
+/// Adds an interface, makes the run, and fails if it is not as it has to be, or leaves another error. If there was no memory for
+/// the error's text, the want is the error.
 fn play_to(rt: &(impl Eprint + AllocGlobal), client: &mut Client, run: &Run) -> Result<(), Fail> {
+    grow(rt, client)?;
     let was_refused = play(rt, client, run)?;
     let told = error_of(rt.alloc(), client)?;
     if was_refused && told.as_str() == "Io error: out of memory" {
@@ -164,7 +165,7 @@ fn made(alloc: Global) -> Result<Option<Client>, Fail> {
 }
 
 /// A new client; if memory was refused it is made once more.
-fn connected(alloc: Global) -> Result<Client, Fail> {
+pub fn connected(alloc: Global) -> Result<Client, Fail> {
     for _ in 0..2 {
         if let Some(client) = made(alloc)? {
             return Ok(client);
@@ -201,20 +202,10 @@ fn grow(rt: &(impl Eprint + AllocGlobal), client: &mut Client) -> Result<(), Fai
     holds(rt, "interfaces are added", answer.is_ok())
 }
 
-/// Adds an interface, makes the run, and fails if it is not as it has to be.
-fn grow_and_play(
-    rt: &(impl Eprint + AllocGlobal),
-    client: &mut Client,
-    run: &Run,
-) -> Result<(), Fail> {
-    grow(rt, client)?;
-    play_to(rt, client, run)
-}
-
 /// Adds an interface to the table of a new client, makes the run, and fails if it is not as it has to be.
 pub fn drill(rt: &(impl Eprint + AllocGlobal), run: &Run) -> Result<(), Fail> {
     let mut client = connected(rt.alloc())?;
-    let answer = grow_and_play(rt, &mut client, run);
+    let answer = play_to(rt, &mut client, run);
     drop(client);
     answer
 }

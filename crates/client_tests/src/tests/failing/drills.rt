@@ -1,7 +1,7 @@
 //! The runs for which each allocation is refused in turn, and in which each receive and each send fails in turn.
 
 use super::drill::{Run, drill};
-use super::transports::fails_in_turn;
+use super::transports::{fails_in_turn, faults_are_made_up_for};
 use crate::kit::steps::Call;
 use crate::kit::values::{Object, Request};
 use std::test::Fail;
@@ -9,6 +9,11 @@ use std::test::Fail;
 /// The end of the callback 2, and of its number.
 const ANSWER: [u8; 24] = [
     2, 0, 0, 0, 0, 0, 12, 0, 0, 0, 0, 0, 1, 0, 0, 0, 1, 0, 12, 0, 2, 0, 0, 0,
+];
+
+/// The same of the callback 4.
+const ANSWER_AT_4: [u8; 24] = [
+    4, 0, 0, 0, 0, 0, 12, 0, 0, 0, 0, 0, 1, 0, 0, 0, 1, 0, 12, 0, 4, 0, 0, 0,
 ];
 
 /// `wl_display.delete_id` of 3.
@@ -23,14 +28,32 @@ const MADE_AT_5: [u8; 12] = [3, 0, 0, 0, 1, 0, 12, 0, 5, 0, 0, 0];
 /// `quad.gone`, by object 3.
 const GONE: [u8; 8] = [3, 0, 0, 0, 2, 0, 8, 0];
 
-/// What a run is tried by.
-#[derive(Clone, Copy)]
-enum Trial {
-    /// By memory that is refused.
-    Memory,
-    /// By a transport that fails.
-    Transport,
-}
+/// A `quad` is bound, the server makes another, and a sync is answered. Five receives are met: the last is that of the last reading,
+/// which finds nothing else.
+static MADE_AND_SYNC: Run = Run {
+    name: "an object of the server's, and a sync",
+    entries: &[
+        (Call::Send(Request::GetRegistry), "sent: 2, 1\n"),
+        (Call::Send(Request::Bind), "sent: 3, 2\n"),
+        (Call::Flush, "flushed\n"),
+        (Call::Arrive(&MADE), "done\n"),
+        (Call::Next, "event 1 of 3: new 4278190080, 3\n"),
+        (Call::Finish(Some(7)), "finished\n"),
+        (Call::Send(Request::Sync), "sent: 4, 4\n"),
+        (Call::Flush, "flushed\n"),
+        (Call::Arrive(&ANSWER_AT_4), "done\n"),
+        (Call::Next, "event 0 of 4: 0\n"),
+        (Call::Finish(None), "finished\n"),
+        (Call::Next, "would block\n"),
+        (Call::Notes, "notes: 4, 4\n"),
+        (
+            Call::TakeSent,
+            "0100000001000c00020000000200000000002000010000000500000071756164000000000300000003000000\n0100000000000c0004000000\n",
+        ),
+    ],
+    error: "no error",
+    counts: (5, 2),
+};
 
 /// The runs.
 static RUNS: [Run; 7] = [
@@ -147,29 +170,28 @@ static RUNS: [Run; 7] = [
     },
 ];
 
-/// Makes the run, and fails if it is not as it has to be.
-fn tried(rt: &(impl Eprint + AllocGlobal), trial: Trial, run: &Run) -> Result<(), Fail> {
-    drill(rt, run)?;
-    match trial {
-        Trial::Memory => Ok(()),
-        Trial::Transport => fails_in_turn(rt, run),
-    }
-}
-
-/// Makes all runs.
-fn all(rt: &(impl Eprint + AllocGlobal), trial: Trial) -> Result<(), Fail> {
+#[test]
+fn drill_of_a_client(rt: HostRuntime) -> Result<(), Fail> {
     for run in &RUNS {
-        tried(rt, trial, run)?;
+        drill(&rt, run)?;
     }
     Ok(())
 }
 
-#[test]
-fn drill_of_a_client(rt: HostRuntime) -> Result<(), Fail> {
-    all(&rt, Trial::Memory)
-}
-
+/// In each of these runs, each receive and each send fails in turn.
 #[test]
 fn faults_of_a_client(rt: HostRuntime) -> Result<(), Fail> {
-    all(&rt, Trial::Transport)
+    for run in &RUNS {
+        drill(&rt, run)?;
+        fails_in_turn(&rt, run)?;
+    }
+    Ok(())
+}
+
+/// The same of one more; and each receive and each send would block, or lacks memory.
+#[test]
+fn faults_that_are_made_up_for(rt: HostRuntime) -> Result<(), Fail> {
+    drill(&rt, &MADE_AND_SYNC)?;
+    fails_in_turn(&rt, &MADE_AND_SYNC)?;
+    faults_are_made_up_for(&rt, &MADE_AND_SYNC)
 }

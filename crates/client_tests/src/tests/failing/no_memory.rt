@@ -3,15 +3,18 @@
 //! A test names each call on standard error before it makes it. So `./refusal-drill` can count what is allocated for it: nothing,
 //! but for the calls whose name begins with `control`, for which something has to be.
 
-use crate::kit::counted::{Counted, Line};
+use crate::kit::line::Line;
+use crate::kit::table::hinting_table;
 use crate::kit::values::{Object, Request, message};
 use std::alloc::Global;
 use std::cell::Cell;
 use std::test::Fail;
+use test_kit::counted::Counted;
 use test_kit::log::holds;
+use test_kit::no_memory::{begin, end};
 use test_kit::quad::{DESTROY, QUAD, quad_table};
 use wl_client::{Backend, ObjectId};
-use wl_wire::WL_CALLBACK_INTERFACE;
+use wl_wire::{Protocol, WL_CALLBACK_INTERFACE};
 
 /// A client whose transport takes all that it is sent, without memory.
 type Client<'a> = Backend<Line<'a>, Counted<'a>>;
@@ -30,6 +33,8 @@ enum Call {
     Send(Request),
     /// `next_event`.
     Next,
+    /// `next_event`, which has to give one of this opcode.
+    NextOf(u16),
     /// `finish_event`, of an event that made no object.
     Finish,
     /// All calls that look something up.
@@ -106,6 +111,26 @@ static WITH_ROOM: [(&str, Call); 15] = [
     ),
 ];
 
+/// The events of object 3: of a number, of a number with a child interface, and of a new id.
+const HINTS: [u8; 36] = [
+    3, 0, 0, 0, 0, 0, 12, 0, 7, 0, 0, 0, 3, 0, 0, 0, 1, 0, 12, 0, 8, 0, 0, 0, 3, 0, 0, 0, 2, 0, 12,
+    0, 0, 0, 0, 255,
+];
+
+/// An event that names a child interface and has no new id makes no object. It is read where the map of the objects is full: the
+/// client has four, the display, a registry, a `quad` and a callback. So an event that makes an object, read just after it, has
+/// to take memory. Before the first event some may be needed for what the reading itself keeps.
+static HINTED: [(&str, Call); 8] = [
+    ("", Call::Send(Request::GetRegistry)),
+    ("", Call::Send(Request::Bind)),
+    ("", Call::Send(Request::Sync)),
+    ("", Call::NextOf(0)),
+    ("", Call::Finish),
+    ("next_event, a child interface alone", Call::NextOf(1)),
+    ("", Call::Finish),
+    ("control: next_event, a new id", Call::NextOf(2)),
+];
+
 /// Whether each look-up finds what it has to.
 fn is_looked_up(client: &Client) -> bool {
     let callback = Object::Callback.id();
@@ -165,6 +190,10 @@ fn make_of_all(client: &mut Client, call: Call) -> bool {
             true
         }
         Call::Next => client.next_event().is_ok(),
+        Call::NextOf(opcode) => match client.next_event() {
+            Ok(event) => event.opcode == opcode,
+            Err(_) => false,
+        },
         Call::Finish => client.finish_event(None).is_ok(),
         Call::Dispatch => client.dispatch_inner_queue().is_ok(),
         Call::Transport => {
@@ -181,20 +210,17 @@ fn make_of_all(client: &mut Client, call: Call) -> bool {
     }
 }
 
-/// Makes the call, and names it before if it is counted. Fails if it does not answer as it has to, or was refused memory.
+/// Makes the call between the lines that name and end it. Fails if it does not answer as it has to, or was refused memory.
 fn counted<'a>(
     rt: &(impl Eprint + AllocGlobal),
     drops: &'a Cell<u64>,
     client: &mut Client<'a>,
     (name, call): (&str, Call),
 ) -> Result<(), Fail> {
-    if !name.is_empty() {
-        let _ = eprintln!(rt; "call: {name}");
-    }
-    let is_made = make(rt.alloc(), drops, client, call)?;
-    if !name.is_empty() {
-        let _ = eprintln!(rt; "end");
-    }
+    begin(rt, name);
+    let is_made = make(rt.alloc(), drops, client, call);
+    end(rt, name);
+    let is_made = is_made?;
     holds(rt, name, is_made && !client.memory_refused())
 }
 
@@ -211,25 +237,26 @@ fn all_counted<'a>(
     Ok(())
 }
 
-/// A new client, to which the server sends these bytes.
+/// A new client of that table, to which the server sends these bytes.
 fn connected<'a>(
     alloc: Global,
     drops: &'a Cell<u64>,
+    table: Protocol,
     from_server: &'static [u8],
 ) -> Result<Client<'a>, Fail> {
-    let table = quad_table(alloc)?;
     let line = Line::new(from_server, Counted::new(drops, 1));
     Ok(Backend::connect(alloc, table, line)?)
 }
 
-/// Makes the calls of a new client, to which the server sends these bytes.
+/// Makes the calls of a new client of that table, to which the server sends these bytes.
 fn counted_of_new<'a>(
     rt: &(impl Eprint + AllocGlobal),
     drops: &'a Cell<u64>,
+    table: Protocol,
     from_server: &'static [u8],
     calls: &[(&str, Call)],
 ) -> Result<(), Fail> {
-    let mut client = connected(rt.alloc(), drops, from_server)?;
+    let mut client = connected(rt.alloc(), drops, table, from_server)?;
     let answer = all_counted(rt, drops, &mut client, calls);
     drop(client);
     answer
@@ -238,6 +265,8 @@ fn counted_of_new<'a>(
 #[test]
 fn takes_no_memory(rt: HostRuntime) -> Result<(), Fail> {
     let drops = Cell::new(0);
-    counted_of_new(&rt, &drops, &[], &CALLS)?;
-    counted_of_new(&rt, &drops, &TWICE, &WITH_ROOM)
+    for (from_server, calls) in [(&[][..], &CALLS[..]), (&TWICE, &WITH_ROOM)] {
+        counted_of_new(&rt, &drops, quad_table(rt.alloc())?, from_server, calls)?;
+    }
+    counted_of_new(&rt, &drops, hinting_table(rt.alloc())?, &HINTS, &HINTED)
 }

@@ -1,57 +1,20 @@
-//! Each receive and each send of a client's transport fails in turn.
+//! Each receive and each send of a client's transport fails in turn, over the runs of the drills.
+//!
+//! A fault is stored, and each reading and each flush answers from then on that the session failed. A receive or a send that would
+//! block, or lacks memory, is made up for by the same call once more: the run comes to what it came to without.
 
-use super::drill::Run;
+use super::drill::{Client, Entry, Run, connected, error_of};
 use crate::kit::steps::{Call, steps};
-use crate::kit::told::write_reply;
-use crate::kit::values::Request;
+use crate::kit::told::write_replies;
 use std::alloc::Global;
 use std::test::Fail;
-use test_kit::log::{holds, is_text, tells};
-use test_kit::quad::quad_table;
-use wl_client::{Backend, Reply};
-use wl_link::Memory;
-use wl_wire::{IoFault, Token};
+use test_kit::faults::with_fault;
+use test_kit::log::{holds, is_text};
+use wl_client::Reply;
+use wl_wire::IoFault;
 
-/// A client whose objects have numbers as their data.
-type Client = Backend<Memory, u32>;
-
-/// A run: a `quad` is bound, the server makes another, and a sync is answered.
-static RUN: [Call; 14] = [
-    Call::Send(Request::GetRegistry),
-    Call::Send(Request::Bind),
-    Call::Flush,
-    Call::Arrive(&[3, 0, 0, 0, 1, 0, 12, 0, 0, 0, 0, 255]),
-    Call::Next,
-    Call::Finish(Some(7)),
-    Call::Send(Request::Sync),
-    Call::Flush,
-    Call::Arrive(&[
-        4, 0, 0, 0, 0, 0, 12, 0, 0, 0, 0, 0, 1, 0, 0, 0, 1, 0, 12, 0, 4, 0, 0, 0,
-    ]),
-    Call::Next,
-    Call::Finish(None),
-    Call::Next,
-    Call::Notes,
-    Call::TakeSent,
-];
-
-/// What the run tells if nothing fails, and after it the session's error.
-const TOLD: &str = "sent: 2, 1
-sent: 3, 2
-flushed
-done
-event 1 of 3: new 4278190080, 3
-finished
-sent: 4, 4
-flushed
-done
-event 0 of 4: 0
-finished
-would block
-notes: 4, 4
-0100000001000c000200000002000000000020000100000005000000717561640000000003000000030000000100000000000c0004000000
-no error
-";
+/// The fault of a transport that fails.
+const FAULT: IoFault = IoFault::Other(5);
 
 /// What a reading, or a flush, tells that would block.
 const WOULD_BLOCK: &str = "would block\n";
@@ -59,39 +22,18 @@ const WOULD_BLOCK: &str = "would block\n";
 /// What it tells of a session that failed.
 const FAILED: &str = "the session failed\n";
 
-/// Writes all that was sent, as one.
-fn write_joined(log: &mut String, sends: &[(Vec<u8>, Vec<Token>)]) -> Result<(), Fail> {
-    for (bytes, _) in sends {
-        for byte in bytes.as_slice() {
-            write!(log, "{byte:02x}")?;
-        }
-    }
-    Ok(writeln!(log)?)
-}
-
-/// What the reply tells: of sends all bytes as one.
-fn text_of(alloc: Global, told: &Reply<u32>) -> Result<String, Fail> {
-    let mut log = String::new(alloc);
-    match told {
-        Reply::TakeSent(sends) => write_joined(&mut log, sends.as_slice())?,
-        _ => write_reply(&mut log, told)?,
-    }
-    Ok(log)
-}
-
-/// What the first of the replies tells.
-fn first_of(alloc: Global, replies: &[Reply<u32>]) -> Result<Option<String>, Fail> {
-    match replies.first() {
-        Some(told) => Ok(Some(text_of(alloc, told)?)),
-        None => Err(Fail::new("there is a reply")),
-    }
+/// What the replies tell.
+fn text_of(alloc: Global, replies: &[Reply<u32>]) -> Result<Option<String>, Fail> {
+    let mut text = String::new(alloc);
+    write_replies(&mut text, replies)?;
+    Ok(Some(text))
 }
 
 /// Makes the call; what its reply tells, or none if memory was refused.
 fn answer(alloc: Global, client: &mut Client, call: Call) -> Result<Option<String>, Fail> {
     let made = steps(alloc, &[call])?;
     match client.replay(made) {
-        Ok(replies) => first_of(alloc, replies.as_slice()),
+        Ok(replies) => text_of(alloc, replies.as_slice()),
         Err(_) => Ok(None),
     }
 }
@@ -117,138 +59,29 @@ fn made(alloc: Global, client: &mut Client, call: Call) -> Result<String, Fail> 
     Err(Fail::new("the call is made again and again"))
 }
 
-/// What the session's error is.
-fn last_error(alloc: Global, client: &Client) -> Result<String, Fail> {
-    let mut log = String::new(alloc);
-    match client.last_error() {
-        Some(error) => writeln!(log, "{error}")?,
-        None => writeln!(log, "no error")?,
-    }
-    Ok(log)
-}
-
 /// Makes the calls, and tells what each tells but those that script a fault, and then the session's error.
 fn make_all(
     alloc: Global,
     client: &mut Client,
     texts: &mut Vec<String>,
-    calls: &[Call],
+    entries: &[Entry],
 ) -> Result<(), Fail> {
-    for call in calls {
+    for (call, _) in entries {
         let told = made(alloc, client, *call)?;
         match call {
             Call::ArriveFault(_) | Call::Accept(_) | Call::AcceptFault(_) => {}
             _ => texts.push(told)?,
         }
     }
-    Ok(texts.push(last_error(alloc, client)?)?)
-}
-
-/// What the calls tell.
-fn played_by(alloc: Global, client: &mut Client, calls: &[Call]) -> Result<Vec<String>, Fail> {
-    let mut texts = Vec::new(alloc);
-    make_all(alloc, client, &mut texts, calls)?;
-    Ok(texts)
-}
-
-/// A new client.
-fn connected(alloc: Global) -> Result<Client, Fail> {
-    let table = quad_table(alloc)?;
-    Ok(Backend::connect(alloc, table, Memory::new(alloc))?)
+    Ok(texts.push(error_of(alloc, client)?)?)
 }
 
 /// The same of a new client.
-fn played(alloc: Global, calls: &[Call]) -> Result<Vec<String>, Fail> {
+fn play(alloc: Global, texts: &mut Vec<String>, entries: &[Entry]) -> Result<(), Fail> {
     let mut client = connected(alloc)?;
-    let answer = played_by(alloc, &mut client, calls);
+    let answer = make_all(alloc, &mut client, texts, entries);
     drop(client);
     answer
-}
-
-/// Whether a receive may take what comes at this call: something arrives, or it is read.
-fn is_receive(call: Call) -> bool {
-    matches!(call, Call::Arrive(_) | Call::Next)
-}
-
-/// The run, in which the receive at that call answers the fault.
-fn with_receive(alloc: Global, run: &[Call], at: usize, fault: IoFault) -> Result<Vec<Call>, Fail> {
-    let (front, back) = run.split_at(at.min(run.len()));
-    let mut calls = Vec::from_slice(alloc, front)?;
-    calls.push(Call::ArriveFault(fault))?;
-    calls.extend_from_slice(back)?;
-    Ok(calls)
-}
-
-/// The run, in which that send answers the fault, counted from 0.
-fn with_send(
-    alloc: Global,
-    run: &[Call],
-    number: usize,
-    fault: IoFault,
-) -> Result<Vec<Call>, Fail> {
-    let mut calls = Vec::new(alloc);
-    for _ in 0..number {
-        calls.push(Call::Accept(usize::MAX))?;
-    }
-    calls.push(Call::AcceptFault(fault))?;
-    calls.extend_from_slice(run)?;
-    Ok(calls)
-}
-
-/// All that was told, as one.
-fn whole(alloc: Global, texts: &[String]) -> Result<String, Fail> {
-    let mut whole = String::new(alloc);
-    for text in texts {
-        whole.push_str(text.as_str())?;
-    }
-    Ok(whole)
-}
-
-/// Fails if the run, in which something failed that is made up for, does not tell what it tells if nothing fails.
-fn is_made_up_for(rt: &(impl Eprint + AllocGlobal), calls: &[Call]) -> Result<(), Fail> {
-    let texts = played(rt.alloc(), calls)?;
-    tells(rt, whole(rt.alloc(), texts.as_slice()), TOLD)
-}
-
-/// The receive at that call answers the fault, and is made up for.
-fn receive_is_made_up_for(
-    rt: &(impl Eprint + AllocGlobal),
-    at: usize,
-    fault: IoFault,
-) -> Result<(), Fail> {
-    let calls = with_receive(rt.alloc(), &RUN, at, fault)?;
-    is_made_up_for(rt, calls.as_slice())
-}
-
-/// That send answers the fault, and is made up for.
-fn send_is_made_up_for(
-    rt: &(impl Eprint + AllocGlobal),
-    number: usize,
-    fault: IoFault,
-) -> Result<(), Fail> {
-    let calls = with_send(rt.alloc(), &RUN, number, fault)?;
-    is_made_up_for(rt, calls.as_slice())
-}
-
-/// Each receive, and each send, answers the fault, and is made up for.
-fn each_is_made_up_for(rt: &(impl Eprint + AllocGlobal), fault: IoFault) -> Result<(), Fail> {
-    for (at, call) in RUN.iter().enumerate() {
-        if is_receive(*call) {
-            receive_is_made_up_for(rt, at, fault)?;
-        }
-    }
-    for number in 0..3 {
-        send_is_made_up_for(rt, number, fault)?;
-    }
-    Ok(())
-}
-
-/// Nothing fails; and each receive, and each send, would block or lacks memory: the run comes to what it came to without.
-#[test]
-fn transport_that_would_block_or_lacks_memory(rt: HostRuntime) -> Result<(), Fail> {
-    is_made_up_for(&rt, &RUN)?;
-    each_is_made_up_for(&rt, IoFault::WouldBlock)?;
-    each_is_made_up_for(&rt, IoFault::OutOfMemory)
 }
 
 /// Whether the call reads or flushes.
@@ -256,10 +89,11 @@ fn is_asked(call: Call) -> bool {
     matches!(call, Call::Next | Call::Flush)
 }
 
-/// What the call has to tell: what it did, until one has failed; then that the session failed, if it reads or flushes.
-fn has_to_tell<'a>(call: Call, has_failed: bool, (was, is): (&'a str, &'a str)) -> &'a str {
+/// What the call has to tell: what it does if nothing fails, until one has failed; then that the session failed, if it reads or
+/// flushes.
+fn has_to_tell<'a>((call, text): Entry, has_failed: bool, is: &'a str) -> &'a str {
     if !has_failed {
-        was
+        text
     } else if is_asked(call) {
         FAILED
     } else {
@@ -267,179 +101,120 @@ fn has_to_tell<'a>(call: Call, has_failed: bool, (was, is): (&'a str, &'a str)) 
     }
 }
 
-/// Fails if the call tells something else than it has to, where a call before it has failed or not; whether one has failed now.
-fn fails_since(
-    rt: &impl Eprint,
-    call: Call,
-    has_failed: bool,
-    (was, is): (&str, &str),
-) -> Result<bool, Fail> {
-    let fails_now = has_failed || (is_asked(call) && is == FAILED);
-    is_text(rt, is, has_to_tell(call, fails_now, (was, is)))?;
-    Ok(fails_now)
-}
-
-/// Fails if a call of a run, in which the transport fails, tells something else than it has to: up to the first reading or
-/// flush that answers the fault, what it tells if nothing fails; and from then on each that reads or flushes fails.
-fn fails_for_good(
-    rt: &impl Eprint,
-    run: &[Call],
-    clean: &[String],
-    texts: &[String],
-) -> Result<(), Fail> {
+/// Fails if a call tells something else than it has to: if the fault is met, from the first reading or flush on that answers it.
+fn judge_calls(rt: &impl Eprint, run: &Run, is_met: bool, texts: &[String]) -> Result<(), Fail> {
     let mut has_failed = false;
-    for (call, (was, is)) in run.iter().zip(clean.iter().zip(texts)) {
-        has_failed = fails_since(rt, *call, has_failed, (was.as_str(), is.as_str()))?;
+    for (entry, is) in run.entries.iter().zip(texts) {
+        let fails = is_met && is_asked(entry.0) && is.as_str() == FAILED;
+        has_failed = has_failed || fails;
+        is_text(
+            rt,
+            is.as_str(),
+            has_to_tell(*entry, has_failed, is.as_str()),
+        )?;
     }
-    holds(rt, "a call fails", has_failed)
+    holds(rt, "a call fails if the fault is met", has_failed == is_met)
 }
 
-/// Fails if the run tells something else than if nothing fails.
-fn tells_the_same(rt: &impl Eprint, clean: &[String], texts: &[String]) -> Result<(), Fail> {
-    for (was, is) in clean.iter().zip(texts) {
-        is_text(rt, is.as_str(), was.as_str())?;
-    }
-    Ok(())
-}
-
-/// Fails if the fault does not become the session's error, or is not answered from then on; whether it is met.
-fn is_stored(
-    rt: &(impl Eprint + AllocGlobal),
-    run: &[Call],
-    clean: &[String],
-    calls: &[Call],
-) -> Result<bool, Fail> {
-    let texts = played(rt.alloc(), calls)?;
-    is_judged(rt, run, clean, texts.as_slice())
-}
-
-/// The same of what the calls told.
-fn is_judged(
-    rt: &impl Eprint,
-    run: &[Call],
-    clean: &[String],
-    texts: &[String],
-) -> Result<bool, Fail> {
-    holds(rt, "as much is told", texts.len() == clean.len())?;
-    let is_met = texts
-        .last()
-        .is_some_and(|told| told.as_str() == "Io error: os error 5\n");
-    if is_met {
-        fails_for_good(rt, run, clean, texts)?;
-    } else {
-        tells_the_same(rt, clean, texts)?;
-    }
+/// Fails if a run with a fault is not as it has to be: the fault becomes the session's error and is answered from then on, or it is
+/// not met, and the run is as without it. Whether it is met.
+fn judge(rt: &impl Eprint, run: &Run, texts: &[String]) -> Result<bool, Fail> {
+    let as_many = texts.len() == run.entries.len().saturating_add(1);
+    holds(rt, "as much is told", as_many)?;
+    let error = texts.last().map_or("", |told| told.as_str());
+    let is_met = error == "Io error: os error 5";
+    holds(rt, run.name, is_met || error == run.error)?;
+    judge_calls(rt, run, is_met, texts)?;
     Ok(is_met)
 }
 
-/// The receive at that call fails; whether it is met.
-fn receive_is_stored(
-    rt: &(impl Eprint + AllocGlobal),
-    run: &[Call],
-    clean: &[String],
-    at: usize,
-) -> Result<bool, Fail> {
-    let calls = with_receive(rt.alloc(), run, at, IoFault::Other(5))?;
-    is_stored(rt, run, clean, calls.as_slice())
+/// Makes the run with the fault, and fails if it is not as it has to be; whether the fault is met.
+fn is_met(rt: &(impl Eprint + AllocGlobal), run: &Run, failing: &[Entry]) -> Result<bool, Fail> {
+    let mut texts = Vec::new(rt.alloc());
+    play(rt.alloc(), &mut texts, failing)?;
+    judge(rt, run, texts.as_slice())
 }
 
-/// The same; and it has to be met for what arrives.
+/// The receive at that call answers the fault; whether it is met.
 fn receive_fails(
     rt: &(impl Eprint + AllocGlobal),
-    run: &[Call],
-    clean: &[String],
-    (at, call): (usize, Call),
+    run: &Run,
+    place: usize,
+    fault: IoFault,
 ) -> Result<bool, Fail> {
-    let is_met = receive_is_stored(rt, run, clean, at)?;
-    let has_to_be = !matches!(call, Call::Next);
-    holds(rt, "what arrives is received", is_met || !has_to_be)?;
-    Ok(is_met)
+    let cue = (Call::ArriveFault(fault), "");
+    let failing = with_fault(rt.alloc(), run.entries, place, (cue, 0), cue)?;
+    is_met(rt, run, failing.as_slice())
 }
 
-/// Each receive of the run fails; how many are met.
-fn receives_fail(
+/// That send answers the fault, counted from 0; whether it is met.
+fn send_fails(
     rt: &(impl Eprint + AllocGlobal),
-    run: &[Call],
-    clean: &[String],
-) -> Result<usize, Fail> {
+    run: &Run,
+    number: usize,
+    fault: IoFault,
+) -> Result<bool, Fail> {
+    let accept = (Call::Accept(usize::MAX), "");
+    let cue = (Call::AcceptFault(fault), "");
+    let failing = with_fault(rt.alloc(), run.entries, 0, (accept, number), cue)?;
+    is_met(rt, run, failing.as_slice())
+}
+
+/// Each receive of the run fails: what arrives is received, and what is read may be. How many are met.
+fn receives_fail(rt: &(impl Eprint + AllocGlobal), run: &Run) -> Result<usize, Fail> {
     let mut count = 0usize;
-    for (at, call) in run.iter().enumerate() {
-        if is_receive(*call) && receive_fails(rt, run, clean, (at, *call))? {
-            count = count.saturating_add(1);
+    for (place, (call, _)) in run.entries.iter().enumerate() {
+        let is_arrival = matches!(call, Call::Arrive(_));
+        if is_arrival || matches!(call, Call::Next) {
+            let is_met = receive_fails(rt, run, place, FAULT)?;
+            holds(rt, "what arrives is received", is_met || !is_arrival)?;
+            if is_met {
+                count = count.saturating_add(1);
+            }
         }
     }
     Ok(count)
 }
 
-/// That send of the run fails; whether it is met.
-fn send_fails(
-    rt: &(impl Eprint + AllocGlobal),
-    run: &[Call],
-    clean: &[String],
-    number: usize,
-) -> Result<bool, Fail> {
-    let calls = with_send(rt.alloc(), run, number, IoFault::Other(5))?;
-    is_stored(rt, run, clean, calls.as_slice())
-}
-
 /// Each send of the run fails, until none is met; how many are.
-fn sends_fail(
-    rt: &(impl Eprint + AllocGlobal),
-    run: &[Call],
-    clean: &[String],
-) -> Result<usize, Fail> {
+fn sends_fail(rt: &(impl Eprint + AllocGlobal), run: &Run) -> Result<usize, Fail> {
     for number in 0..100 {
-        if !send_fails(rt, run, clean, number)? {
+        if !send_fails(rt, run, number, FAULT)? {
             return Ok(number);
         }
     }
     Err(Fail::new("there are more sends"))
 }
 
-/// How many receives of the run, and how many sends, are met if each fails.
-fn met(
-    rt: &(impl Eprint + AllocGlobal),
-    run: &[Call],
-    clean: &[String],
-) -> Result<(usize, usize), Fail> {
-    let receives = receives_fail(rt, run, clean)?;
-    let sends = sends_fail(rt, run, clean)?;
-    Ok((receives, sends))
-}
-
-/// Fails if not so many receives and sends of the run are met.
-fn so_many_are_met(
-    rt: &(impl Eprint + AllocGlobal),
-    run: &[Call],
-    clean: &[String],
-    counts: (usize, usize),
-) -> Result<(), Fail> {
-    let found = met(rt, run, clean)?;
-    holds(rt, "so many receives and sends are met", found == counts)
-}
-
 /// Each receive of the run, and each send, fails: it is stored, and answered from then on. Fails if there are not so many.
-fn transport_fails(
-    rt: &(impl Eprint + AllocGlobal),
-    run: &[Call],
-    counts: (usize, usize),
-) -> Result<(), Fail> {
-    let clean = played(rt.alloc(), run)?;
-    so_many_are_met(rt, run, clean.as_slice(), counts)
-}
-
-/// The same of the calls of a run of the drills.
 pub fn fails_in_turn(rt: &(impl Eprint + AllocGlobal), run: &Run) -> Result<(), Fail> {
-    let mut calls = Vec::new(rt.alloc());
-    for entry in run.entries {
-        calls.push(entry.0)?;
-    }
-    transport_fails(rt, calls.as_slice(), run.counts)
+    let receives = receives_fail(rt, run)?;
+    holds(rt, "so many receives are met", receives == run.counts.0)?;
+    let sends = sends_fail(rt, run)?;
+    holds(rt, "so many sends are met", sends == run.counts.1)
 }
 
-/// Each receive, and each of the two sends, fails. The last receive of the five is that of the last reading, which finds
-/// nothing else.
-#[test]
-fn transport_that_fails(rt: HostRuntime) -> Result<(), Fail> {
-    transport_fails(&rt, &RUN, (5, 2))
+/// Each receive of the run, and each send, answers a fault that is made up for.
+fn each_is_made_up_for(
+    rt: &(impl Eprint + AllocGlobal),
+    run: &Run,
+    fault: IoFault,
+) -> Result<(), Fail> {
+    for (place, (call, _)) in run.entries.iter().enumerate() {
+        if matches!(call, Call::Arrive(_) | Call::Next) {
+            let is_met = receive_fails(rt, run, place, fault)?;
+            holds(rt, "the receive is made up for", !is_met)?;
+        }
+    }
+    for number in 0..3 {
+        let is_met = send_fails(rt, run, number, fault)?;
+        holds(rt, "the send is made up for", !is_met)?;
+    }
+    Ok(())
+}
+
+/// Each receive of the run, and each send, would block, or lacks memory: the run comes to what it came to without.
+pub fn faults_are_made_up_for(rt: &(impl Eprint + AllocGlobal), run: &Run) -> Result<(), Fail> {
+    each_is_made_up_for(rt, run, IoFault::WouldBlock)?;
+    each_is_made_up_for(rt, run, IoFault::OutOfMemory)
 }

@@ -1,48 +1,39 @@
-//! Values that count how often each of them is dropped.
+//! A handler of globals and a transport that count their drops.
 
 ghost use Rattle.std.specs.Prelude.{◌≤◌, IfOk, length};
 
-use std::cell::Cell;
 use std::collections::VecDeque;
+use test_kit::counted::Counted;
 use wl_link::Transport;
+use wl_server::{ClientId, GlobalHandler, GlobalId};
 use wl_wire::{IoFault, Token};
 
-/// A value that adds its weight to a sum when it is dropped. Weights are powers of ten: so the sum has a digit for each value,
-/// which says how often that was dropped. It serves as the data of objects.
-pub struct Counted<'a> {
-    drops: &'a Cell<u64>,
-    weight: u64,
-}
+/// A handler that shows its global to each client, and counts its drop.
+#[derive(Drop)]
+pub struct Offered<'a>(pub Counted<'a>);
 
-impl<'a> Counted<'a> {
-    /// The value of this weight.
-    pub fn new(drops: &'a Cell<u64>, weight: u64) -> Self {
-        Counted { drops, weight }
-    }
-}
+impl<'a> GlobalHandler<Counted<'a>> for Offered<'a> {
+    ghost use Rattle.std.specs.Prelude.{true};
 
-impl Drop for Counted<'_> {
-    fn drop(self) {
-        self.drops.set(self.drops.get().wrapping_add(self.weight));
-        let Counted {
-            drops: _,
-            weight: _,
-        } = self;
+    ghost views = { λ _ _ _ _. true };
+
+    fn can_view(&self, _client: &ClientId, _client_data: &Counted<'a>, _global: &GlobalId) -> bool {
+        true
     }
 }
 
 /// A transport that gives these bytes, takes all that it is sent, and counts its drop. It carries no descriptors.
 #[derive(Drop)]
 pub struct Line<'a> {
-    from_server: &'a [u8],
+    from_client: &'a [u8],
     counted: Counted<'a>,
 }
 
 impl<'a> Line<'a> {
     /// A transport over which these bytes come, and whose drop counts as this value's.
-    pub fn new(from_server: &'a [u8], counted: Counted<'a>) -> Self {
+    pub fn new(from_client: &'a [u8], counted: Counted<'a>) -> Self {
         Line {
-            from_server,
+            from_client,
             counted,
         }
     }
@@ -66,13 +57,13 @@ impl<'a> Transport for Line<'a> {
         if buffer.is_empty() {
             return Ok(0);
         }
-        if self.from_server.is_empty() {
+        if self.from_client.is_empty() {
             return Err(IoFault::WouldBlock);
         }
-        let count = buffer.len().min(self.from_server.len());
-        let (now, later) = self.from_server.split_at(count);
+        let count = buffer.len().min(self.from_client.len());
+        let (now, later) = self.from_client.split_at(count);
         buffer[..count].copy_from_slice(now);
-        self.from_server = later;
+        self.from_client = later;
         Ok(count)
     }
 

@@ -5,9 +5,9 @@
 //! it, answers as with ample memory; or the one client whose message found no memory was killed, and nothing of the others
 //! changes. If the test itself asked for that memory, it ends with the want, and nothing is judged.
 
-use crate::kit::steps::{Call, Made, arrive, step};
-use crate::kit::told::reply;
-use crate::kit::values::{FIRST, SECOND, Shown, THIRD, Who};
+use server_test_kit::steps::{Call, Made, arrive, step};
+use server_test_kit::told::reply;
+use server_test_kit::values::{FIRST, SECOND, Shown, THIRD, Who};
 use std::alloc::Global;
 use std::process::Abort;
 use std::test::Fail;
@@ -48,13 +48,6 @@ pub struct Run<'a> {
     pub sends: usize,
 }
 
-/// The step of the call, alone.
-pub fn only(alloc: Global, call: Call) -> Result<Vec<Made>, Fail> {
-    let mut steps = Vec::new(alloc);
-    steps.push(step(alloc, call)?)?;
-    Ok(steps)
-}
-
 /// The client of the call, if it names one.
 fn client_of_call(call: Call) -> Option<Who> {
     match call {
@@ -88,7 +81,7 @@ pub fn client_of(entry: Entry) -> Option<Who> {
 pub fn made(alloc: Global, entry: Entry) -> Result<Made, Fail> {
     match entry {
         Entry::Do(call, _) => step(alloc, call),
-        Entry::Arrive(stream) => arrive(alloc, FIRST, stream.bytes(alloc)?.as_slice()),
+        Entry::Arrive(stream) => arrive(alloc, FIRST, stream.bytes(alloc)?.as_slice(), None),
         Entry::Global(_) => step(alloc, Call::Global(QUAD, 3)),
         Entry::Sent(who, _) => step(alloc, Call::TakeSent(who)),
     }
@@ -110,18 +103,6 @@ fn text_of(alloc: Global, told: &Reply<Memory, u32>) -> Result<String, Fail> {
     Ok(text)
 }
 
-/// Fails if the reply does not tell this.
-fn tells(
-    rt: &(impl Abort + AllocGlobal),
-    run: &Run,
-    told: &Reply<Memory, u32>,
-    text: &str,
-) -> Result<(), Fail> {
-    let told = text_of(rt.alloc(), told)?;
-    assert_eq!(rt; told.as_str(), text, "{}", run.name);
-    Ok(())
-}
-
 /// Whether so many bytes were taken by each send.
 fn has_lengths(parcels: &[(Vec<u8>, Vec<Token>)], lengths: &[usize]) -> bool {
     if parcels.len() != lengths.len() {
@@ -135,22 +116,20 @@ fn has_lengths(parcels: &[(Vec<u8>, Vec<Token>)], lengths: &[usize]) -> bool {
     true
 }
 
-/// Fails if other numbers of bytes were sent.
-fn sends(rt: &impl Abort, run: &Run, told: &Reply<Memory, u32>, lengths: &[usize]) {
-    let is_sent = match told {
-        Reply::TakeSent(Ok(parcels)) => has_lengths(parcels.as_slice(), lengths),
-        _ => false,
-    };
-    assert!(rt; is_sent, "{}: other sends than {lengths:?}", run.name);
-}
-
-/// Fails if no global of that name and serial was created.
-fn creates(rt: &impl Abort, run: &Run, told: &Reply<Memory, u32>, name: u32) {
-    let is_created = match told {
-        Reply::CreateGlobal(Ok(id)) => id.name() == name && id.serial() == u64::from(name),
-        _ => false,
-    };
-    assert!(rt; is_created, "{}: global {name}", run.name);
+/// Whether the reply, which tells this text, is that of the step.
+fn is_reply(entry: Entry, told: &Reply<Memory, u32>, text: &str) -> bool {
+    match entry {
+        Entry::Do(_, wanted) => text == wanted,
+        Entry::Arrive(_) => text.is_empty(),
+        Entry::Global(name) => match told {
+            Reply::CreateGlobal(Ok(id)) => id.name() == name && id.serial() == u64::from(name),
+            _ => false,
+        },
+        Entry::Sent(_, lengths) => match told {
+            Reply::TakeSent(Ok(parcels)) => has_lengths(parcels.as_slice(), lengths),
+            _ => false,
+        },
+    }
 }
 
 /// Fails if the reply is not that of the step.
@@ -160,18 +139,10 @@ fn judge(
     entry: Entry,
     told: &Reply<Memory, u32>,
 ) -> Result<(), Fail> {
-    match entry {
-        Entry::Do(_, text) => tells(rt, run, told, text),
-        Entry::Arrive(_) => tells(rt, run, told, ""),
-        Entry::Global(name) => {
-            creates(rt, run, told, name);
-            Ok(())
-        }
-        Entry::Sent(_, lengths) => {
-            sends(rt, run, told, lengths);
-            Ok(())
-        }
-    }
+    let text = text_of(rt.alloc(), told)?;
+    let is_right = is_reply(entry, told, text.as_str());
+    assert!(rt; is_right, "{}: {}", run.name, text.as_str());
+    Ok(())
 }
 
 /// Fails if the replies are not those of the steps, one by one.
@@ -215,24 +186,31 @@ fn go_on(
 
 /// Whether the client is live.
 fn is_live(server: &Server, who: Who) -> bool {
-    let mut found = false;
-    server.with_all_clients(|id| {
+    for id in server.all_clients() {
         if id == who.id() {
-            found = true;
+            return true;
         }
-    });
-    found
+    }
+    false
+}
+
+/// The place after the step that inserts the client; the end if there is none.
+pub fn behind_insertion(entries: &[Entry], who: Who) -> usize {
+    let mut slot = 0u32;
+    for (at, entry) in entries.iter().enumerate() {
+        if matches!(entry, Entry::Do(Call::Insert(_), _)) {
+            if slot == who.0 {
+                return at.saturating_add(1);
+            }
+            slot = slot.saturating_add(1);
+        }
+    }
+    entries.len()
 }
 
 /// Whether the client was inserted, and not killed, before that step of the run.
 fn was_live(run: &Run, at: usize, who: Who) -> bool {
-    let inserted = run
-        .entries
-        .iter()
-        .take(at)
-        .filter(|entry| matches!(entry, Entry::Do(Call::Insert(_), _)))
-        .count();
-    let is_inserted = (who.0 as usize) < inserted;
+    let is_inserted = behind_insertion(run.entries, who) <= at;
     match run.dies {
         Some(step) if who.0 == 0 => is_inserted && at <= step,
         _ => is_inserted,
@@ -353,11 +331,6 @@ fn each_is_noted_once(
     Ok(())
 }
 
-/// Fails if the end of the client is among the notes.
-fn is_not_noted(rt: &impl Abort, run: &Run, who: Who, notes: &[Note<u32>]) {
-    assert_eq!(rt; ends_of(notes, who.id()), (0, 0), "{}", run.name);
-}
-
 /// Fails if the ends of the killed clients are noted again.
 fn none_is_noted_again(
     rt: &impl Abort,
@@ -367,7 +340,7 @@ fn none_is_noted_again(
 ) -> Result<(), Fail> {
     let notes = noted(server)?;
     for who in killed {
-        is_not_noted(rt, run, *who, notes.as_slice());
+        assert_eq!(rt; ends_of(notes.as_slice(), who.id()), (0, 0), "{}", run.name);
     }
     Ok(())
 }

@@ -1,9 +1,9 @@
 //! The order of notes over a cleanup that is refused memory.
 
-use super::drill::{Server, only};
-use crate::kit::steps::Call;
-use crate::kit::told::reply;
-use crate::kit::values::{FIRST, SECOND, THIRD, Thing};
+use super::drill::Server;
+use server_test_kit::steps::{Call, steps};
+use server_test_kit::told::reply;
+use server_test_kit::values::{FIRST, SECOND, THIRD, Thing};
 use std::alloc::Global;
 use std::test::Fail;
 use test_kit::log::is_text;
@@ -43,43 +43,22 @@ const AFTER_A_CLEANUP: &str =
 const AFTER_A_REFUSAL: &str =
     "done\nout: client 2, 3 with 0 sends\ndestroyed 4278190080, 1, 4 of 1 with 21\ndestroyed 4278190080, 1, 4 of 0 with 11\ndestroyed 4278190080, 1, 4 of 2 with 31\n";
 
-/// Tells the replies.
-fn tell(log: &mut String, replies: &[Reply<Memory, u32>]) -> Result<(), Fail> {
+/// What the replies tell.
+fn text_of(alloc: Global, replies: &[Reply<Memory, u32>]) -> Result<Option<String>, Fail> {
+    let mut log = String::new(alloc);
     for told in replies {
-        reply(log, told)?;
+        reply(&mut log, told)?;
     }
-    Ok(())
-}
-
-/// Makes the call, and tells its reply; whether there was memory for it.
-fn perform(alloc: Global, server: &mut Server, log: &mut String, call: Call) -> Result<bool, Fail> {
-    let steps = only(alloc, call)?;
-    match server.replay(steps) {
-        Ok(replies) => tell(log, replies.as_slice()).map(|_| true),
-        Err(_) => Ok(false),
-    }
-}
-
-/// Makes the calls, and tells their replies; whether there was memory for them.
-fn perform_all(
-    alloc: Global,
-    server: &mut Server,
-    log: &mut String,
-    calls: &[Call],
-) -> Result<bool, Fail> {
-    for call in calls {
-        if !perform(alloc, server, log, *call)? {
-            return Ok(false);
-        }
-    }
-    Ok(true)
+    Ok(Some(log))
 }
 
 /// What the calls tell; none if memory was refused.
 fn told(alloc: Global, server: &mut Server, calls: &[Call]) -> Result<Option<String>, Fail> {
-    let mut log = String::new(alloc);
-    let is_made = perform_all(alloc, server, &mut log, calls)?;
-    Ok(is_made.then_some(log))
+    let steps = steps(alloc, calls)?;
+    match server.replay(steps) {
+        Ok(replies) => text_of(alloc, replies.as_slice()),
+        Err(_) => Ok(None),
+    }
 }
 
 /// Makes the cleanup; what has to be told after it.
@@ -103,18 +82,14 @@ fn judge_rest(
     }
 }
 
-/// Makes the calls before the cleanup; whether there was memory for them.
-fn is_begun(alloc: Global, server: &mut Server) -> Result<bool, Fail> {
-    Ok(told(alloc, server, &BEFORE)?.is_some())
-}
-
 /// Makes the run. If memory is refused anywhere but in the first cleanup, nothing is judged: other runs do that.
 fn judge(rt: &(impl Eprint + AllocGlobal), server: &mut Server) -> Result<(), Fail> {
-    if is_begun(rt.alloc(), server)? {
-        let text = cleaned(server);
-        judge_rest(rt, server, text)
-    } else {
-        Ok(())
+    match told(rt.alloc(), server, &BEFORE)? {
+        Some(_) => {
+            let text = cleaned(server);
+            judge_rest(rt, server, text)
+        }
+        None => Ok(()),
     }
 }
 

@@ -1,5 +1,7 @@
 //! Requests that arrive, in bytes.
 
+use test_kit::cuts::Stream;
+
 /// `wl_display.sync` with the new id 2.
 pub const SYNC: [u8; 12] = [1, 0, 0, 0, 0, 0, 12, 0, 2, 0, 0, 0];
 
@@ -62,15 +64,30 @@ pub const LINK_OF_9: [u8; 16] = [3, 0, 0, 0, 3, 0, 16, 0, 9, 0, 0, 0, 3, 0, 0, 0
 /// `quad.give`, by object 3, of no string and one byte.
 pub const GIVE: [u8; 20] = [3, 0, 0, 0, 4, 0, 20, 0, 0, 0, 0, 0, 1, 0, 0, 0, 1, 0, 0, 0];
 
-/// The front of `quad.give`, by object 3, of 5000 bytes: of the string `a`, and of 4980 bytes, which are still to come.
-pub const GIVE_5000: [u8; 20] = [
-    3, 0, 0, 0, 4, 0, 0x88, 0x13, 2, 0, 0, 0, 97, 0, 0, 0, 0x74, 0x13, 0, 0,
-];
+/// `quad.give`, by object 3, of 5000 bytes: of the string `a`, and of 4980 bytes.
+pub const GIVE_5000: Stream = Stream {
+    front: &[
+        3, 0, 0, 0, 4, 0, 0x88, 0x13, 2, 0, 0, 0, 97, 0, 0, 0, 0x74, 0x13, 0, 0,
+    ],
+    filled: 4980,
+    back: &[],
+};
 
-/// The same of 65532 bytes, of which 65512 are still to come.
-pub const GIVE_65532: [u8; 20] = [
-    3, 0, 0, 0, 4, 0, 0xFC, 0xFF, 2, 0, 0, 0, 97, 0, 0, 0, 0xE8, 0xFF, 0, 0,
-];
+/// The same of 65532 bytes: of the string `a`, and of 65512 bytes.
+pub const GIVE_65532: Stream = Stream {
+    front: &[
+        3, 0, 0, 0, 4, 0, 0xFC, 0xFF, 2, 0, 0, 0, 97, 0, 0, 0, 0xE8, 0xFF, 0, 0,
+    ],
+    filled: 65512,
+    back: &[],
+};
+
+/// The first 100 bytes of a request of the display that has 200.
+pub const HALF_A_REQUEST: Stream = Stream {
+    front: &[1, 0, 0, 0, 0, 0, 200, 0],
+    filled: 92,
+    back: &[],
+};
 
 /// A header whose sender nobody knows, of a length that is never there.
 pub const UNKNOWN_SENDER: [u8; 8] = [99, 0, 0, 0, 0, 0, 255, 255];

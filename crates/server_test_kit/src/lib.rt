@@ -1,4 +1,4 @@
-//! What the tests share: calls of a server as data, and how their replies are told.
+//! What the tests of `wl_server` share: calls of a server as data, and how their replies are told.
 //!
 //! | Subject | Code |
 //! |---|---|
@@ -6,7 +6,8 @@
 //! | the steps of a run by `replay` as data | `steps` |
 //! | what a server's calls answer, a line each | `told` |
 //! | bytes that a client sends | `arrivals` |
-//! | values that count their drops | `counted` |
+//! | a handler of globals and a transport that count their drops | `counted` |
+#![tactic(auto)]
 
 pub mod arrivals;
 pub mod counted;

@@ -1,6 +1,6 @@
 //! The steps of a run by `replay`, as plain data.
 
-use crate::kit::values::{Event, Named, Shown, Thing, Who, message};
+use crate::values::{Event, Named, Shown, Thing, Who, message};
 use std::alloc::Global;
 use std::test::Fail;
 use wl_link::Memory;
@@ -83,16 +83,18 @@ fn post(alloc: Global, on: Thing, code: u32, text: &str) -> Result<Made, Fail> {
     Ok(Step::PostError(on.id(), code, text))
 }
 
-/// The step by which the bytes arrive.
-pub fn arrive(alloc: Global, who: Who, bytes: &[u8]) -> Result<Made, Fail> {
+/// The step by which the bytes arrive, with the descriptor if there is one.
+pub fn arrive(
+    alloc: Global,
+    who: Who,
+    bytes: &[u8],
+    descriptor: Option<i32>,
+) -> Result<Made, Fail> {
     let bytes = Vec::from_slice(alloc, bytes)?;
-    Ok(Step::Arrive(who.id(), bytes, Vec::new(alloc)))
-}
-
-/// The step by which the bytes arrive with the descriptor.
-pub fn arrive_with(alloc: Global, who: Who, bytes: &[u8], descriptor: i32) -> Result<Made, Fail> {
-    let bytes = Vec::from_slice(alloc, bytes)?;
-    let tokens = Vec::from_slice(alloc, &[Token(descriptor)])?;
+    let mut tokens = Vec::new(alloc);
+    if let Some(number) = descriptor {
+        tokens.push(Token(number))?;
+    }
     Ok(Step::Arrive(who.id(), bytes, tokens))
 }
 
@@ -130,8 +132,8 @@ fn of_reading(call: Call) -> Result<Made, Fail> {
 /// The step of a call of a script.
 fn of_script(alloc: Global, call: Call) -> Result<Made, Fail> {
     match call {
-        Call::Arrive(who, bytes) => arrive(alloc, who, bytes),
-        Call::ArriveWith(who, bytes, descriptor) => arrive_with(alloc, who, bytes, descriptor),
+        Call::Arrive(who, bytes) => arrive(alloc, who, bytes, None),
+        Call::ArriveWith(who, bytes, number) => arrive(alloc, who, bytes, Some(number)),
         Call::ArriveFault(who, fault) => Ok(Step::ArriveFault(who.id(), fault)),
         Call::Accept(who, count) => Ok(Step::Accept(who.id(), count)),
         Call::AcceptFault(who, fault) => Ok(Step::AcceptFault(who.id(), fault)),
@@ -177,4 +179,13 @@ pub fn step(alloc: Global, call: Call) -> Result<Made, Fail> {
         | Call::TakeSent(_) => of_script(alloc, call),
         _ => of_server(alloc, call),
     }
+}
+
+/// The steps of the calls.
+pub fn steps(alloc: Global, calls: &[Call]) -> Result<Vec<Made>, Fail> {
+    let mut steps = Vec::new(alloc);
+    for call in calls {
+        steps.push(step(alloc, *call)?)?;
+    }
+    Ok(steps)
 }

@@ -1,6 +1,6 @@
 use Rattle.std.proofs.Common.{refl}
 use Rattle.wl_server.proofs.Dispatches.Joining.{reached_by, reached_then}
-use Rattle.server_tests.proofs.tests.drops.TakingOutHandlerLineCountedCountedCounted.request.Goals as goal
+use Rattle.server_tests.proofs.tests.drops.TakingOutHandlerLineCountedOfferedCounted.request.Goals as goal
 
 pub returns-clause-reached : goal.returns-clause-reached
 returns-clause-reached g = reached_then (reached_by g.kill_client.ensures.call refl) g.cleanup.ensures.call refl

@@ -1,12 +1,10 @@
 //! Runs of a server in which each receive, each send and each allocation fails in turn.
 //!
-//! A run is a list of `Entry`s, each a call by `replay`.
+//! A run is a list of `Entry`s, each a call by `replay`, but where values count their drops (`refused`).
 
 mod drill;
 mod drills;
-mod drops;
 mod faults;
 mod full;
-mod no_memory;
 mod notes;
-mod transports;
+mod refused;

@@ -3,19 +3,21 @@
 //! A test names each call on standard error before it makes it. So `./refusal-drill` can count what is allocated for it: nothing,
 //! but for the calls whose name begins with `control`, for which something has to be.
 
-use crate::kit::counted::{Counted, Line};
-use crate::kit::values::{FIRST, Named, SECOND, Thing};
+use server_test_kit::counted::{Line, Offered};
+use server_test_kit::values::{FIRST, Named, SECOND, Thing};
 use smallvec::SmallVec;
 use std::alloc::Global;
 use std::cell::Cell;
 use std::test::Fail;
+use test_kit::counted::Counted;
 use test_kit::log::holds;
+use test_kit::no_memory::{begin, end};
 use test_kit::quad::{QUAD, quad_table};
 use wl_server::{Backend, DisconnectReason};
-use wl_wire::{Message, Protocol};
+use wl_wire::Message;
 
 /// A server whose transports take all that they are sent, without memory.
-type Server<'a> = Backend<Line<'a>, Counted<'a>, Counted<'a>, Counted<'a>>;
+type Server<'a> = Backend<Line<'a>, Counted<'a>, Offered<'a>, Counted<'a>>;
 
 /// `wl_display.get_registry` with the new id 2; `wl_registry.bind`, of the global 1, as `quad` of version 3, twice: with the
 /// new id 3, and with the new id 4; and `quad.poke`, by object 3.
@@ -240,43 +242,21 @@ fn insert<'a>(drops: &'a Cell<u64>, server: &mut Server<'a>, bytes: &'static [u8
     server.insert_client(line, Counted::new(drops, 1)).is_ok()
 }
 
-/// Makes a call that is given a value for something new; whether it answers that it did what it has to.
-fn make_new<'a>(drops: &'a Cell<u64>, server: &mut Server<'a>, call: Call) -> bool {
+/// Makes a call that is given a value; whether it is answered as it has to be.
+fn give<'a>(drops: &'a Cell<u64>, server: &mut Server<'a>, call: Call) -> bool {
     let value = Counted::new(drops, 1);
     match call {
         Call::Create => server.create_object(&FIRST.id(), QUAD, 3, value).is_ok(),
-        _ => server.create_global(QUAD, 3, value).is_ok(),
-    }
-}
-
-/// Sets data, of the object that was made or of one that is not there; whether that is answered as it has to be.
-fn set_data<'a>(drops: &'a Cell<u64>, server: &mut Server<'a>, call: Call) -> bool {
-    let data = Counted::new(drops, 1);
-    match call {
-        Call::SetData => server.set_object_data(&MADE.id(), data).is_ok(),
-        _ => {
+        Call::SetData => server.set_object_data(&MADE.id(), value).is_ok(),
+        Call::SetMissing => {
             let missing = Thing(SECOND, 0xFF00_0000, 1, QUAD);
-            server.set_object_data(&missing.id(), data).is_err()
+            server.set_object_data(&missing.id(), value).is_err()
         }
-    }
-}
-
-/// Finishes the bind that is open, or none; whether that is answered as it has to be.
-fn finish<'a>(drops: &'a Cell<u64>, server: &mut Server<'a>, call: Call) -> bool {
-    let answer = server.finish_bind(&FIRST.id(), Counted::new(drops, 1));
-    match call {
-        Call::FinishBind => answer.is_ok(),
-        _ => answer.is_err(),
-    }
-}
-
-/// Finishes the bind that is open, and gets what becomes of its data, or the request that is open and made an object; whether
-/// that is done.
-fn finish_made<'a>(drops: &'a Cell<u64>, server: &mut Server<'a>, call: Call) -> bool {
-    let data = Counted::new(drops, 1);
-    match call {
-        Call::FinishReturning => server.finish_bind_returning(&FIRST.id(), data).is_ok(),
-        _ => server.finish_request(&FIRST.id(), Some(data)).is_ok(),
+        Call::FinishBind => server.finish_bind(&FIRST.id(), value).is_ok(),
+        Call::FinishNone => server.finish_bind(&FIRST.id(), value).is_err(),
+        Call::FinishReturning => server.finish_bind_returning(&FIRST.id(), value).is_ok(),
+        Call::FinishMade => server.finish_request(&FIRST.id(), Some(value)).is_ok(),
+        _ => server.create_global(QUAD, 3, Offered(value)).is_ok(),
     }
 }
 
@@ -290,28 +270,23 @@ fn send_gone(alloc: Global, server: &mut Server) -> bool {
     server.send_event(gone).is_ok()
 }
 
-/// Makes a call that sets a limit.
-fn set_limit(server: &mut Server, call: Call) {
+/// Makes a call that is given no value; whether it answers that it did what it has to.
+fn make_without(server: &mut Server, call: Call) -> bool {
     match call {
-        Call::DefaultLimit => server.set_default_max_buffer_size(8192),
-        _ => server.set_client_max_buffer_size(&FIRST.id(), 8192),
-    }
-}
-
-/// Makes a call about the first client, or one that flushes; whether it answers that it did what it has to.
-fn make_of_first(server: &mut Server, call: Call) -> bool {
-    match call {
+        Call::LendData => server.with_object_data(&MADE.id(), |_data| ()).is_ok(),
+        Call::DefaultLimit => {
+            server.set_default_max_buffer_size(8192);
+            true
+        }
+        Call::Limit => {
+            server.set_client_max_buffer_size(&FIRST.id(), 8192);
+            true
+        }
         Call::Transport => server.transport_mut(&FIRST.id()).is_ok(),
         Call::Next => server.next_action(&FIRST.id()).is_ok(),
         Call::FinishRequest => server.finish_request(&FIRST.id(), None).is_ok(),
         Call::Flush => server.flush(Some(FIRST.id())).is_ok(),
-        _ => server.flush(None).is_ok(),
-    }
-}
-
-/// Makes a call about the ends of clients and objects; whether it answers that it did what it has to.
-fn make_of_ends(server: &mut Server, call: Call) -> bool {
-    match call {
+        Call::FlushAll => server.flush(None).is_ok(),
         Call::Notes => server.take_notes().is_ok(),
         Call::Destroy(object) => server.destroy_object(&object.id()).is_ok(),
         Call::Cleanup => server.cleanup().is_ok(),
@@ -322,49 +297,34 @@ fn make_of_ends(server: &mut Server, call: Call) -> bool {
     }
 }
 
-/// Makes a call that is given no value; whether it answers that it did what it has to.
-fn make_of_all(server: &mut Server, call: Call) -> bool {
-    match call {
-        Call::LookUp => is_looked_up(server),
-        Call::LendData => server.with_object_data(&MADE.id(), |_data| ()).is_ok(),
-        Call::DefaultLimit | Call::Limit => {
-            set_limit(server, call);
-            true
-        }
-        Call::Transport | Call::Next | Call::FinishRequest | Call::Flush | Call::FlushAll => {
-            make_of_first(server, call)
-        }
-        _ => make_of_ends(server, call),
-    }
-}
-
 /// Makes the call; whether it answers as it has to.
-fn make_any<'a>(alloc: Global, drops: &'a Cell<u64>, server: &mut Server<'a>, call: Call) -> bool {
+fn make<'a>(alloc: Global, drops: &'a Cell<u64>, server: &mut Server<'a>, call: Call) -> bool {
     match call {
         Call::Insert(bytes) => insert(drops, server, bytes),
-        Call::Create | Call::Global => make_new(drops, server, call),
-        Call::SetData | Call::SetMissing => set_data(drops, server, call),
-        Call::FinishBind | Call::FinishNone => finish(drops, server, call),
-        Call::FinishReturning | Call::FinishMade => finish_made(drops, server, call),
+        Call::Create
+        | Call::Global
+        | Call::SetData
+        | Call::SetMissing
+        | Call::FinishBind
+        | Call::FinishNone
+        | Call::FinishReturning
+        | Call::FinishMade => give(drops, server, call),
+        Call::LookUp => is_looked_up(server),
         Call::SendGone => send_gone(alloc, server),
-        _ => make_of_all(server, call),
+        _ => make_without(server, call),
     }
 }
 
-/// Makes the call, and names it before if it is counted. Fails if it does not answer as it has to, or was refused memory.
+/// Makes the call between the lines that name and end it. Fails if it does not answer as it has to, or was refused memory.
 fn counted<'a>(
     rt: &(impl Eprint + AllocGlobal),
     drops: &'a Cell<u64>,
     server: &mut Server<'a>,
     (name, call): (&str, Call),
 ) -> Result<(), Fail> {
-    if !name.is_empty() {
-        let _ = eprintln!(rt; "call: {name}");
-    }
-    let is_made = make_any(rt.alloc(), drops, server, call);
-    if !name.is_empty() {
-        let _ = eprintln!(rt; "end");
-    }
+    begin(rt, name);
+    let is_made = make(rt.alloc(), drops, server, call);
+    end(rt, name);
     holds(rt, name, is_made && !server.memory_refused())
 }
 
@@ -381,14 +341,6 @@ fn all_counted<'a>(
     Ok(())
 }
 
-/// Makes a server of that protocol, which takes no memory.
-fn counted_new<'a>(rt: &(impl Eprint + AllocGlobal), protocol: Protocol) -> Server<'a> {
-    let _ = eprintln!(rt; "call: new");
-    let server = Backend::new(rt.alloc(), protocol);
-    let _ = eprintln!(rt; "end");
-    server
-}
-
 /// Makes a server, which takes no memory, and the calls.
 fn counted_of_new<'a>(
     rt: &(impl Eprint + AllocGlobal),
@@ -396,7 +348,9 @@ fn counted_of_new<'a>(
     calls: &[(&str, Call)],
 ) -> Result<(), Fail> {
     let protocol = quad_table(rt.alloc())?;
-    let mut server = counted_new(rt, protocol);
+    begin(rt, "new");
+    let mut server: Server<'a> = Backend::new(rt.alloc(), protocol);
+    end(rt, "new");
     let answer = all_counted(rt, drops, &mut server, calls);
     drop(server);
     answer

@@ -1,19 +1,18 @@
 //! The runs for which each allocation is refused in turn, and in which each receive and each send fails in turn.
 
 use super::drill::{Entry, Run, drill};
-use super::faults::fails_in_turn;
-use crate::kit::arrivals::{
-    BIND, BIND_NULL, BIND_VERSION_1, DESTROY, GET_REGISTRY, GIVE, MAKE, SYNC, SYNC_AT_5,
+use super::faults::{fails_in_turn, faults_are_made_up_for};
+use server_test_kit::arrivals::{
+    BIND, BIND_NULL, BIND_VERSION_1, DESTROY, GET_REGISTRY, GIVE, MAKE, SYNC, SYNC_AT_4, SYNC_AT_5,
     SYNC_AT_SERVER,
 };
-use crate::kit::steps::Call;
-use crate::kit::values::{BOUND, Event, FIRST, Named, SECOND, THIRD, Thing};
-use std::alloc::Global;
+use server_test_kit::steps::Call;
+use server_test_kit::values::{BOUND, Event, FIRST, Named, SECOND, Thing};
 use std::process::Abort;
 use std::test::Fail;
 use test_kit::cuts::Stream;
 use test_kit::quad::{QUAD, quad_table};
-use wl_wire::{IoFault, Protocol};
+use wl_wire::Protocol;
 
 /// The first object that the server makes for the first client.
 const MADE: Thing = Thing(FIRST, 0xFF00_0000, 1, QUAD);
@@ -27,23 +26,6 @@ const LONG_BIND: Stream = Stream {
     filled: 1400,
     back: &[0, 0, 0, 0, 3, 0, 0, 0, 3, 0, 0, 0],
 };
-
-/// What a run is tried by.
-#[derive(Clone, Copy)]
-enum Trial {
-    /// By memory that is refused.
-    Memory,
-    /// By a transport that fails.
-    Transport,
-}
-
-/// Makes the run, and fails if it is not as it has to be.
-fn tried(rt: &(impl Abort + Print + AllocGlobal), trial: Trial, run: &Run) -> Result<(), Fail> {
-    match trial {
-        Trial::Memory => drill(rt, run),
-        Trial::Transport => fails_in_turn(rt, run),
-    }
-}
 
 /// Registries and binds.
 static REGISTRIES_AND_BINDS: [Run; 3] = [
@@ -382,46 +364,155 @@ static OBJECTS_AND_CLIENTS: [Run; 3] = [
     },
 ];
 
-/// Makes the runs.
-fn all_tried(
-    rt: &(impl Abort + Print + AllocGlobal),
-    trial: Trial,
-    runs: &[Run],
-) -> Result<(), Fail> {
+/// Two clients, the first of which breaks the protocol in the end.
+static TWO_CLIENTS: Run = Run {
+    name: "two clients",
+    entries: &[
+        Entry::Do(Call::Insert(true), "client 0, 1\n"),
+        Entry::Do(Call::Insert(true), "client 1, 2\n"),
+        Entry::Do(Call::Global(QUAD, 3), "global 1, 1\n"),
+        Entry::Do(Call::Arrive(FIRST, &GET_REGISTRY), ""),
+        Entry::Do(Call::Arrive(FIRST, &BIND), ""),
+        Entry::Do(Call::Next(FIRST), "global 1, 1 bound as 3, 2, 4 of 0\n"),
+        Entry::Do(Call::FinishBind(FIRST, 9), "finished\n"),
+        Entry::Do(Call::Arrive(SECOND, &GET_REGISTRY), ""),
+        Entry::Do(Call::Arrive(SECOND, &BIND), ""),
+        Entry::Do(Call::Next(SECOND), "global 1, 1 bound as 3, 2, 4 of 1\n"),
+        Entry::Do(Call::FinishBind(SECOND, 8), "finished\n"),
+        Entry::Do(Call::Flush(FIRST), "done\n"),
+        Entry::Do(Call::Global(QUAD, 2), "global 2, 2\n"),
+        Entry::Do(Call::FlushAll, "done\n"),
+        Entry::Do(Call::Arrive(FIRST, &DESTROY), ""),
+        Entry::Do(
+            Call::Next(FIRST),
+            "request 2 to 3, 2, 4 of 0, which ends it\n",
+        ),
+        Entry::Do(Call::Finish(FIRST, None), "finished\n"),
+        Entry::Do(Call::Arrive(SECOND, &DESTROY), ""),
+        Entry::Do(
+            Call::Next(SECOND),
+            "request 2 to 3, 2, 4 of 1, which ends it\n",
+        ),
+        Entry::Do(Call::Finish(SECOND, None), "finished\n"),
+        Entry::Do(Call::Disable(Named(2, 2)), ""),
+        Entry::Do(Call::FlushAll, "done\n"),
+        Entry::Do(
+            Call::TakeSent(SECOND),
+            "02 00 00 00 00 00 1c 00 01 00 00 00 05 00 00 00 71 75 61 64 00 00 00 00 03 00 00 00 02 00 00 00 00 00 1c 00 02 00 00 00 05 00 00 00 71 75 61 64 00 00 00 00 02 00 00 00\n01 00 00 00 01 00 0c 00 03 00 00 00 02 00 00 00 01 00 0c 00 02 00 00 00\n",
+        ),
+        Entry::Do(Call::Arrive(FIRST, &SYNC_AT_5), ""),
+        Entry::Do(Call::Next(FIRST), "Io error: broken pipe\n"),
+        Entry::Do(Call::Flush(FIRST), "done\n"),
+        Entry::Do(Call::Flush(FIRST), "done\n"),
+        Entry::Do(
+            Call::TakeSent(FIRST),
+            "02 00 00 00 00 00 1c 00 01 00 00 00 05 00 00 00 71 75 61 64 00 00 00 00 03 00 00 00\n02 00 00 00 00 00 1c 00 02 00 00 00 05 00 00 00 71 75 61 64 00 00 00 00 02 00 00 00\n01 00 00 00 01 00 0c 00 03 00 00 00 02 00 00 00 01 00 0c 00 02 00 00 00\n01 00 00 00 00 00 28 00 01 00 00 00 00 00 00 00 13 00 00 00 49 6e 76 61 6c 69 64 20 6e 65 77 5f 69 64 3a 20 35 2e 00 00\n",
+        ),
+        Entry::Do(Call::Arrive(SECOND, &SYNC_AT_4), ""),
+        Entry::Do(Call::Next(SECOND), "Io error: would block\n"),
+        Entry::Do(Call::Flush(SECOND), "done\n"),
+        Entry::Do(
+            Call::TakeSent(SECOND),
+            "04 00 00 00 00 00 0c 00 00 00 00 00 01 00 00 00 01 00 0c 00 04 00 00 00\n",
+        ),
+        Entry::Do(
+            Call::Notes,
+            "initialized 0, 1\ninitialized 1, 2\ndestroyed 3, 2, 4 of 0 with 9\ndestroyed 3, 2, 4 of 1 with 8\ndisconnected 0, 1: error 0 on wl_display 1: Invalid new_id: 5.\n",
+        ),
+        Entry::Do(Call::Cleanup, "out: client 0, 1 with 0 sends\n"),
+        Entry::Do(Call::Notes, ""),
+    ],
+    dies: Some(24),
+    error_bytes: 40,
+    sends: 4,
+};
+
+/// The same without the first client's calls after its insertion: what the second is told, sent and noted is the same.
+static SECOND_ALONE: Run = Run {
+    name: "the second client alone",
+    entries: &[
+        Entry::Do(Call::Insert(true), "client 0, 1\n"),
+        Entry::Do(Call::Insert(true), "client 1, 2\n"),
+        Entry::Do(Call::Global(QUAD, 3), "global 1, 1\n"),
+        Entry::Do(Call::Arrive(SECOND, &GET_REGISTRY), ""),
+        Entry::Do(Call::Arrive(SECOND, &BIND), ""),
+        Entry::Do(Call::Next(SECOND), "global 1, 1 bound as 3, 2, 4 of 1\n"),
+        Entry::Do(Call::FinishBind(SECOND, 8), "finished\n"),
+        Entry::Do(Call::Global(QUAD, 2), "global 2, 2\n"),
+        Entry::Do(Call::FlushAll, "done\n"),
+        Entry::Do(Call::Arrive(SECOND, &DESTROY), ""),
+        Entry::Do(
+            Call::Next(SECOND),
+            "request 2 to 3, 2, 4 of 1, which ends it\n",
+        ),
+        Entry::Do(Call::Finish(SECOND, None), "finished\n"),
+        Entry::Do(Call::Disable(Named(2, 2)), ""),
+        Entry::Do(Call::FlushAll, "done\n"),
+        Entry::Do(
+            Call::TakeSent(SECOND),
+            "02 00 00 00 00 00 1c 00 01 00 00 00 05 00 00 00 71 75 61 64 00 00 00 00 03 00 00 00 02 00 00 00 00 00 1c 00 02 00 00 00 05 00 00 00 71 75 61 64 00 00 00 00 02 00 00 00\n01 00 00 00 01 00 0c 00 03 00 00 00 02 00 00 00 01 00 0c 00 02 00 00 00\n",
+        ),
+        Entry::Do(Call::Arrive(SECOND, &SYNC_AT_4), ""),
+        Entry::Do(Call::Next(SECOND), "Io error: would block\n"),
+        Entry::Do(Call::Flush(SECOND), "done\n"),
+        Entry::Do(
+            Call::TakeSent(SECOND),
+            "04 00 00 00 00 00 0c 00 00 00 00 00 01 00 00 00 01 00 0c 00 04 00 00 00\n",
+        ),
+        Entry::Do(
+            Call::Notes,
+            "initialized 0, 1\ninitialized 1, 2\ndestroyed 3, 2, 4 of 1 with 8\n",
+        ),
+        Entry::Do(Call::Cleanup, "out:\n"),
+        Entry::Do(Call::Notes, ""),
+    ],
+    dies: None,
+    error_bytes: 0,
+    sends: 0,
+};
+
+/// Makes the runs, and fails if one is not as it has to be.
+fn drill_all(rt: &(impl Abort + Print + AllocGlobal), runs: &[Run]) -> Result<(), Fail> {
     for run in runs {
-        tried(rt, trial, run)?;
+        drill(rt, run)?;
     }
     Ok(())
 }
 
 #[test]
 fn drill_of_registries_and_binds(rt: HostRuntime) -> Result<(), Fail> {
-    all_tried(&rt, Trial::Memory, &REGISTRIES_AND_BINDS)
-}
-
-#[test]
-fn faults_of_registries_and_binds(rt: HostRuntime) -> Result<(), Fail> {
-    all_tried(&rt, Trial::Transport, &REGISTRIES_AND_BINDS)
+    drill_all(&rt, &REGISTRIES_AND_BINDS)
 }
 
 #[test]
 fn drill_of_errors(rt: HostRuntime) -> Result<(), Fail> {
-    all_tried(&rt, Trial::Memory, &ERRORS)
-}
-
-#[test]
-fn faults_of_errors(rt: HostRuntime) -> Result<(), Fail> {
-    all_tried(&rt, Trial::Transport, &ERRORS)
+    drill_all(&rt, &ERRORS)
 }
 
 #[test]
 fn drill_of_objects_and_clients(rt: HostRuntime) -> Result<(), Fail> {
-    all_tried(&rt, Trial::Memory, &OBJECTS_AND_CLIENTS)
+    drill_all(&rt, &OBJECTS_AND_CLIENTS)
 }
 
+/// In each of these runs, each receive and each send of each client fails in turn.
 #[test]
-fn faults_of_objects_and_clients(rt: HostRuntime) -> Result<(), Fail> {
-    all_tried(&rt, Trial::Transport, &OBJECTS_AND_CLIENTS)
+fn faults(rt: HostRuntime) -> Result<(), Fail> {
+    for runs in [&REGISTRIES_AND_BINDS[..], &ERRORS, &OBJECTS_AND_CLIENTS] {
+        for run in runs {
+            fails_in_turn(&rt, run)?;
+        }
+    }
+    Ok(())
+}
+
+/// The same of two clients; and each receive and each send of the first would block, or lacks memory. Only the last of its seven
+/// receives is not made: what arrives before it breaks the protocol.
+#[test]
+fn faults_of_two_clients(rt: HostRuntime) -> Result<(), Fail> {
+    drill(&rt, &SECOND_ALONE)?;
+    let receives = fails_in_turn(&rt, &TWO_CLIENTS)?;
+    assert_eq!(rt; receives, 6);
+    faults_are_made_up_for(&rt, &TWO_CLIENTS)
 }
 
 /// Fails if the text of the object's id is not this; if memory is refused, it is the next time.
@@ -431,115 +522,17 @@ fn is_displayed(
     of: Thing,
     text: &str,
 ) -> Result<(), Fail> {
-    let told = match of.id().display(rt.alloc(), protocol) {
-        Ok(told) => told,
-        Err(_) => again(rt.alloc(), protocol, of)?,
-    };
-    assert_eq!(rt; told.as_str(), text);
-    Ok(())
-}
-
-/// The text of the object's id, for which there is memory now.
-fn again(alloc: Global, protocol: &Protocol, of: Thing) -> Result<String, Fail> {
-    match of.id().display(alloc, protocol) {
-        Ok(told) => Ok(told),
-        Err(_) => Err(Fail::new("memory was refused again")),
+    for _ in 0..2 {
+        if let Ok(told) = of.id().display(rt.alloc(), protocol) {
+            assert_eq!(rt; told.as_str(), text);
+            return Ok(());
+        }
     }
+    Err(Fail::new("memory was refused again"))
 }
 
 #[test]
 fn drill_of_the_text_of_an_id(rt: HostRuntime) -> Result<(), Fail> {
     let protocol = quad_table(rt.alloc())?;
     is_displayed(&rt, &protocol, MADE, "quad@4278190080[0]")
-}
-
-/// Three clients are inserted, each of which makes a registry.
-static THREE: [Entry; 9] = [
-    Entry::Do(Call::Insert(true), "client 0, 1\n"),
-    Entry::Do(Call::Insert(true), "client 1, 2\n"),
-    Entry::Do(Call::Insert(true), "client 2, 3\n"),
-    Entry::Do(Call::Arrive(FIRST, &GET_REGISTRY), ""),
-    Entry::Do(Call::Next(FIRST), "Io error: would block\n"),
-    Entry::Do(Call::Arrive(SECOND, &GET_REGISTRY), ""),
-    Entry::Do(Call::Next(SECOND), "Io error: would block\n"),
-    Entry::Do(Call::Arrive(THIRD, &GET_REGISTRY), ""),
-    Entry::Do(Call::Next(THIRD), "Io error: would block\n"),
-];
-
-/// Puts the steps by which three clients have a registry each, and so many globals are created.
-fn push_three(entries: &mut Vec<Entry>, globals: u32) -> Result<(), Fail> {
-    entries.extend_from_slice(&THREE)?;
-    for name in 1..=globals {
-        entries.push(Entry::Global(name))?;
-    }
-    Ok(())
-}
-
-/// The steps up to those, and these.
-pub fn three_and(alloc: Global, globals: u32, back: &[Entry]) -> Result<Vec<Entry>, Fail> {
-    let mut entries = Vec::new(alloc);
-    push_three(&mut entries, globals)?;
-    entries.extend_from_slice(back)?;
-    Ok(entries)
-}
-
-/// Of three clients for each of which 4088 bytes wait, all are told of one more global.
-fn one_more_global(rt: &(impl Abort + Print + AllocGlobal), trial: Trial) -> Result<(), Fail> {
-    let back = [
-        Entry::Global(147),
-        Entry::Do(Call::FlushAll, "done\n"),
-        Entry::Sent(FIRST, &[4088, 28]),
-        Entry::Sent(SECOND, &[4088, 28]),
-        Entry::Sent(THIRD, &[4088, 28]),
-        Entry::Global(148),
-        Entry::Do(
-            Call::Notes,
-            "initialized 0, 1\ninitialized 1, 2\ninitialized 2, 3\n",
-        ),
-    ];
-    let entries = three_and(rt.alloc(), 146, &back)?;
-    let run = Run {
-        name: "147 globals",
-        entries: entries.as_slice(),
-        dies: None,
-        error_bytes: 0,
-        sends: 3,
-    };
-    tried(rt, trial, &run)
-}
-
-#[test]
-fn drill_of_147_globals(rt: HostRuntime) -> Result<(), Fail> {
-    one_more_global(&rt, Trial::Memory)
-}
-
-#[test]
-fn faults_of_147_globals(rt: HostRuntime) -> Result<(), Fail> {
-    one_more_global(&rt, Trial::Transport)
-}
-
-/// The same, if the first of them cannot be written to.
-#[test]
-fn drill_of_a_client_that_cannot_be_told(rt: HostRuntime) -> Result<(), Fail> {
-    let back = [
-        Entry::Do(Call::AcceptFault(FIRST, IoFault::Pipe), ""),
-        Entry::Global(147),
-        Entry::Do(Call::FlushAll, "done\n"),
-        Entry::Sent(SECOND, &[4088, 28]),
-        Entry::Sent(THIRD, &[4088, 28]),
-        Entry::Global(148),
-        Entry::Do(
-            Call::Notes,
-            "initialized 0, 1\ninitialized 1, 2\ninitialized 2, 3\ndisconnected 0, 1: closed\n",
-        ),
-    ];
-    let entries = three_and(rt.alloc(), 146, &back)?;
-    let run = Run {
-        name: "147 globals, of which one client is not told",
-        entries: entries.as_slice(),
-        dies: Some(156),
-        error_bytes: 0,
-        sends: 1,
-    };
-    drill(&rt, &run)
 }

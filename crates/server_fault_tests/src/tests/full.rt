@@ -1,15 +1,16 @@
-//! Each receive and each send fails in turn, in runs in which a write sends: 4088 of the 4096 bytes of each client's
-//! buffer wait, so the next message of 12 bytes has to wait for a send.
+//! Runs in which a write sends: 4088 of the 4096 bytes of each client's buffer wait, so the next message of 12 bytes has to wait
+//! for a send. Each receive and each send fails in turn, and memory does.
 
-use super::drill::{Entry, Run};
-use super::drills::three_and;
-use super::faults::fails_for_first;
-use crate::kit::arrivals::{BIND, DESTROY, SYNC_AT_5};
-use crate::kit::steps::Call;
-use crate::kit::values::{BOUND, Event, FIRST, Named, SECOND, THIRD, Thing};
+use super::drill::{Entry, Run, drill};
+use super::faults::{fails_for_first, fails_in_turn};
+use server_test_kit::arrivals::{BIND, DESTROY, GET_REGISTRY, SYNC_AT_5};
+use server_test_kit::steps::Call;
+use server_test_kit::values::{BOUND, Event, FIRST, Named, SECOND, THIRD, Thing};
+use std::alloc::Global;
 use std::process::Abort;
 use std::test::Fail;
 use test_kit::quad::QUAD;
+use wl_wire::IoFault;
 
 /// The first object that the server makes for the first client, which has a registry.
 const MADE: Thing = Thing(FIRST, 0xFF00_0000, 2, QUAD);
@@ -237,9 +238,92 @@ static ROWS: [Row; 11] = [
     },
 ];
 
-/// Makes the run, and fails if it, or one in which a receive or a send fails in those steps, is not as it has to be.
-fn full(rt: &(impl Abort + Print + AllocGlobal), row: &Row) -> Result<(), Fail> {
-    let entries = three_and(rt.alloc(), row.globals, row.back)?;
+/// All three clients are told of one more global.
+static ONE_MORE: Row = Row {
+    name: "147 globals",
+    globals: 146,
+    back: &[
+        Entry::Global(147),
+        Entry::Do(Call::FlushAll, "done\n"),
+        Entry::Sent(FIRST, &[4088, 28]),
+        Entry::Sent(SECOND, &[4088, 28]),
+        Entry::Sent(THIRD, &[4088, 28]),
+        Entry::Global(148),
+        Entry::Do(
+            Call::Notes,
+            "initialized 0, 1\ninitialized 1, 2\ninitialized 2, 3\n",
+        ),
+    ],
+    dies: None,
+    error_bytes: 0,
+    sends: 3,
+};
+
+/// The same, if the first of them cannot be written to.
+static ONE_MORE_BUT_FIRST: Row = Row {
+    name: "147 globals, of which one client is not told",
+    globals: 146,
+    back: &[
+        Entry::Do(Call::AcceptFault(FIRST, IoFault::Pipe), ""),
+        Entry::Global(147),
+        Entry::Do(Call::FlushAll, "done\n"),
+        Entry::Sent(SECOND, &[4088, 28]),
+        Entry::Sent(THIRD, &[4088, 28]),
+        Entry::Global(148),
+        Entry::Do(
+            Call::Notes,
+            "initialized 0, 1\ninitialized 1, 2\ninitialized 2, 3\ndisconnected 0, 1: closed\n",
+        ),
+    ],
+    dies: Some(156),
+    error_bytes: 0,
+    sends: 1,
+};
+
+/// Three clients are inserted, each of which makes a registry.
+static THREE: [Entry; 9] = [
+    Entry::Do(Call::Insert(true), "client 0, 1\n"),
+    Entry::Do(Call::Insert(true), "client 1, 2\n"),
+    Entry::Do(Call::Insert(true), "client 2, 3\n"),
+    Entry::Do(Call::Arrive(FIRST, &GET_REGISTRY), ""),
+    Entry::Do(Call::Next(FIRST), "Io error: would block\n"),
+    Entry::Do(Call::Arrive(SECOND, &GET_REGISTRY), ""),
+    Entry::Do(Call::Next(SECOND), "Io error: would block\n"),
+    Entry::Do(Call::Arrive(THIRD, &GET_REGISTRY), ""),
+    Entry::Do(Call::Next(THIRD), "Io error: would block\n"),
+];
+
+/// Puts the steps by which three clients have a registry each, and so many globals are created.
+fn push_three(entries: &mut Vec<Entry>, globals: u32) -> Result<(), Fail> {
+    entries.extend_from_slice(&THREE)?;
+    for name in 1..=globals {
+        entries.push(Entry::Global(name))?;
+    }
+    Ok(())
+}
+
+/// The steps of the run.
+fn steps_of(alloc: Global, row: &Row) -> Result<Vec<Entry>, Fail> {
+    let mut entries = Vec::new(alloc);
+    push_three(&mut entries, row.globals)?;
+    entries.extend_from_slice(row.back)?;
+    Ok(entries)
+}
+
+/// What a run is tried by.
+#[derive(Clone, Copy)]
+enum Trial {
+    /// By memory that is refused.
+    Memory,
+    /// By transports that fail.
+    Transports,
+    /// By the first client's transport, which fails in the steps after the globals.
+    FirstTransport,
+}
+
+/// Makes the run, and fails if it is not as it has to be.
+fn tried(rt: &(impl Abort + Print + AllocGlobal), trial: Trial, row: &Row) -> Result<(), Fail> {
+    let entries = steps_of(rt.alloc(), row)?;
     let run = Run {
         name: row.name,
         entries: entries.as_slice(),
@@ -247,13 +331,35 @@ fn full(rt: &(impl Abort + Print + AllocGlobal), row: &Row) -> Result<(), Fail> 
         error_bytes: row.error_bytes,
         sends: row.sends,
     };
-    fails_for_first(rt, &run, entries.len().saturating_sub(row.back.len()))
+    match trial {
+        Trial::Memory => drill(rt, &run),
+        Trial::Transports => fails_in_turn(rt, &run).map(|_| ()),
+        Trial::FirstTransport => {
+            let from = entries.len().saturating_sub(row.back.len());
+            fails_for_first(rt, &run, from).map(|_| ())
+        }
+    }
+}
+
+#[test]
+fn drill_of_147_globals(rt: HostRuntime) -> Result<(), Fail> {
+    tried(&rt, Trial::Memory, &ONE_MORE)
+}
+
+#[test]
+fn drill_of_a_client_that_cannot_be_told(rt: HostRuntime) -> Result<(), Fail> {
+    tried(&rt, Trial::Memory, &ONE_MORE_BUT_FIRST)
+}
+
+#[test]
+fn faults_of_147_globals(rt: HostRuntime) -> Result<(), Fail> {
+    tried(&rt, Trial::Transports, &ONE_MORE)
 }
 
 #[test]
 fn full_buffers(rt: HostRuntime) -> Result<(), Fail> {
     for row in &ROWS {
-        full(&rt, row)?;
+        tried(&rt, Trial::FirstTransport, row)?;
     }
     Ok(())
 }
