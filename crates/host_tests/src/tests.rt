@@ -1,13 +1,11 @@
-//! The sessions as a host drives them: each test hands a list of acts to the one function that owns the session, and
-//! compares what the acts told.
+//! The sessions as a host drives them: a test is rows of acts, and of what each act tells. One function owns the session.
 
 mod acts;
 mod args;
 mod client;
 mod client_acts;
-mod client_dropped;
-mod drill;
 mod drills;
 mod rows;
 mod server;
+mod session;
 mod told;

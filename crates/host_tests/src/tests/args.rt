@@ -1,81 +1,27 @@
-//! Arguments of messages as plain data, which can stand in a constant.
+//! Arguments of messages, which can stand in a constant.
 
-use std::alloc::Global;
-use std::test::Fail;
-use wl_host::{FlatArgument, FlatObjectId, kind};
-
-/// An argument that the host passes.
-#[derive(Clone, Copy)]
-pub enum Arg {
-    /// A signed number.
-    Int(i32),
-    /// An unsigned number.
-    Uint(i32),
-    /// A signed number of 24.8 bits: the value times 256.
-    Fixed(i32),
-    /// A string: where it begins in the bytes beside the arguments, and how many bytes it has.
-    Str(u32, u32),
-    /// A string that is null.
-    NullStr,
-    /// An object.
-    Object(FlatObjectId),
-    /// The null new id of a request.
-    New,
-    /// An array, as a string is given.
-    Array(u32, u32),
-    /// A descriptor.
-    Fd(i32),
+/// An argument. A number of 24.8 bits, `fixed`, is the value times 256. A string or an array is where it begins in the bytes
+/// beside the arguments, and how many bytes it has. The new id of a request, `new`, is null.
+macro_rules! arg {
+    (int: $value:expr) => { arg!(INT, $value, 0, 0, crate::tests::told::NULL) };
+    (uint: $value:expr) => { arg!(UINT, $value, 0, 0, crate::tests::told::NULL) };
+    (fixed: $value:expr) => { arg!(FIXED, $value, 0, 0, crate::tests::told::NULL) };
+    (fd: $value:expr) => { arg!(DESCRIPTOR, $value, 0, 0, crate::tests::told::NULL) };
+    (string: $at:expr, $length:expr) => { arg!(STRING, 0, $at, $length, crate::tests::told::NULL) };
+    (array: $at:expr, $length:expr) => { arg!(ARRAY, 0, $at, $length, crate::tests::told::NULL) };
+    (null_string) => { arg!(NULL_STRING, 0, 0, 0, crate::tests::told::NULL) };
+    (object: $object:expr) => { arg!(OBJECT, 0, 0, 0, $object) };
+    (new) => { arg!(NEW_ID, 0, 0, 0, crate::tests::told::NULL) };
+    ($kind:ident, $value:expr, $at:expr, $length:expr, $object:expr) => {
+        wl_host::FlatArgument {
+            kind: wl_host::kind::$kind,
+            value: $value,
+            at: $at,
+            length: $length,
+            object: $object,
+            data: 0,
+        }
+    };
 }
 
-/// A flat argument of a number or a descriptor.
-pub fn number(kind: u32, value: i32) -> FlatArgument {
-    FlatArgument {
-        kind,
-        value,
-        at: 0,
-        length: 0,
-        object: FlatObjectId::null(),
-        data: 0,
-    }
-}
-
-/// A flat argument that is a string or an array.
-fn beside(kind: u32, at: u32, length: u32) -> FlatArgument {
-    FlatArgument {
-        at,
-        length,
-        ..number(kind, 0)
-    }
-}
-
-/// A flat argument that is an object.
-fn object(id: FlatObjectId) -> FlatArgument {
-    FlatArgument {
-        object: id,
-        ..number(kind::OBJECT, 0)
-    }
-}
-
-/// The flat argument.
-fn flat(arg: Arg) -> FlatArgument {
-    match arg {
-        Arg::Int(value) => number(kind::INT, value),
-        Arg::Uint(value) => number(kind::UINT, value),
-        Arg::Fixed(value) => number(kind::FIXED, value),
-        Arg::Str(at, length) => beside(kind::STRING, at, length),
-        Arg::NullStr => number(kind::NULL_STRING, 0),
-        Arg::Object(id) => object(id),
-        Arg::New => number(kind::NEW_ID, 0),
-        Arg::Array(at, length) => beside(kind::ARRAY, at, length),
-        Arg::Fd(value) => number(kind::DESCRIPTOR, value),
-    }
-}
-
-/// The flat arguments.
-pub fn flat_all(alloc: Global, args: &[Arg]) -> Result<Vec<FlatArgument>, Fail> {
-    let mut arguments = Vec::new(alloc);
-    for arg in args {
-        arguments.push(flat(*arg))?;
-    }
-    Ok(arguments)
-}
+pub(crate) use arg;

@@ -1,10 +1,19 @@
 //! Whole conversations with a client's session. The bytes are those of the wire format.
 
-use crate::tests::args::Arg;
-use crate::tests::client_acts::{Act, BOUND, DISPLAY, NEW, NOBODY, REGISTRY, run};
+use crate::tests::args::arg;
+use crate::tests::client_acts::{Act, DISPLAY, NEW, REGISTRY};
+use crate::tests::session::{Run, rows_tell};
+use crate::tests::told::NOBODY;
 use std::test::Fail;
-use test_kit::log::tells;
-use wl_host::FlatObjectId;
+use wl_host::{Client, FlatArgument, FlatObjectId};
+
+/// The `pad` that is bound after the registry was made.
+const BOUND: FlatObjectId = FlatObjectId {
+    serial: 2,
+    client: NOBODY,
+    interface: 4,
+    number: 3,
+};
 
 /// The callback of a sync that is the first request.
 const CALLBACK: FlatObjectId = FlatObjectId {
@@ -23,267 +32,255 @@ const MADE: FlatObjectId = FlatObjectId {
 };
 
 /// The arguments of `pad.push`: 5 and the descriptor 42.
-const PUSH: &[Arg] = &[Arg::Int(5), Arg::Fd(42)];
+const PUSH: &[FlatArgument] = &[arg!(int: 5), arg!(fd: 42)];
 
 /// The same with the descriptor 44.
-const PUSH_ANOTHER: &[Arg] = &[Arg::Int(5), Arg::Fd(44)];
+const PUSH_ANOTHER: &[FlatArgument] = &[arg!(int: 5), arg!(fd: 44)];
 
 /// The same in the wrong order, with the descriptor 43.
-const WRONG: &[Arg] = &[Arg::Fd(43), Arg::Int(5)];
+const WRONG: &[FlatArgument] = &[arg!(fd: 43), arg!(int: 5)];
 
 /// The arguments of `pad.label`: the three bytes behind the first one.
-const LABEL: &[Arg] = &[Arg::Str(1, 3)];
+const LABEL: &[FlatArgument] = &[arg!(string: 1, 3)];
 
-/// What `sync_is_answered` does.
-const SYNC: &[Act] = &[
-    Act::Send(DISPLAY, 0, Some(7), NEW, &[]),
-    Act::Info(CALLBACK),
-    Act::ToSend(0),
-    Act::Flush,
-    Act::ToSend(0),
-    Act::Sent(4),
-    Act::ToSend(0),
-    Act::Sent(100),
-    Act::ToSend(0),
-    Act::Received(&[2, 0x000c_0000, 5, 1, 0x000c_0001, 2], &[]),
-    Act::Next(0, 0),
-    Act::Finish,
-    Act::Next(1, 0),
-    Act::Next(1, 0),
-    Act::FinishWith(1),
-    Act::Finish,
-    Act::Finish,
-    Act::Note,
-    Act::Note,
-    Act::Next(1, 0),
-    Act::Data(CALLBACK),
-    Act::Error(0),
-];
+/// `given` of the object 3, which the client has destroyed.
+const TO_DEAD: &[u32] = &[3, 0x00080001];
 
-/// `wl_display.sync` is sent, and `wl_callback.done` and `wl_display.delete_id` come back. The callback had data, so it is
-/// noted.
-#[test]
-fn sync_is_answered(rt: HostRuntime) -> Result<(), Fail> {
-    tells(
-        &rt,
-        run(rt.alloc(), SYNC),
-        "Ok 3@2 serial 1
-Ok 3@2 version 1
-Ok 0 0 [ ] [ ]
-Ok
-Ok 12 0 [ 01 00 00 00 00 00 0c 00 02 00 00 00 ] [ ]
-Ok
-Ok 8 0 [ 00 00 0c 00 02 00 00 00 ] [ ]
-Ok
-Ok 0 0 [ ] [ ]
-Ok
-TooSmall opcode 0 ends 1 data 1 7 3@2 0@0 version 0 needs 1 0
-NotOpen
-Ok opcode 0 ends 1 data 1 7 3@2 0@0 version 0 needs 1 0 (1: 5 0+0)
-Open
-UnexpectedData
-Ok
-NotOpen
-Ok 3@2 serial 1 data 7
-WouldBlock
-WouldBlock
-InvalidId
-Ok kind 0 status 0 number 0 code 0 object 0 lengths 0 0
-",
-    )
-}
+/// `given` of the object 4.
+const TO_LIVE: &[u32] = &[4, 0x00080001];
 
-/// What `descriptors_come_and_go` does.
-const DESCRIPTORS: &[Act] = &[
-    Act::Send(DISPLAY, 1, Some(1), NEW, &[]),
-    Act::BindPad(9),
-    Act::Send(BOUND, 3, Some(10), NEW, &[]),
-    Act::Flush,
-    Act::Sent(52),
-    Act::Send(BOUND, 0, None, WRONG, &[]),
-    Act::Send(BOUND, 0, None, PUSH, &[]),
-    Act::Send(BOUND, 1, None, LABEL, b"-hey-"),
-    Act::Send(BOUND, 1, None, LABEL, b"-he"),
-    Act::Flush,
-    Act::ToSend(0),
-    Act::ToSend(1),
-    Act::Sent(28),
-    Act::ToSend(0),
-    Act::Received(
-        &[
-            3,
-            0x0008_0001,
-            3,
-            0x0008_0001,
-            3,
-            0x000c_0000,
-            6,
-            4,
-            0x0008_0001,
+/// One of each.
+const TO_BOTH: &[u32] = &[3, 0x00080001, 4, 0x00080001];
+
+/// The conversations, each of a new session.
+static ROWS: [Run<Act>; 4] = [
+    // `wl_display.sync` is sent, and `wl_callback.done` and `wl_display.delete_id` come back. The callback had data, so it is
+    // noted.
+    Run {
+        name: "sync is answered",
+        first: &[],
+        entries: &[
+            (Act::Send(DISPLAY, 0, Some(7), NEW, &[]), "Ok 3@2 serial 1"),
+            (Act::Info(CALLBACK), "Ok 3@2 version 1"),
+            (Act::ToSend(0), "Ok [ ] [ ]"),
+            (Act::Flush, "Ok"),
+            (
+                Act::ToSend(0),
+                "Ok bytes 12 [ 01 00 00 00 00 00 0c 00 02 00 00 00 ] [ ]",
+            ),
+            (Act::Sent(4), "Ok"),
+            (Act::ToSend(0), "Ok bytes 8 [ 00 00 0c 00 02 00 00 00 ] [ ]"),
+            (Act::Sent(100), "Ok"),
+            (Act::ToSend(0), "Ok [ ] [ ]"),
+            (
+                Act::Received(&[2, 0x000c0000, 5, 1, 0x000c0001, 2], &[]),
+                "Ok",
+            ),
+            (
+                Act::Next(0, 0),
+                "TooSmall ends 1 has_data 1 data 7 arguments 1 by 3@2",
+            ),
+            (Act::Finish, "NotOpen"),
+            (
+                Act::Next(1, 0),
+                "Ok ends 1 has_data 1 data 7 arguments 1 by 3@2 (1: 5)",
+            ),
+            (Act::Next(1, 0), "Open"),
+            (Act::FinishWith(1), "UnexpectedData"),
+            (Act::Finish, "Ok"),
+            (Act::Finish, "NotOpen"),
+            (Act::Note, "Ok 3@2 serial 1 data 7"),
+            (Act::Note, "WouldBlock"),
+            (Act::Next(1, 0), "WouldBlock"),
+            (Act::Data(CALLBACK), "InvalidId"),
+            (Act::Error, "Ok number 0"),
         ],
-        &[50, 51, 52],
-    ),
-    Act::Next(1, 0),
-    Act::Destroy(BOUND),
-    Act::Destroy(BOUND),
-    Act::Finish,
-    Act::Dropped,
-    Act::Next(0, 0),
-    Act::Dropped,
-    Act::Dropped,
-    Act::Next(1, 0),
-    Act::Finish,
-    Act::Note,
-    Act::Send(MADE, 0, None, PUSH_ANOTHER, &[]),
-    Act::Received(&[4, 0x0008_0001], &[53]),
-    Act::Received(&[], &[54]),
-    Act::End,
-    Act::Next(1, 0),
-    Act::Finish,
-    Act::Dropped,
-    Act::Next(1, 0),
-    Act::Dropped,
-    Act::Dropped,
-    Act::Dropped,
-    Act::Flush,
-    Act::ToSend(0),
-    Act::Error(0),
-];
-
-/// Descriptors go out with requests and come in with events, each once. A request that is refused keeps none. One that came
-/// with an event for a destroyed object is dropped once the event is read, and the end drops all that are left.
-#[test]
-fn descriptors_come_and_go(rt: HostRuntime) -> Result<(), Fail> {
-    tells(
-        &rt,
-        run(rt.alloc(), DESCRIPTORS),
-        "Ok 2@2 serial 1
-Ok 4@3 serial 2
-Ok 4@4 serial 3
-Ok
-Ok
-BadSignature
-Ok 0@0 serial 0
-Ok 0@0 serial 0
-InvalidInput
-Ok
-TooSmall 28 1
-Ok 28 1 [ 03 00 00 00 00 00 0c 00 05 00 00 00 03 00 00 00 01 00 10 00 04 00 00 00 68 65 79 00 ] [ 42 ]
-Ok
-Ok 0 0 [ ] [ ]
-Ok
-Ok opcode 1 ends 0 data 1 9 4@3 0@0 version 0 needs 1 0 (7: 50 0+0)
-Ok
-InvalidId
-Ok
-WouldBlock
-TooSmall opcode 1 ends 0 data 1 10 4@4 0@0 version 0 needs 1 0
-Ok descriptor 51
-WouldBlock
-Ok opcode 1 ends 0 data 1 10 4@4 0@0 version 0 needs 1 0 (7: 52 0+0)
-Ok
-Ok 4@3 serial 2 data 9
-Ok 0@0 serial 0
-Ok
-Ok
-Ok
-Ok opcode 1 ends 0 data 1 10 4@4 0@0 version 0 needs 1 0 (7: 53 0+0)
-Ok
-WouldBlock
-Failed
-Ok descriptor 54
-Ok descriptor 44
-WouldBlock
-Failed
-Ok 0 0 [ ] [ ]
-Ok kind 1 status 10 number 0 code 0 object 0 lengths 0 0
-",
-    )
-}
-
-/// What `notes_bring_the_data` does.
-const NOTES: &[Act] = &[
-    Act::Send(DISPLAY, 1, Some(1), NEW, &[]),
-    Act::BindPad(9),
-    Act::Send(BOUND, 3, Some(21), NEW, &[]),
-    Act::SetData(MADE, 22),
-    Act::Note,
-    Act::Destroy(MADE),
-    Act::SetData(MADE, 23),
-    Act::Data(MADE),
-    Act::Send(BOUND, 2, None, &[], &[]),
-    Act::Destroy(REGISTRY),
-    Act::Send(DISPLAY, 0, Some(31), NEW, &[]),
-    Act::Send(DISPLAY, 0, Some(32), NEW, &[]),
-    Act::Received(
-        &[
-            5,
-            0x000c_0000,
-            1,
-            1,
-            0x000c_0001,
-            5,
-            6,
-            0x000c_0000,
-            2,
-            1,
-            0x000c_0001,
-            6,
+    },
+    // Descriptors go out with requests and come in with events, each once. A request that is refused keeps none. One that came
+    // with an event for a destroyed object is dropped once the event is read, and the end drops all that are left.
+    Run {
+        name: "descriptors come and go",
+        first: &[],
+        entries: &[
+            (Act::Send(DISPLAY, 1, Some(1), NEW, &[]), "Ok 2@2 serial 1"),
+            (Act::BindPad(9), "Ok 4@3 serial 2"),
+            (Act::Send(BOUND, 3, Some(10), NEW, &[]), "Ok 4@4 serial 3"),
+            (Act::Flush, "Ok"),
+            (Act::Sent(52), "Ok"),
+            (Act::Send(BOUND, 0, None, WRONG, &[]), "BadSignature"),
+            (Act::Send(BOUND, 0, None, PUSH, &[]), "Ok 0@0"),
+            (Act::Send(BOUND, 1, None, LABEL, b"-hey-"), "Ok 0@0"),
+            (Act::Send(BOUND, 1, None, LABEL, b"-he"), "InvalidInput"),
+            (Act::Flush, "Ok"),
+            (Act::ToSend(0), "TooSmall bytes 28 descriptors 1"),
+            (
+                Act::ToSend(1),
+                "Ok bytes 28 descriptors 1 [ 03 00 00 00 00 00 0c 00 05 00 00 00 03 00 00 00 01 00 10 00 04 00 00 00 68 65 79 00 ] [ 42 ]",
+            ),
+            (Act::Sent(28), "Ok"),
+            (Act::ToSend(0), "Ok [ ] [ ]"),
+            (
+                Act::Received(
+                    &[
+                        3, 0x00080001, 3, 0x00080001, 3, 0x000c0000, 6, 4, 0x00080001,
+                    ],
+                    &[50, 51, 52],
+                ),
+                "Ok",
+            ),
+            (
+                Act::Next(1, 0),
+                "Ok opcode 1 has_data 1 data 9 arguments 1 by 4@3 (7: 50)",
+            ),
+            (Act::Destroy(BOUND), "Ok"),
+            (Act::Destroy(BOUND), "InvalidId"),
+            (Act::Finish, "Ok"),
+            (Act::Dropped, "WouldBlock"),
+            (
+                Act::Next(0, 0),
+                "TooSmall opcode 1 has_data 1 data 10 arguments 1 by 4@4",
+            ),
+            (Act::Dropped, "Ok descriptor 51"),
+            (Act::Dropped, "WouldBlock"),
+            (
+                Act::Next(1, 0),
+                "Ok opcode 1 has_data 1 data 10 arguments 1 by 4@4 (7: 52)",
+            ),
+            (Act::Finish, "Ok"),
+            (Act::Note, "Ok 4@3 serial 2 data 9"),
+            (Act::Send(MADE, 0, None, PUSH_ANOTHER, &[]), "Ok 0@0"),
+            (Act::Received(&[4, 0x00080001], &[53]), "Ok"),
+            (Act::Received(&[], &[54]), "Ok"),
+            (Act::End, "Ok"),
+            (
+                Act::Next(1, 0),
+                "Ok opcode 1 has_data 1 data 10 arguments 1 by 4@4 (7: 53)",
+            ),
+            (Act::Finish, "Ok"),
+            (Act::Dropped, "WouldBlock"),
+            (Act::Next(1, 0), "Failed"),
+            (Act::Dropped, "Ok descriptor 54"),
+            (Act::Dropped, "Ok descriptor 44"),
+            (Act::Dropped, "WouldBlock"),
+            (Act::Flush, "Failed"),
+            (Act::ToSend(0), "Ok [ ] [ ]"),
+            (Act::Error, "Ok number 0 kind 1 status 10"),
         ],
-        &[],
-    ),
-    Act::Next(1, 0),
-    Act::Note,
-    Act::Finish,
-    Act::Next(1, 0),
-    Act::Finish,
-    Act::Next(1, 0),
-    Act::Note,
-    Act::Note,
-    Act::Note,
-    Act::Note,
-    Act::Note,
-    Act::Received(&[1, 0x000c_0001, 4], &[]),
-    Act::Next(1, 0),
-    Act::Data(MADE),
-    Act::Note,
+    },
+    // Each object that had data is noted once when it ends, with the data that it had then: one that the client destroys, the
+    // sender of a request that is a destructor, and the sender of such an event.
+    Run {
+        name: "notes bring the data",
+        first: &[],
+        entries: &[
+            (Act::Send(DISPLAY, 1, Some(1), NEW, &[]), "Ok 2@2 serial 1"),
+            (Act::BindPad(9), "Ok 4@3 serial 2"),
+            (Act::Send(BOUND, 3, Some(21), NEW, &[]), "Ok 4@4 serial 3"),
+            (Act::SetData(MADE, 22), "Ok"),
+            (Act::Note, "WouldBlock"),
+            (Act::Destroy(MADE), "Ok"),
+            (Act::SetData(MADE, 23), "Ok"),
+            (Act::Data(MADE), "Ok data 23"),
+            (Act::Send(BOUND, 2, None, &[], &[]), "Ok 0@0"),
+            (Act::Destroy(REGISTRY), "Ok"),
+            (Act::Send(DISPLAY, 0, Some(31), NEW, &[]), "Ok 3@5 serial 4"),
+            (Act::Send(DISPLAY, 0, Some(32), NEW, &[]), "Ok 3@6 serial 5"),
+            (
+                Act::Received(
+                    &[
+                        5, 0x000c0000, 1, 1, 0x000c0001, 5, 6, 0x000c0000, 2, 1, 0x000c0001, 6,
+                    ],
+                    &[],
+                ),
+                "Ok",
+            ),
+            (
+                Act::Next(1, 0),
+                "Ok ends 1 has_data 1 data 31 arguments 1 by 3@5 (1: 1)",
+            ),
+            (Act::Note, "Ok 4@4 serial 3 data 22"),
+            (Act::Finish, "Ok"),
+            (
+                Act::Next(1, 0),
+                "Ok ends 1 has_data 1 data 32 arguments 1 by 3@6 (1: 2)",
+            ),
+            (Act::Finish, "Ok"),
+            (Act::Next(1, 0), "WouldBlock"),
+            (Act::Note, "Ok 4@3 serial 2 data 9"),
+            (Act::Note, "Ok 2@2 serial 1 data 1"),
+            (Act::Note, "Ok 3@5 serial 4 data 31"),
+            (Act::Note, "Ok 3@6 serial 5 data 32"),
+            (Act::Note, "WouldBlock"),
+            (Act::Received(&[1, 0x000c0001, 4], &[]), "Ok"),
+            (Act::Next(1, 0), "WouldBlock"),
+            (Act::Data(MADE), "InvalidId"),
+            (Act::Note, "WouldBlock"),
+        ],
+    },
+    // The descriptor of an event for a destroyed object comes back as soon as the session has read the event, while those that an
+    // event may yet hand out stay: in the mailbox, in the core, and with an event that is kept.
+    Run {
+        name: "dropped events give their descriptors back",
+        first: &[],
+        entries: &[
+            (Act::Send(DISPLAY, 1, Some(1), NEW, &[]), "Ok 2@2 serial 1"),
+            (Act::BindPad(7), "Ok 4@3 serial 2"),
+            (Act::BindPad(8), "Ok 4@4 serial 3"),
+            (Act::Destroy(BOUND), "Ok"),
+            // Not read yet.
+            (Act::Received(TO_DEAD, &[50]), "Ok"),
+            (Act::Dropped, "WouldBlock"),
+            (Act::Next(1, 0), "WouldBlock"),
+            (Act::Dropped, "Ok descriptor 50"),
+            (Act::Dropped, "WouldBlock"),
+            // One waits in the mailbox.
+            (Act::Received(TO_DEAD, &[51]), "Ok"),
+            (Act::Next(1, 0), "WouldBlock"),
+            (Act::Received(TO_LIVE, &[52]), "Ok"),
+            (Act::Dropped, "Ok descriptor 51"),
+            (Act::Dropped, "WouldBlock"),
+            (
+                Act::Next(1, 0),
+                "Ok opcode 1 has_data 1 data 8 arguments 1 by 4@4 (7: 52)",
+            ),
+            (Act::Finish, "Ok"),
+            // One waits in the core, with half of its event.
+            (Act::Received(TO_DEAD, &[53]), "Ok"),
+            (Act::Received(&[4], &[54]), "Ok"),
+            (Act::Next(1, 0), "WouldBlock"),
+            (Act::Dropped, "Ok descriptor 53"),
+            (Act::Dropped, "WouldBlock"),
+            (Act::Received(&[0x00080001], &[]), "Ok"),
+            (
+                Act::Next(1, 0),
+                "Ok opcode 1 has_data 1 data 8 arguments 1 by 4@4 (7: 54)",
+            ),
+            (Act::Finish, "Ok"),
+            // One is of an event that is kept, and one waits behind it.
+            (Act::Received(TO_BOTH, &[55, 56, 57]), "Ok"),
+            (
+                Act::Next(0, 0),
+                "TooSmall opcode 1 has_data 1 data 8 arguments 1 by 4@4",
+            ),
+            (Act::Dropped, "Ok descriptor 55"),
+            (Act::Dropped, "WouldBlock"),
+            (Act::Received(TO_LIVE, &[]), "Ok"),
+            (
+                Act::Next(1, 0),
+                "Ok opcode 1 has_data 1 data 8 arguments 1 by 4@4 (7: 56)",
+            ),
+            (Act::Finish, "Ok"),
+            (
+                Act::Next(1, 0),
+                "Ok opcode 1 has_data 1 data 8 arguments 1 by 4@4 (7: 57)",
+            ),
+            (Act::Dropped, "WouldBlock"),
+        ],
+    },
 ];
 
-/// Each object that had data is noted once when it ends, with the data that it had then: one that the client destroys, the
-/// sender of a request that is a destructor, and the sender of such an event.
+/// Each conversation tells what it has to.
 #[test]
-fn notes_bring_the_data(rt: HostRuntime) -> Result<(), Fail> {
-    tells(
-        &rt,
-        run(rt.alloc(), NOTES),
-        "Ok 2@2 serial 1
-Ok 4@3 serial 2
-Ok 4@4 serial 3
-Ok
-WouldBlock
-Ok
-Ok
-Ok data 23
-Ok 0@0 serial 0
-Ok
-Ok 3@5 serial 4
-Ok 3@6 serial 5
-Ok
-Ok opcode 0 ends 1 data 1 31 3@5 0@0 version 0 needs 1 0 (1: 1 0+0)
-Ok 4@4 serial 3 data 22
-Ok
-Ok opcode 0 ends 1 data 1 32 3@6 0@0 version 0 needs 1 0 (1: 2 0+0)
-Ok
-WouldBlock
-Ok 4@3 serial 2 data 9
-Ok 2@2 serial 1 data 1
-Ok 3@5 serial 4 data 31
-Ok 3@6 serial 5 data 32
-WouldBlock
-Ok
-WouldBlock
-InvalidId
-WouldBlock
-",
-    )
+fn rows(rt: HostRuntime) -> Result<(), Fail> {
+    rows_tell::<Client>(&rt, &ROWS)
 }

@@ -1,15 +1,10 @@
 //! Whole conversations with a server's session. The bytes are those of the wire format.
 
-use crate::tests::acts::{Act, run};
+use crate::tests::acts::{Act, FIRST, GIVEN, MOVED, SECOND};
+use crate::tests::args::arg;
+use crate::tests::session::{Entry, Run, rows_tell};
 use std::test::Fail;
-use test_kit::log::tells;
-use wl_host::{FlatClientId, FlatGlobalId, FlatObjectId};
-
-/// The first client.
-const FIRST: FlatClientId = FlatClientId { serial: 1, slot: 0 };
-
-/// The second.
-const SECOND: FlatClientId = FlatClientId { serial: 2, slot: 1 };
+use wl_host::{FlatClientId, FlatGlobalId, FlatObjectId, Server};
 
 /// One at the first client's slot that was not inserted.
 const STRANGER: FlatClientId = FlatClientId { serial: 9, slot: 0 };
@@ -19,25 +14,25 @@ const UNKNOWN: FlatClientId = FlatClientId { serial: 1, slot: 1 };
 
 /// `wl_display.get_registry` with the new id 2, and `wl_registry.bind` of the global 1 as a `pad` of version 2 with the new id
 /// 3.
-const BIND: &[u32] = &[1, 0x000c_0001, 2, 2, 0x001c_0000, 1, 4, 0x0064_6170, 2, 3];
+const BIND: &[u32] = &[1, 0x000c0001, 2, 2, 0x001c0000, 1, 4, 0x00646170, 2, 3];
 
 /// `pad.push` of 5 and a descriptor.
-const PUSH: &[u32] = &[3, 0x000c_0000, 5];
+const PUSH: &[u32] = &[3, 0x000c0000, 5];
 
 /// `pad.label` of "hey".
-const LABEL: &[u32] = &[3, 0x0010_0001, 4, 0x0079_6568];
+const LABEL: &[u32] = &[3, 0x00100001, 4, 0x00796568];
 
 /// `pad.close`.
-const CLOSE: &[u32] = &[3, 0x0008_0002];
+const CLOSE: &[u32] = &[3, 0x00080002];
 
 /// `wl_display.get_registry` with the new id 2.
-const REGISTRY: &[u32] = &[1, 0x000c_0001, 2];
+const REGISTRY: &[u32] = &[1, 0x000c0001, 2];
 
 /// `wl_registry.bind` of the global 1 as a `pad` of version 2 with the new id 3.
-const BIND_FIRST: &[u32] = &[2, 0x001c_0000, 1, 4, 0x0064_6170, 2, 3];
+const BIND_FIRST: &[u32] = &[2, 0x001c0000, 1, 4, 0x00646170, 2, 3];
 
 /// The same of the global 5, with the new id 4.
-const BIND_FIFTH: &[u32] = &[2, 0x001c_0000, 5, 4, 0x0064_6170, 2, 4];
+const BIND_FIFTH: &[u32] = &[2, 0x001c0000, 5, 4, 0x00646170, 2, 4];
 
 /// The `pad` that the first client binds.
 const FIRST_PAD: FlatObjectId = FlatObjectId {
@@ -66,38 +61,15 @@ const NO_GLOBAL: FlatGlobalId = FlatGlobalId { serial: 9, name: 1 };
 
 /// `note.tell` by the second object of the server's range: -5, 2³² - 1, 1.5, "hey", no string, the first object of the
 /// server's range, no object, the new id 2, the bytes 1, 2 and 3, and a descriptor.
-const TELL: &[u32] = &[
-    0xff00_0001,
-    0x0034_0000,
-    0xffff_fffb,
-    0xffff_ffff,
-    0x180,
-    4,
-    0x0079_6568,
-    0,
-    0xff00_0000,
-    0,
-    2,
-    3,
-    0x0003_0201,
+pub const TELL: &[u32] = &[
+    0xff000001, 0x00340000, 0xfffffffb, 0xffffffff, 0x180, 4, 0x00796568, 0, 0xff000000, 0, 2, 3,
+    0x00030201,
 ];
 
 /// The same of 7, 8, -1, the empty string, "x", the object 2, the first object of the server's range, the new id 3, no bytes, and
 /// a descriptor.
 const TELL_MORE: &[u32] = &[
-    0xff00_0001,
-    0x0034_0000,
-    7,
-    8,
-    0xffff_ff00,
-    1,
-    0,
-    2,
-    0x0000_0078,
-    2,
-    0xff00_0000,
-    3,
-    0,
+    0xff000001, 0x00340000, 7, 8, 0xffffff00, 1, 0, 2, 0x00000078, 2, 0xff000000, 3, 0,
 ];
 
 /// A descriptor, 29 times.
@@ -106,492 +78,328 @@ const MANY: [i32; 29] = [5; 29];
 /// The same, 28 times.
 const FULL: [i32; 28] = [5; 28];
 
-/// A client binds a global, and a descriptor comes with a request and goes with an event.
-#[test]
-fn descriptors_come_and_go(rt: HostRuntime) -> Result<(), Fail> {
-    let acts = [
-        Act::Global(70, 1),
-        Act::Insert(7, 1),
-        Act::Received(FIRST, BIND, &[]),
+/// A global, and a client that binds it.
+const BOUND: &[Entry<Act>] = &[
+    (Act::Global(70, 1, &[]), "Ok global 1:1"),
+    (Act::Insert(7, 1, &[]), "Ok client 0:1"),
+    (Act::Received(FIRST, BIND, &[]), "Ok"),
+    (
         Act::Next(FIRST, 0, 0),
-        Act::FinishBind(FIRST, 33),
-        Act::Received(FIRST, PUSH, &[42]),
-        Act::Next(FIRST, 2, 0),
-        Act::Finish(FIRST),
-        Act::Next(FIRST, 2, 0),
-        Act::Moved(FIRST_PAD, -1),
-        Act::Given(FIRST_PAD, 99),
-        Act::Writable,
-        Act::Writable,
-        Act::ToSend(FIRST),
-        Act::Sent(FIRST, 44),
-        Act::Writable,
-        Act::Dropped,
-    ];
-    tells(
-        &rt,
-        run(rt.alloc(), &acts),
-        "Ok global 1:1
-Ok client 0:1
-Ok
-Ok kind 2 opcode 0 ends 0 data 70 0@0 4@3 version 2 needs 0 0
-Ok kept true
-Ok
-Ok kind 1 opcode 0 ends 0 data 33 4@3 0@0 version 0 needs 2 0 (0: 5 0+0) (7: 42 0+0)
-Ok
-WouldBlock
-Ok
-Ok
-Ok client 0:1
-WouldBlock
-Ok [ 02 00 00 00 00 00 18 00 01 00 00 00 04 00 00 00 70 61 64 00 02 00 00 00 03 00 00 00 00 00 0c 00 ff ff ff ff \
-03 00 00 00 01 00 08 00 ] [ 99 ]
-Ok
-WouldBlock
-WouldBlock
-",
-    )
-}
-
-/// An action that finds no room in the lent memory is handed out later, with its descriptor, and cannot be finished before.
-#[test]
-fn small_memory_loses_nothing(rt: HostRuntime) -> Result<(), Fail> {
-    let acts = [
-        Act::Global(70, 1),
-        Act::Insert(7, 1),
-        Act::Received(FIRST, BIND, &[]),
-        Act::Next(FIRST, 0, 0),
-        Act::FinishBind(FIRST, 33),
-        Act::Received(FIRST, PUSH, &[42]),
-        Act::Received(FIRST, LABEL, &[]),
-        Act::Next(FIRST, 1, 0),
-        Act::Finish(FIRST),
-        Act::Next(FIRST, 2, 0),
-        Act::Next(FIRST, 2, 0),
-        Act::FinishWith(FIRST, 1),
-        Act::Finish(FIRST),
-        Act::Next(FIRST, 1, 2),
-        Act::Next(FIRST, 1, 3),
-        Act::FinishBind(FIRST, 1),
-        Act::Finish(FIRST),
-        Act::Finish(FIRST),
-    ];
-    tells(
-        &rt,
-        run(rt.alloc(), &acts),
-        "Ok global 1:1
-Ok client 0:1
-Ok
-Ok kind 2 opcode 0 ends 0 data 70 0@0 4@3 version 2 needs 0 0
-Ok kept true
-Ok
-Ok
-TooSmall kind 0 opcode 0 ends 0 data 0 0@0 0@0 version 0 needs 2 0 (0: 0 0+0)
-NotOpen
-Ok kind 1 opcode 0 ends 0 data 33 4@3 0@0 version 0 needs 2 0 (0: 5 0+0) (7: 42 0+0)
-Open
-UnexpectedData
-Ok
-TooSmall kind 0 opcode 0 ends 0 data 0 0@0 0@0 version 0 needs 1 3 (0: 0 0+0) [ 00 00 ]
-Ok kind 1 opcode 1 ends 0 data 33 4@3 0@0 version 0 needs 1 3 (3: 0 0+3) [ 68 65 79 ]
-WrongKind
-Ok
-NotOpen
-",
-    )
-}
-
-/// What is left of a client that is killed comes out once: its last bytes with their descriptor, those that were not read, and
-/// the notes. Another client may have its slot by then.
-#[test]
-fn killed_clients_leave_nothing(rt: HostRuntime) -> Result<(), Fail> {
-    let acts = [
-        Act::Global(70, 1),
-        Act::Insert(7, 1),
-        Act::Received(FIRST, BIND, &[]),
-        Act::Next(FIRST, 0, 0),
-        Act::FinishBind(FIRST, 33),
-        Act::Received(FIRST, PUSH, &[42]),
-        Act::Given(FIRST_PAD, 99),
-        Act::Kill(FIRST),
-        Act::Next(FIRST, 2, 0),
-        Act::Gone,
-        Act::Cleanup,
-        Act::Insert(8, 1),
-        Act::Dropped,
-        Act::Gone,
-        Act::Gone,
-        Act::Dropped,
-        Act::Next(FIRST, 2, 0),
-        Act::Note,
-        Act::Note,
-        Act::Note,
-        Act::Note,
-        Act::Note,
-    ];
-    tells(
-        &rt,
-        run(rt.alloc(), &acts),
-        "Ok global 1:1
-Ok client 0:1
-Ok
-Ok kind 2 opcode 0 ends 0 data 70 0@0 4@3 version 2 needs 0 0
-Ok kept true
-Ok
-Ok
-Ok
-Closed
-WouldBlock
-Ok
-Ok client 0:2
-Ok descriptor 42
-Ok client 0:1 data 7 [ 02 00 00 00 00 00 18 00 01 00 00 00 04 00 00 00 70 61 64 00 02 00 00 00 03 00 00 00 01 00 08 00 ] [ 99 ]
-WouldBlock
-WouldBlock
-InvalidId
-Ok kind 1 error 0 0 data 0 client 0:1 0@0
-Ok kind 2 error 0 0 data 0 client 0:1 0@0
-Ok kind 3 error 0 0 data 33 client 0:1 4@3
-Ok kind 1 error 0 0 data 0 client 0:2 0@0
-WouldBlock
-",
-    )
-}
-
-/// An event that is refused leaves its descriptor with the host. A destructor ends its object with a note, and tells the client
-/// that the number is free.
-#[test]
-fn refused_events_and_destructors(rt: HostRuntime) -> Result<(), Fail> {
-    let acts = [
-        Act::Global(70, 1),
-        Act::Insert(7, 1),
-        Act::Received(FIRST, BIND, &[]),
-        Act::Next(FIRST, 0, 0),
-        Act::FinishBind(FIRST, 33),
-        Act::Given(STALE_PAD, 98),
-        Act::Given(FIRST_PAD, 99),
-        Act::Writable,
-        Act::Sent(FIRST, 24),
-        Act::Received(FIRST, CLOSE, &[]),
-        Act::Next(FIRST, 0, 0),
-        Act::Finish(FIRST),
-        Act::Writable,
-        Act::ToSend(FIRST),
-        Act::Dropped,
-    ];
-    tells(
-        &rt,
-        run(rt.alloc(), &acts),
-        "Ok global 1:1
-Ok client 0:1
-Ok
-Ok kind 2 opcode 0 ends 0 data 70 0@0 4@3 version 2 needs 0 0
-Ok kept true
-InvalidId
-Ok
-Ok client 0:1
-Ok
-Ok
-Ok kind 1 opcode 2 ends 1 data 33 4@3 0@0 version 0 needs 0 0
-Ok
-Ok client 0:1
-Ok [ 03 00 00 00 01 00 08 00 01 00 00 00 01 00 0c 00 03 00 00 00 ] [ ]
-WouldBlock
-",
-    )
-}
-
-/// A client that broke the rules of the program is told so in its last bytes, and a note says so. A message with a zero byte is
-/// refused.
-#[test]
-fn errors_are_posted(rt: HostRuntime) -> Result<(), Fail> {
-    let acts = [
-        Act::Global(70, 1),
-        Act::Insert(7, 1),
-        Act::Received(FIRST, BIND, &[]),
-        Act::Next(FIRST, 0, 0),
-        Act::FinishBind(FIRST, 33),
-        Act::Writable,
-        Act::Sent(FIRST, 24),
-        Act::PostError(FIRST_PAD, 9, b"no\0"),
-        Act::PostError(FIRST_PAD, 9, b"no way"),
-        Act::Next(FIRST, 0, 0),
-        Act::Cleanup,
-        Act::Gone,
-        Act::Note,
-        Act::Note,
-    ];
-    tells(
-        &rt,
-        run(rt.alloc(), &acts),
-        "Ok global 1:1
-Ok client 0:1
-Ok
-Ok kind 2 opcode 0 ends 0 data 70 0@0 4@3 version 2 needs 0 0
-Ok kept true
-Ok client 0:1
-Ok
-InvalidInput
-Ok
-Closed
-Ok
-Ok client 0:1 data 7 [ 01 00 00 00 00 00 1c 00 03 00 00 00 09 00 00 00 07 00 00 00 6e 6f 20 77 61 79 00 00 ] [ ]
-Ok kind 1 error 0 0 data 0 client 0:1 0@0
-Ok kind 2 error 1 9 data 0 client 0:1 0@0
-",
-    )
-}
-
-/// A client that has no group in common with a global is not told of it.
-#[test]
-fn groups_hide_globals(rt: HostRuntime) -> Result<(), Fail> {
-    let acts = [
-        Act::Global(70, 1),
-        Act::Insert(7, 2),
-        Act::Received(FIRST, REGISTRY, &[]),
-        Act::Next(FIRST, 0, 0),
-        Act::Writable,
-        Act::Global(71, 6),
-        Act::Writable,
-        Act::ToSend(FIRST),
-    ];
-    tells(
-        &rt,
-        run(rt.alloc(), &acts),
-        "Ok global 1:1
-Ok client 0:1
-Ok
-WouldBlock
-WouldBlock
-Ok global 2:2
-Ok client 0:1
-Ok [ 02 00 00 00 00 00 18 00 02 00 00 00 04 00 00 00 70 61 64 00 02 00 00 00 ] [ ]
-",
-    )
-}
-
-/// A client to which a send failed is killed at once. What it sent before is not read, and its descriptors come back. What was to
-/// be sent to it comes with its end.
-#[test]
-fn failed_sends_kill(rt: HostRuntime) -> Result<(), Fail> {
-    let acts = [
-        Act::Global(70, 1),
-        Act::Insert(7, 1),
-        Act::Received(FIRST, BIND, &[]),
-        Act::Next(FIRST, 0, 0),
-        Act::FinishBind(FIRST, 33),
-        Act::Received(FIRST, PUSH, &[42]),
-        Act::SendFailed(STRANGER),
-        Act::SendFailed(FIRST),
-        Act::Next(FIRST, 2, 0),
-        Act::Moved(FIRST_PAD, 1),
-        Act::Cleanup,
-        Act::SendFailed(FIRST),
-        Act::Gone,
-        Act::Dropped,
-        Act::Dropped,
-        Act::Note,
-        Act::Note,
-        Act::Note,
-        Act::Note,
-    ];
-    tells(
-        &rt,
-        run(rt.alloc(), &acts),
-        "Ok global 1:1
-Ok client 0:1
-Ok
-Ok kind 2 opcode 0 ends 0 data 70 0@0 4@3 version 2 needs 0 0
-Ok kept true
-Ok
-InvalidId
-Ok
-Closed
-Ok
-Ok
-InvalidId
-Ok client 0:1 data 7 [ 02 00 00 00 00 00 18 00 01 00 00 00 04 00 00 00 70 61 64 00 02 00 00 00 ] [ ]
-Ok descriptor 42
-WouldBlock
-Ok kind 1 error 0 0 data 0 client 0:1 0@0
-Ok kind 2 error 0 0 data 0 client 0:1 0@0
-Ok kind 3 error 0 0 data 33 client 0:1 4@3
-WouldBlock
-",
-    )
-}
-
-/// More than 28 descriptors do not go in.
-#[test]
-fn few_descriptors_go_in(rt: HostRuntime) -> Result<(), Fail> {
-    let acts = [
-        Act::Insert(7, 1),
-        Act::Received(FIRST, REGISTRY, &MANY),
-        Act::Received(FIRST, REGISTRY, &FULL),
-        Act::Received(FIRST, &[], &[5]),
-        Act::Received(UNKNOWN, REGISTRY, &[]),
-        Act::Kill(FIRST),
-        Act::Cleanup,
-        Act::Gone,
-        Act::Dropped,
-    ];
-    tells(
-        &rt,
-        run(rt.alloc(), &acts),
-        "Ok client 0:1
-TooManyDescriptors
-Ok
-TooManyDescriptors
-InvalidId
-Ok
-Ok
-Ok client 0:1 data 7 [ ] [ ]
-Ok descriptor 5
-",
-    )
-}
-
-/// What `arguments_are_read` does.
-const ARGUMENTS: &[Act] = &[
-    Act::AddNote,
-    Act::Insert(7, 1),
-    Act::Create(FIRST, 4, 33),
-    Act::Create(FIRST, 5, 55),
-    Act::Received(FIRST, TELL, &[42]),
-    Act::Next(FIRST, 9, 6),
-    Act::Next(FIRST, 10, 5),
-    Act::Next(FIRST, 11, 8),
-    Act::FinishWith(FIRST, 44),
-    Act::Received(FIRST, TELL_MORE, &[43]),
-    Act::Next(FIRST, 10, 1),
-    Act::FinishWith(FIRST, 45),
-    Act::Next(FIRST, 10, 1),
+        "Ok kind 2 data 70 version 2 made 4@3",
+    ),
+    (Act::FinishBind(FIRST, 33), "Ok kept true"),
 ];
 
-/// A request with each kind of argument is handed out in flat structs, with its strings and its array behind each other in the
-/// bytes. Where it finds no room for one of its arguments, or for one of its bytes, the lent memory is as it was, and it is
-/// handed out later.
-#[test]
-fn arguments_are_read(rt: HostRuntime) -> Result<(), Fail> {
-    tells(
-        &rt,
-        run(rt.alloc(), ARGUMENTS),
-        "Ok
-Ok client 0:1
-Ok 4@4278190080
-Ok 5@4278190081
-Ok
-TooSmall kind 0 opcode 0 ends 0 data 0 0@0 0@0 version 0 needs 10 6 (0: 0 0+0) (0: 0 0+0) (0: 0 0+0) (0: 0 0+0) (0: 0 0+0) \
-(0: 0 0+0) (0: 0 0+0) (0: 0 0+0) (0: 0 0+0) [ 00 00 00 00 00 00 ]
-TooSmall kind 0 opcode 0 ends 0 data 0 0@0 0@0 version 0 needs 10 6 (0: 0 0+0) (0: 0 0+0) (0: 0 0+0) (0: 0 0+0) (0: 0 0+0) \
-(0: 0 0+0) (0: 0 0+0) (0: 0 0+0) (0: 0 0+0) (0: 0 0+0) [ 00 00 00 00 00 ]
-Ok kind 1 opcode 0 ends 0 data 55 5@4278190081 4@2 version 1 needs 10 6 (0: -5 0+0) (1: -1 0+0) (2: 384 0+0) (3: 0 0+3) \
-(8: 0 0+0) (4: 4@4278190080 data 33) (4: 0@0 data 0) (5: 4@2 data 0) (6: 0 3+3) (7: 42 0+0) (0: 0 0+0) \
-[ 68 65 79 01 02 03 00 00 ]
-Ok kept true
-Ok
-Ok kind 1 opcode 0 ends 0 data 55 5@4278190081 4@3 version 1 needs 10 1 (0: 7 0+0) (1: 8 0+0) (2: -256 0+0) (3: 0 0+0) \
-(3: 0 0+1) (4: 4@2 data 44) (4: 4@4278190080 data 33) (5: 4@3 data 0) (6: 0 1+0) (7: 43 0+0) [ 78 ]
-Ok kept true
-WouldBlock
-",
-    )
-}
-
-/// What `lists_hide_globals` does.
-const LISTS: &[Act] = &[
-    Act::NextIds,
-    Act::Global(70, 1),
-    Act::HiddenGlobal(71, 1, &[FIRST]),
-    Act::Global(72, 1),
-    Act::InsertWithout(7, 1, &[FIRST_GLOBAL]),
-    Act::InsertWithout(8, 1, &[NO_GLOBAL, FOURTH_GLOBAL]),
-    Act::Global(73, 1),
-    Act::HiddenGlobal(74, 1, &[STRANGER, SECOND]),
-    Act::NextIds,
-    Act::Sees(FIRST),
-    Act::Sees(SECOND),
-    Act::Received(FIRST, REGISTRY, &[]),
-    Act::Next(FIRST, 0, 0),
-    Act::Received(SECOND, REGISTRY, &[]),
-    Act::Next(SECOND, 0, 0),
-    Act::HiddenGlobal(75, 1, &[FIRST]),
-    Act::Writable,
-    Act::ToSend(FIRST),
-    Act::Sent(FIRST, 72),
-    Act::Writable,
-    Act::ToSend(SECOND),
-    Act::Sent(SECOND, 96),
-    Act::Received(SECOND, BIND_FIRST, &[]),
-    Act::Next(SECOND, 0, 0),
-    Act::FinishBind(SECOND, 33),
-    Act::Received(FIRST, BIND_FIRST, &[]),
-    Act::Next(FIRST, 0, 0),
-    Act::Received(SECOND, BIND_FIFTH, &[]),
-    Act::Next(SECOND, 0, 0),
-    Act::Cleanup,
-    Act::Gone,
-    Act::Gone,
-    Act::Note,
-    Act::Note,
-    Act::Note,
-    Act::Note,
-    Act::Note,
-    Act::Note,
+/// The conversations, each of a new session.
+static ROWS: [Run<Act>; 10] = [
+    // A client binds a global, and a descriptor comes with a request and goes with an event.
+    Run {
+        name: "descriptors come and go",
+        first: BOUND,
+        entries: &[
+            (Act::Received(FIRST, PUSH, &[42]), "Ok"),
+            (
+                Act::Next(FIRST, 2, 0),
+                "Ok kind 1 data 33 arguments 2 by 4@3 (0: 5) (7: 42)",
+            ),
+            (Act::Finish(FIRST), "Ok"),
+            (Act::Next(FIRST, 2, 0), "WouldBlock"),
+            (Act::Send(FIRST_PAD, MOVED, &[arg!(int: -1)], &[]), "Ok"),
+            (Act::Send(FIRST_PAD, GIVEN, &[arg!(fd: 99)], &[]), "Ok"),
+            (Act::Writable, "Ok client 0:1"),
+            (Act::Writable, "WouldBlock"),
+            (
+                Act::ToSend(FIRST),
+                "Ok [ 02 00 00 00 00 00 18 00 01 00 00 00 04 00 00 00 70 61 64 00 02 00 00 00 03 00 00 00 00 00 0c 00 ff ff ff ff \
+                 03 00 00 00 01 00 08 00 ] [ 99 ]",
+            ),
+            (Act::Sent(FIRST, 44), "Ok"),
+            (Act::Writable, "WouldBlock"),
+            (Act::Dropped, "WouldBlock"),
+        ],
+    },
+    // An action that finds no room in the lent memory is handed out later, with its descriptor, and cannot be finished before.
+    Run {
+        name: "small memory loses nothing",
+        first: BOUND,
+        entries: &[
+            (Act::Received(FIRST, PUSH, &[42]), "Ok"),
+            (Act::Received(FIRST, LABEL, &[]), "Ok"),
+            (Act::Next(FIRST, 1, 0), "TooSmall arguments 2 (0: 0)"),
+            (Act::Finish(FIRST), "NotOpen"),
+            (
+                Act::Next(FIRST, 2, 0),
+                "Ok kind 1 data 33 arguments 2 by 4@3 (0: 5) (7: 42)",
+            ),
+            (Act::Next(FIRST, 2, 0), "Open"),
+            (Act::FinishWith(FIRST, 1), "UnexpectedData"),
+            (Act::Finish(FIRST), "Ok"),
+            (
+                Act::Next(FIRST, 1, 2),
+                "TooSmall arguments 1 bytes 3 (0: 0) [ 00 00 ]",
+            ),
+            (
+                Act::Next(FIRST, 1, 3),
+                "Ok kind 1 opcode 1 data 33 arguments 1 bytes 3 by 4@3 (3: 0 length 3) [ 68 65 79 ]",
+            ),
+            (Act::FinishBind(FIRST, 1), "WrongKind"),
+            (Act::Finish(FIRST), "Ok"),
+            (Act::Finish(FIRST), "NotOpen"),
+        ],
+    },
+    // What is left of a client that is killed comes out once: its last bytes with their descriptor, those that were not read, and
+    // the notes. Another client may have its slot by then.
+    Run {
+        name: "killed clients leave nothing",
+        first: BOUND,
+        entries: &[
+            (Act::Received(FIRST, PUSH, &[42]), "Ok"),
+            (Act::Send(FIRST_PAD, GIVEN, &[arg!(fd: 99)], &[]), "Ok"),
+            (Act::Kill(FIRST), "Ok"),
+            (Act::Next(FIRST, 2, 0), "Closed"),
+            (Act::Gone, "WouldBlock"),
+            (Act::Cleanup, "Ok"),
+            (Act::Insert(8, 1, &[]), "Ok client 0:2"),
+            (Act::Dropped, "Ok descriptor 42"),
+            (
+                Act::Gone,
+                "Ok client 0:1 data 7 [ 02 00 00 00 00 00 18 00 01 00 00 00 04 00 00 00 70 61 64 00 02 00 00 00 03 00 00 00 01 00 08 00 ] \
+                 [ 99 ]",
+            ),
+            (Act::Gone, "WouldBlock"),
+            (Act::Dropped, "WouldBlock"),
+            (Act::Next(FIRST, 2, 0), "InvalidId"),
+            (Act::Note, "Ok kind 1 client 0:1"),
+            (Act::Note, "Ok kind 2 client 0:1"),
+            (Act::Note, "Ok kind 3 data 33 client 0:1 object 4@3"),
+            (Act::Note, "Ok kind 1 client 0:2"),
+            (Act::Note, "WouldBlock"),
+        ],
+    },
+    // An event that is refused leaves its descriptor with the host. A destructor ends its object with a note, and tells the client
+    // that the number is free.
+    Run {
+        name: "refused events and destructors",
+        first: BOUND,
+        entries: &[
+            (
+                Act::Send(STALE_PAD, GIVEN, &[arg!(fd: 98)], &[]),
+                "InvalidId",
+            ),
+            (Act::Send(FIRST_PAD, GIVEN, &[arg!(fd: 99)], &[]), "Ok"),
+            (Act::Writable, "Ok client 0:1"),
+            (Act::Sent(FIRST, 24), "Ok"),
+            (Act::Received(FIRST, CLOSE, &[]), "Ok"),
+            (
+                Act::Next(FIRST, 0, 0),
+                "Ok kind 1 opcode 2 ends 1 data 33 by 4@3",
+            ),
+            (Act::Finish(FIRST), "Ok"),
+            (Act::Writable, "Ok client 0:1"),
+            (
+                Act::ToSend(FIRST),
+                "Ok [ 03 00 00 00 01 00 08 00 01 00 00 00 01 00 0c 00 03 00 00 00 ] [ ]",
+            ),
+            (Act::Dropped, "WouldBlock"),
+        ],
+    },
+    // A client that broke the rules of the program is told so in its last bytes, and a note says so. A message with a zero byte is
+    // refused.
+    Run {
+        name: "errors are posted",
+        first: BOUND,
+        entries: &[
+            (Act::Writable, "Ok client 0:1"),
+            (Act::Sent(FIRST, 24), "Ok"),
+            (Act::PostError(FIRST_PAD, 9, b"no\0"), "InvalidInput"),
+            (Act::PostError(FIRST_PAD, 9, b"no way"), "Ok"),
+            (Act::Next(FIRST, 0, 0), "Closed"),
+            (Act::Cleanup, "Ok"),
+            (
+                Act::Gone,
+                "Ok client 0:1 data 7 [ 01 00 00 00 00 00 1c 00 03 00 00 00 09 00 00 00 07 00 00 00 6e 6f 20 77 61 79 00 00 ] [ ]",
+            ),
+            (Act::Note, "Ok kind 1 client 0:1"),
+            (Act::Note, "Ok kind 2 error 1 code 9 client 0:1"),
+        ],
+    },
+    // A client that has no group in common with a global is not told of it.
+    Run {
+        name: "groups hide globals",
+        first: &[],
+        entries: &[
+            (Act::Global(70, 1, &[]), "Ok global 1:1"),
+            (Act::Insert(7, 2, &[]), "Ok client 0:1"),
+            (Act::Received(FIRST, REGISTRY, &[]), "Ok"),
+            (Act::Next(FIRST, 0, 0), "WouldBlock"),
+            (Act::Writable, "WouldBlock"),
+            (Act::Global(71, 6, &[]), "Ok global 2:2"),
+            (Act::Writable, "Ok client 0:1"),
+            (
+                Act::ToSend(FIRST),
+                "Ok [ 02 00 00 00 00 00 18 00 02 00 00 00 04 00 00 00 70 61 64 00 02 00 00 00 ] [ ]",
+            ),
+        ],
+    },
+    // A client to which a send failed is killed at once. What it sent before is not read, and its descriptors come back. What was to
+    // be sent to it comes with its end.
+    Run {
+        name: "failed sends kill",
+        first: BOUND,
+        entries: &[
+            (Act::Received(FIRST, PUSH, &[42]), "Ok"),
+            (Act::SendFailed(STRANGER), "InvalidId"),
+            (Act::SendFailed(FIRST), "Ok"),
+            (Act::Next(FIRST, 2, 0), "Closed"),
+            (Act::Send(FIRST_PAD, MOVED, &[arg!(int: 1)], &[]), "Ok"),
+            (Act::Cleanup, "Ok"),
+            (Act::SendFailed(FIRST), "InvalidId"),
+            (
+                Act::Gone,
+                "Ok client 0:1 data 7 [ 02 00 00 00 00 00 18 00 01 00 00 00 04 00 00 00 70 61 64 00 02 00 00 00 ] [ ]",
+            ),
+            (Act::Dropped, "Ok descriptor 42"),
+            (Act::Dropped, "WouldBlock"),
+            (Act::Note, "Ok kind 1 client 0:1"),
+            (Act::Note, "Ok kind 2 client 0:1"),
+            (Act::Note, "Ok kind 3 data 33 client 0:1 object 4@3"),
+            (Act::Note, "WouldBlock"),
+        ],
+    },
+    // More than 28 descriptors do not go in.
+    Run {
+        name: "few descriptors go in",
+        first: &[],
+        entries: &[
+            (Act::Insert(7, 1, &[]), "Ok client 0:1"),
+            (Act::Received(FIRST, REGISTRY, &MANY), "TooManyDescriptors"),
+            (Act::Received(FIRST, REGISTRY, &FULL), "Ok"),
+            (Act::Received(FIRST, &[], &[5]), "TooManyDescriptors"),
+            (Act::Received(UNKNOWN, REGISTRY, &[]), "InvalidId"),
+            (Act::Kill(FIRST), "Ok"),
+            (Act::Cleanup, "Ok"),
+            (Act::Gone, "Ok client 0:1 data 7 [ ] [ ]"),
+            (Act::Dropped, "Ok descriptor 5"),
+        ],
+    },
+    // A request with each kind of argument is handed out in flat structs, with its strings and its array behind each other in the
+    // bytes. Where it finds no room for one of its arguments, or for one of its bytes, the lent memory is as it was, and it is
+    // handed out later.
+    Run {
+        name: "arguments are read",
+        first: &[],
+        entries: &[
+            (Act::AddNote, "Ok"),
+            (Act::Insert(7, 1, &[]), "Ok client 0:1"),
+            (Act::Create(FIRST, 4, 33), "Ok 4@4278190080"),
+            (Act::Create(FIRST, 5, 55), "Ok 5@4278190081"),
+            (Act::Received(FIRST, TELL, &[42]), "Ok"),
+            (
+                Act::Next(FIRST, 9, 6),
+                "TooSmall arguments 10 bytes 6 (0: 0) (0: 0) (0: 0) (0: 0) (0: 0) \
+                 (0: 0) (0: 0) (0: 0) (0: 0) [ 00 00 00 00 00 00 ]",
+            ),
+            (
+                Act::Next(FIRST, 10, 5),
+                "TooSmall arguments 10 bytes 6 (0: 0) (0: 0) (0: 0) (0: 0) (0: 0) \
+                 (0: 0) (0: 0) (0: 0) (0: 0) (0: 0) [ 00 00 00 00 00 ]",
+            ),
+            (
+                Act::Next(FIRST, 11, 8),
+                "Ok kind 1 data 55 version 1 arguments 10 bytes 6 by 5@4278190081 made 4@2 (0: -5) (1: -1) (2: 384) (3: 0 length 3) \
+                 (8: 0) (4: 0 data 33 object 4@4278190080) (4: 0) (5: 0 object 4@2) (6: 0 at 3 length 3) (7: 42) (0: 0) \
+                 [ 68 65 79 01 02 03 00 00 ]",
+            ),
+            (Act::FinishWith(FIRST, 44), "Ok kept true"),
+            (Act::Received(FIRST, TELL_MORE, &[43]), "Ok"),
+            (
+                Act::Next(FIRST, 10, 1),
+                "Ok kind 1 data 55 version 1 arguments 10 bytes 1 by 5@4278190081 made 4@3 (0: 7) (1: 8) (2: -256) (3: 0) \
+                 (3: 0 length 1) (4: 0 data 44 object 4@2) (4: 0 data 33 object 4@4278190080) (5: 0 object 4@3) (6: 0 at 1) (7: 43) [ 78 ]",
+            ),
+            (Act::FinishWith(FIRST, 45), "Ok kept true"),
+            (Act::Next(FIRST, 10, 1), "WouldBlock"),
+        ],
+    },
+    // A global is hidden from a client by the list of whichever comes later. The client is not told of it, does not get its name,
+    // and is killed if it binds it all the same.
+    Run {
+        name: "lists hide globals",
+        first: &[],
+        entries: &[
+            (Act::NextClient, "Ok client 0:1"),
+            (Act::NextGlobal, "Ok global 1:1"),
+            (Act::Global(70, 1, &[]), "Ok global 1:1"),
+            (Act::Global(71, 1, &[FIRST]), "Ok global 2:2"),
+            (Act::Global(72, 1, &[]), "Ok global 3:3"),
+            (Act::Insert(7, 1, &[FIRST_GLOBAL]), "Ok client 0:1"),
+            (
+                Act::Insert(8, 1, &[NO_GLOBAL, FOURTH_GLOBAL]),
+                "Ok client 1:2",
+            ),
+            (Act::Global(73, 1, &[]), "Ok global 4:4"),
+            (Act::Global(74, 1, &[STRANGER, SECOND]), "Ok global 5:5"),
+            (Act::NextClient, "Ok client 2:3"),
+            (Act::NextGlobal, "Ok global 6:6"),
+            (Act::Sees(FIRST), "Ok 3 4 5"),
+            (Act::Sees(SECOND), "Ok 1 2 3"),
+            (Act::Received(FIRST, REGISTRY, &[]), "Ok"),
+            (Act::Next(FIRST, 0, 0), "WouldBlock"),
+            (Act::Received(SECOND, REGISTRY, &[]), "Ok"),
+            (Act::Next(SECOND, 0, 0), "WouldBlock"),
+            (Act::Global(75, 1, &[FIRST]), "Ok global 6:6"),
+            (Act::Writable, "Ok client 0:1"),
+            (
+                Act::ToSend(FIRST),
+                "Ok [ 02 00 00 00 00 00 18 00 03 00 00 00 04 00 00 00 70 61 64 00 02 00 00 00 \
+                 02 00 00 00 00 00 18 00 04 00 00 00 04 00 00 00 70 61 64 00 02 00 00 00 \
+                 02 00 00 00 00 00 18 00 05 00 00 00 04 00 00 00 70 61 64 00 02 00 00 00 ] [ ]",
+            ),
+            (Act::Sent(FIRST, 72), "Ok"),
+            (Act::Writable, "Ok client 1:2"),
+            (
+                Act::ToSend(SECOND),
+                "Ok [ 02 00 00 00 00 00 18 00 01 00 00 00 04 00 00 00 70 61 64 00 02 00 00 00 \
+                 02 00 00 00 00 00 18 00 02 00 00 00 04 00 00 00 70 61 64 00 02 00 00 00 \
+                 02 00 00 00 00 00 18 00 03 00 00 00 04 00 00 00 70 61 64 00 02 00 00 00 \
+                 02 00 00 00 00 00 18 00 06 00 00 00 04 00 00 00 70 61 64 00 02 00 00 00 ] [ ]",
+            ),
+            (Act::Sent(SECOND, 96), "Ok"),
+            (Act::Received(SECOND, BIND_FIRST, &[]), "Ok"),
+            (
+                Act::Next(SECOND, 0, 0),
+                "Ok kind 2 data 70 version 2 made 4@3",
+            ),
+            (Act::FinishBind(SECOND, 33), "Ok kept true"),
+            (Act::Received(FIRST, BIND_FIRST, &[]), "Ok"),
+            (Act::Next(FIRST, 0, 0), "Closed"),
+            (Act::Received(SECOND, BIND_FIFTH, &[]), "Ok"),
+            (Act::Next(SECOND, 0, 0), "Closed"),
+            (Act::Cleanup, "Ok"),
+            (
+                Act::Gone,
+                "Ok client 0:1 data 7 [ 01 00 00 00 00 00 44 00 01 00 00 00 00 00 00 00 2f 00 00 00 49 6e 76 61 6c 69 64 20 62 69 6e 64 69 6e \
+                 67 20 6f 66 20 \
+                 70 61 64 20 76 65 72 73 69 6f 6e 20 32 20 66 6f 72 20 67 6c 6f 62 61 6c 20 31 2e 00 00 ] [ ]",
+            ),
+            (
+                Act::Gone,
+                "Ok client 1:2 data 8 [ 01 00 00 00 00 00 44 00 01 00 00 00 00 00 00 00 2f 00 00 00 49 6e 76 61 6c 69 64 20 62 69 6e 64 69 6e \
+                 67 20 6f 66 20 \
+                 70 61 64 20 76 65 72 73 69 6f 6e 20 32 20 66 6f 72 20 67 6c 6f 62 61 6c 20 35 2e 00 00 ] [ ]",
+            ),
+            (Act::Note, "Ok kind 1 client 0:1"),
+            (Act::Note, "Ok kind 1 client 1:2"),
+            (Act::Note, "Ok kind 2 error 1 client 0:1"),
+            (Act::Note, "Ok kind 2 error 1 client 1:2"),
+            (Act::Note, "Ok kind 3 data 33 client 1:2 object 4@3"),
+            (Act::Note, "WouldBlock"),
+        ],
+    },
 ];
 
-/// A global is hidden from a client by the list of whichever comes later. The client is not told of it, does not get its name,
-/// and is killed if it binds it all the same.
+/// Each conversation tells what it has to.
 #[test]
-fn lists_hide_globals(rt: HostRuntime) -> Result<(), Fail> {
-    tells(
-        &rt,
-        run(rt.alloc(), LISTS),
-        "Ok client 0:1 global 1:1
-Ok global 1:1
-Ok global 2:2
-Ok global 3:3
-Ok client 0:1
-Ok client 1:2
-Ok global 4:4
-Ok global 5:5
-Ok client 2:3 global 6:6
-Ok 3 4 5
-Ok 1 2 3
-Ok
-WouldBlock
-Ok
-WouldBlock
-Ok global 6:6
-Ok client 0:1
-Ok [ 02 00 00 00 00 00 18 00 03 00 00 00 04 00 00 00 70 61 64 00 02 00 00 00 \
-02 00 00 00 00 00 18 00 04 00 00 00 04 00 00 00 70 61 64 00 02 00 00 00 \
-02 00 00 00 00 00 18 00 05 00 00 00 04 00 00 00 70 61 64 00 02 00 00 00 ] [ ]
-Ok
-Ok client 1:2
-Ok [ 02 00 00 00 00 00 18 00 01 00 00 00 04 00 00 00 70 61 64 00 02 00 00 00 \
-02 00 00 00 00 00 18 00 02 00 00 00 04 00 00 00 70 61 64 00 02 00 00 00 \
-02 00 00 00 00 00 18 00 03 00 00 00 04 00 00 00 70 61 64 00 02 00 00 00 \
-02 00 00 00 00 00 18 00 06 00 00 00 04 00 00 00 70 61 64 00 02 00 00 00 ] [ ]
-Ok
-Ok
-Ok kind 2 opcode 0 ends 0 data 70 0@0 4@3 version 2 needs 0 0
-Ok kept true
-Ok
-Closed
-Ok
-Closed
-Ok
-Ok client 0:1 data 7 [ 01 00 00 00 00 00 44 00 01 00 00 00 00 00 00 00 2f 00 00 00 49 6e 76 61 6c 69 64 20 62 69 6e 64 69 6e 67 20 6f 66 20 \
-70 61 64 20 76 65 72 73 69 6f 6e 20 32 20 66 6f 72 20 67 6c 6f 62 61 6c 20 31 2e 00 00 ] [ ]
-Ok client 1:2 data 8 [ 01 00 00 00 00 00 44 00 01 00 00 00 00 00 00 00 2f 00 00 00 49 6e 76 61 6c 69 64 20 62 69 6e 64 69 6e 67 20 6f 66 20 \
-70 61 64 20 76 65 72 73 69 6f 6e 20 32 20 66 6f 72 20 67 6c 6f 62 61 6c 20 35 2e 00 00 ] [ ]
-Ok kind 1 error 0 0 data 0 client 0:1 0@0
-Ok kind 1 error 0 0 data 0 client 1:2 0@0
-Ok kind 2 error 1 0 data 0 client 0:1 0@0
-Ok kind 2 error 1 0 data 0 client 1:2 0@0
-Ok kind 3 error 0 0 data 33 client 1:2 4@3
-WouldBlock
-",
-    )
+fn rows(rt: HostRuntime) -> Result<(), Fail> {
+    rows_tell::<Server>(&rt, &ROWS)
 }

@@ -2,67 +2,82 @@
 
 use std::alloc::Global;
 use std::test::Fail;
-use wl_host::{Counts, FlatArgument, FlatObjectId, Status, kind};
+use wl_host::{Counts, FlatArgument, FlatClientId, FlatObjectId, Status, TableFault, fault};
+
+/// The client of all objects of a client's session.
+pub const NOBODY: FlatClientId = FlatClientId { serial: 0, slot: 0 };
+
+/// The null object.
+pub const NULL: FlatObjectId = FlatObjectId {
+    serial: 0,
+    client: NOBODY,
+    interface: 0,
+    number: 0,
+};
+
+/// The argument with nothing in it.
+pub const NO_ARGUMENT: FlatArgument = FlatArgument {
+    kind: 0,
+    value: 0,
+    at: 0,
+    length: 0,
+    object: NULL,
+    data: 0,
+};
+
+/// Nothing to be sent.
+pub const NOTHING: Counts = Counts {
+    bytes: 0,
+    descriptors: 0,
+};
+
+/// Numbers, each behind its name. Those that are 0 are left out.
+pub fn tell_numbers(log: &mut String, numbers: &[(&str, u64)]) -> Result<(), Fail> {
+    for (name, number) in numbers {
+        if *number != 0 {
+            write!(log, " {name} {number}")?;
+        }
+    }
+    Ok(())
+}
 
 /// An object as `interface@number`.
-pub fn tell_object(log: &mut String, id: &FlatObjectId) -> Result<(), Fail> {
+pub fn tell_object(log: &mut String, id: FlatObjectId) -> Result<(), Fail> {
     let (interface, number) = (id.interface, id.number);
     write!(log, " {interface}@{number}")?;
     Ok(())
 }
 
-/// An object with its data.
-pub fn tell_with_data(log: &mut String, id: &FlatObjectId, user_data: u64) -> Result<(), Fail> {
-    tell_object(log, id)?;
-    write!(log, " data {user_data}")?;
+/// Objects, each behind its name. Those that are null are left out.
+pub fn tell_objects(log: &mut String, objects: &[(&str, FlatObjectId)]) -> Result<(), Fail> {
+    for (name, id) in objects {
+        if id.interface != 0 || id.number != 0 {
+            write!(log, " {name}")?;
+            tell_object(log, *id)?;
+        }
+    }
     Ok(())
 }
 
-/// Whether the argument is an object.
-fn is_object(arg: &FlatArgument) -> bool {
-    matches!(arg.kind, kind::OBJECT | kind::NEW_ID)
-}
-
-/// What an argument has that is no object: its number, and where its bytes are.
-fn tell_number_of(log: &mut String, arg: &FlatArgument) -> Result<(), Fail> {
-    let (value, at, length) = (arg.value, arg.at, arg.length);
-    write!(log, " {value} {at}+{length}")?;
-    Ok(())
-}
-
-/// An argument by its kind, with what it has.
+/// An argument: the number of its kind, its value, and what else it has.
 fn tell_argument(log: &mut String, arg: &FlatArgument) -> Result<(), Fail> {
-    let number = arg.kind;
-    write!(log, " ({number}:")?;
-    if is_object(arg) {
-        tell_with_data(log, &arg.object, arg.data)?;
-    } else {
-        tell_number_of(log, arg)?;
-    }
-    write!(log, ")")?;
-    Ok(())
-}
-
-/// The arguments, one after another.
-pub fn tell_arguments(log: &mut String, arguments: &[FlatArgument]) -> Result<(), Fail> {
-    for arg in arguments {
-        tell_argument(log, arg)?;
-    }
-    Ok(())
-}
-
-/// The numbers, in square brackets.
-pub fn tell_numbers(log: &mut String, numbers: &[i32]) -> Result<(), Fail> {
-    write!(log, " [")?;
-    for number in numbers {
-        write!(log, " {number}")?;
-    }
-    write!(log, " ]")?;
+    let (number, value) = (arg.kind, arg.value);
+    write!(log, " ({number}: {value}")?;
+    tell_numbers(
+        log,
+        &[
+            ("at", u64::from(arg.at)),
+            ("length", u64::from(arg.length)),
+            ("data", arg.data),
+        ],
+    )?;
+    tell_objects(log, &[("object", arg.object)])?;
+    log.push(')')?;
     Ok(())
 }
 
 /// The bytes as hexadecimal numbers, in square brackets.
-pub fn tell_bytes(log: &mut String, bytes: &[u8]) -> Result<(), Fail> {
+fn tell_bytes(log: &mut String, bytes: &[u8]) -> Result<(), Fail> {
     write!(log, " [")?;
     for byte in bytes {
         write!(log, " {byte:02x}")?;
@@ -71,8 +86,11 @@ pub fn tell_bytes(log: &mut String, bytes: &[u8]) -> Result<(), Fail> {
     Ok(())
 }
 
-/// The bytes, unless there are none.
-pub fn tell_any_bytes(log: &mut String, bytes: &[u8]) -> Result<(), Fail> {
+/// What was lent for arguments and bytes: the arguments, one after another, and the bytes, unless there are none.
+pub fn tell_lent(log: &mut String, arguments: &[FlatArgument], bytes: &[u8]) -> Result<(), Fail> {
+    for arg in arguments {
+        tell_argument(log, arg)?;
+    }
     if bytes.is_empty() {
         return Ok(());
     }
@@ -91,12 +109,23 @@ pub fn tell_counts(
         .get(..counts.descriptors as usize)
         .unwrap_or(&[]);
     tell_bytes(log, bytes)?;
-    tell_numbers(log, descriptors)
+    write!(log, " [")?;
+    for descriptor in descriptors {
+        write!(log, " {descriptor}")?;
+    }
+    write!(log, " ]")?;
+    Ok(())
 }
 
 /// A descriptor.
 pub fn tell_descriptor(log: &mut String, descriptor: i32) -> Result<(), Fail> {
     write!(log, " descriptor {descriptor}")?;
+    Ok(())
+}
+
+/// Whether the data are kept.
+pub fn tell_kept(log: &mut String, is_kept: bool) -> Result<(), Fail> {
+    write!(log, " kept {is_kept}")?;
     Ok(())
 }
 
@@ -115,6 +144,22 @@ pub fn told<T, F: FnOnce(&mut String, T) -> Result<(), Fail>>(
         }
         Err(status) => Ok(status),
     }
+}
+
+/// The status of a table that was asked to take more interfaces. The fault of one that it refused is told.
+pub fn told_table(log: &mut String, answer: Result<(), TableFault>) -> Result<Status, Fail> {
+    let Err(refused) = answer else {
+        return Ok(Status::Ok);
+    };
+    let (at, why) = (refused.interface, refused.fault);
+    if why == fault::OUT_OF_MEMORY {
+        return Ok(Status::OutOfMemory);
+    }
+    tell_numbers(
+        log,
+        &[("interface", u64::from(at)), ("fault", u64::from(why))],
+    )?;
+    Ok(Status::BadTable)
 }
 
 /// The bytes of these words, as the wire has them on a machine whose numbers begin with their lowest byte.
