@@ -1,5 +1,5 @@
 -- What the functions that end an action say to their callers.
-use Rattle.std.specs.Prelude.{◌≡◌, ◌⊎◌, ℕ, ◌++◌, Bool, true, false, Option, None, Some, is_some, Result, Ok, Err, MatchOption}
+use Rattle.std.specs.Prelude.{◌≡◌, ◌⊎◌, ℕ, ◌++◌, Bool, true, false, Option, None, Some, is_some, Result, Ok, Err, MatchOption, if◌then◌else◌}
 use Rattle.wl_wire.specs.declared.error.IoFault.{IoFault}
 use Rattle.wl_wire.specs.declared.error.OutOfMemory.{OutOfMemory}
 use Rattle.wl_link.specs.declared.object.Object.{Object}
@@ -18,6 +18,10 @@ use Rattle.wl_server.specs.Part.{Part, named, note_of_end, registries_without, w
 use Rattle.wl_server.specs.Inside.Puts.{Puts}
 use Rattle.wl_server.specs.Server.{Stored, no_times, untimed}
 use Rattle.wl_server.specs.Telling.{deletions}
+
+-- what the answer of telling a client says: that memory was refused, or how the client was told
+abbrev pub ended_as : Result (Unit {0}) IoFault → Result (Result (Unit {0}) IoFault) OutOfMemory
+ended_as told = if lacks_memory told then Err (record {}) else Ok told
 
 -- whether memory was refused, by the reason or the answer
 abbrev pub is_out_of_memory : FinishError → Bool

@@ -5,7 +5,7 @@ ghost use Rattle.wl_wire.specs.declared.argument.Argument.TheVariants as arg;
 ghost use Rattle.wl_wire.specs.Table.{name_of};
 ghost use Rattle.wl_server.specs.Felt.{announcements, is_first};
 ghost use Rattle.wl_server.specs.Globals.{shown_as};
-ghost use Rattle.wl_server.specs.Inside.News.{IsNews, room_in};
+ghost use Rattle.wl_server.specs.Inside.News.{IsNews, room_in, text_len};
 ghost use Rattle.wl_server.specs.Inside.Puts.{Puts};
 ghost use Rattle.wl_server.specs.Telling.{by_object, making};
 
@@ -53,6 +53,26 @@ pub fn blank_global_message(alloc: Global, sender_id: u32) -> Message<u32, Token
     }
 }
 
+/// Takes the bytes of the text that an argument has, if it has one.
+fn take_bytes(alloc: Global, arg: &mut Argument<u32, Token>) -> Vec<u8>
+    ensures { length result.items ≡ text_len arg.old }
+{
+    match mem::replace(arg, Argument::Str(None)) {
+        Argument::Str(Some(text)) => text.into_bytes(),
+        _other => Vec::new(alloc),
+    }
+}
+
+/// Sets the three arguments of a message `wl_registry.global`.
+fn set_args(args: &mut [Argument<u32, Token>], name: u32, interface: CString, version: u32)
+    requires { length args.old ≡ 3 }
+    ensures { args.new ≡ arg.Uint name ∷ arg.Str (Some interface) ∷ arg.Uint version ∷ [] }
+{
+    args[0] = Argument::Uint(name);
+    args[1] = Argument::Str(Some(interface));
+    args[2] = Argument::Uint(version);
+}
+
 /// Sets the arguments of a message `wl_registry.global`: the global's name, interface and version. The message has three
 /// arguments. The error says that there was no memory for the interface's name, which is longer than the text that the
 /// message had.
@@ -71,16 +91,10 @@ pub fn set_global_args(
     ensures opcode { message.new.opcode ≡ message.old.opcode }
     ensures sender { message.new.sender_id ≡ message.old.sender_id }
 {
-    let args = message.args.as_mut_slice();
     // The next name is put in the memory of the name that the message has.
-    let bytes = match mem::replace(&mut args[1], Argument::Str(None)) {
-        Argument::Str(Some(last)) => last.into_bytes(),
-        _other => Vec::new(alloc),
-    };
+    let bytes = take_bytes(alloc, &mut message.args.as_mut_slice()[1]);
     let text = interface_name(protocol, interface, bytes)?;
-    args[0] = Argument::Uint(name);
-    args[1] = Argument::Str(Some(text));
-    args[2] = Argument::Uint(version);
+    set_args(message.args.as_mut_slice(), name, text, version);
     Ok(())
 }
 

@@ -5,7 +5,8 @@ ghost use Rattle.smallvec.specs.SmallVec.{HasRoomFor};
 ghost use Rattle.wl_wire.specs.Argument.{Matches};
 ghost use Rattle.wl_wire.specs.declared.argument.Argument.TheVariants as argument;
 ghost use Rattle.wl_wire.specs.MessageRows.{next_interface, rest_of};
-ghost use Rattle.wl_server.specs.Requests.{Wrong, allows_null as null_allowed, convert, kinds_after, object_argument};
+ghost use Rattle.wl_link.specs.declared.object_map.InsertError.TheVariants as insert;
+ghost use Rattle.wl_server.specs.Requests.{Wrong, allows_null as null_allowed, convert, is_valid_new, kinds_after, object_argument};
 ghost use Rattle.wl_server.specs.Inside.Conversion.{Appends, CanMake, EndsWhole, IsNextKind, MakesObject, MakesNew, objects_of, plain, state};
 
 use crate::ids::client_id::ClientId;
@@ -57,8 +58,40 @@ fn object_argument<U: Drop>(
     Ok(id_at(&client, number, object))
 }
 
-/// Makes an object of a client with this number, and returns its id. It is `None` if the client may not use the number
-/// for a new object, or if no serial is left. Then nothing is changed.
+/// Makes an object of a client with this number, and returns its id.
+///
+/// The error is `NotFree` if the client may not use the number for a new object, or if no serial is left, and else
+/// `OutOfMemory`. An error changes nothing.
+pub fn insert_object<U: Drop>(
+    client: ClientId,
+    objects: &mut ClientObjects<U>,
+    interface: InterfaceId,
+    version: u32,
+    number: u32,
+) -> Result<ObjectId, InsertError>
+    ensures made { MatchResult result
+        (λ id. MakesObject client (objects_of objects.old) interface version number (Some id) (objects_of objects.new))
+        (λ _. objects_of objects.new ≡ objects_of objects.old) }
+    ensures refused { result ≡ Err insert.NotFree → is_valid_new (objects_of objects.old) number ≡ false }
+    ensures reserved { result ≡ Err insert.OutOfMemory → objects.old.map.reserved ≡ false }
+    ensures registries { objects.new.registries ≡ objects.old.registries }
+{
+    if number >= SERVER_ID_LIMIT || objects.last_serial == u64::MAX {
+        return Err(InsertError::NotFree);
+    }
+    let serial = objects.last_serial + 1;
+    let object = fresh_object(interface, version, serial, None);
+    match objects.map.insert_at(number, object) {
+        Ok(()) => {
+            objects.last_serial = serial;
+            Ok(ObjectId::from_parts(number, serial, client, interface))
+        }
+        Err(error) => Err(error),
+    }
+}
+
+/// Makes an object of a client with this number, for which there is memory, and returns its id. It is `None` if the client may
+/// not use the number for a new object, or if no serial is left. Then nothing is changed.
 pub fn make_object<U: Drop>(
     client: ClientId,
     objects: &mut ClientObjects<U>,
@@ -70,18 +103,8 @@ pub fn make_object<U: Drop>(
     ensures made { MakesObject client (objects_of objects.old) interface version number result (objects_of objects.new) }
     ensures registries { objects.new.registries ≡ objects.old.registries }
 {
-    if number >= SERVER_ID_LIMIT || objects.last_serial == u64::MAX {
-        return None;
-    }
-    let serial = objects.last_serial + 1;
-    match objects
-        .map
-        .insert_at(number, fresh_object(interface, version, serial, None))
-    {
-        Ok(()) => {
-            objects.last_serial = serial;
-            Some(ObjectId::from_parts(number, serial, client, interface))
-        }
+    match insert_object(client, objects, interface, version, number) {
+        Ok(id) => Some(id),
         Err(InsertError::NotFree) => None,
         Err(InsertError::OutOfMemory) => unreachable!(),
     }

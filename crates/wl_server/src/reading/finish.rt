@@ -10,7 +10,7 @@ ghost use Rattle.wl_server.specs.Backend.{Calls};
 ghost use Rattle.wl_server.specs.Inside.Client.{Does};
 ghost use Rattle.wl_server.specs.Cutting.{CallIsCut};
 ghost use Rattle.wl_server.specs.Finish.{ended_by, FinishesBind, FinishesOpen, FinishesRequest, refusal};
-ghost use Rattle.wl_server.specs.Inside.Finishing.{BindLeaves, DataHeld, EndsSender, RequestLeaves, lacks_finish, part_finished};
+ghost use Rattle.wl_server.specs.Inside.Finishing.{BindLeaves, DataHeld, EndsSender, RequestLeaves, ended_as, lacks_finish, part_finished};
 ghost use Rattle.wl_server.specs.NoteOrder.{IsNumbered, GivesNumbers, NotesInTime};
 ghost use Rattle.wl_server.specs.Inside.NoteOrder.{one_made};
 ghost use Rattle.wl_server.specs.Part.{note_of_end, registries_without};
@@ -116,8 +116,8 @@ fn take_out_made<U: Drop>(
 
 impl<T: Transport + Drop, U: Drop, C: Drop> Client<T, U, C> {
     /// Destroys the sender of a request, if the request is a destructor and the object is there: tells the client that
-    /// the number is free, takes the object out, and makes a note of that if it had user data. The inner result is that
-    /// of telling the client. If there is no memory for the note or for telling the client, the object stays.
+    /// the number is free, takes the object out, and makes a note of that if it had user data. Returns the result of
+    /// telling the client. `OutOfMemory` says that there was no memory for that or for the note, and that the object stays.
     fn end_sender(
         &mut self,
         alloc: Global,
@@ -125,22 +125,24 @@ impl<T: Transport + Drop, U: Drop, C: Drop> Client<T, U, C> {
         numbers: &mut NoteNumbers,
         sender: &ObjectId,
         is_destructor: bool,
-    ) -> Result<Result<(), IoFault>, OutOfMemory>
-        ensures ends { EndsSender T.sends id.now self.old sender.now is_destructor result self.new }
+    ) -> Result<(), IoFault>
+        ensures ends { EndsSender T.sends id.now self.old sender.now is_destructor (ended_as result) self.new }
         ensures in_time { NotesInTime self.old.times numbers.old self.new.times numbers.new }
         ensures numbered { IsNumbered (Some self.old) → IsNumbered (Some self.new) }
     {
         let Some(object) = ended_in(&self.objects.map, sender, is_destructor) else {
-            return Ok(Ok(()));
+            return Ok(());
         };
-        reserve_end(&mut self.made, object)?;
+        let Ok(()) = reserve_end(&mut self.made, object) else {
+            return Err(IoFault::OutOfMemory);
+        };
         let number = sender.protocol_id();
         let wrote = put_delete_id(alloc, &mut self.socket, number);
         if is_out_of_memory(wrote) {
-            return Err(OutOfMemory);
+            return Err(IoFault::OutOfMemory);
         }
         take_out_made(&mut self.objects, &mut self.made, numbers, id, number);
-        Ok(wrote)
+        wrote
     }
 
     /// Ends the open action, and gives the object that it made this user data. Returns the data if that is gone.
@@ -177,12 +179,13 @@ impl<T: Transport + Drop, U: Drop, C: Drop> Client<T, U, C> {
             return Ok(self.finish_action(created, user_data));
         }
         let alloc = self.alloc();
-        let Ok(wrote) = self.end_sender(alloc, id, numbers, sender, is_destructor) else {
+        let told = self.end_sender(alloc, id, numbers, sender, is_destructor);
+        if is_out_of_memory(told) {
             let error = FinishError::OutOfMemory;
             return Err(FinishRefused { error, user_data });
-        };
+        }
         let back = self.finish_action(created, user_data);
-        let _ = self.kill_unless_written(numbers, wrote);
+        let _ = self.kill_unless_written(numbers, told);
         Ok(back)
     }
 

@@ -14,13 +14,14 @@ ghost use Rattle.wl_server.specs.Inside.Words.{first_word};
 
 use crate::ids::client_id::ClientId;
 use crate::ids::object_id::ObjectId;
-use crate::objects::{ClientObjects, Kept, fresh_object};
+use crate::objects::{ClientObjects, Kept};
+use crate::reading::arguments::insert_object;
 use crate::reading::words::{
     asked_after, empty, first_word, handed_word, put_words, word_fits, words_fit,
 };
 use smallvec::SmallVec;
 use std::alloc::Global;
-use wl_link::{ObjectMap, SERVER_ID_LIMIT};
+use wl_link::ObjectMap;
 use wl_wire::{
     Args, Argument, ArgumentType, ByteArray, CString, INLINE_ARGS, InterfaceId, MessageDesc, Token,
 };
@@ -192,35 +193,6 @@ fn put_each<U: Drop>(
     true
 }
 
-/// Makes an object of a client with this number, as `make_object` does, if that needs no memory or there is enough. If not, or
-/// if the client may not use the number, nothing is changed.
-fn make_at_once<U: Drop>(
-    client: ClientId,
-    objects: &mut ClientObjects<U>,
-    interface: InterfaceId,
-    version: u32,
-    number: u32,
-) -> Option<ObjectId>
-    ensures made { MatchOption result (objects_of objects.new ≡ objects_of objects.old)
-        (λ id. MakesObject client (objects_of objects.old) interface version number (Some id) (objects_of objects.new)) }
-    ensures registries { objects.new.registries ≡ objects.old.registries }
-{
-    if number >= SERVER_ID_LIMIT || objects.last_serial == u64::MAX {
-        return None;
-    }
-    let serial = objects.last_serial + 1;
-    match objects
-        .map
-        .insert_at(number, fresh_object(interface, version, serial, None))
-    {
-        Ok(()) => {
-            objects.last_serial = serial;
-            Some(ObjectId::from_parts(number, serial, client, interface))
-        }
-        Err(_) => None,
-    }
-}
-
 /// Makes the object of a request whose one argument is a new id, and puts that in place of the arguments in `args`. Returns the
 /// object; if none is made, nothing is changed.
 fn put_new<U: Drop>(
@@ -241,7 +213,10 @@ fn put_new<U: Drop>(
     if payload.len() < 4 {
         return None;
     }
-    let id = make_at_once(client, objects, interface, version, first_word(payload))?;
+    let made = insert_object(client, objects, interface, version, first_word(payload));
+    let Ok(id) = made else {
+        return None;
+    };
     // There is always room for one.
     let room = args.capacity();
     prove!(INLINE_ARGS <= room);

@@ -9,11 +9,11 @@ ghost use Rattle.wl_server.specs.NoteOrder.{IsNumbered};
 use crate::client::Client;
 use crate::events::own_events::{DONE_SIZE, put_done_at_once};
 use crate::globals::handler::GlobalHandler;
-use crate::objects::ClientObjects;
+use crate::objects::{ClientObjects, Kept};
 use crate::reading::Surroundings;
 use crate::reading::action::Reading;
 use crate::reading::message::request_desc;
-use wl_link::{SERVER_ID_LIMIT, Transport};
+use wl_link::{BufferedSocket, ObjectMap, SERVER_ID_LIMIT, Transport};
 use wl_wire::opcodes::SYNC;
 use wl_wire::{DISPLAY, Protocol, WL_DISPLAY_INTERFACE};
 
@@ -25,21 +25,25 @@ fn leaves_no_trace<U: Drop>(objects: &ClientObjects<U>, number: u32) -> bool
     number < SERVER_ID_LIMIT && objects.last_serial != u64::MAX && objects.map.is_vacant(number)
 }
 
-impl<T: Transport + Drop, U: Drop, C: Drop> Client<T, U, C> {
-    /// The number of the callback, if the message at the front, which has this header, is a sync, is complete, and has no
-    /// more bytes than it needs.
-    fn waiting_sync(&self, protocol: &Protocol, header: (u32, u16)) -> Option<u32>
-        requires header { IsHeader self.now.part.link header }
-        ensures { IfSome result (λ n. SyncWaits protocol.now self.now.part.store self.now.part.link n) }
-    {
-        let (sender_id, opcode) = header;
-        let asked = request_desc(protocol, &self.objects.map, sender_id, opcode)?;
-        if opcode != SYNC || asked.1.interface != WL_DISPLAY_INTERFACE {
-            return None;
-        }
-        self.socket.next_word()
+/// The number of the callback, if the message at the front, which has this header, is a sync, is complete, and has no more
+/// bytes than it needs.
+fn waiting_sync<T: Drop, U: Drop>(
+    protocol: &Protocol,
+    objects: &ObjectMap<Kept<U>>,
+    socket: &BufferedSocket<T>,
+    header: (u32, u16),
+) -> Option<u32>
+    requires { IsHeader socket.now header }
+    ensures { IfSome result (λ n. SyncWaits protocol.now objects.now.store socket.now n) }
+{
+    let asked = request_desc(protocol, objects, header.0, header.1)?;
+    if header.1 != SYNC || asked.1.interface != WL_DISPLAY_INTERFACE {
+        return None;
     }
+    socket.next_word()
+}
 
+impl<T: Transport + Drop, U: Drop, C: Drop> Client<T, U, C> {
     /// Answers the message at the front, which has this header, if it is a sync whose callback need not be made and there is
     /// room for both answers. If not, nothing is changed.
     fn answer_in_place<G: GlobalHandler<C> + Drop>(
@@ -56,7 +60,8 @@ impl<T: Transport + Drop, U: Drop, C: Drop> Client<T, U, C> {
         ensures times { self.new.times ≡ self.old.times }
         ensures numbered { IsNumbered (Some self.old) → IsNumbered (Some self.new) }
     {
-        let Some(number) = self.waiting_sync(around.protocol, header) else {
+        let waiting = waiting_sync(around.protocol, &self.objects.map, &self.socket, header);
+        let Some(number) = waiting else {
             return false;
         };
         if !leaves_no_trace(&self.objects, number) || !self.socket.has_room(DONE_SIZE) {

@@ -1,4 +1,4 @@
-use Rattle.std.proofs.Common.{◌≡◌, MatchResult, false, refl, subst, sym, true, ap}
+use Rattle.std.proofs.Common.{◌≡◌, ◌∙◌, MatchResult, false, refl, subst, sym, true, ap}
 use Rattle.wl_link.specs.Store.{Store}
 use Rattle.wl_server.specs.declared.objects.Kept.{Kept}
 use Rattle.wl_server.specs.Inside.Finishing.{DataHeld}
@@ -17,12 +17,12 @@ returns-in-Some-clause-done g c =
     request_refused g.T.Transport.sends c.args.id.now c.args.self.now c.args.sender.now c.args.is_destructor c.args.created c.args.user_data c.in-Some.error
     (rw (← c.self.view_is) c.in-Some.ensures)
 
-pub returns-in_default-end_sender-clause-done : goal.returns-in_default-end_sender-clause-done
-returns-in_default-end_sender-clause-done g c =
-    request_ends g.T.Transport.sends c.args.id.now c.args.self.now c.args.sender.now c.args.is_destructor c.args.created c.args.user_data _ true c.end_sender.new.self
+pub returns-then-is_out_of_memory-clause-done : goal.returns-then-is_out_of_memory-clause-done
+returns-then-is_out_of_memory-clause-done g c =
+    request_ends g.T.Transport.sends c.args.id.now c.args.self.now c.args.sender.now c.args.is_destructor c.args.created c.args.user_data _ true c.end_sender-told.new.self
     (rw (← c.self.view_is) c.in_default.ensures) refl
-    (ends_starved g.T.Transport.sends c.args.id.now c.args.self.now c.args.sender.now c.args.is_destructor c.args.created c.args.user_data c.in_default-end_sender.field-0
-    c.end_sender.new.self c.in_default-end_sender.ensures.ends)
+    (ends_starved g.T.Transport.sends c.args.id.now c.args.self.now c.args.sender.now c.args.is_destructor c.args.created c.args.user_data _
+    c.end_sender-told.new.self (rw (sym c.is_out_of_memory.ensures ∙ c.if-is_out_of_memory.true) at c.end_sender-told.ensures.ends))
 
 pub returns-then-not-is_destructor-clause-done : goal.returns-then-not-is_destructor-clause-done
 returns-then-not-is_destructor-clause-done g c =
@@ -33,23 +33,23 @@ returns-then-not-is_destructor-clause-done g c =
 
 pub returns-clause-done : goal.returns-clause-done
 returns-clause-done g c =
-    let closed = subst (λ (s : Stored _ _ _). MatchResult c.in-Ok.wrote (λ _. c.kill_unless_written.new.self ≡ s) (λ _. Does s (λ p did q. Kills p ConnectionClosed did q) c.kill_unless_written.new.self))
+    let closed = subst (λ (s : Stored _ _ _). MatchResult c.end_sender-told.result (λ _. c.kill_unless_written.new.self ≡ s) (λ _. Does s (λ p did q. Kills p ConnectionClosed did q) c.kill_unless_written.new.self))
     c.finish_action-back.ensures.finished c.kill_unless_written.ensures.closed in
     request_ends g.T.Transport.sends c.args.id.now c.args.self.now c.args.sender.now c.args.is_destructor c.args.created c.args.user_data _ false c.kill_unless_written.new.self
     (rw (← c.self.view_is) c.in_default.ensures) refl
-    (ends_done g.T.Transport.sends c.args.id.now c.args.self.now c.args.sender.now c.args.is_destructor c.args.created c.args.user_data c.in-Ok.wrote
-    c.end_sender.new.self c.kill_unless_written.new.self c.in-Ok.ensures.ends
-    (told_untimed _ c.in-Ok.wrote c.kill_unless_written.new.self _ closed))
+    (ends_done g.T.Transport.sends c.args.id.now c.args.self.now c.args.sender.now c.args.is_destructor c.args.created c.args.user_data c.end_sender-told.result
+    c.end_sender-told.new.self c.kill_unless_written.new.self (rw (sym c.is_out_of_memory.ensures ∙ c.if-is_out_of_memory.false) at c.end_sender-told.ensures.ends)
+    (told_untimed _ c.end_sender-told.result c.kill_unless_written.new.self _ closed))
 
 pub returns-clause-back : goal.returns-clause-back
 returns-clause-back g c =
     subst (λ (x : Store (Kept _)). DataHeld x c.args.created c.args.user_data c.finish_action-back.result)
-    (sym (store_unless_written _ c.kill_unless_written.new.self c.in-Ok.wrote c.kill_unless_written.ensures.closed)) c.finish_action-back.ensures.back
+    (sym (store_unless_written _ c.kill_unless_written.new.self c.end_sender-told.result c.kill_unless_written.ensures.closed)) c.finish_action-back.ensures.back
 
 pub returns-clause-in_time : goal.returns-clause-in_time
 returns-clause-in_time g c =
-    in_time_both _ _ _ _ _ _ c.end_sender.ensures.in_time
-    (subst (λ (t : NoteTimes). NotesInTime t c.end_sender.new.numbers c.kill_unless_written.new.self.times c.kill_unless_written.new.numbers)
+    in_time_both _ _ _ _ _ _ c.end_sender-told.ensures.in_time
+    (subst (λ (t : NoteTimes). NotesInTime t c.end_sender-told.new.numbers c.kill_unless_written.new.self.times c.kill_unless_written.new.numbers)
     (ap (λ (s : Stored _ _ _). s.times) c.finish_action-back.ensures.finished) c.kill_unless_written.ensures.in_time)
 
 pub returns-then-not-is_destructor-clause-in_time : goal.returns-then-not-is_destructor-clause-in_time
