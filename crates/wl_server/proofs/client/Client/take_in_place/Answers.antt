@@ -2,7 +2,7 @@ use Rattle.wl_wire.specs.Table.{message_row}
 use Rattle.wl_server.specs.Inside.Conversion.{objects_of}
 use Rattle.wl_server.specs.Inside.ReadingLoop.{around_of}
 use Rattle.wl_server.proofs.Readings.Words.{request_handed}
-use Rattle.wl_server.proofs.client.Client.take_words.Goals as goal
+use Rattle.wl_server.proofs.client.Client.take_in_place.Goals as goal
 use Rattle.std.proofs.Common.{refl}
 
 pub put_arguments-put-requires : goal.put_arguments-put-requires
