@@ -5,12 +5,14 @@ ghost use Rattle.wl_wire.specs.Table.{message_row};
 ghost use Rattle.wl_server.specs.NoteOrder.{IsNumbered};
 ghost use Rattle.wl_server.specs.Deeds.{Request};
 ghost use Rattle.wl_server.specs.Inside.ReadingLoop.{Acts, HandlesMessage, IsHeader, Live, around_of, found_with};
+ghost use Rattle.wl_server.specs.Inside.Conversion.{objects_of};
+ghost use Rattle.wl_server.specs.Inside.InPlace.{IsPut};
 ghost use Rattle.wl_server.specs.Inside.Words.{MayStand, RequestWaits};
 
 use crate::client::Client;
 use crate::globals::handler::GlobalHandler;
 use crate::ids::object_id::ObjectId;
-use crate::objects::Kept;
+use crate::objects::{ClientObjects, Kept};
 use crate::reading::Surroundings;
 use crate::reading::action::{Finding, Found, Reading};
 use crate::reading::in_place::put_arguments;
@@ -52,6 +54,35 @@ fn waiting_request<'p, 's, T: Drop, U: Drop>(
     Some((desc, sender, front.split_at(8).1))
 }
 
+/// Puts the arguments of the request at the front, which has this header, into `args`, and makes the object that it makes.
+/// Returns what `Client::take_in_place` does. If the request cannot be handed out where it stands, nothing is changed.
+#[inline(always)]
+fn put_waiting<T: Drop, U: Drop, G>(
+    around: &Surroundings<'_, G>,
+    objects: &mut ClientObjects<U>,
+    socket: &BufferedSocket<T>,
+    header: (u32, u16),
+    args: &mut Args<ObjectId>,
+) -> Option<(ObjectId, bool, Option<ObjectId>)>
+    requires { IsHeader socket.now header }
+    ensures put { MatchOption result ((objects_of objects.new ≡ objects_of objects.old) × (args.new ≡ args.old))
+        (λ w. IsPut around.now.protocol.now around.now.client (objects_of objects.old) socket.now header.0 (objects_of objects.new) args.new.items w.0 w.1 w.2) }
+    ensures inline { INLINE_ARGS ≤ args.old.capacity → INLINE_ARGS ≤ args.new.capacity }
+    ensures registries { objects.new.registries ≡ objects.old.registries }
+{
+    let waiting = waiting_request(around.protocol, &objects.map, socket, header);
+    let Some(request) = waiting else {
+        return None;
+    };
+    let (desc, kept) = (request.0, request.1);
+    let put = put_arguments(around.client, kept.version, desc, objects, request.2, args);
+    let Some(created) = put else {
+        return None;
+    };
+    let sender = ObjectId::from_parts(header.0, kept.serial, around.client, kept.interface);
+    Some((sender, desc.is_destructor, created))
+}
+
 impl<T: Transport + Drop, U: Drop, C: Drop> Client<T, U, C> {
     /// Hands out the request at the front, which has this header, if that can be done where it stands: it has at most four
     /// arguments, without a descriptor, and makes no object or has no argument but that. Returns the object that it was sent
@@ -75,33 +106,14 @@ impl<T: Transport + Drop, U: Drop, C: Drop> Client<T, U, C> {
         ensures times { self.new.times ≡ self.old.times }
         ensures numbered { IsNumbered (Some self.old) → IsNumbered (Some self.new) }
     {
-        let waiting = waiting_request(around.protocol, &self.objects.map, &self.socket, header);
-        let Some(request) = waiting else {
+        let put = put_waiting(around, &mut self.objects, &self.socket, header, args);
+        let Some(request) = put else {
             return None;
         };
-        let desc = request.0;
-        let put = put_arguments(
-            around.client,
-            request.1.version,
-            desc,
-            &mut self.objects,
-            request.2,
-            args,
-        );
-        let Some(created) = put else {
-            return None;
-        };
-        let sender = ObjectId::from_parts(
-            header.0,
-            request.1.serial,
-            around.client,
-            request.1.interface,
-        );
-        let is_destructor = desc.is_destructor;
-        self.action.open_request(sender, is_destructor, &created);
+        self.action.open_request(request.0, request.1, &request.2);
         self.socket.skip_message();
         reading.read = reading.read.saturating_add(1);
-        Some((sender, is_destructor, created))
+        Some(request)
     }
 
     /// Does the same as `take_in_place`, and puts what is handed out into `finding`. Returns whether something is.
