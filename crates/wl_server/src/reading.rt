@@ -7,6 +7,7 @@ pub mod action;
 pub mod arguments;
 pub mod display_request;
 pub mod finish;
+pub mod front;
 pub mod in_place;
 pub mod lent;
 pub mod message;

@@ -1,5 +1,5 @@
 -- What a request that is handed out where it stands hands out.
-use Rattle.std.specs.Prelude.{◌≡◌, ℕ, List, [], ◌∷◌, ◌++◌, ◌&&◌, nat_le, if◌then◌else◌, Option, None, Some, length, drop}
+use Rattle.std.specs.Prelude.{◌≡◌, ℕ, Bool, List, [], ◌∷◌, ◌++◌, ◌&&◌, nat_le, if◌then◌else◌, Option, None, Some, length, drop}
 use Rattle.wl_wire.specs.declared.argument.Argument.{Argument}
 use Rattle.wl_wire.specs.declared.argument.Argument.TheVariants as arg
 use Rattle.wl_wire.specs.declared.argument.ArgumentType.{ArgumentType}
@@ -10,14 +10,16 @@ use Rattle.wl_wire.specs.Argument.{WireArgument}
 use Rattle.wl_wire.specs.MessageRows.{next_interface}
 use Rattle.wl_wire.specs.Parse.{fd_count}
 use Rattle.wl_wire.specs.Reading.{Reads}
-use Rattle.wl_wire.specs.Table.{MessageRow}
+use Rattle.wl_wire.specs.Table.{InterfaceRow, MessageRow}
 use Rattle.wl_wire.specs.Inside.Cursor.{◌>>=◌, counted_at, text_of}
 use Rattle.wl_link.specs.Identity.{Objects}
+use Rattle.wl_link.specs.Link.{LinkState}
 use Rattle.wl_link.specs.Store.{Store}
 use Rattle.wl_server.specs.declared.objects.Kept.{Kept}
+use Rattle.wl_server.specs.declared.reading.request.Sender.{Sender}
 use Rattle.wl_server.specs.Ids.{ClientParts, IdParts}
 use Rattle.wl_server.specs.Requests.{Converting, Whole, convert, start}
-use Rattle.wl_server.specs.Inside.Words.{asked_after, first_word, handed_word, word_fits}
+use Rattle.wl_server.specs.Inside.Words.{RequestWaits, asked_after, first_word, handed_word, word_fits}
 
 -- an argument that is handed out, and the bytes behind it
 abbrev pub Front : Type 0
@@ -60,3 +62,15 @@ module _ {U : Type 0} where
     pub converts : convert client version (start objects row) [] args ≡ Whole done handed
     pub objects_are : done.objects ≡ after
     pub created_is : done.created ≡ created
+
+  -- The request at the front was put so: it is handed out as one to this object, which is a destructor or not, and which made
+  -- this object. `number` is that of the object.
+  pub record IsPut {T : Type 0} (table : List InterfaceRow) (client : ClientParts) (objects : Objects (Kept U)) (link : LinkState T) (number : ℕ)
+      (after : Objects (Kept U)) (handed : List (Argument IdParts Token)) (id : IdParts) (is_destructor : Bool) (created : Option IdParts) : Type 0 where
+    pub row : MessageRow
+    pub sender : Sender
+    pub bytes : List ℕ
+    pub waits : RequestWaits table objects.store link row sender bytes
+    pub hands : (fds : List Token) → HandsOut client sender.version objects row bytes fds created after handed
+    pub id_is : id ≡ record { number = number; serial = sender.serial; client = client; interface = sender.interface }
+    pub destructor : is_destructor ≡ row.is_destructor

@@ -74,6 +74,11 @@ abbrev pub HasNames : Response → Type 0
 HasNames (response.Breaks b) = HasName b
 HasNames _ = ⊤
 
+-- it is no sync, which is answered apart
+abbrev pub IsNoSync : Response → Type 0
+IsNoSync (response.Syncs _) = ⊥
+IsNoSync _ = ⊤
+
 -- what the end of an action has to know of it
 abbrev pub opened_of : Found → OpenAction
 opened_of (found.Request sender opcode is_destructor created) = opened.Request sender is_destructor created

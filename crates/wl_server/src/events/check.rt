@@ -17,7 +17,7 @@ use crate::objects::{Kept, named_in};
 use wl_link::{Object, ObjectMap};
 use wl_wire::{
     ANONYMOUS_INTERFACE, AllowNull, Argument, ArgumentType, InterfaceId, Message, MessageDesc,
-    Numbering, OwnNumbers, Protocol, Token, check_for_signature, same_interface_or_anonymous,
+    Protocol, Token, check_for_signature, same_interface_or_anonymous,
 };
 
 /// The interface of the client's object that the id names, or the error if the id is refused.
@@ -155,20 +155,5 @@ pub fn check_event<'a, U: Drop>(
     match first_fault(client, objects, desc, args) {
         Some(error) => Err(error),
         None => Ok((sender, desc.is_destructor)),
-    }
-}
-
-/// The number that each id of an event has on the wire: its own.
-impl Numbering<ObjectId> for OwnNumbers {
-    ghost object_number = { λ _ id. id.number };
-
-    ghost new_number = { λ _ id. id.number };
-
-    fn number_object(&self, id: &ObjectId) -> u32 {
-        id.protocol_id()
-    }
-
-    fn number_new(&self, id: &ObjectId) -> u32 {
-        id.protocol_id()
     }
 }

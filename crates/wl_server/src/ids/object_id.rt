@@ -10,7 +10,7 @@ use std::alloc::Global;
 use std::fmt;
 use std::hash::{Hash, Hasher};
 use std::marker::Model;
-use wl_wire::{ANONYMOUS_INTERFACE, InterfaceId, OutOfMemory, Protocol};
+use wl_wire::{ANONYMOUS_INTERFACE, InterfaceId, Numbering, OutOfMemory, OwnNumbers, Protocol};
 
 /// The id of an object: its number in the protocol, its serial, its client, and its interface.
 ///
@@ -147,5 +147,20 @@ impl ObjectId {
         let number = self.number;
         let slot = self.client_slot;
         Ok(format!(in alloc; "{name}@{number}[{slot}]")?)
+    }
+}
+
+/// The number that each id of an event has on the wire: its own.
+impl Numbering<ObjectId> for OwnNumbers {
+    ghost object_number = { λ _ id. id.number };
+
+    ghost new_number = { λ _ id. id.number };
+
+    fn number_object(&self, id: &ObjectId) -> u32 {
+        id.protocol_id()
+    }
+
+    fn number_new(&self, id: &ObjectId) -> u32 {
+        id.protocol_id()
     }
 }

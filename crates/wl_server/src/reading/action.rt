@@ -110,6 +110,17 @@ impl Found {
     }
 }
 
+/// What a reading has to find an action: how much it may still receive, and the places of the action and of its arguments.
+#[derive(Drop)]
+pub struct Finding {
+    /// How much it may still receive, and how many requests it read.
+    pub reading: Reading,
+    /// The action, once it is found.
+    pub found: Found,
+    /// The arguments of the action, if it is a request.
+    pub args: Args<ObjectId>,
+}
+
 /// What the handling of a message came to.
 #[derive(Drop)]
 pub enum MessageEnd {

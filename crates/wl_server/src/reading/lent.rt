@@ -20,7 +20,7 @@ use crate::globals::handler::GlobalHandler;
 use crate::ids::client_id::ClientId;
 use crate::notes::queues::NoteNumbers;
 use crate::reading::Surroundings;
-use crate::reading::action::{Action, Found, Reading};
+use crate::reading::action::{Action, Finding, Found, Reading};
 use smallvec::SmallVec;
 use wl_link::{MessagePlace, Transport};
 use wl_wire::IoFault;
@@ -60,7 +60,7 @@ impl<T: Transport + Drop, U: Drop, C: Drop> Client<T, U, C> {
                 args,
                 is_destructor,
                 created,
-            } => match self.take_words(around, reading, header, args) {
+            } => match self.take_in_place(around, reading, header, args) {
                 Some(request) => {
                     *sender = request.0;
                     *opcode = header.1;
@@ -87,13 +87,15 @@ impl<T: Transport + Drop, U: Drop, C: Drop> Client<T, U, C> {
         ensures in_time { NotesInTime self.old.times numbers.old self.new.times numbers.new }
         ensures numbered { IsNumbered (Some self.old) → IsNumbered (Some self.new) }
     {
-        let mut found = Found::none();
-        let mut args = SmallVec::new(self.alloc());
-        let (answer, refused) = self.find_action(
-            numbers, around, reading, place, &mut found, &mut args,
-        );
+        let mut finding = Finding {
+            reading: *reading,
+            found: Found::none(),
+            args: SmallVec::new(self.alloc()),
+        };
+        let (answer, refused) = self.find_action(numbers, around, place, &mut finding);
+        *reading = finding.reading;
         match answer {
-            Ok(()) => (Ok(found.with_args(args)), refused),
+            Ok(()) => (Ok(finding.found.with_args(finding.args)), refused),
             Err(error) => (Err(error), refused),
         }
     }

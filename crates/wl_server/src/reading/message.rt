@@ -17,8 +17,9 @@ ghost use Rattle.wl_wire.specs.declared.argument.Token.{Token as TokenParts};
 ghost use Rattle.wl_server.specs.declared.reading.action.Found.{Found as FoundOf};
 ghost use Rattle.wl_server.specs.declared.reading.action.Reading.{Reading as ReadingOf};
 ghost use Rattle.wl_server.specs.Ids.{IdParts};
-ghost use Rattle.wl_server.specs.Inside.Responses.{HasNames, TookRequest};
-ghost use Rattle.wl_server.specs.Inside.ReadingLoop.{IsHeader, IsSenderOf, Live, NotTaken, TookWith, HandlesMessage, around_of, message_result};
+ghost use Rattle.wl_server.specs.Inside.Responses.{HasNames, IsNoSync, TookRequest, response_to};
+ghost use Rattle.wl_server.specs.Telling.{core_of};
+ghost use Rattle.wl_server.specs.Inside.ReadingLoop.{IsHandled, IsHeader, IsSenderOf, Live, NotTaken, TookWith, HandlesMessage, around_of, message_result};
 
 use crate::client::Client;
 use crate::globals::handler::GlobalHandler;
@@ -26,7 +27,7 @@ use crate::ids::object_id::ObjectId;
 use crate::notes::queues::NoteNumbers;
 use crate::objects::{ClientObjects, Kept};
 use crate::reading::Surroundings;
-use crate::reading::action::{Found, MessageEnd, NoAction, Reading};
+use crate::reading::action::{Finding, Found, MessageEnd, NoAction};
 use crate::reading::request::{Sender, request};
 use crate::reading::response::Response;
 use wl_link::{BufferedSocket, ObjectMap, Transport, clear_message};
@@ -140,10 +141,10 @@ fn take<'p, T: Drop, U: Drop>(
 }
 
 /// Takes the message at the front off the incoming buffer, and handles it. Its sender and its opcode are those of the
-/// header. If it is handed out, it is in `found` then, and its arguments are in `args`.
+/// header. If it is handed out, it is in `finding` then. `message` is the place that the message is read into.
 ///
-/// `message` is the place that the message is read into. `protocol` is the table of interfaces. It is a parameter of its
-/// own because it need not be borrowed as long as `around`.
+/// `protocol` is the table of interfaces. It is a parameter of its own because the answer may borrow from it as long as from
+/// `message`, and `around` lives longer.
 fn take_request<'m, T: Drop, U: Drop, G: GlobalHandler<C> + Drop, C>(
     protocol: &'m Protocol,
     around: &Surroundings<'_, G>,
@@ -152,19 +153,26 @@ fn take_request<'m, T: Drop, U: Drop, G: GlobalHandler<C> + Drop, C>(
     socket: &mut BufferedSocket<T>,
     header: (u32, u16),
     message: &'m mut Message<u32, Token>,
-    found: &mut Found,
-    args: &mut Args<ObjectId>,
+    finding: &mut Finding,
 ) -> Result<Response<'m>, MessageParseError>
     requires protocol { protocol.now ≡ around.now.protocol.now }
     requires header { IsHeader socket.old header }
-    requires inline { INLINE_ARGS ≤ args.old.capacity }
+    requires inline { INLINE_ARGS ≤ finding.old.args.capacity }
     requires place { INLINE_ARGS ≤ message.old.args.capacity }
-    ensures took { TookRequest (around_of G.views around.now) client_data.now objects.old socket.old result found.new args.new.items objects.new socket.new }
+    ensures took { TookRequest (around_of G.views around.now) client_data.now objects.old socket.old result finding.new.found finding.new.args.items objects.new socket.new }
+    ensures reading { finding.new.reading ≡ finding.old.reading }
     ensures names { IfOk result HasNames }
     ensures fewer { OnOk result (length socket.new.incoming.bytes < length socket.old.incoming.bytes) }
-    ensures inline { INLINE_ARGS ≤ args.new.capacity }
+    ensures inline { INLINE_ARGS ≤ finding.new.args.capacity }
 {
-    let taken = take(protocol, objects, socket, header, message, args);
+    let taken = take(
+        protocol,
+        objects,
+        socket,
+        header,
+        message,
+        &mut finding.args,
+    );
     let asked = match taken {
         Ok(asked) => asked,
         Err(error) => return Err(error),
@@ -176,29 +184,27 @@ fn take_request<'m, T: Drop, U: Drop, G: GlobalHandler<C> + Drop, C>(
         asked.0,
         asked.1,
         message,
-        found,
-        args,
+        &mut finding.found,
+        &mut finding.args,
     ))
 }
 
 impl<T: Transport + Drop, U: Drop, C: Drop> Client<T, U, C> {
     /// Takes the message at the front off the incoming buffer, and handles it. `message` is the place that it is read
-    /// into. An action that is handed out is in `found` then, and its arguments are in `args`.
+    /// into. An action that is handed out is in `finding` then.
     pub fn handle_message<G: GlobalHandler<C> + Drop>(
         &mut self,
         numbers: &mut NoteNumbers,
         around: &Surroundings<'_, G>,
-        reading: &mut Reading,
         message: &mut Message<u32, Token>,
-        found: &mut Found,
-        args: &mut Args<ObjectId>,
+        finding: &mut Finding,
     ) -> MessageEnd
         requires live { Live self.old.part }
         requires place { INLINE_ARGS ≤ message.old.args.capacity }
-        requires inline { INLINE_ARGS ≤ args.old.capacity }
-        ensures handles { HandlesMessage T.sends T.receives (around_of G.views around.now) self.old reading.old (message_result result found.new args.new.items) self.new reading.new }
+        requires inline { INLINE_ARGS ≤ finding.old.args.capacity }
+        ensures handles { HandlesMessage T.sends T.receives (around_of G.views around.now) self.old finding.old.reading (message_result result finding.new.found finding.new.args.items) self.new finding.new.reading }
         ensures place { INLINE_ARGS ≤ message.new.args.capacity }
-        ensures inline { INLINE_ARGS ≤ args.new.capacity }
+        ensures inline { INLINE_ARGS ≤ finding.new.args.capacity }
         ensures in_time { NotesInTime self.old.times numbers.old self.new.times numbers.new }
         ensures numbered { IsNumbered (Some self.old) → IsNumbered (Some self.new) }
     {
@@ -206,14 +212,14 @@ impl<T: Transport + Drop, U: Drop, C: Drop> Client<T, U, C> {
             return MessageEnd::Lacks;
         };
         // Most syncs need no object for their callback.
-        if self.answer_sync(around, reading, header) {
+        if self.answer_sync(around, &mut finding.reading, header) {
             return MessageEnd::Continues;
         }
         // Most requests can be handed out where they stand.
-        if self.find_words(around, reading, header, found, args) {
+        if self.find_in_place(around, header, finding) {
             return MessageEnd::HandsOut;
         }
-        let end = self.handle_at(numbers, around, reading, header, message, found, args);
+        let end = self.handle_at(numbers, around, header, message, finding);
         clear_message(message);
         end
     }
@@ -225,22 +231,20 @@ impl<T: Transport + Drop, U: Drop, C: Drop> Client<T, U, C> {
         &mut self,
         numbers: &mut NoteNumbers,
         around: &Surroundings<'_, G>,
-        reading: &mut Reading,
         header: (u32, u16),
         message: &mut Message<u32, Token>,
-        found: &mut Found,
-        args: &mut Args<ObjectId>,
+        finding: &mut Finding,
     ) -> MessageEnd
         requires live { Live self.old.part }
         requires header { IsHeader self.old.part.link header }
         requires place { INLINE_ARGS ≤ message.old.args.capacity }
-        requires inline { INLINE_ARGS ≤ args.old.capacity }
-        ensures handles { HandlesMessage T.sends T.receives (around_of G.views around.now) self.old reading.old (message_result result found.new args.new.items) self.new reading.new }
-        ensures inline { INLINE_ARGS ≤ args.new.capacity }
+        requires inline { INLINE_ARGS ≤ finding.old.args.capacity }
+        ensures handles { HandlesMessage T.sends T.receives (around_of G.views around.now) self.old finding.old.reading (message_result result finding.new.found finding.new.args.items) self.new finding.new.reading }
+        ensures inline { INLINE_ARGS ≤ finding.new.args.capacity }
         ensures in_time { NotesInTime self.old.times numbers.old self.new.times numbers.new }
         ensures numbered { IsNumbered (Some self.old) → IsNumbered (Some self.new) }
     {
-        let read = reading.read;
+        let read = finding.reading.read;
         let taken = take_request(
             around.protocol,
             around,
@@ -249,25 +253,46 @@ impl<T: Transport + Drop, U: Drop, C: Drop> Client<T, U, C> {
             &mut self.socket,
             header,
             message,
-            found,
-            args,
+            finding,
         );
         let response = match taken {
             Ok(response) => response,
             Err(error) => return self.not_taken(numbers, around, error),
         };
-        reading.read = read.saturating_add(1);
+        finding.reading.read = read.saturating_add(1);
+        match response {
+            Response::Syncs(callback) => self.tell_done(numbers, message, &callback),
+            other => self.respond(numbers, around, &finding.found, &other),
+        }
+    }
+
+    /// Does what is still to be done for a request that is no sync. An action that is handed out is in `found`.
+    fn respond<G: GlobalHandler<C> + Drop>(
+        &mut self,
+        numbers: &mut NoteNumbers,
+        around: &Surroundings<'_, G>,
+        found: &Found,
+        response: &Response<'_>,
+    ) -> MessageEnd
+        requires live { Live self.old.part }
+        requires names { HasNames response.now }
+        requires no_sync { IsNoSync response.now }
+        ensures handled { (args : List (Arg IdParts TokenParts)) → IsHandled T.sends
+            (response_to (around_of G.views around.now) (core_of self.old.part) response.now found.now args) self.old (message_result result found.now args) self.new }
+        ensures in_time { NotesInTime self.old.times numbers.old self.new.times numbers.new }
+        ensures numbered { IsNumbered (Some self.old) → IsNumbered (Some self.new) }
+    {
         match response {
             Response::Malformed => MessageEnd::Ends(self.kill_for_malformed(numbers)),
             Response::Breaks(breach) => MessageEnd::Ends(self.kill_for_breach(
-                numbers, around, &breach,
+                numbers, around, breach,
             )),
-            Response::Syncs(callback) => self.tell_done(numbers, message, &callback),
-            Response::Registers(registry) => self.tell_globals(numbers, around, &registry),
+            Response::Registers(registry) => self.tell_globals(numbers, around, registry),
             Response::HandsOut => {
                 self.action.open_action(found);
                 MessageEnd::HandsOut
             }
+            Response::Syncs(_) => unreachable!(),
         }
     }
 

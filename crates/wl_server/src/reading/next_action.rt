@@ -24,14 +24,13 @@ use crate::client::stored::stored_mut;
 use crate::error::ActionError;
 use crate::globals::handler::GlobalHandler;
 use crate::ids::client_id::ClientId;
-use crate::ids::object_id::ObjectId;
 use crate::notes::DisconnectReason;
 use crate::notes::queues::NoteNumbers;
 use crate::reading::Surroundings;
-use crate::reading::action::{Action, Found, MessageEnd, NoAction, Reading};
+use crate::reading::action::{Action, Finding, Found, MessageEnd, NoAction, Reading};
 use smallvec::SmallVec;
 use wl_link::{MessagePlace, Transport};
-use wl_wire::{Args, INLINE_ARGS, IoFault, Message, Token};
+use wl_wire::{INLINE_ARGS, IoFault, Message, Token};
 
 /// How many receives a reading makes at most, if the program sets no other number.
 pub const READ_TURNS: u32 = 64;
@@ -51,29 +50,27 @@ impl Reading {
 impl<T: Transport + Drop, U: Drop, C: Drop> Client<T, U, C> {
     /// Reads the messages that wait, one after another, and does what each asks for. Returns `None` when no whole message
     /// waits any more. Returns `Some` when the reading is over: `Ok` if there is an action, or else the reason why there is
-    /// none. The action is then in `found`, and its arguments are in `args`. Each message is read into `message`.
+    /// none. The action is then in `finding`. Each message is read into `message`.
     fn handle_waiting<G: GlobalHandler<C> + Drop>(
         &mut self,
         numbers: &mut NoteNumbers,
         around: &Surroundings<'_, G>,
-        reading: &mut Reading,
         message: &mut Message<u32, Token>,
-        found: &mut Found,
-        args: &mut Args<ObjectId>,
+        finding: &mut Finding,
     ) -> Option<Result<(), NoAction>>
         requires live { Live self.old.part }
         requires place { INLINE_ARGS ≤ message.old.args.capacity }
-        requires inline { INLINE_ARGS ≤ args.old.capacity }
-        ensures waited { Waited T.sends T.receives (around_of G.views around.now) self.old reading.old (option_map (λ r. action_of r found.new args.new.items) result) self.new reading.new }
+        requires inline { INLINE_ARGS ≤ finding.old.args.capacity }
+        ensures waited { Waited T.sends T.receives (around_of G.views around.now) self.old finding.old.reading (option_map (λ r. action_of r finding.new.found finding.new.args.items) result) self.new finding.new.reading }
         ensures place { INLINE_ARGS ≤ message.new.args.capacity }
-        ensures inline { INLINE_ARGS ≤ args.new.capacity }
+        ensures inline { INLINE_ARGS ≤ finding.new.args.capacity }
         ensures in_time { NotesInTime self.old.times numbers.old self.new.times numbers.new }
         ensures numbered { IsNumbered (Some self.old) → IsNumbered (Some self.new) }
     {
         // The count of requests starts within its type.
-        prove!(reading.read <= usize::MAX);
+        prove!(finding.reading.read <= usize::MAX);
         loop {
-            match self.handle_message(numbers, around, reading, message, found, args) {
+            match self.handle_message(numbers, around, message, finding) {
                 MessageEnd::Continues => {}
                 MessageEnd::Lacks => return None,
                 MessageEnd::HandsOut => return Some(Ok(())),
@@ -112,56 +109,52 @@ impl<T: Transport + Drop, U: Drop, C: Drop> Client<T, U, C> {
     }
 
     /// Handles the messages that wait, and receives when no whole one is left, until there is an action or a reason why
-    /// there is none. The action is then in `found`, and its arguments are in `args`. Each message is read into `message`.
+    /// there is none. The action is then in `finding`. Each message is read into `message`.
     fn read<G: GlobalHandler<C> + Drop>(
         &mut self,
         numbers: &mut NoteNumbers,
         around: &Surroundings<'_, G>,
-        reading: &mut Reading,
         message: &mut Message<u32, Token>,
-        found: &mut Found,
-        args: &mut Args<ObjectId>,
+        finding: &mut Finding,
     ) -> Result<(), NoAction>
         requires live { Live self.old.part }
         requires place { INLINE_ARGS ≤ message.old.args.capacity }
-        requires inline { INLINE_ARGS ≤ args.old.capacity }
-        ensures ends { EndsAs T.sends T.receives (around_of G.views around.now) self.old reading.old (action_of result found.new args.new.items) self.new reading.new }
+        requires inline { INLINE_ARGS ≤ finding.old.args.capacity }
+        ensures ends { EndsAs T.sends T.receives (around_of G.views around.now) self.old finding.old.reading (action_of result finding.new.found finding.new.args.items) self.new finding.new.reading }
         ensures place { INLINE_ARGS ≤ message.new.args.capacity }
         ensures in_time { NotesInTime self.old.times numbers.old self.new.times numbers.new }
         ensures numbered { IsNumbered (Some self.old) → IsNumbered (Some self.new) }
     {
         // The count of requests starts within its type.
-        prove!(reading.read <= usize::MAX);
+        prove!(finding.reading.read <= usize::MAX);
         loop {
-            if let Some(end) = self.handle_waiting(numbers, around, reading, message, found, args) {
+            if let Some(end) = self.handle_waiting(numbers, around, message, finding) {
                 return end;
             }
-            if reading.turns_left == 0 {
+            if finding.reading.turns_left == 0 {
                 return Err(NoAction {
                     fault: IoFault::WouldBlock,
                     refused: false,
                 });
             }
-            reading.turns_left -= 1;
+            finding.reading.turns_left -= 1;
             if let Some(end) = self.receive(numbers) {
                 return Err(end);
             }
         }
     }
 
-    /// Finds the next action of the client, if none is open and the client was not killed. The action is then in `found`,
-    /// and its arguments are in `args`. It stays open until it is finished. Also returns whether memory ran out.
+    /// Finds the next action of the client, if none is open and the client was not killed. The action is then in `finding`.
+    /// It stays open until it is finished. Also returns whether memory ran out.
     pub fn find_action<G: GlobalHandler<C> + Drop>(
         &mut self,
         numbers: &mut NoteNumbers,
         around: &Surroundings<'_, G>,
-        reading: &mut Reading,
         place: &mut MessagePlace,
-        found: &mut Found,
-        args: &mut Args<ObjectId>,
+        finding: &mut Finding,
     ) -> (Result<(), ActionError>, bool)
-        requires { INLINE_ARGS ≤ args.old.capacity }
-        ensures does { Does self.old (λ p did q. NextAction T.sends T.receives (around_of G.views around.now) reading.old p (action_of result.0 found.new args.new.items) reading.new result.1 did q) self.new }
+        requires { INLINE_ARGS ≤ finding.old.args.capacity }
+        ensures does { Does self.old (λ p did q. NextAction T.sends T.receives (around_of G.views around.now) finding.old.reading p (action_of result.0 finding.new.found finding.new.args.items) finding.new.reading result.1 did q) self.new }
         ensures in_time { NotesInTime self.old.times numbers.old self.new.times numbers.new }
         ensures numbered { IsNumbered (Some self.old) → IsNumbered (Some self.new) }
     {
@@ -172,7 +165,7 @@ impl<T: Transport + Drop, U: Drop, C: Drop> Client<T, U, C> {
             return (Err(ActionError::Io(IoFault::Pipe)), false);
         }
         let message = &mut place.message;
-        if let Err(end) = self.read(numbers, around, reading, message, found, args) {
+        if let Err(end) = self.read(numbers, around, message, finding) {
             return (Err(ActionError::Io(end.fault)), end.refused);
         }
         (Ok(()), false)
@@ -222,11 +215,13 @@ impl<T: Transport + Drop, U: Drop, G: GlobalHandler<C> + Drop, C: Drop> Backend<
         ensures cutting { CallIsCut (over T.sends T.receives G.views) self.old.server (Asked (step.NextAction id.now) (reply.NextAction result)) self.new.refused self.new.server }
         ensures room { HasRoom (over T.sends T.receives G.views) self.old.server (Asked (step.NextAction id.now) (reply.NextAction result)) self.new.server }
     {
-        let mut reading = Reading::new();
-        let mut found = Found::none();
-        let mut args = SmallVec::new(self.alloc());
-        self.read_client(id, &mut reading, &mut found, &mut args)?;
-        Ok(found.with_args(args))
+        let mut finding = Finding {
+            reading: Reading::new(),
+            found: Found::none(),
+            args: SmallVec::new(self.alloc()),
+        };
+        self.read_client(id, &mut finding)?;
+        Ok(finding.found.with_args(finding.args))
     }
 
     /// Reads the next action of the client, as `next_action` does, and receives at most as often as `reading` allows.
@@ -244,10 +239,15 @@ impl<T: Transport + Drop, U: Drop, G: GlobalHandler<C> + Drop, C: Drop> Backend<
         ensures cutting { CallIsCut (over T.sends T.receives G.views) self.old.server (Asked (step.NextActionWithin id.now reading.old) (reply.NextActionWithin result reading.new)) self.new.refused self.new.server }
         ensures room { HasRoom (over T.sends T.receives G.views) self.old.server (Asked (step.NextActionWithin id.now reading.old) (reply.NextActionWithin result reading.new)) self.new.server }
     {
-        let mut found = Found::none();
-        let mut args = SmallVec::new(self.alloc());
-        self.read_client(id, reading, &mut found, &mut args)?;
-        Ok(found.with_args(args))
+        let mut finding = Finding {
+            reading: *reading,
+            found: Found::none(),
+            args: SmallVec::new(self.alloc()),
+        };
+        let answer = self.read_client(id, &mut finding);
+        *reading = finding.reading;
+        answer?;
+        Ok(finding.found.with_args(finding.args))
     }
 
     /// Reads the next action of the client into `action`, as `next_action` answers it. What was there is dropped. A program
@@ -289,19 +289,13 @@ impl<T: Transport + Drop, U: Drop, G: GlobalHandler<C> + Drop, C: Drop> Backend<
         self.read_client_into(id, reading, action)
     }
 
-    /// Reads the client. An action that is handed out is in `found` then, and its arguments are in `args`.
-    fn read_client(
-        &mut self,
-        id: &ClientId,
-        reading: &mut Reading,
-        found: &mut Found,
-        args: &mut Args<ObjectId>,
-    ) -> Result<(), ActionError>
-        requires { INLINE_ARGS ≤ args.old.capacity }
-        ensures fresh { (answer : Result ActionOf ActionErrorOf) → action_content answer ≡ action_of result found.new args.new.items → reading.old ≡ new_reading
+    /// Reads the client. An action that is handed out is in `finding` then.
+    fn read_client(&mut self, id: &ClientId, finding: &mut Finding) -> Result<(), ActionError>
+        requires { INLINE_ARGS ≤ finding.old.args.capacity }
+        ensures fresh { (answer : Result ActionOf ActionErrorOf) → action_content answer ≡ action_of result finding.new.found finding.new.args.items → finding.old.reading ≡ new_reading
             → Calls (over T.sends T.receives G.views) self.old (step.NextAction id.now) (reply.NextAction answer) self.new }
-        ensures within { (answer : Result ActionOf ActionErrorOf) → action_content answer ≡ action_of result found.new args.new.items
-            → Calls (over T.sends T.receives G.views) self.old (step.NextActionWithin id.now reading.old) (reply.NextActionWithin answer reading.new) self.new }
+        ensures within { (answer : Result ActionOf ActionErrorOf) → action_content answer ≡ action_of result finding.new.found finding.new.args.items
+            → Calls (over T.sends T.receives G.views) self.old (step.NextActionWithin id.now finding.old.reading) (reply.NextActionWithin answer finding.new.reading) self.new }
     {
         self.refused = false;
         let Some(client) = stored_mut(&mut self.clients, &mut self.touched, id) else {
@@ -315,10 +309,8 @@ impl<T: Transport + Drop, U: Drop, G: GlobalHandler<C> + Drop, C: Drop> Backend<
         let (answer, refused) = client.find_action(
             &mut self.numbers,
             &around,
-            reading,
             &mut self.place,
-            found,
-            args,
+            finding,
         );
         self.refused = refused;
         answer

@@ -1,30 +1,17 @@
-//! Requests that are handed out where they stand, without being read into a message, and their arguments that are words.
+//! The arguments that are words, of a request that is handed out where it stands.
 
-ghost use Rattle.std.specs.Prelude.{◌≡◌, ◌≤◌, ◌*◌, ◌++◌, ◌∷◌, [], true, None, IfSome, IsTrue, MatchBool, MatchOption, Some, length};
+ghost use Rattle.std.specs.Prelude.{◌≡◌, ◌≤◌, ◌*◌, ◌++◌, ◌∷◌, [], length};
 ghost use Rattle.smallvec.specs.SmallVec.{HasRoomFor};
 ghost use Rattle.wl_wire.specs.MessageRows.{next_interface};
-ghost use Rattle.wl_wire.specs.Table.{message_row};
-ghost use Rattle.wl_server.specs.Requests.{allows_null};
-ghost use Rattle.wl_server.specs.NoteOrder.{IsNumbered};
-ghost use Rattle.wl_server.specs.Deeds.{Request};
-ghost use Rattle.wl_server.specs.Inside.ReadingLoop.{Acts, HandlesMessage, IsHeader, Live, around_of, found_with};
-ghost use Rattle.wl_server.specs.Inside.Words.{MayStand, RequestWaits, asked_after, first_word, handed_object, handed_word, handed_words, object_fits, word_fits, words_fit};
+ghost use Rattle.wl_server.specs.Inside.Words.{asked_after, first_word, handed_object, handed_word, handed_words, object_fits, word_fits, words_fit};
 
-use crate::client::Client;
-use crate::globals::handler::GlobalHandler;
 use crate::ids::client_id::ClientId;
 use crate::ids::object_id::ObjectId;
 use crate::objects::{Kept, id_at};
-use crate::reading::Surroundings;
-use crate::reading::action::{Found, Reading};
-use crate::reading::in_place::put_arguments;
-use crate::reading::message::request_desc;
-use crate::reading::request::Sender;
-use wl_link::{BufferedSocket, ObjectMap, Transport};
+use wl_link::ObjectMap;
 use wl_wire::{
     ANONYMOUS_INTERFACE, AllowNull, Args, Argument, ArgumentType, INLINE_ARGS, InterfaceId,
-    MessageDesc, Protocol, Token, WL_DISPLAY_INTERFACE, WL_REGISTRY_INTERFACE,
-    same_interface_or_anonymous,
+    MessageDesc, Token, same_interface_or_anonymous,
 };
 
 /// The word at the front of the bytes.
@@ -199,118 +186,5 @@ pub fn put_words<U: Drop>(
         put_word(client, objects, *kind, first_word(bytes), args);
         kinds = others;
         bytes = bytes.split_at(4).1;
-    }
-}
-
-/// Whether a request to this object may be handed out where it stands: those to displays and registries are answered, those
-/// that the object's version does not have are refused, and more than four arguments need memory.
-fn may_stand(desc: &MessageDesc, sender: Sender) -> bool
-    ensures { IsTrue result → MayStand (message_row desc.now) sender }
-{
-    let is_answered = sender.interface == WL_DISPLAY_INTERFACE
-        || sender.interface == WL_REGISTRY_INTERFACE;
-    !is_answered && sender.version >= desc.since && desc.signature.len() <= INLINE_ARGS
-}
-
-/// The request at the front, which has this header, if it is complete and may be handed out where it stands: its description
-/// in the table, what its sender is, and the bytes of its arguments.
-fn waiting_request<'p, 's, T: Drop, U: Drop>(
-    protocol: &'p Protocol,
-    objects: &ObjectMap<Kept<U>>,
-    socket: &'s BufferedSocket<T>,
-    header: (u32, u16),
-) -> Option<(&'p MessageDesc, Sender, &'s [u8])>
-    requires { IsHeader socket.now header }
-    ensures { IfSome result (λ w. RequestWaits protocol.now objects.now.store socket.now (message_row w.0.now) w.1 w.2.now) }
-{
-    let front = socket.front()?;
-    let asked = request_desc(protocol, objects, header.0, header.1)?;
-    let desc = asked.0;
-    let sender = asked.1;
-    if !may_stand(desc, sender) {
-        return None;
-    }
-    Some((desc, sender, front.split_at(8).1))
-}
-
-impl<T: Transport + Drop, U: Drop, C: Drop> Client<T, U, C> {
-    /// Hands out the request at the front, which has this header, if that can be done where it stands: it has at most four
-    /// arguments, without a descriptor, and makes no object or has no argument but that. Returns the object that it was sent
-    /// to, whether it is a destructor, and the object that it made. Its arguments are in `args` then. If it is no such request,
-    /// or is not complete, nothing is changed.
-    #[inline(always)]
-    pub fn take_words<G: GlobalHandler<C> + Drop>(
-        &mut self,
-        around: &Surroundings<'_, G>,
-        reading: &mut Reading,
-        header: (u32, u16),
-        args: &mut Args<ObjectId>,
-    ) -> Option<(ObjectId, bool, Option<ObjectId>)>
-        requires live { Live self.old.part }
-        requires header { IsHeader self.old.part.link header }
-        ensures handles { MatchOption result
-            ((self.new ≡ self.old) × (reading.new ≡ reading.old) × (args.new ≡ args.old))
-            (λ w. HandlesMessage T.sends T.receives (around_of G.views around.now) self.old reading.old
-            (Acts (Request w.0 header.1 args.new.items w.1 w.2)) self.new reading.new) }
-        ensures inline { INLINE_ARGS ≤ args.old.capacity → INLINE_ARGS ≤ args.new.capacity }
-        ensures times { self.new.times ≡ self.old.times }
-        ensures numbered { IsNumbered (Some self.old) → IsNumbered (Some self.new) }
-    {
-        let waiting = waiting_request(around.protocol, &self.objects.map, &self.socket, header);
-        let Some(request) = waiting else {
-            return None;
-        };
-        let desc = request.0;
-        let put = put_arguments(
-            around.client,
-            request.1.version,
-            desc,
-            &mut self.objects,
-            request.2,
-            args,
-        );
-        let Some(created) = put else {
-            return None;
-        };
-        let sender = ObjectId::from_parts(
-            header.0,
-            request.1.serial,
-            around.client,
-            request.1.interface,
-        );
-        let is_destructor = desc.is_destructor;
-        self.action.open_request(sender, is_destructor, &created);
-        self.socket.skip_message();
-        reading.read = reading.read.saturating_add(1);
-        Some((sender, is_destructor, created))
-    }
-
-    /// Does the same as `take_words`, and puts what is handed out into `found`. Returns whether something is.
-    #[inline(always)]
-    pub fn find_words<G: GlobalHandler<C> + Drop>(
-        &mut self,
-        around: &Surroundings<'_, G>,
-        reading: &mut Reading,
-        header: (u32, u16),
-        found: &mut Found,
-        args: &mut Args<ObjectId>,
-    ) -> bool
-        requires live { Live self.old.part }
-        requires header { IsHeader self.old.part.link header }
-        requires inline { INLINE_ARGS ≤ args.old.capacity }
-        ensures handles { MatchBool result
-            (HandlesMessage T.sends T.receives (around_of G.views around.now) self.old reading.old (Acts (found_with found.new args.new.items)) self.new reading.new)
-            ((self.new ≡ self.old) × (reading.new ≡ reading.old)) }
-        ensures inline { INLINE_ARGS ≤ args.new.capacity }
-        ensures times { self.new.times ≡ self.old.times }
-        ensures numbered { IsNumbered (Some self.old) → IsNumbered (Some self.new) }
-    {
-        match self.take_words(around, reading, header, args) {
-            Some(request) => {
-                *found = Found::Request(request.0, header.1, request.1, request.2);
-                true
-            }
-            None => false,
-        }
     }
 }

@@ -1,4 +1,4 @@
-use Rattle.std.proofs.Common.{arith}
+use Rattle.std.proofs.Common.{[], arith, refl}
 use Rattle.std.proofs.lemmas.Grind.{common_steps}
 use Rattle.wl_server.proofs.client.Client.take_note.Goals as goal
 
@@ -28,3 +28,20 @@ returns-clause-numbered g c = grind (arith, common_steps)
 
 pub returns-clause-all_numbered : goal.returns-clause-all_numbered
 returns-clause-all_numbered g c = grind (arith, common_steps)
+
+pub returns-in-Some-clause-taken : goal.returns-in-Some-clause-taken
+returns-in-Some-clause-taken g c = grind (arith, common_steps)
+
+pub returns-then-waits-clause-taken : goal.returns-then-waits-clause-taken
+returns-then-waits-clause-taken g c = grind (arith, common_steps)
+
+pub returns-clause-taken : goal.returns-clause-taken
+returns-clause-taken g c = grind (arith, common_steps)
+
+pub returns-in-Some-clause-first : goal.returns-in-Some-clause-first
+returns-in-Some-clause-first g c =
+    rw (← c.self.view_is) (record { made = c.pop.ensures.first.0; waiting = []; of_made = c.pop.ensures.first.1; of_waiting = refl })
+
+pub returns-clause-first : goal.returns-clause-first
+returns-clause-first g c =
+    rw (← c.self.view_is) (record { made = c.pop.ensures.first.0; waiting = []; of_made = c.pop.ensures.first.1; of_waiting = refl })

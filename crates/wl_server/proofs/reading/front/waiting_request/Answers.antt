@@ -1,7 +1,7 @@
 use Rattle.std.proofs.Common.{refl}
 use Rattle.wl_wire.specs.Table.{message_row}
 use Rattle.wl_server.proofs.Readings.Words.{request_waits}
-use Rattle.wl_server.proofs.reading.words.waiting_request.Goals as goal
+use Rattle.wl_server.proofs.reading.front.waiting_request.Goals as goal
 
 pub returns : goal.returns
 returns g c =
