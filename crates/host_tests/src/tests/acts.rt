@@ -207,14 +207,8 @@ const NO_NOTE: FlatNote = FlatNote {
     interface_length: 0,
 };
 
-/// The next note: what happened, to which client, and to which object.
-fn next_note(log: &mut String, server: &mut Server) -> Result<Status, Fail> {
-    let mut note = NO_NOTE;
-    let mut text = [0u8; 256];
-    let status = server.next_note(&mut note, &mut text);
-    if status != Status::Ok {
-        return Ok(status);
-    }
+/// A note: what happened, to which client, and to which object.
+fn tell_note(log: &mut String, note: &FlatNote) -> Result<(), Fail> {
     tell_numbers(
         log,
         &[
@@ -225,11 +219,21 @@ fn next_note(log: &mut String, server: &mut Server) -> Result<Status, Fail> {
         ],
     )?;
     tell_client(log, note.client)?;
-    tell_objects(log, &[("object", note.object)])?;
+    tell_objects(log, &[("object", note.object)])
+}
+
+/// The next note.
+fn next_note(log: &mut String, server: &mut Server) -> Result<Status, Fail> {
+    let mut note = NO_NOTE;
+    let mut text = [0u8; 256];
+    let status = server.next_note(&mut note, &mut text);
+    if status == Status::Ok {
+        tell_note(log, &note)?;
+    }
     Ok(status)
 }
 
-/// Does an act about globals and clients.
+/// Does an act about globals, and clients that are new.
 fn on_clients(log: &mut String, server: &mut Server, act: &Act) -> Result<Status, Fail> {
     match act {
         Act::Global(user_data, groups, hidden) => {
@@ -247,9 +251,6 @@ fn on_clients(log: &mut String, server: &mut Server, act: &Act) -> Result<Status
             Ok(Status::Ok)
         }
         Act::AddNote => told_table(log, server.add_interfaces(&NOTE)),
-        Act::SendFailed(id) => Ok(server.send_failed(id)),
-        Act::Kill(id) => Ok(server.kill_client(id)),
-        Act::Cleanup => Ok(server.cleanup()),
         _ => Err(Fail::new("no act of this kind")),
     }
 }
@@ -294,6 +295,9 @@ impl Session for Server {
             Act::Writable => told(log, self.next_writable(), tell_client),
             Act::ToSend(id) => to_send(log, self, id),
             Act::Sent(id, count) => Ok(self.sent(id, *count)),
+            Act::SendFailed(id) => Ok(self.send_failed(id)),
+            Act::Kill(id) => Ok(self.kill_client(id)),
+            Act::Cleanup => Ok(self.cleanup()),
             Act::Gone => next_gone(log, self),
             Act::Note => next_note(log, self),
             Act::Dropped => told(log, self.next_dropped(), tell_descriptor),

@@ -1,4 +1,16 @@
-//! Arguments of messages, which can stand in a constant.
+//! Ids of objects and arguments of messages, which can stand in a constant.
+
+/// The id of an object: its client, its interface and its number, and its serial.
+macro_rules! id {
+    ($client:expr, $interface:literal @ $number:literal, serial $serial:literal) => {
+        wl_host::FlatObjectId {
+            serial: $serial,
+            client: $client,
+            interface: $interface,
+            number: $number,
+        }
+    };
+}
 
 /// An argument. A number of 24.8 bits, `fixed`, is the value times 256. A string or an array is where it begins in the bytes
 /// beside the arguments, and how many bytes it has. The new id of a request, `new`, is null.
@@ -25,3 +37,4 @@ macro_rules! arg {
 }
 
 pub(crate) use arg;
+pub(crate) use id;

@@ -1,35 +1,20 @@
 //! Whole conversations with a client's session. The bytes are those of the wire format.
 
-use crate::tests::args::arg;
+use crate::tests::args::{arg, id};
 use crate::tests::client_acts::{Act, DISPLAY, NEW, REGISTRY};
-use crate::tests::session::{Run, rows_tell};
+use crate::tests::session::{Run, run_tells};
 use crate::tests::told::NOBODY;
 use std::test::Fail;
 use wl_host::{Client, FlatArgument, FlatObjectId};
 
 /// The `pad` that is bound after the registry was made.
-const BOUND: FlatObjectId = FlatObjectId {
-    serial: 2,
-    client: NOBODY,
-    interface: 4,
-    number: 3,
-};
+const BOUND: FlatObjectId = id!(NOBODY, 4 @ 3, serial 2);
 
 /// The callback of a sync that is the first request.
-const CALLBACK: FlatObjectId = FlatObjectId {
-    serial: 1,
-    client: NOBODY,
-    interface: 3,
-    number: 2,
-};
+const CALLBACK: FlatObjectId = id!(NOBODY, 3 @ 2, serial 1);
 
 /// The `pad` that the bound one makes.
-const MADE: FlatObjectId = FlatObjectId {
-    serial: 3,
-    client: NOBODY,
-    interface: 4,
-    number: 4,
-};
+const MADE: FlatObjectId = id!(NOBODY, 4 @ 4, serial 3);
 
 /// The arguments of `pad.push`: 5 and the descriptor 42.
 const PUSH: &[FlatArgument] = &[arg!(int: 5), arg!(fd: 42)];
@@ -282,5 +267,8 @@ static ROWS: [Run<Act>; 4] = [
 /// Each conversation tells what it has to.
 #[test]
 fn rows(rt: HostRuntime) -> Result<(), Fail> {
-    rows_tell::<Client>(&rt, &ROWS)
+    for run in &ROWS {
+        run_tells::<Client>(&rt, run, None, false)?;
+    }
+    Ok(())
 }

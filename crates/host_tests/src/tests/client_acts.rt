@@ -1,6 +1,6 @@
 //! What a test does with a client's session, and what it tells.
 
-use crate::tests::args::arg;
+use crate::tests::args::{arg, id};
 use crate::tests::rows::{NOTE, TABLE};
 use crate::tests::session::Session;
 use crate::tests::told::{
@@ -57,20 +57,10 @@ pub enum Act {
 }
 
 /// The display.
-pub const DISPLAY: FlatObjectId = FlatObjectId {
-    serial: 0,
-    client: NOBODY,
-    interface: 1,
-    number: 1,
-};
+pub const DISPLAY: FlatObjectId = id!(NOBODY, 1 @ 1, serial 0);
 
 /// The registry, the first object that is made.
-pub const REGISTRY: FlatObjectId = FlatObjectId {
-    serial: 1,
-    client: NOBODY,
-    interface: 2,
-    number: 2,
-};
+pub const REGISTRY: FlatObjectId = id!(NOBODY, 2 @ 2, serial 1);
 
 /// The arguments of a request that makes an object, and has no others.
 pub const NEW: &[FlatArgument] = &[arg!(new)];
@@ -156,11 +146,11 @@ fn request(
 fn send(
     log: &mut String,
     client: &mut Client,
-    request: &FlatRequest,
+    request: FlatRequest,
     args: &[FlatArgument],
     bytes: &[u8],
 ) -> Result<Status, Fail> {
-    let answer = client.send_request(request, args, bytes);
+    let answer = client.send_request(&request, args, bytes);
     told(log, answer, tell_id)
 }
 
@@ -204,18 +194,8 @@ fn to_send(log: &mut String, client: &Client, room: usize) -> Result<Status, Fai
     Ok(status)
 }
 
-/// The session's error. No room is lent for its text.
-fn last_error(log: &mut String, client: &Client) -> Result<Status, Fail> {
-    let mut error = FlatError {
-        kind: 9,
-        status: 0,
-        number: 0,
-        code: 0,
-        object_number: 0,
-        message_length: 0,
-        interface_length: 0,
-    };
-    let status = client.last_error(&mut error, &mut []);
+/// What an error says.
+fn tell_error(log: &mut String, error: &FlatError) -> Result<(), Fail> {
     let number = error.number;
     write!(log, " number {number}")?;
     tell_numbers(
@@ -228,7 +208,22 @@ fn last_error(log: &mut String, client: &Client) -> Result<Status, Fail> {
             ("message", u64::from(error.message_length)),
             ("interface", u64::from(error.interface_length)),
         ],
-    )?;
+    )
+}
+
+/// The session's error. No room is lent for its text.
+fn last_error(log: &mut String, client: &Client) -> Result<Status, Fail> {
+    let mut error = FlatError {
+        kind: 9,
+        status: 0,
+        number: 0,
+        code: 0,
+        object_number: 0,
+        message_length: 0,
+        interface_length: 0,
+    };
+    let status = client.last_error(&mut error, &mut []);
+    tell_error(log, &error)?;
     Ok(status)
 }
 
@@ -255,25 +250,22 @@ fn next_note(log: &mut String, client: &mut Client) -> Result<Status, Fail> {
     Ok(status)
 }
 
-/// Does an act about requests and what is to be sent.
+/// Does an act about requests.
 fn on_requests(log: &mut String, client: &mut Client, act: &Act) -> Result<Status, Fail> {
     match act {
         Act::Send(sender, opcode, user_data, args, bytes) => {
             let request = request(*sender, *opcode, *user_data, None);
-            send(log, client, &request, args, bytes)
+            send(log, client, request, args, bytes)
         }
         Act::BindPad(user_data) => {
             let request = request(REGISTRY, 0, Some(*user_data), Some((4, 2)));
-            send(log, client, &request, BIND_PAD, b"pad")
+            send(log, client, request, BIND_PAD, b"pad")
         }
         Act::BindNote(user_data) => {
             let request = request(REGISTRY, 0, Some(*user_data), Some((5, 1)));
-            send(log, client, &request, BIND_NOTE, b"note")
+            send(log, client, request, BIND_NOTE, b"note")
         }
         Act::AddNote => told_table(log, client.add_interfaces(&NOTE)),
-        Act::Flush => Ok(client.flush()),
-        Act::ToSend(room) => to_send(log, client, *room),
-        Act::Sent(count) => Ok(client.sent(*count)),
         _ => Err(Fail::new("no act of this kind")),
     }
 }
@@ -308,6 +300,9 @@ impl Session for Client {
                 received(*log.allocator(), self, words, descriptors)
             }
             Act::End => Ok(self.received_end()),
+            Act::Flush => Ok(self.flush()),
+            Act::ToSend(room) => to_send(log, self, *room),
+            Act::Sent(count) => Ok(self.sent(*count)),
             Act::Next(room, most) => next(log, self, *room, *most),
             Act::Finish => Ok(self.finish_event()),
             Act::FinishWith(user_data) => {

@@ -1,7 +1,7 @@
 //! The runs for which each allocation is refused in turn.
 
 use crate::tests::acts::{Act, FIRST, SECOND};
-use crate::tests::args::arg;
+use crate::tests::args::{arg, id};
 use crate::tests::client_acts::{Act as ClientAct, DISPLAY, NEW};
 use crate::tests::server::TELL;
 use crate::tests::session::{End, Run, run_tells};
@@ -16,20 +16,10 @@ const THIRD: FlatClientId = FlatClientId { serial: 3, slot: 0 };
 const SECOND_GLOBAL: FlatGlobalId = FlatGlobalId { serial: 2, name: 2 };
 
 /// The `pad` that is made for the first client.
-const PAD: FlatObjectId = FlatObjectId {
-    serial: 1,
-    client: FIRST,
-    interface: 4,
-    number: 0xff000000,
-};
+const PAD: FlatObjectId = id!(FIRST, 4 @ 0xff000000, serial 1);
 
 /// The `note` that is made for it after that.
-const NOTE: FlatObjectId = FlatObjectId {
-    serial: 2,
-    client: FIRST,
-    interface: 5,
-    number: 0xff000001,
-};
+const NOTE: FlatObjectId = id!(FIRST, 5 @ 0xff000001, serial 2);
 
 /// The arguments of `note.said`: "hey", "abc", 1.5, the descriptor 99, and 7.
 const SAID: &[FlatArgument] = &[
@@ -157,28 +147,13 @@ WouldBlock
 };
 
 /// The `note` that a client binds after its registry.
-const BOUND_NOTE: FlatObjectId = FlatObjectId {
-    serial: 2,
-    client: NOBODY,
-    interface: 5,
-    number: 3,
-};
+const BOUND_NOTE: FlatObjectId = id!(NOBODY, 5 @ 3, serial 2);
 
 /// The `pad` that it binds after that.
-const BOUND_PAD: FlatObjectId = FlatObjectId {
-    serial: 3,
-    client: NOBODY,
-    interface: 4,
-    number: 4,
-};
+const BOUND_PAD: FlatObjectId = id!(NOBODY, 4 @ 4, serial 3);
 
 /// The `pad` that the `note` makes.
-const MADE_PAD: FlatObjectId = FlatObjectId {
-    serial: 4,
-    client: NOBODY,
-    interface: 4,
-    number: 5,
-};
+const MADE_PAD: FlatObjectId = id!(NOBODY, 4 @ 5, serial 4);
 
 /// The arguments of `note.tell`: -5, 2³² - 1, 1.5, "hey", no string, the `pad`, no object, a new object, "abc", and the descriptor
 /// 42.

@@ -1,8 +1,8 @@
 //! Whole conversations with a server's session. The bytes are those of the wire format.
 
 use crate::tests::acts::{Act, FIRST, GIVEN, MOVED, SECOND};
-use crate::tests::args::arg;
-use crate::tests::session::{Entry, Run, rows_tell};
+use crate::tests::args::{arg, id};
+use crate::tests::session::{Entry, Run, run_tells};
 use std::test::Fail;
 use wl_host::{FlatClientId, FlatGlobalId, FlatObjectId, Server};
 
@@ -35,20 +35,10 @@ const BIND_FIRST: &[u32] = &[2, 0x001c0000, 1, 4, 0x00646170, 2, 3];
 const BIND_FIFTH: &[u32] = &[2, 0x001c0000, 5, 4, 0x00646170, 2, 4];
 
 /// The `pad` that the first client binds.
-const FIRST_PAD: FlatObjectId = FlatObjectId {
-    serial: 2,
-    client: FIRST,
-    interface: 4,
-    number: 3,
-};
+const FIRST_PAD: FlatObjectId = id!(FIRST, 4 @ 3, serial 2);
 
 /// The same with a serial that it does not have.
-const STALE_PAD: FlatObjectId = FlatObjectId {
-    serial: 9,
-    client: FIRST,
-    interface: 4,
-    number: 3,
-};
+const STALE_PAD: FlatObjectId = id!(FIRST, 4 @ 3, serial 9);
 
 /// The first global.
 const FIRST_GLOBAL: FlatGlobalId = FlatGlobalId { serial: 1, name: 1 };
@@ -90,8 +80,8 @@ const BOUND: &[Entry<Act>] = &[
     (Act::FinishBind(FIRST, 33), "Ok kept true"),
 ];
 
-/// The conversations, each of a new session.
-static ROWS: [Run<Act>; 10] = [
+/// Conversations about requests and events, each of a new session.
+static REQUESTS: [Run<Act>; 4] = [
     // A client binds a global, and a descriptor comes with a request and goes with an event.
     Run {
         name: "descriptors come and go",
@@ -147,33 +137,43 @@ static ROWS: [Run<Act>; 10] = [
             (Act::Finish(FIRST), "NotOpen"),
         ],
     },
-    // What is left of a client that is killed comes out once: its last bytes with their descriptor, those that were not read, and
-    // the notes. Another client may have its slot by then.
+    // A request with each kind of argument is handed out in flat structs, with its strings and its array behind each other in the
+    // bytes. Where it finds no room for one of its arguments, or for one of its bytes, the lent memory is as it was, and it is
+    // handed out later.
     Run {
-        name: "killed clients leave nothing",
-        first: BOUND,
+        name: "arguments are read",
+        first: &[],
         entries: &[
-            (Act::Received(FIRST, PUSH, &[42]), "Ok"),
-            (Act::Send(FIRST_PAD, GIVEN, &[arg!(fd: 99)], &[]), "Ok"),
-            (Act::Kill(FIRST), "Ok"),
-            (Act::Next(FIRST, 2, 0), "Closed"),
-            (Act::Gone, "WouldBlock"),
-            (Act::Cleanup, "Ok"),
-            (Act::Insert(8, 1, &[]), "Ok client 0:2"),
-            (Act::Dropped, "Ok descriptor 42"),
+            (Act::AddNote, "Ok"),
+            (Act::Insert(7, 1, &[]), "Ok client 0:1"),
+            (Act::Create(FIRST, 4, 33), "Ok 4@4278190080"),
+            (Act::Create(FIRST, 5, 55), "Ok 5@4278190081"),
+            (Act::Received(FIRST, TELL, &[42]), "Ok"),
             (
-                Act::Gone,
-                "Ok client 0:1 data 7 [ 02 00 00 00 00 00 18 00 01 00 00 00 04 00 00 00 70 61 64 00 02 00 00 00 03 00 00 00 01 00 08 00 ] \
-                 [ 99 ]",
+                Act::Next(FIRST, 9, 6),
+                "TooSmall arguments 10 bytes 6 (0: 0) (0: 0) (0: 0) (0: 0) (0: 0) \
+                 (0: 0) (0: 0) (0: 0) (0: 0) [ 00 00 00 00 00 00 ]",
             ),
-            (Act::Gone, "WouldBlock"),
-            (Act::Dropped, "WouldBlock"),
-            (Act::Next(FIRST, 2, 0), "InvalidId"),
-            (Act::Note, "Ok kind 1 client 0:1"),
-            (Act::Note, "Ok kind 2 client 0:1"),
-            (Act::Note, "Ok kind 3 data 33 client 0:1 object 4@3"),
-            (Act::Note, "Ok kind 1 client 0:2"),
-            (Act::Note, "WouldBlock"),
+            (
+                Act::Next(FIRST, 10, 5),
+                "TooSmall arguments 10 bytes 6 (0: 0) (0: 0) (0: 0) (0: 0) (0: 0) \
+                 (0: 0) (0: 0) (0: 0) (0: 0) (0: 0) [ 00 00 00 00 00 ]",
+            ),
+            (
+                Act::Next(FIRST, 11, 8),
+                "Ok kind 1 data 55 version 1 arguments 10 bytes 6 by 5@4278190081 made 4@2 (0: -5) (1: -1) (2: 384) (3: 0 length 3) \
+                 (8: 0) (4: 0 data 33 object 4@4278190080) (4: 0) (5: 0 object 4@2) (6: 0 at 3 length 3) (7: 42) (0: 0) \
+                 [ 68 65 79 01 02 03 00 00 ]",
+            ),
+            (Act::FinishWith(FIRST, 44), "Ok kept true"),
+            (Act::Received(FIRST, TELL_MORE, &[43]), "Ok"),
+            (
+                Act::Next(FIRST, 10, 1),
+                "Ok kind 1 data 55 version 1 arguments 10 bytes 1 by 5@4278190081 made 4@3 (0: 7) (1: 8) (2: -256) (3: 0) \
+                 (3: 0 length 1) (4: 0 data 44 object 4@2) (4: 0 data 33 object 4@4278190080) (5: 0 object 4@3) (6: 0 at 1) (7: 43) [ 78 ]",
+            ),
+            (Act::FinishWith(FIRST, 45), "Ok kept true"),
+            (Act::Next(FIRST, 10, 1), "WouldBlock"),
         ],
     },
     // An event that is refused leaves its descriptor with the host. A destructor ends its object with a note, and tells the client
@@ -203,6 +203,48 @@ static ROWS: [Run<Act>; 10] = [
             (Act::Dropped, "WouldBlock"),
         ],
     },
+];
+
+/// Each of them tells what it has to.
+#[test]
+fn requests(rt: HostRuntime) -> Result<(), Fail> {
+    for run in &REQUESTS {
+        run_tells::<Server>(&rt, run, None, false)?;
+    }
+    Ok(())
+}
+
+/// Conversations about the ends of clients.
+static ENDS: [Run<Act>; 4] = [
+    // What is left of a client that is killed comes out once: its last bytes with their descriptor, those that were not read, and
+    // the notes. Another client may have its slot by then.
+    Run {
+        name: "killed clients leave nothing",
+        first: BOUND,
+        entries: &[
+            (Act::Received(FIRST, PUSH, &[42]), "Ok"),
+            (Act::Send(FIRST_PAD, GIVEN, &[arg!(fd: 99)], &[]), "Ok"),
+            (Act::Kill(FIRST), "Ok"),
+            (Act::Next(FIRST, 2, 0), "Closed"),
+            (Act::Gone, "WouldBlock"),
+            (Act::Cleanup, "Ok"),
+            (Act::Insert(8, 1, &[]), "Ok client 0:2"),
+            (Act::Dropped, "Ok descriptor 42"),
+            (
+                Act::Gone,
+                "Ok client 0:1 data 7 [ 02 00 00 00 00 00 18 00 01 00 00 00 04 00 00 00 70 61 64 00 02 00 00 00 03 00 00 00 01 00 08 00 ] \
+                 [ 99 ]",
+            ),
+            (Act::Gone, "WouldBlock"),
+            (Act::Dropped, "WouldBlock"),
+            (Act::Next(FIRST, 2, 0), "InvalidId"),
+            (Act::Note, "Ok kind 1 client 0:1"),
+            (Act::Note, "Ok kind 2 client 0:1"),
+            (Act::Note, "Ok kind 3 data 33 client 0:1 object 4@3"),
+            (Act::Note, "Ok kind 1 client 0:2"),
+            (Act::Note, "WouldBlock"),
+        ],
+    },
     // A client that broke the rules of the program is told so in its last bytes, and a note says so. A message with a zero byte is
     // refused.
     Run {
@@ -221,24 +263,6 @@ static ROWS: [Run<Act>; 10] = [
             ),
             (Act::Note, "Ok kind 1 client 0:1"),
             (Act::Note, "Ok kind 2 error 1 code 9 client 0:1"),
-        ],
-    },
-    // A client that has no group in common with a global is not told of it.
-    Run {
-        name: "groups hide globals",
-        first: &[],
-        entries: &[
-            (Act::Global(70, 1, &[]), "Ok global 1:1"),
-            (Act::Insert(7, 2, &[]), "Ok client 0:1"),
-            (Act::Received(FIRST, REGISTRY, &[]), "Ok"),
-            (Act::Next(FIRST, 0, 0), "WouldBlock"),
-            (Act::Writable, "WouldBlock"),
-            (Act::Global(71, 6, &[]), "Ok global 2:2"),
-            (Act::Writable, "Ok client 0:1"),
-            (
-                Act::ToSend(FIRST),
-                "Ok [ 02 00 00 00 00 00 18 00 02 00 00 00 04 00 00 00 70 61 64 00 02 00 00 00 ] [ ]",
-            ),
         ],
     },
     // A client to which a send failed is killed at once. What it sent before is not read, and its descriptors come back. What was to
@@ -282,43 +306,35 @@ static ROWS: [Run<Act>; 10] = [
             (Act::Dropped, "Ok descriptor 5"),
         ],
     },
-    // A request with each kind of argument is handed out in flat structs, with its strings and its array behind each other in the
-    // bytes. Where it finds no room for one of its arguments, or for one of its bytes, the lent memory is as it was, and it is
-    // handed out later.
+];
+
+/// Each of them tells what it has to.
+#[test]
+fn ends(rt: HostRuntime) -> Result<(), Fail> {
+    for run in &ENDS {
+        run_tells::<Server>(&rt, run, None, false)?;
+    }
+    Ok(())
+}
+
+/// Conversations about globals that are hidden.
+static GLOBALS: [Run<Act>; 2] = [
+    // A client that has no group in common with a global is not told of it.
     Run {
-        name: "arguments are read",
+        name: "groups hide globals",
         first: &[],
         entries: &[
-            (Act::AddNote, "Ok"),
-            (Act::Insert(7, 1, &[]), "Ok client 0:1"),
-            (Act::Create(FIRST, 4, 33), "Ok 4@4278190080"),
-            (Act::Create(FIRST, 5, 55), "Ok 5@4278190081"),
-            (Act::Received(FIRST, TELL, &[42]), "Ok"),
+            (Act::Global(70, 1, &[]), "Ok global 1:1"),
+            (Act::Insert(7, 2, &[]), "Ok client 0:1"),
+            (Act::Received(FIRST, REGISTRY, &[]), "Ok"),
+            (Act::Next(FIRST, 0, 0), "WouldBlock"),
+            (Act::Writable, "WouldBlock"),
+            (Act::Global(71, 6, &[]), "Ok global 2:2"),
+            (Act::Writable, "Ok client 0:1"),
             (
-                Act::Next(FIRST, 9, 6),
-                "TooSmall arguments 10 bytes 6 (0: 0) (0: 0) (0: 0) (0: 0) (0: 0) \
-                 (0: 0) (0: 0) (0: 0) (0: 0) [ 00 00 00 00 00 00 ]",
+                Act::ToSend(FIRST),
+                "Ok [ 02 00 00 00 00 00 18 00 02 00 00 00 04 00 00 00 70 61 64 00 02 00 00 00 ] [ ]",
             ),
-            (
-                Act::Next(FIRST, 10, 5),
-                "TooSmall arguments 10 bytes 6 (0: 0) (0: 0) (0: 0) (0: 0) (0: 0) \
-                 (0: 0) (0: 0) (0: 0) (0: 0) (0: 0) [ 00 00 00 00 00 ]",
-            ),
-            (
-                Act::Next(FIRST, 11, 8),
-                "Ok kind 1 data 55 version 1 arguments 10 bytes 6 by 5@4278190081 made 4@2 (0: -5) (1: -1) (2: 384) (3: 0 length 3) \
-                 (8: 0) (4: 0 data 33 object 4@4278190080) (4: 0) (5: 0 object 4@2) (6: 0 at 3 length 3) (7: 42) (0: 0) \
-                 [ 68 65 79 01 02 03 00 00 ]",
-            ),
-            (Act::FinishWith(FIRST, 44), "Ok kept true"),
-            (Act::Received(FIRST, TELL_MORE, &[43]), "Ok"),
-            (
-                Act::Next(FIRST, 10, 1),
-                "Ok kind 1 data 55 version 1 arguments 10 bytes 1 by 5@4278190081 made 4@3 (0: 7) (1: 8) (2: -256) (3: 0) \
-                 (3: 0 length 1) (4: 0 data 44 object 4@2) (4: 0 data 33 object 4@4278190080) (5: 0 object 4@3) (6: 0 at 1) (7: 43) [ 78 ]",
-            ),
-            (Act::FinishWith(FIRST, 45), "Ok kept true"),
-            (Act::Next(FIRST, 10, 1), "WouldBlock"),
         ],
     },
     // A global is hidden from a client by the list of whichever comes later. The client is not told of it, does not get its name,
@@ -398,8 +414,11 @@ static ROWS: [Run<Act>; 10] = [
     },
 ];
 
-/// Each conversation tells what it has to.
+/// Each of them tells what it has to.
 #[test]
-fn rows(rt: HostRuntime) -> Result<(), Fail> {
-    rows_tell::<Server>(&rt, &ROWS)
+fn globals(rt: HostRuntime) -> Result<(), Fail> {
+    for run in &GLOBALS {
+        run_tells::<Server>(&rt, run, None, false)?;
+    }
+    Ok(())
 }

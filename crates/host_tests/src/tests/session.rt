@@ -68,7 +68,23 @@ fn begun<S: Session>(alloc: Global, again: bool) -> Result<S, Fail> {
     }
 }
 
-/// Does the act, and answers what it tells. If it was refused memory, it may be done once more.
+/// Does the act, and tells what came of it except the status, which it returns. If it was refused memory, it may be done once
+/// more.
+fn done<S: Session>(
+    text: &mut String,
+    session: &mut S,
+    act: &S::Act,
+    again: bool,
+) -> Result<Status, Fail> {
+    let status = session.act(text, act)?;
+    if !again || status != Status::OutOfMemory {
+        return Ok(status);
+    }
+    text.clear();
+    session.act(text, act)
+}
+
+/// Does the act, and answers its status and what it tells.
 fn line<S: Session>(
     alloc: Global,
     session: &mut S,
@@ -76,11 +92,7 @@ fn line<S: Session>(
     again: bool,
 ) -> Result<String, Fail> {
     let mut text = String::new(alloc);
-    let mut status = session.act(&mut text, act)?;
-    if again && status == Status::OutOfMemory {
-        text.clear();
-        status = session.act(&mut text, act)?;
-    }
+    let status = done(&mut text, session, act, again)?;
     let text = text.as_str();
     Ok(format!(in alloc; "{status:?}{text}")?)
 }
@@ -100,20 +112,19 @@ fn play<S: Session>(
     Ok(())
 }
 
-/// Does the acts, and answers what they tell, each in a line.
-fn lines<S: Session>(
-    alloc: Global,
+/// Does the acts, and tells each in a line.
+fn tell_lines<S: Session>(
+    log: &mut String,
     session: &mut S,
     acts: &[S::Act],
     again: bool,
-) -> Result<String, Fail> {
-    let mut log = String::new(alloc);
+) -> Result<(), Fail> {
     for act in acts {
-        let line = line(alloc, session, act, again)?;
-        log.push_str(line.as_str())?;
-        log.push('\n')?;
+        let line = line(*log.allocator(), session, act, again)?;
+        let line = line.as_str();
+        writeln!(log, "{line}")?;
     }
-    Ok(log)
+    Ok(())
 }
 
 /// Does what comes last, and fails if it tells anything else. Where memory was refused there are two things that it may tell.
@@ -125,7 +136,8 @@ fn play_end<S: Session>(
     again: bool,
 ) -> Result<(), Fail> {
     let was_refused = session.was_refused();
-    let log = lines(rt.alloc(), session, end.acts, again)?;
+    let mut log = String::new(rt.alloc());
+    tell_lines(&mut log, session, end.acts, again)?;
     let text = if was_refused && log.as_str() == end.refused {
         end.refused
     } else {
@@ -162,15 +174,4 @@ pub fn run_tells<S: Session + Drop>(
     let answer = play_all(rt, &mut session, run, end, again);
     drop(session);
     answer
-}
-
-/// Fails if one of the runs, each of a new session, is not as it has to be.
-pub fn rows_tell<S: Session + Drop>(
-    rt: &(impl Eprint + AllocGlobal),
-    runs: &[Run<S::Act>],
-) -> Result<(), Fail> {
-    for run in runs {
-        run_tells::<S>(rt, run, None, false)?;
-    }
-    Ok(())
 }

@@ -1,5 +1,6 @@
 //! How what a session hands out is told in words. Both sessions share this.
 
+use crate::tests::args::{arg, id};
 use std::alloc::Global;
 use std::test::Fail;
 use wl_host::{Counts, FlatArgument, FlatClientId, FlatObjectId, Status, TableFault, fault};
@@ -8,22 +9,10 @@ use wl_host::{Counts, FlatArgument, FlatClientId, FlatObjectId, Status, TableFau
 pub const NOBODY: FlatClientId = FlatClientId { serial: 0, slot: 0 };
 
 /// The null object.
-pub const NULL: FlatObjectId = FlatObjectId {
-    serial: 0,
-    client: NOBODY,
-    interface: 0,
-    number: 0,
-};
+pub const NULL: FlatObjectId = id!(NOBODY, 0 @ 0, serial 0);
 
 /// The argument with nothing in it.
-pub const NO_ARGUMENT: FlatArgument = FlatArgument {
-    kind: 0,
-    value: 0,
-    at: 0,
-    length: 0,
-    object: NULL,
-    data: 0,
-};
+pub const NO_ARGUMENT: FlatArgument = arg!(int: 0);
 
 /// Nothing to be sent.
 pub const NOTHING: Counts = Counts {
@@ -59,10 +48,8 @@ pub fn tell_objects(log: &mut String, objects: &[(&str, FlatObjectId)]) -> Resul
     Ok(())
 }
 
-/// An argument: the number of its kind, its value, and what else it has.
-fn tell_argument(log: &mut String, arg: &FlatArgument) -> Result<(), Fail> {
-    let (number, value) = (arg.kind, arg.value);
-    write!(log, " ({number}: {value}")?;
+/// What an argument has beside its kind and its value.
+fn tell_beside(log: &mut String, arg: &FlatArgument) -> Result<(), Fail> {
     tell_numbers(
         log,
         &[
@@ -71,7 +58,14 @@ fn tell_argument(log: &mut String, arg: &FlatArgument) -> Result<(), Fail> {
             ("data", arg.data),
         ],
     )?;
-    tell_objects(log, &[("object", arg.object)])?;
+    tell_objects(log, &[("object", arg.object)])
+}
+
+/// An argument: the number of its kind, its value, and what else it has.
+fn tell_argument(log: &mut String, arg: &FlatArgument) -> Result<(), Fail> {
+    let (number, value) = (arg.kind, arg.value);
+    write!(log, " ({number}: {value}")?;
+    tell_beside(log, arg)?;
     log.push(')')?;
     Ok(())
 }
@@ -97,6 +91,16 @@ pub fn tell_lent(log: &mut String, arguments: &[FlatArgument], bytes: &[u8]) -> 
     tell_bytes(log, bytes)
 }
 
+/// The descriptors, in square brackets.
+fn tell_descriptors(log: &mut String, descriptors: &[i32]) -> Result<(), Fail> {
+    write!(log, " [")?;
+    for descriptor in descriptors {
+        write!(log, " {descriptor}")?;
+    }
+    write!(log, " ]")?;
+    Ok(())
+}
+
 /// What is to be sent: so many of the bytes and the descriptors.
 pub fn tell_counts(
     log: &mut String,
@@ -109,12 +113,7 @@ pub fn tell_counts(
         .get(..counts.descriptors as usize)
         .unwrap_or(&[]);
     tell_bytes(log, bytes)?;
-    write!(log, " [")?;
-    for descriptor in descriptors {
-        write!(log, " {descriptor}")?;
-    }
-    write!(log, " ]")?;
-    Ok(())
+    tell_descriptors(log, descriptors)
 }
 
 /// A descriptor.

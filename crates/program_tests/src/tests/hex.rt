@@ -1,19 +1,17 @@
 //! Bytes as text.
 
-use std::alloc::Global;
 use std::test::Fail;
-use test_kit::log::tells;
+use test_kit::log::is_text;
 use wl_bench::hex::hex_line;
 
-/// The line of these bytes.
-fn line(alloc: Global, bytes: &[u8]) -> Result<String, Fail> {
-    Ok(hex_line(alloc, bytes)?)
-}
+/// Bytes, and their line.
+static ROWS: [(&[u8], &str); 3] = [(&[], ""), (&[0x0a], "0a"), (&[0, 255, 16], "00 ff 10")];
 
 #[test]
 fn hex_of_bytes(rt: HostRuntime) -> Result<(), Fail> {
-    let alloc = rt.alloc();
-    tells(&rt, line(alloc, &[]), "")?;
-    tells(&rt, line(alloc, &[0x0a]), "0a")?;
-    tells(&rt, line(alloc, &[0, 255, 16]), "00 ff 10")
+    for (bytes, text) in &ROWS {
+        let line = hex_line(rt.alloc(), bytes)?;
+        is_text(&rt, line.as_str(), text)?;
+    }
+    Ok(())
 }

@@ -1,5 +1,4 @@
 //! The tests of the relay: lines of what came from both sides, and what is written for them.
 
-mod broken;
 mod drill;
 mod lines;

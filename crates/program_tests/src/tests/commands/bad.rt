@@ -1,32 +1,14 @@
 //! Lines that are no commands.
 
-use super::{Row, printed, rows_print};
+use crate::tests::lines::{Call, Group, group_prints};
 use std::test::Fail;
-use test_kit::log::row_tells;
-
-/// Fails if one of the lines is a command, after a line that inserts a client.
-fn are_bad(rt: &(impl Eprint + AllocGlobal), bad: &Bad) -> Result<(), Fail> {
-    for line in bad.lines {
-        let mut input = Vec::from_slice(rt.alloc(), b"client\n")?;
-        input.extend_from_slice(line)?;
-        let output = printed(rt.alloc(), input.as_slice());
-        row_tells(rt, bad.name, output, "client 0 1\nline 2: bad command\n")?;
-    }
-    Ok(())
-}
 
 /// Lines that are no commands, by what is wrong with them.
-struct Bad {
-    name: &'static str,
-    lines: &'static [&'static [u8]],
-}
-
-/// All of them.
-static BAD: [Bad; 10] = [
+static BAD: [Group; 10] = [
     // A line with an empty word.
-    Bad {
+    Group {
         name: "empty words",
-        lines: &[
+        inputs: &[
             b"global  3",
             b"read  0",
             b"read 0 ",
@@ -46,9 +28,9 @@ static BAD: [Bad; 10] = [
         ],
     },
     // A line with a word that is no command, or in the wrong number.
-    Bad {
+    Group {
         name: "unknown words",
-        lines: &[
+        inputs: &[
             b"Client",
             b"quit",
             b"client 0",
@@ -80,14 +62,14 @@ static BAD: [Bad; 10] = [
         ],
     },
     // A line with a command of another program.
-    Bad {
+    Group {
         name: "other programs",
-        lines: &[b"record", b"replay", b"1 client"],
+        inputs: &[b"record", b"replay", b"1 client"],
     },
     // A line with a number, or numbers, written otherwise.
-    Bad {
+    Group {
         name: "numbers",
-        lines: &[
+        inputs: &[
             b"read 00",
             b"read +0",
             b"read -0",
@@ -118,9 +100,9 @@ static BAD: [Bad; 10] = [
         ],
     },
     // A line with bytes that are written otherwise.
-    Bad {
+    Group {
         name: "bytes",
-        lines: &[
+        inputs: &[
             b"in 0 0 -",
             b"in 0 000 -",
             b"in 0 0A -",
@@ -134,9 +116,9 @@ static BAD: [Bad; 10] = [
         ],
     },
     // A line with tokens that are written otherwise.
-    Bad {
+    Group {
         name: "tokens",
-        lines: &[
+        inputs: &[
             b"in 0 - 2147483648",
             b"in 0 - 4294967296",
             b"in 0 - -1",
@@ -151,9 +133,9 @@ static BAD: [Bad; 10] = [
         ],
     },
     // A line with a fault that is none.
-    Bad {
+    Group {
         name: "faults",
-        lines: &[
+        inputs: &[
             b"fail 0 in OutOfMemory",
             b"fail 0 in pipe",
             b"fail 0 in Other(5)",
@@ -165,9 +147,9 @@ static BAD: [Bad; 10] = [
         ],
     },
     // A line with another character.
-    Bad {
+    Group {
         name: "characters",
-        lines: &[
+        inputs: &[
             b"client\r",
             b"client\t",
             b"\tclient",
@@ -182,9 +164,9 @@ static BAD: [Bad; 10] = [
         ],
     },
     // A line with no text.
-    Bad {
+    Group {
         name: "no text",
-        lines: &[
+        inputs: &[
             b"global \xff 3",
             b"client\xff",
             b"\xc3",
@@ -192,9 +174,9 @@ static BAD: [Bad; 10] = [
         ],
     },
     // A line with a slot at which no client was inserted.
-    Bad {
+    Group {
         name: "slots",
-        lines: &[
+        inputs: &[
             b"read 1",
             b"finish 1",
             b"kill 1",
@@ -211,31 +193,12 @@ static BAD: [Bad; 10] = [
     },
 ];
 
+/// None of the lines is a command, after a line that inserts a client.
 #[test]
 fn bad_lines(rt: HostRuntime) -> Result<(), Fail> {
-    for bad in &BAD {
-        are_bad(&rt, bad)?;
+    let text = "client 0 1\n[Err(BadLine(2))]";
+    for group in &BAD {
+        group_prints(&rt, &Call::Run, b"client\n", group, text)?;
     }
     Ok(())
-}
-
-/// Lines, and what is printed of them.
-static ROWS: [Row; 2] = [
-    // The commands before the first bad line are carried out, and none after it; empty lines count.
-    Row {
-        name: "first bad line: no client yet",
-        lines: b"read 0\nclient\n",
-        printed: "line 1: bad command\n",
-    },
-    Row {
-        name: "first bad line: empty lines count",
-        lines: b"\nclient\n\nread 0\nquit\nclient\n",
-        printed: "client 0 1\nfault WouldBlock\nline 5: bad command\n",
-    },
-];
-
-/// Of each input is printed what has to be.
-#[test]
-fn rows(rt: HostRuntime) -> Result<(), Fail> {
-    rows_print(&rt, &ROWS)
 }

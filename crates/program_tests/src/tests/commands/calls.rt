@@ -1,12 +1,71 @@
-//! What single commands answer.
+//! What commands answer.
 
-use super::{Row, rows_print};
+use crate::tests::lines::{Call, Row, rows_print};
 use std::test::Fail;
-use wl_bench::commands::run_commands;
-use wl_bench::stop::Stop;
+
+/// A client gets its registry, binds a global, and destroys what it bound.
+pub const BOUND_OBJECT: &[u8] = b"client
+in 0 0100000001000c0002000000 -
+read 0
+global quad 3
+flush
+in 0 0200000000002000010000000500000071756164000000000300000003000000 -
+read 0
+read 0
+finish 0
+in 0 0300000002000800 -
+read 0
+finish 0
+flush
+notes
+";
+
+/// What is printed of it.
+pub const BOUND_OBJECT_PRINTED: &str = "client 0 1
+ok
+fault WouldBlock
+global 1 1
+ok
+out 0 0200000000001c000100000005000000717561640000000003000000 -
+ok
+bind 1 3
+fault ActionOpen
+ok
+ok
+request 3 2 [] destructor=1 created=-
+ok
+ok
+out 0 0100000001000c0003000000 -
+initialized 0
+destroyed 0 3 9
+";
+
+/// A transport takes a byte, then would block, and then fails to receive.
+pub const FAULTS: &[u8] = b"client
+accept 0 1
+fail 0 out WouldBlock
+in 0 0100000000000c0002000000 -
+read 0
+flush
+flush
+fail 0 in Other
+read 0
+notes
+";
 
 /// Lines, and what is printed of them.
-static ROWS: [Row; 9] = [
+static ROWS: [Row; 14] = [
+    // The commands before the first bad line are carried out, and none after it; empty lines count.
+    Row {
+        name: "first bad line: no client yet",
+        lines: b"read 0\nclient\n",
+        printed: "[Err(BadLine(1))]",
+    },
+    Row {
+        name: "first bad line: empty lines count",
+        lines: b"\nclient\n\nread 0\nquit\nclient\n",
+        printed: "client 0 1\nfault WouldBlock\n[Err(BadLine(5))]",
+    },
     // Globals are named by their interface, and disabled and removed by their own name, if one has it.
     Row {
         name: "globals by name",
@@ -223,20 +282,55 @@ ok
 out 0 000c00000000000100000001000c0002000000 -
 ",
     },
+    // Conversations. The crate `conversations` has more of them.
+    Row {
+        name: "bound object",
+        lines: BOUND_OBJECT,
+        printed: BOUND_OBJECT_PRINTED,
+    },
+    Row {
+        name: "faults of a transport",
+        lines: FAULTS,
+        printed: "client 0 1
+ok
+ok
+ok
+fault WouldBlock
+ok
+out 0 02 -
+ok
+out 0 00000000000c00000000000100000001000c0002000000 -
+ok
+fault Other
+initialized 0
+disconnected 0 closed
+",
+    },
+    // A client gets its registry, binds a global, and destroys what it bound, in one dispatch. What was bound has the number of
+    // the line.
+    Row {
+        name: "bound object, by a dispatch",
+        lines: b"client
+global quad 3
+in 0 0100000001000c000200000002000000000020000100000005000000717561640000000003000000030000000300000002000800 -
+dispatch 0
+flush
+notes
+",
+        printed: "client 0 1
+global 1 1
+ok
+dispatched 3
+ok
+out 0 0200000000001c0001000000050000007175616400000000030000000100000001000c0003000000 -
+initialized 0
+destroyed 0 3 4
+",
+    },
 ];
 
 /// Of each input is printed what has to be.
 #[test]
 fn rows(rt: HostRuntime) -> Result<(), Fail> {
-    rows_print(&rt, &ROWS)
-}
-
-/// An output that fails ends the run.
-#[test]
-fn output_that_fails(rt: HostRuntime) {
-    let mut room = [0; 5];
-    let mut output = room.as_mut_slice();
-    let mut input = b"client\n".as_slice();
-    let end = run_commands(rt.alloc(), &mut input, &mut output);
-    assert_eq!(rt; end, Err(Stop::Failed));
+    rows_print(&rt, &Call::Run, &ROWS)
 }

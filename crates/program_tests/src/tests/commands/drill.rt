@@ -1,48 +1,11 @@
 //! Each allocation is refused in turn: runs of lines that judge themselves, whichever it is.
 
-use std::alloc::Global;
+use super::calls::{BOUND_OBJECT, BOUND_OBJECT_PRINTED};
 use std::process::Abort;
 use wl_bench::commands::run_commands;
 use wl_bench::stop::Stop;
 
-/// A client gets its registry, binds a global, and destroys what it bound.
-const LINES: &[u8] = b"client
-in 0 0100000001000c0002000000 -
-read 0
-global quad 3
-flush
-in 0 0200000000002000010000000500000071756164000000000300000003000000 -
-read 0
-read 0
-finish 0
-in 0 0300000002000800 -
-read 0
-finish 0
-flush
-notes
-";
-
-/// What is printed of them.
-const PRINTED: &[u8] = b"client 0 1
-ok
-fault WouldBlock
-global 1 1
-ok
-out 0 0200000000001c000100000005000000717561640000000003000000 -
-ok
-bind 1 3
-fault ActionOpen
-ok
-ok
-request 3 2 [] destructor=1 created=-
-ok
-ok
-out 0 0100000001000c0003000000 -
-initialized 0
-destroyed 0 3 9
-";
-
-/// The same in one dispatch, with a second client that breaks the protocol.
+/// A client binds a global and destroys what it bound, in one dispatch, with a second client that breaks the protocol.
 const DISPATCHED_LINES: &[u8] = b"client
 client
 global quad 3
@@ -68,12 +31,6 @@ destroyed 0 3 6
 disconnected 1 error 0 1 wl_display 496e76616c6964206e65775f69643a20352e
 ";
 
-/// Runs the lines, and answers how that ended.
-fn run(alloc: Global, lines: &[u8], output: &mut Vec<u8>) -> Result<(), Stop> {
-    let mut input = lines;
-    run_commands(alloc, &mut input, output)
-}
-
 /// Fails if the run did not end as failed, after whole answers.
 fn failed_between_answers(rt: &impl Abort, stop: Stop, printed: &[u8], output: &[u8]) {
     assert_eq!(rt; stop, Stop::Failed);
@@ -81,31 +38,24 @@ fn failed_between_answers(rt: &impl Abort, stop: Stop, printed: &[u8], output: &
     assert!(rt; matches!(output.last(), None | Some(b'\n')));
 }
 
-/// Runs the lines. If memory is refused the run ends as failed, after whole answers, and is made again.
-fn run_to_the_end(
-    rt: &(impl Abort + AllocGlobal),
-    lines: &[u8],
-    printed: &[u8],
-    output: &mut Vec<u8>,
-) {
-    if let Err(stop) = run(rt.alloc(), lines, output) {
+/// Runs the lines. If memory is refused the run ends as failed, after whole answers, and is made again. Fails if something else is
+/// printed.
+fn drill(rt: &(impl Abort + AllocGlobal), lines: &[u8], printed: &[u8]) {
+    let mut input = lines;
+    let mut output = Vec::new(rt.alloc());
+    if let Err(stop) = run_commands(rt.alloc(), &mut input, &mut output) {
         failed_between_answers(rt, stop, printed, output.as_slice());
         output.clear();
-        assert!(rt; run(rt.alloc(), lines, output).is_ok());
+        let mut again = lines;
+        assert!(rt; run_commands(rt.alloc(), &mut again, &mut output).is_ok());
     }
-}
-
-/// Fails if something else is printed, memory refused or not.
-fn drill(rt: &(impl Abort + AllocGlobal), lines: &[u8], printed: &[u8]) {
-    let mut output = Vec::new(rt.alloc());
-    run_to_the_end(rt, lines, printed, &mut output);
     assert_eq!(rt; output.as_slice(), printed);
 }
 
 /// A client's conversation, line by line.
 #[test]
 fn drill_of_lines(rt: HostRuntime) {
-    drill(&rt, LINES, PRINTED);
+    drill(&rt, BOUND_OBJECT, BOUND_OBJECT_PRINTED.as_bytes());
 }
 
 /// Two clients in one dispatch.

@@ -1,23 +1,9 @@
 //! Each allocation is refused in turn: runs of the program that judge themselves, whichever it is.
 
-use super::arguments;
-use std::alloc::Global;
+use super::process::{Words, arguments};
 use std::process::Abort;
-use std::test::Fail;
 use wl_bench::stop::Stop;
 use wl_bench_program::{Ended, perform};
-
-/// Runs the program, and answers how it ended. What was printed and told is added to these.
-fn run(
-    alloc: Global,
-    word: &str,
-    input: &[u8],
-    printed: &mut Vec<u8>,
-    told: &mut Vec<u8>,
-) -> Result<Ended, Fail> {
-    let args = arguments(alloc, &["wl-bench", word])?;
-    Ok(perform(alloc, Ok(args), input, printed, told))
-}
 
 /// Fails if the program ended neither with its work done nor as failed; `failed` is told if that was written.
 fn ended_well(rt: &impl Abort, ended: Ended, told: &[u8]) {
@@ -35,36 +21,43 @@ fn ended_well(rt: &impl Abort, ended: Ended, told: &[u8]) {
 }
 
 /// Runs the program, and once more if that failed. Fails if something else was printed by then than this.
-fn drill(
-    rt: &(impl Abort + AllocGlobal),
-    word: &str,
-    input: &[u8],
-    expected: &[u8],
-) -> Result<(), Fail> {
-    let mut printed = Vec::new(rt.alloc());
-    let mut told = Vec::new(rt.alloc());
-    let ended = run(rt.alloc(), word, input, &mut printed, &mut told)?;
+fn drill(rt: &(impl Abort + AllocGlobal), words: Words, input: &[u8], expected: &[u8]) {
+    let alloc = rt.alloc();
+    let mut printed = Vec::new(alloc);
+    let mut told = Vec::new(alloc);
+    let args = arguments(alloc, words);
+    let ended = perform(alloc, args, input, &mut printed, &mut told);
     ended_well(rt, ended, told.as_slice());
     if ended.end.is_err() {
         assert!(rt; expected.starts_with(printed.as_slice()));
         printed.clear();
-        let again = run(rt.alloc(), word, input, &mut printed, &mut told)?;
+        let args = arguments(alloc, words);
+        let again = perform(alloc, args, input, &mut printed, &mut told);
         assert!(rt; again.end.is_ok());
     }
     assert_eq!(rt; printed.as_slice(), expected);
-    Ok(())
 }
 
 /// Each command of the program.
 #[test]
-fn drill_of_commands(rt: HostRuntime) -> Result<(), Fail> {
+fn drill_of_commands(rt: HostRuntime) {
     drill(
         &rt,
-        "sync",
+        &[b"wl-bench", b"sync"],
         b"",
         b"01 00 00 00 00 00 0c 00 02 00 00 00\n02 00 00 00 00 00 0c 00 00 00 00 00 01 00 00 00 01 00 0c 00 02 00 00 00\n",
-    )?;
-    drill(&rt, "run", b"client\n", b"client 0 1\n")?;
-    drill(&rt, "record", b"client\n", b"1 client\n> client 0 1\n")?;
-    drill(&rt, "replay", b"1 client\n> client 0 1\n", b"same 1\n")
+    );
+    drill(&rt, &[b"wl-bench", b"run"], b"client\n", b"client 0 1\n");
+    drill(
+        &rt,
+        &[b"wl-bench", b"record"],
+        b"client\n",
+        b"1 client\n> client 0 1\n",
+    );
+    drill(
+        &rt,
+        &[b"wl-bench", b"replay"],
+        b"1 client\n> client 0 1\n",
+        b"same 1\n",
+    );
 }

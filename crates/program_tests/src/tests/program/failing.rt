@@ -1,128 +1,124 @@
 //! Readers and writers that fail.
 
-use super::arguments;
-use std::io;
-use std::io::Write;
-use std::process::Abort;
+use super::process::{Words, arguments};
+use crate::tests::log;
+use crate::tests::streams::{Fault, Sink, Source};
+use std::alloc::Global;
 use std::test::Fail;
-use wl_bench::stop::Stop;
-use wl_bench_program::{Ended, perform};
+use test_kit::log::row_tells;
+use wl_bench_program::perform;
 
-/// A reader of these bytes, after which each read fails.
-#[derive(Drop)]
-struct Source<'a>(&'a [u8]);
-
-impl io::Read for Source<'_> {
-    fn read(&mut self, buf: &mut [u8]) -> io::Result<usize> {
-        if self.0.is_empty() {
-            return Err(io::Error::from(io::ErrorKind::ConnectionReset));
-        }
-        self.0.read(buf)
-    }
+/// A run of the program in which something fails.
+struct Row {
+    name: &'static str,
+    args: Words,
+    input: &'static [u8],
+    fault: Fault,
+    /// What was printed, told and answered, and how the run ended; and whether standard error took what was told.
+    told: &'static str,
 }
 
-/// A writer that takes nothing.
-#[derive(Drop)]
-struct Closed;
-
-impl Write for Closed {
-    fn write(&mut self, _buf: &[u8]) -> io::Result<usize> {
-        Err(io::Error::from(io::ErrorKind::BrokenPipe))
-    }
-
-    fn flush(&mut self) -> io::Result<()> {
-        Err(io::Error::from(io::ErrorKind::BrokenPipe))
-    }
-}
-
-/// A writer that takes all that is written, and cannot be flushed.
-#[derive(Drop)]
-struct Unflushed(Vec<u8>);
-
-impl Write for Unflushed {
-    fn write(&mut self, buf: &[u8]) -> io::Result<usize> {
-        self.0.write(buf)
-    }
-
-    fn flush(&mut self) -> io::Result<()> {
-        Err(io::Error::from(io::ErrorKind::BrokenPipe))
-    }
-}
-
-/// Fails if the program did not end as failed, or something else was told on standard error.
-fn has_failed(rt: &impl Abort, ended: Ended, told: &[u8]) {
-    assert_eq!(rt; ended.end, Err(Stop::Failed));
-    assert_eq!(rt; ended.status, 3);
-    assert!(rt; ended.told.is_ok());
-    assert_eq!(rt; told, b"failed\n".as_slice());
-}
-
-/// Fails if the program does not end as failed for this word, over this input and a writer that fails.
-fn fails_over<W: Write>(
-    rt: &(impl Abort + AllocGlobal),
-    word: &str,
-    input: &[u8],
-    writer: &mut W,
-) -> Result<(), Fail> {
-    let args = arguments(rt.alloc(), &["wl-bench", word])?;
-    let mut told = Vec::new(rt.alloc());
-    let ended = perform(rt.alloc(), Ok(args), input, writer, &mut told);
-    has_failed(rt, ended, told.as_slice());
-    Ok(())
-}
-
-/// If the input fails, what came before was answered; a line that is cut is not carried out.
-#[test]
-fn input_that_fails(rt: HostRuntime) -> Result<(), Fail> {
-    let alloc = rt.alloc();
-    let args = arguments(alloc, &["wl-bench", "run"])?;
-    let mut printed = Vec::new(alloc);
-    let mut told = Vec::new(alloc);
-    let input = Source(b"client\nclie");
-    let ended = perform(alloc, Ok(args), input, &mut printed, &mut told);
-    has_failed(&rt, ended, told.as_slice());
-    assert_eq!(rt; printed.as_slice(), b"client 0 1\n".as_slice());
-    Ok(())
-}
-
-/// Words, and an input of which something is printed.
-static PRINTING: [(&str, &[u8]); 4] = [
-    ("sync", b""),
-    ("run", b"client\n"),
-    ("record", b"client\n"),
-    ("replay", b"1 client\n> client 0 1\n"),
+/// The runs.
+static ROWS: [Row; 10] = [
+    // If the input fails, what came before was answered; a line that is cut is not carried out.
+    Row {
+        name: "run: the input breaks",
+        args: &[b"wl-bench", b"run"],
+        input: b"client\nclie",
+        fault: Fault::Input,
+        told: "client 0 1\n[failed\n] 3, Err(Failed), told: true",
+    },
+    // If the output takes nothing, the program ends as failed.
+    Row {
+        name: "sync: no write",
+        args: &[b"wl-bench", b"sync"],
+        input: b"",
+        fault: Fault::Write(0),
+        told: "[failed\n] 3, Err(Failed), told: true",
+    },
+    Row {
+        name: "run: no write",
+        args: &[b"wl-bench", b"run"],
+        input: b"client\n",
+        fault: Fault::Write(0),
+        told: "[failed\n] 3, Err(Failed), told: true",
+    },
+    Row {
+        name: "record: no write",
+        args: &[b"wl-bench", b"record"],
+        input: b"client\n",
+        fault: Fault::Write(0),
+        told: "[failed\n] 3, Err(Failed), told: true",
+    },
+    Row {
+        name: "replay: no write",
+        args: &[b"wl-bench", b"replay"],
+        input: b"1 client\n> client 0 1\n",
+        fault: Fault::Write(0),
+        told: "[failed\n] 3, Err(Failed), told: true",
+    },
+    // So it does if the output cannot be flushed.
+    Row {
+        name: "sync: no flush",
+        args: &[b"wl-bench", b"sync"],
+        input: b"",
+        fault: Fault::Flush(0),
+        told: "01 00 00 00 00 00 0c 00 02 00 00 00
+02 00 00 00 00 00 0c 00 00 00 00 00 01 00 00 00 01 00 0c 00 02 00 00 00
+[failed\n] 3, Err(Failed), told: true",
+    },
+    Row {
+        name: "run: no flush",
+        args: &[b"wl-bench", b"run"],
+        input: b"client\n",
+        fault: Fault::Flush(0),
+        told: "client 0 1\n[failed\n] 3, Err(Failed), told: true",
+    },
+    Row {
+        name: "record: no flush",
+        args: &[b"wl-bench", b"record"],
+        input: b"client\n",
+        fault: Fault::Flush(0),
+        told: "1 client\n> client 0 1\n[failed\n] 3, Err(Failed), told: true",
+    },
+    Row {
+        name: "replay: no flush",
+        args: &[b"wl-bench", b"replay"],
+        input: b"1 client\n> client 0 1\n",
+        fault: Fault::Flush(0),
+        told: "same 1\n[failed\n] 3, Err(Failed), told: true",
+    },
+    // If standard error takes nothing, that changes nothing else.
+    Row {
+        name: "run: standard error takes nothing",
+        args: &[b"wl-bench", b"run"],
+        input: b"client\nquit\n",
+        fault: Fault::Errors,
+        told: "client 0 1\n[] 2, Err(BadLine(2)), told: false",
+    },
 ];
 
-/// If the output takes nothing, the program ends as failed.
-#[test]
-fn output_that_fails(rt: HostRuntime) -> Result<(), Fail> {
-    for (word, input) in &PRINTING {
-        fails_over(&rt, word, input, &mut Closed)?;
-    }
-    Ok(())
+/// What comes of the run.
+fn performed(alloc: Global, row: &Row) -> Result<String, Fail> {
+    let input = Source {
+        bytes: row.input,
+        breaks: matches!(row.fault, Fault::Input),
+    };
+    let mut printed = Sink::output(alloc, &row.fault);
+    let mut told = Sink::errors(alloc, &row.fault);
+    let args = arguments(alloc, row.args);
+    let ended = perform(alloc, args, input, &mut printed, &mut told);
+    let mut text = log(printed.taken, told.taken, ended.status)?;
+    let (end, is_told) = (ended.end, ended.told.is_ok());
+    write!(text, ", {end:?}, told: {is_told}")?;
+    Ok(text)
 }
 
-/// So it does if the output cannot be flushed.
+/// Each run comes to what it has to.
 #[test]
-fn flush_that_fails(rt: HostRuntime) -> Result<(), Fail> {
-    for (word, input) in &PRINTING {
-        let mut writer = Unflushed(Vec::new(rt.alloc()));
-        fails_over(&rt, word, input, &mut writer)?;
+fn rows(rt: HostRuntime) -> Result<(), Fail> {
+    for row in &ROWS {
+        row_tells(&rt, row.name, performed(rt.alloc(), row), row.told)?;
     }
-    Ok(())
-}
-
-/// If standard error takes nothing, that changes nothing else.
-#[test]
-fn errors_that_cannot_be_told(rt: HostRuntime) -> Result<(), Fail> {
-    let alloc = rt.alloc();
-    let args = arguments(alloc, &["wl-bench", "run"])?;
-    let mut printed = Vec::new(alloc);
-    let input = b"client\nquit\n".as_slice();
-    let ended = perform(alloc, Ok(args), input, &mut printed, &mut Closed);
-    assert_eq!(rt; ended.end, Err(Stop::BadLine(2)));
-    assert_eq!(rt; ended.status, 2);
-    assert!(rt; ended.told.is_err());
-    assert_eq!(rt; printed.as_slice(), b"client 0 1\n".as_slice());
     Ok(())
 }

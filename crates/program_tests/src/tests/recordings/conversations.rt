@@ -1,6 +1,7 @@
 //! Conversations, recorded and replayed.
 
-use super::{recorded, replayed};
+use crate::tests::commands::calls::{BOUND_OBJECT, FAULTS};
+use crate::tests::lines::{Call, printed};
 use std::test::Fail;
 use test_kit::log::row_tells;
 
@@ -17,21 +18,7 @@ static CONVERSATIONS: [Conversation; 3] = [
     // A client gets its registry, binds a global, and destroys what it bound.
     Conversation {
         name: "bound object",
-        lines: b"client
-in 0 0100000001000c0002000000 -
-read 0
-global quad 3
-flush
-in 0 0200000000002000010000000500000071756164000000000300000003000000 -
-read 0
-read 0
-finish 0
-in 0 0300000002000800 -
-read 0
-finish 0
-flush
-notes
-",
+        lines: BOUND_OBJECT,
         recording: "1 client
 > client 0 1
 2 in 0 0100000001000c0002000000 -
@@ -64,7 +51,7 @@ notes
 > initialized 0
 > destroyed 0 3 9
 ",
-        verdict: "same 14\n",
+        verdict: "same 14\n[Ok(Same(14))]",
     },
     // A client breaks the protocol: its note names an interface.
     Conversation {
@@ -85,22 +72,12 @@ notes
 > initialized 0
 > disconnected 0 error 0 1 wl_display 496e76616c6964206e65775f69643a20352e
 ",
-        verdict: "same 4\n",
+        verdict: "same 4\n[Ok(Same(4))]",
     },
     // A transport that takes a byte, then would block, and then fails to receive.
     Conversation {
         name: "faults of a transport",
-        lines: b"client
-accept 0 1
-fail 0 out WouldBlock
-in 0 0100000000000c0002000000 -
-read 0
-flush
-flush
-fail 0 in Other
-read 0
-notes
-",
+        lines: FAULTS,
         recording: "1 client
 > client 0 1
 2 accept 0 1
@@ -125,21 +102,18 @@ notes
 > initialized 0
 > disconnected 0 closed
 ",
-        verdict: "same 10\n",
+        verdict: "same 10\n[Ok(Same(10))]",
     },
 ];
 
+/// Each conversation has its record, which comes to its verdict.
 #[test]
 fn recorded_and_replayed(rt: HostRuntime) -> Result<(), Fail> {
-    let alloc = rt.alloc();
     for row in &CONVERSATIONS {
-        row_tells(&rt, row.name, recorded(alloc, row.lines), row.recording)?;
-        row_tells(
-            &rt,
-            row.name,
-            replayed(alloc, row.recording.as_bytes()),
-            row.verdict,
-        )?;
+        let recorded = printed(rt.alloc(), &Call::Record, row.lines);
+        row_tells(&rt, row.name, recorded, row.recording)?;
+        let verdict = printed(rt.alloc(), &Call::Replay, row.recording.as_bytes());
+        row_tells(&rt, row.name, verdict, row.verdict)?;
     }
     Ok(())
 }

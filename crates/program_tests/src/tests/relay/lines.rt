@@ -1,8 +1,9 @@
 //! Lines of what came from both sides, and what is written for them.
 
+use crate::tests::{log, text_of};
 use std::alloc::Global;
 use std::test::Fail;
-use test_kit::log::{row_tells, tells};
+use test_kit::log::{is_text, row_tells, tells};
 use wl_relay::{ArriveError, Stop, run, status, tell};
 
 /// A row of a table of inputs: what a failing one is named, its lines, and what is written for them: the output, in brackets what
@@ -14,15 +15,12 @@ pub struct Row {
 }
 
 /// What was written, what is told of the end, and the status.
-fn log(alloc: Global, output: Vec<u8>, ended: Result<(), Stop>) -> Result<String, Fail> {
+fn ended_log(alloc: Global, output: Vec<u8>, ended: Result<(), Stop>) -> Result<String, Fail> {
     let mut told = Vec::new(alloc);
     if tell(ended, &mut told).is_err() {
         return Err(Fail::new("there is memory"));
     }
-    let mut text = String::from_utf8(output)?;
-    let told = String::from_utf8(told)?;
-    write!(text, "[{told}] {}", status(ended))?;
-    Ok(text)
+    log(output, told, status(ended))
 }
 
 /// What is written for these lines.
@@ -30,7 +28,7 @@ fn written(alloc: Global, lines: &str) -> Result<String, Fail> {
     let mut reader = lines.as_bytes();
     let mut output = Vec::new(alloc);
     let ended = run(alloc, &mut reader, &mut output);
-    log(alloc, output, ended)
+    ended_log(alloc, output, ended)
 }
 
 /// Inputs, and what is written for them. The interfaces of their tables are `seat`, whose device makes offers, which take a
@@ -188,71 +186,54 @@ pub static ROWS: [Row; 30] = [
     },
 ];
 
-/// The text of too many tokens. The program writes it for no input: there it is a bad line.
-fn text_of_too_many(alloc: Global) -> Result<String, Fail> {
-    let error = ArriveError::TooManyTokens;
-    Ok(format!(in alloc; "{error}")?)
-}
-
 /// Each input has its output.
 #[test]
 fn rows(rt: HostRuntime) -> Result<(), Fail> {
     for row in &ROWS {
         row_tells(&rt, row.name, written(rt.alloc(), row.lines), row.written)?;
     }
-    tells(
-        &rt,
-        text_of_too_many(rt.alloc()),
-        "more than 28 tokens came",
-    )
-}
-
-/// How many lines of 4096 zeros fill the buffer of a side.
-const FILLING: usize = 16;
-
-/// Appends a zero byte as the lines have it, so many times.
-fn push_zeros(text: &mut String, count: usize) -> Result<(), Fail> {
-    for _ in 0..count {
-        text.push_str("00")?;
-    }
     Ok(())
 }
 
-/// The lines of a client whose request lacks its descriptor, and that goes on until the buffer is full.
-fn lines_that_fill(alloc: Global) -> Result<String, Fail> {
-    let mut lines = String::from_str(
-        alloc,
-        "interface seat 1\nrequest take 1 - fd\nrelay\nclient 0100000001000c000200000002000000000020000100000005000000736561740000000001000000030000000300000000000800 -\n",
-    )?;
-    for _ in 0..FILLING {
-        lines.push_str("client ")?;
-        push_zeros(&mut lines, 4096)?;
-        lines.push_str(" -\n")?;
-    }
-    Ok(lines)
+/// The text of too many tokens. The program writes it for no input: there it is a bad line.
+#[test]
+fn text_of_too_many(rt: HostRuntime) -> Result<(), Fail> {
+    let error = ArriveError::TooManyTokens;
+    let text = format!(in rt.alloc(); "{error}")?;
+    is_text(&rt, text.as_str(), "more than 28 tokens came")
 }
 
-/// What is written for them: the last line says that the side is no longer read, and all goes on.
-fn written_when_full(alloc: Global) -> Result<String, Fail> {
-    let mut text = String::from_str(
-        alloc,
-        "log  -> wl_display@1.get_registry(new id wl_registry@2)\nlog  -> wl_registry@2.bind(1, \"seat\", 1, new id [unknown]@3)\nto server 0100000001000c00020000000200000000002000010000000500000073656174000000000100000003000000 -\nok\n",
-    )?;
-    for _ in 1..FILLING {
-        text.push_str("ok\n")?;
-    }
-    text.push_str(
-        "log [client is no longer read: missing-descriptor]\nto server 0300000000000800",
-    )?;
-    push_zeros(&mut text, 4096 * FILLING)?;
-    text.push_str(" -\nok\n[] 0")?;
-    Ok(text)
-}
-
-/// A side whose first message lacks a descriptor is given up once the buffer is full, and not before.
+/// A side whose first message lacks a descriptor is given up once the buffer is full, and not before. 16 lines of 4096 zeros fill
+/// it. The last line that is written says that the side is no longer read, and all goes on.
 #[test]
 fn full_buffer(rt: HostRuntime) -> Result<(), Fail> {
     let alloc = rt.alloc();
-    let (lines, text) = (lines_that_fill(alloc)?, written_when_full(alloc)?);
+    let line = text_of(alloc, &[("client ", 1), ("00", 4096), (" -\n", 1)])?;
+    let lines = text_of(
+        alloc,
+        &[
+            (
+                "interface seat 1\nrequest take 1 - fd\nrelay\nclient 0100000001000c000200000002000000000020000100000005000000736561740000000001000000030000000300000000000800 -\n",
+                1,
+            ),
+            (line.as_str(), 16),
+        ],
+    )?;
+    let text = text_of(
+        alloc,
+        &[
+            (
+                "log  -> wl_display@1.get_registry(new id wl_registry@2)\nlog  -> wl_registry@2.bind(1, \"seat\", 1, new id [unknown]@3)\nto server 0100000001000c00020000000200000000002000010000000500000073656174000000000100000003000000 -\nok\n",
+                1,
+            ),
+            ("ok\n", 15),
+            (
+                "log [client is no longer read: missing-descriptor]\nto server 0300000000000800",
+                1,
+            ),
+            ("00", 4096 * 16),
+            (" -\nok\n[] 0", 1),
+        ],
+    )?;
     tells(&rt, written(alloc, lines.as_str()), text.as_str())
 }
