@@ -166,8 +166,8 @@ fn judge_whole(
     entries: &[Entry],
     replies: &[Reply<Memory, u32>],
 ) -> Result<(), Fail> {
-    assert!(rt; !server.memory_refused(), "{}", run.name);
-    assert_eq!(rt; replies.len(), entries.len(), "{}", run.name);
+    let is_whole = !server.memory_refused() && replies.len() == entries.len();
+    assert!(rt; is_whole, "{}", run.name);
     judge_all(rt, run, entries, replies)
 }
 
@@ -287,25 +287,18 @@ fn ends_of(notes: &[Note<u32>], id: ClientId) -> (usize, usize) {
     (ends, closed)
 }
 
-/// Fails if a reading of the killed client answers anything but `Pipe`.
-fn reads_nothing(rt: &impl Abort, server: &mut Server, run: &Run, who: Who) {
+/// Whether a reading of the killed client answers `Pipe`.
+fn reads_nothing(server: &mut Server, who: Who) -> bool {
     let answer = server.next_action(&who.id());
-    let is_pipe = matches!(answer, Err(ActionError::Io(IoFault::Pipe)));
-    assert!(rt; is_pipe, "{}: {} reads", run.name, who.0);
+    matches!(answer, Err(ActionError::Io(IoFault::Pipe)))
 }
 
-/// Fails if the killed client is not noted once, as closed; if it was sent an error, that is noted.
-fn is_noted_once(rt: &impl Abort, server: &mut Server, run: &Run, who: Who, notes: &[Note<u32>]) {
+/// Whether the killed client is noted once, as closed; if it was sent an error, that is noted.
+fn is_noted_once(server: &mut Server, run: &Run, who: Who, notes: &[Note<u32>]) -> bool {
     let _ = server.flush(Some(who.id()));
     let has_error = run.error_bytes > 0 && bytes_sent(server, who) == run.error_bytes;
     let closed = if has_error { 0 } else { 1 };
-    assert_eq!(rt;
-        ends_of(notes, who.id()),
-        (1, closed),
-        "{}: {}",
-        run.name,
-        who.0
-    );
+    ends_of(notes, who.id()) == (1, closed)
 }
 
 /// The notes, for which there is memory now.
@@ -316,7 +309,7 @@ fn noted(server: &mut Server) -> Result<Vec<Note<u32>>, Fail> {
     }
 }
 
-/// Fails if the killed clients are not noted once each.
+/// Fails if a killed client reads something, or is not noted once.
 fn each_is_noted_once(
     rt: &impl Abort,
     server: &mut Server,
@@ -325,24 +318,21 @@ fn each_is_noted_once(
 ) -> Result<(), Fail> {
     let notes = noted(server)?;
     for who in killed {
-        reads_nothing(rt, server, run, *who);
-        is_noted_once(rt, server, run, *who, notes.as_slice());
+        let is_right = reads_nothing(server, *who)
+            && is_noted_once(server, run, *who, notes.as_slice());
+        assert!(rt; is_right, "{}: {}", run.name, who.0);
     }
     Ok(())
 }
 
-/// Fails if the ends of the killed clients are noted again.
-fn none_is_noted_again(
-    rt: &impl Abort,
-    server: &mut Server,
-    run: &Run,
-    killed: &[Who],
-) -> Result<(), Fail> {
-    let notes = noted(server)?;
+/// Whether the ends of the killed clients are not among the notes.
+fn are_not_noted(killed: &[Who], notes: &[Note<u32>]) -> bool {
     for who in killed {
-        assert_eq!(rt; ends_of(notes.as_slice(), who.id()), (0, 0), "{}", run.name);
+        if ends_of(notes, who.id()).0 > 0 {
+            return false;
+        }
     }
-    Ok(())
+    true
 }
 
 /// Fails if the killed clients are not noted once each, and then no more.
@@ -353,8 +343,14 @@ fn are_noted_once(
     killed: &[Who],
 ) -> Result<(), Fail> {
     each_is_noted_once(rt, server, run, killed)?;
-    assert!(rt; server.cleanup().is_ok(), "{}", run.name);
-    none_is_noted_again(rt, server, run, killed)
+    let is_clean = server.cleanup().is_ok();
+    let notes = noted(server)?;
+    assert!(rt;
+        is_clean && are_not_noted(killed, notes.as_slice()),
+        "{}",
+        run.name
+    );
+    Ok(())
 }
 
 /// Fails if the step killed more than one client that it does not kill with ample memory. If it killed one, it is told,

@@ -11,6 +11,7 @@ use server_test_kit::values::{BOUND, Event, FIRST, Named, SECOND, Thing};
 use std::process::Abort;
 use std::test::Fail;
 use test_kit::cuts::Stream;
+use test_kit::log::is_text;
 use test_kit::quad::{QUAD, quad_table};
 use wl_wire::Protocol;
 
@@ -517,15 +518,14 @@ fn faults_of_two_clients(rt: HostRuntime) -> Result<(), Fail> {
 
 /// Fails if the text of the object's id is not this; if memory is refused, it is the next time.
 fn is_displayed(
-    rt: &(impl Abort + AllocGlobal),
+    rt: &(impl Eprint + AllocGlobal),
     protocol: &Protocol,
     of: Thing,
     text: &str,
 ) -> Result<(), Fail> {
     for _ in 0..2 {
         if let Ok(told) = of.id().display(rt.alloc(), protocol) {
-            assert_eq!(rt; told.as_str(), text);
-            return Ok(());
+            return is_text(rt, told.as_str(), text);
         }
     }
     Err(Fail::new("memory was refused again"))

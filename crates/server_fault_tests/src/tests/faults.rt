@@ -326,6 +326,19 @@ fn text_of(met: Met, (at, entry): (usize, Entry), was: &str) -> Option<&str> {
     }
 }
 
+/// Fails if the step tells something else than it has to.
+fn judge_text(
+    rt: &impl Abort,
+    run: &Run,
+    met: Met,
+    (at, entry): (usize, Entry),
+    (was, is): (&str, &str),
+) {
+    if let Some(text) = text_of(met, (at, entry), was) {
+        assert_eq!(rt; is, text, "{}: {at}", run.name);
+    }
+}
+
 /// Fails if a step tells something else than it has to.
 fn judge_texts(
     rt: &impl Abort,
@@ -334,11 +347,8 @@ fn judge_texts(
     entries: &[Entry],
     (clean, heard): (&[String], &[String]),
 ) {
-    assert_eq!(rt; heard.len(), clean.len(), "{}", run.name);
     for (at, (entry, (was, is))) in entries.iter().zip(clean.iter().zip(heard)).enumerate() {
-        if let Some(text) = text_of(met, (at, *entry), was.as_str()) {
-            assert_eq!(rt; is.as_str(), text, "{}: {at}", run.name);
-        }
+        judge_text(rt, run, met, (at, *entry), (was.as_str(), is.as_str()));
     }
 }
 
@@ -349,16 +359,22 @@ fn lines_with(text: &str, front: &str, back: &str) -> usize {
         .count()
 }
 
-/// Fails if the client was not noted as inserted once, as closed once and nothing else, and taken out once.
-fn is_closed_once(rt: &impl Abort, run: &Run, notes: &str) {
-    for (front, back) in [
-        ("initialized", ""),
-        ("disconnected", ""),
-        ("disconnected", ": closed"),
-        ("out", ""),
-    ] {
-        assert_eq!(rt; lines_with(notes, front, back), 1, "{}: {notes}", run.name);
-    }
+/// Whether the client was noted as inserted once, as closed once and nothing else, and taken out once.
+fn is_closed_once(notes: &str) -> bool {
+    lines_with(notes, "initialized", "") == 1
+        && lines_with(notes, "disconnected", "") == 1
+        && lines_with(notes, "disconnected", ": closed") == 1
+        && lines_with(notes, "out", "") == 1
+}
+
+/// Fails if the client noted something else than it has to.
+fn judge_notes(rt: &impl Abort, run: &Run, met: Met, was: &str, is: &str) {
+    let is_right = if met.kills() {
+        is_closed_once(is)
+    } else {
+        is == was
+    };
+    assert!(rt; is_right, "{}: {is}", run.name);
 }
 
 /// Whether the client was sent what it has to be, or the front of that, if it may be no more: what is not sent until a
@@ -375,11 +391,7 @@ fn judge_rest(
     entries: &[Entry],
     (clean, heard): (&Heard, &Heard),
 ) {
-    if met.kills() {
-        is_closed_once(rt, run, heard.notes.as_str());
-    } else {
-        assert_eq!(rt; heard.notes.as_str(), clean.notes.as_str(), "{}", run.name);
-    }
+    judge_notes(rt, run, met, clean.notes.as_str(), heard.notes.as_str());
     let is_cleanup = matches!(entries.get(met.at), Some(Entry::Do(Call::Cleanup, _)));
     let is_right = is_sent(
         met.kills() || is_cleanup,
@@ -398,19 +410,22 @@ fn judge_heard(
     (clean, heard): (&Heard, &Heard),
 ) {
     let texts = (clean.texts.as_slice(), heard.texts.as_slice());
+    assert!(rt; texts.1.len() == texts.0.len(), "{}", run.name);
     judge_texts(rt, run, met, entries, texts);
     judge_rest(rt, run, met, entries, (clean, heard));
 }
 
-/// What becomes of a send that fails in that step; whether it is the step's last to the client. The last one of the step that
-/// sends the first client an error is dropped.
+/// Whether the step sends the client an error.
+fn posts_error(run: &Run, who: Who, at: usize) -> bool {
+    who.0 == 0 && run.error_bytes > 0 && matches!(run.dies, Some(step) if step == at)
+}
+
+/// What becomes of a send that fails in that step; whether it is the step's last to the client.
 fn end_of_send(run: &Run, who: Who, (at, entry): (usize, Entry), is_last: bool) -> End {
-    match (entry, run.dies) {
-        (Entry::Do(Call::Flush(_), _), _) => End::Flushed,
-        (Entry::Do(Call::FlushAll | Call::Cleanup, _), _) => End::Dropped,
-        (_, Some(step)) if step == at && who.0 == 0 && run.error_bytes > 0 && is_last => {
-            End::Dropped
-        }
+    match entry {
+        Entry::Do(Call::Flush(_), _) => End::Flushed,
+        Entry::Do(Call::FlushAll | Call::Cleanup, _) => End::Dropped,
+        _ if is_last && posts_error(run, who, at) => End::Dropped,
         _ => End::Killed,
     }
 }
@@ -447,29 +462,32 @@ fn met_by_receive(who: Who, entries: &[Entry], texts: &[String]) -> Met {
     unmet(who, entries)
 }
 
-/// The run, in which the client's receive at that place answers the fault.
+/// What is heard of the run, in which the client's receive at that place answers the fault. One that is not that of a transport
+/// that fails is made up for.
 fn with_receive(
     alloc: Global,
     (who, place): (Who, usize),
     fault: IoFault,
     entries: &[Entry],
-) -> Result<Vec<Entry>, Fail> {
+) -> Result<Heard, Fail> {
     let accept = Entry::Do(Call::Accept(who, usize::MAX), "");
     let cue = Entry::Do(Call::ArriveFault(who, fault), "");
-    with_fault(alloc, entries, place, (accept, 0), cue)
+    let failing = with_fault(alloc, entries, place, (accept, 0), cue)?;
+    heard_of(alloc, who, fault != FAULT, failing.as_slice())
 }
 
-/// The run, in which the send to the client after so many others answers the fault.
+/// The same, in which the send to the client after so many others answers the fault.
 fn with_send(
     alloc: Global,
     (who, before): (Who, usize),
     fault: IoFault,
     entries: &[Entry],
-) -> Result<Vec<Entry>, Fail> {
+) -> Result<Heard, Fail> {
     let accept = Entry::Do(Call::Accept(who, usize::MAX), "");
     let cue = Entry::Do(Call::AcceptFault(who, fault), "");
     let place = behind_insertion(entries, who);
-    with_fault(alloc, entries, place, (accept, before), cue)
+    let failing = with_fault(alloc, entries, place, (accept, before), cue)?;
+    heard_of(alloc, who, fault != FAULT, failing.as_slice())
 }
 
 /// The send to the client after so many others fails; whether there is one.
@@ -480,8 +498,7 @@ fn send_fails(
     entries: &[Entry],
     clean: &Heard,
 ) -> Result<bool, Fail> {
-    let failing = with_send(rt.alloc(), (who, before), FAULT, entries)?;
-    let heard = heard_of(rt.alloc(), who, false, failing.as_slice())?;
+    let heard = with_send(rt.alloc(), (who, before), FAULT, entries)?;
     let met = met_by_send(run, who, entries, clean.sends.as_slice(), before);
     judge_heard(rt, run, met, entries, (clean, &heard));
     Ok(!matches!(met.end, End::Unmet))
@@ -511,7 +528,23 @@ fn is_arrival(entry: Entry) -> bool {
     )
 }
 
-/// A receive fails that takes what comes at that step of the client; whether it is made. Of what arrives each is.
+/// Fails if what is heard of a run, in which a receive fails that takes what comes at that step of the client, is not what it has
+/// to be; whether it is made. Of what arrives each is.
+fn judge_receive(
+    rt: &impl Abort,
+    run: &Run,
+    (who, place): (Who, usize),
+    entries: &[Entry],
+    (clean, heard): (&Heard, &Heard),
+) -> bool {
+    let met = met_by_receive(who, entries, heard.texts.as_slice());
+    judge_heard(rt, run, met, entries, (clean, heard));
+    let has_to_be_met = entries.get(place).is_some_and(|entry| is_arrival(*entry));
+    assert!(rt; met.kills() || !has_to_be_met, "{}: {place}", run.name);
+    met.kills()
+}
+
+/// A receive fails that takes what comes at that step of the client; whether it is made.
 fn receive_fails(
     rt: &(impl Abort + AllocGlobal),
     run: &Run,
@@ -519,13 +552,8 @@ fn receive_fails(
     entries: &[Entry],
     clean: &Heard,
 ) -> Result<bool, Fail> {
-    let failing = with_receive(rt.alloc(), (who, place), FAULT, entries)?;
-    let heard = heard_of(rt.alloc(), who, false, failing.as_slice())?;
-    let met = met_by_receive(who, entries, heard.texts.as_slice());
-    judge_heard(rt, run, met, entries, (clean, &heard));
-    let has_to_be_met = entries.get(place).is_some_and(|entry| is_arrival(*entry));
-    assert!(rt; met.kills() || !has_to_be_met, "{}: {place}", run.name);
-    Ok(met.kills())
+    let heard = with_receive(rt.alloc(), (who, place), FAULT, entries)?;
+    Ok(judge_receive(rt, run, (who, place), entries, (clean, &heard)))
 }
 
 /// Whether a receive from the client may take what comes at the step: something arrives, or is read.
@@ -594,20 +622,39 @@ pub fn fails_for_first(
 ) -> Result<usize, Fail> {
     drill(rt, run)?;
     let (receives, sends) = fails_for(rt, run, FIRST, from)?;
-    assert_eq!(rt; sends, run.sends, "{}", run.name);
+    assert!(rt; sends == run.sends, "{}: {sends} sends", run.name);
     Ok(receives)
 }
 
-/// Fails if the run, in which something of the first client fails that is made up for, comes to anything else than without.
-fn is_made_up_for(
+/// Fails if what is heard of the run is not what is heard if nothing fails.
+fn is_as_ever(rt: &impl Abort, run: &Run, clean: &Heard, heard: &Heard) {
+    let met = unmet(FIRST, run.entries);
+    judge_heard(rt, run, met, run.entries, (clean, heard));
+}
+
+/// The first client's receive at that place answers the fault, and is made up for.
+fn receive_is_made_up_for(
     rt: &(impl Abort + AllocGlobal),
     run: &Run,
-    failing: &[Entry],
+    place: usize,
+    fault: IoFault,
     clean: &Heard,
 ) -> Result<(), Fail> {
-    let heard = heard_of(rt.alloc(), FIRST, true, failing)?;
-    let met = unmet(FIRST, run.entries);
-    judge_heard(rt, run, met, run.entries, (clean, &heard));
+    let heard = with_receive(rt.alloc(), (FIRST, place), fault, run.entries)?;
+    is_as_ever(rt, run, clean, &heard);
+    Ok(())
+}
+
+/// The send to the first client after so many others answers the fault, and is made up for.
+fn send_is_made_up_for(
+    rt: &(impl Abort + AllocGlobal),
+    run: &Run,
+    before: usize,
+    fault: IoFault,
+    clean: &Heard,
+) -> Result<(), Fail> {
+    let heard = with_send(rt.alloc(), (FIRST, before), fault, run.entries)?;
+    is_as_ever(rt, run, clean, &heard);
     Ok(())
 }
 
@@ -620,13 +667,11 @@ fn each_is_made_up_for(
 ) -> Result<(), Fail> {
     for (place, entry) in run.entries.iter().enumerate() {
         if is_receive(*entry, FIRST) {
-            let failing = with_receive(rt.alloc(), (FIRST, place), fault, run.entries)?;
-            is_made_up_for(rt, run, failing.as_slice(), clean)?;
+            receive_is_made_up_for(rt, run, place, fault, clean)?;
         }
     }
     for before in 0..6 {
-        let failing = with_send(rt.alloc(), (FIRST, before), fault, run.entries)?;
-        is_made_up_for(rt, run, failing.as_slice(), clean)?;
+        send_is_made_up_for(rt, run, before, fault, clean)?;
     }
     Ok(())
 }

@@ -4,7 +4,7 @@ use server_test_kit::steps::{Call, Made, arrive, steps};
 use server_test_kit::told::{action, done, object, reply};
 use server_test_kit::values::{Event, FIRST, Named, Shown, Thing, Who, message};
 use std::alloc::Global;
-use std::fmt::Write;
+use std::fmt::{Display, Write};
 use std::test::Fail;
 use test_kit::cuts::{Cut, Stream};
 use test_kit::log::row_tells;
@@ -270,19 +270,14 @@ fn globals(alloc: Global, server: &mut Server, count: u32) -> Result<(), Fail> {
     Ok(())
 }
 
-/// Tells the version of the object.
-fn info(server: &Server, log: &mut String, of: Thing) -> Result<(), Fail> {
-    match server.object_info(&of.id()) {
-        Ok(info) => writeln!(log, "version {}", info.version)?,
-        Err(error) => writeln!(log, "{error}")?,
-    }
-    Ok(())
-}
-
-/// Tells the data of the object.
-fn data(server: &Server, log: &mut String, of: Thing) -> Result<(), Fail> {
-    match server.get_object_data(&of.id()) {
-        Ok(data) => writeln!(log, "data {data}")?,
+/// Tells a value after its name, or why there is none.
+fn value<T: Display, E: Display>(
+    log: &mut String,
+    name: &str,
+    answer: &Result<T, E>,
+) -> Result<(), Fail> {
+    match answer {
+        Ok(value) => writeln!(log, "{name} {value}")?,
         Err(error) => writeln!(log, "{error}")?,
     }
     Ok(())
@@ -537,11 +532,7 @@ fn add_to_data(server: &mut Server, log: &mut String, of: Thing, more: u32) -> R
         *data = before.wrapping_add(more);
         before
     });
-    match answer {
-        Ok(before) => writeln!(log, "lent {before}")?,
-        Err(error) => writeln!(log, "{error}")?,
-    }
-    Ok(())
+    value(log, "lent", &answer)
 }
 
 /// The same of a bind.
@@ -598,8 +589,11 @@ fn add(alloc: Global, server: &mut Server, log: &mut String, name: &str) -> Resu
 /// Looks at it.
 fn look_at(alloc: Global, server: &Server, log: &mut String, at_what: Look) -> Result<(), Fail> {
     match at_what {
-        Look::Info(of) => info(server, log, of),
-        Look::Data(of) => data(server, log, of),
+        Look::Info(of) => {
+            let version = server.object_info(&of.id()).map(|info| info.version);
+            value(log, "version", &version)
+        }
+        Look::Data(of) => value(log, "data", &server.get_object_data(&of.id())),
         Look::Text(of) => text(alloc, server, log, of),
         Look::At(who, interface, number) => at(server, log, who, interface, number),
         Look::Global(of) => global(server, log, of),

@@ -146,16 +146,25 @@ pub fn error_of(alloc: Global, client: &Client) -> Result<String, Fail> {
     Ok(text)
 }
 
-/// Adds an interface, makes the run, and fails if it is not as it has to be, or leaves another error. If there was no memory for
-/// the error's text, the want is the error.
-fn play_to(rt: &(impl Eprint + AllocGlobal), client: &mut Client, run: &Run) -> Result<(), Fail> {
-    grow(rt, client)?;
-    let was_refused = play(rt, client, run)?;
+/// Fails if the run left another error. If there was no memory for the error's text, the want is the error.
+fn judge_error(
+    rt: &(impl Eprint + AllocGlobal),
+    client: &Client,
+    run: &Run,
+    was_refused: bool,
+) -> Result<(), Fail> {
     let told = error_of(rt.alloc(), client)?;
     if was_refused && told.as_str() == "Io error: out of memory" {
         return Ok(());
     }
     row_tells(rt, run.name, Ok(told), run.error)
+}
+
+/// Adds an interface, makes the run, and fails if it is not as it has to be, or leaves another error.
+fn play_to(rt: &(impl Eprint + AllocGlobal), client: &mut Client, run: &Run) -> Result<(), Fail> {
+    grow(rt, client)?;
+    let was_refused = play(rt, client, run)?;
+    judge_error(rt, client, run, was_refused)
 }
 
 /// A new client, or none if memory was refused.
