@@ -106,8 +106,8 @@ fn play<S: Session>(
     again: bool,
 ) -> Result<(), Fail> {
     for (act, text) in entries {
-        let told = line(rt.alloc(), session, act, again);
-        row_tells(rt, name, told, text)?;
+        let told = line(rt.alloc(), session, act, again)?;
+        row_tells(rt, name, Ok(told), text)?;
     }
     Ok(())
 }
