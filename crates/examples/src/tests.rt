@@ -5,6 +5,4 @@ mod client;
 mod embedding;
 mod link;
 mod readme;
-mod room;
-mod server;
 mod wire;

@@ -302,7 +302,7 @@ impl<T> BufferedSocket<T> {
         ensures fewer { OnOk result (length self.new.incoming.bytes < length self.old.incoming.bytes) }
         ensures capacity { INLINE_ARGS ≤ message.new.args.capacity }
     {
-        self.read_into(|_, _| Some(signature), message)
+        self.read_under(signature, message)
     }
 
     /// Whether the outgoing buffer has room for `size` more bytes, as large as it is now.

@@ -1,7 +1,7 @@
 -- What a read gives.
-use Rattle.std.specs.Prelude.{◌≡◌, ◌≢◌, ℕ, ◌≤◌, ◌⊎◌, List, [], ◌∷◌, ◌++◌, length, nat_le, true, false, Option, Some, None, Result, Ok, Err}
+use Rattle.std.specs.Prelude.{◌≡◌, ◌≢◌, ℕ, ◌<◌, ◌≤◌, ◌⊎◌, List, [], ◌∷◌, ◌++◌, length, nat_le, true, false, Option, Some, None, Result, Ok, Err}
 use Rattle.std.proofs.Common.{refl, sym, ◌∙◌, ap, subst, inl, inr, arith, append_assoc, length-append}
-use Rattle.std.proofs.lemmas.Bool.{le-leb, cases_Bool, MatchBool-at_true, MatchBool-at_false}
+use Rattle.std.proofs.lemmas.Bool.{le-leb, leb-false, cases_Bool, MatchBool-at_true, MatchBool-at_false}
 use Rattle.wl_wire.specs.declared.argument.ArgumentType.{ArgumentType}
 use Rattle.wl_wire.specs.declared.argument.Token.{Token}
 use Rattle.wl_wire.specs.declared.error.MessageParseError.{MessageParseError}
@@ -24,6 +24,25 @@ reads_one looks_up before after answer bytes sender opcode signature waits heade
     let there : 8 ≤ length before.incoming.bytes = rw (← waits) header in
     let looked : looks_up (sender_of before.incoming.bytes) (opcode_of before.incoming.bytes) (Some signature) = rw (← waits, ← from, ← as_opcode) found in
     rw (le-leb 8 (length before.incoming.bytes) there) (Some signature, looked, under)
+
+-- the answer under a signature is the read's, if each message has this signature
+pub reads_under : {T : Type 0} (signature : List ArgumentType) (before after : LinkState T) (answer : Result WireMessage MessageParseError)
+    → ReadUnder signature before answer after → ReadOne (λ _ _ found. found ≡ Some signature) before answer after
+reads_under signature before after answer under = at (cases_Bool (nat_le 8 (length before.incoming.bytes)))
+  where
+    short : length before.incoming.bytes < 8 → (answer : Result WireMessage MessageParseError)
+        → ReadUnder signature before answer after → (answer ≡ Err errors.MissingData) × (after ≡ before)
+    short few (Ok m) under = absurd (omega (arith, few, under.0.whole.header))
+    short few (Err errors.MissingData) under = (refl, under.2)
+    short few (Err errors.MissingFD) under = absurd (omega (arith, few, under.0.0.header))
+    short few (Err errors.Malformed) (inl low, _, _) = absurd (omega (arith, few, low.0))
+    short few (Err errors.Malformed) (inr none, _, _) = absurd (omega (arith, few, none.0.0.header))
+    short few (Err errors.OutOfMemory) under = absurd (omega (arith, few, under.0.0.0.header))
+
+    at : (nat_le 8 (length before.incoming.bytes) ≡ true) ⊎ (nat_le 8 (length before.incoming.bytes) ≡ false)
+        → ReadOne (λ _ _ found. found ≡ Some signature) before answer after
+    at (inl header) = rw header (Some signature, refl, under)
+    at (inr none) = rw none (short (leb-false 8 _ none) answer under)
 
 -- ---- the tokens of a message that is read
 

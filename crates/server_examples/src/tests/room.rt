@@ -1,6 +1,6 @@
 //! A server with objects of two kinds, whose handler tells all of them: the example of the page of `wl_server`.
 
-ghost use Rattle.examples.specs.Room.{OnlyCalls};
+ghost use Rattle.server_examples.specs.Room.{OnlyCalls};
 
 use anyhow::{Error, Result};
 use smallvec::SmallVec;

@@ -1,0 +1,4 @@
+//! Servers whose handlers make calls.
+
+mod room;
+mod server;
