@@ -252,11 +252,18 @@ fn give<'a>(drops: &'a Cell<u64>, server: &mut Server<'a>, call: Call) -> bool {
             let missing = Thing(SECOND, 0xFF00_0000, 1, QUAD);
             server.set_object_data(&missing.id(), value).is_err()
         }
+        _ => server.create_global(QUAD, 3, Offered(value)).is_ok(),
+    }
+}
+
+/// Finishes an action with a value; whether it is answered as it has to be.
+fn finish<'a>(drops: &'a Cell<u64>, server: &mut Server<'a>, call: Call) -> bool {
+    let value = Counted::new(drops, 1);
+    match call {
         Call::FinishBind => server.finish_bind(&FIRST.id(), value).is_ok(),
         Call::FinishNone => server.finish_bind(&FIRST.id(), value).is_err(),
         Call::FinishReturning => server.finish_bind_returning(&FIRST.id(), value).is_ok(),
-        Call::FinishMade => server.finish_request(&FIRST.id(), Some(value)).is_ok(),
-        _ => server.create_global(QUAD, 3, Offered(value)).is_ok(),
+        _ => server.finish_request(&FIRST.id(), Some(value)).is_ok(),
     }
 }
 
@@ -301,14 +308,10 @@ fn make_without(server: &mut Server, call: Call) -> bool {
 fn make<'a>(alloc: Global, drops: &'a Cell<u64>, server: &mut Server<'a>, call: Call) -> bool {
     match call {
         Call::Insert(bytes) => insert(drops, server, bytes),
-        Call::Create
-        | Call::Global
-        | Call::SetData
-        | Call::SetMissing
-        | Call::FinishBind
-        | Call::FinishNone
-        | Call::FinishReturning
-        | Call::FinishMade => give(drops, server, call),
+        Call::Create | Call::Global | Call::SetData | Call::SetMissing => give(drops, server, call),
+        Call::FinishBind | Call::FinishNone | Call::FinishReturning | Call::FinishMade => {
+            finish(drops, server, call)
+        }
         Call::LookUp => is_looked_up(server),
         Call::SendGone => send_gone(alloc, server),
         _ => make_without(server, call),
