@@ -2,16 +2,17 @@
 use Rattle.std.proofs.Common.{◌≡◌, ℕ, zero, suc, ◌+◌, ◌*◌, ◌-◌, ◌≤◌, ◌<◌, List, [], ◌∷◌, ◌++◌, length, get_or, map, take, drop, replicate, Some, None, refl, sym, ap, subst, ◌∙◌, append_assoc, arith, length-append, add-zero, zero-add, true≢false}
 use Rattle.std.proofs.lemmas.List.{nil_from_length, length-map, get_or-map, append-nil, length-replicate, replicate-append-replicate, take_more, length-take-le, length-drop, take_at, drop_at, drop-drop, take-append-drop, take-append-le, take-take, drop-append-le, drop-replicate}
 use Rattle.std.proofs.lemmas.Grind.{flat_map-append}
+use Rattle.std.proofs.lemmas.List.Folds.{length-flat_map-take}
 use Rattle.std.proofs.lemmas.List.Sums.{sum_by-cons, sum_by_push}
-use Rattle.std.specs.List.{AllByRecursion, sum_by}
+use Rattle.std.specs.List.{AllByRecursion, flat_map, sum_by}
 use Rattle.wl_wire.specs.declared.argument.Argument.{Argument}
 use Rattle.wl_wire.specs.declared.argument.Argument.TheVariants as arg
 use Rattle.wl_wire.specs.declared.argument.Token.{Token}
 use Rattle.wl_wire.specs.declared.message.Message.{Message}
 use Rattle.wl_wire.specs.Argument.{WireArgument}
 use Rattle.wl_wire.specs.MapIds.{numbered, with_ids}
-use Rattle.wl_wire.specs.Message.{content, word, pad_len, counted, piece, pieces, token, tokens}
-use Rattle.wl_wire.specs.Inside.Buffer.{IsWord, overwritten, counted_len, piece_len, token_count}
+use Rattle.wl_wire.specs.Message.{content, word, pad_len, counted, piece, pieces, size, token, tokens}
+use Rattle.wl_wire.specs.Inside.Buffer.{IsWord, overwritten, counted_len, piece_len, bytes_of, token_of, tokens_of}
 use Rattle.wl_wire.proofs.Spelling.RoundTrip.{length-word}
 
 word-zero : word 0 ≡ replicate 4 0
@@ -36,28 +37,37 @@ length-piece (arg.Fd t) = refl
 
 -- ---- whatever the numbers of the ids are
 
-pub piece_len-with_ids : {Id : Type 0} (object_number new_number : Id → ℕ) (a : Argument Id Token) → piece_len (with_ids object_number new_number a) ≡ piece_len a
-piece_len-with_ids f g (arg.Fd t) = refl
-piece_len-with_ids f g _ = refl
+module _ {Id : Type 0} (object_number new_number : Id → ℕ) where
+  piece_len-with_ids : (a : Argument Id Token) → piece_len (with_ids object_number new_number a) ≡ piece_len a
+  piece_len-with_ids (arg.Fd t) = refl
+  piece_len-with_ids _ = refl
 
-pub length-token-with_ids : {Id : Type 0} (object_number new_number : Id → ℕ) (a : Argument Id Token) → length (token (with_ids object_number new_number a)) ≡ token_count a
-length-token-with_ids f g (arg.Fd t) = refl
-length-token-with_ids f g _ = refl
+  token-with_ids : (a : Argument Id Token) → token (with_ids object_number new_number a) ≡ token_of a
+  token-with_ids (arg.Fd t) = refl
+  token-with_ids _ = refl
+
+  pub length_pieces : (args : List (Argument Id Token)) → length (pieces (map (with_ids object_number new_number) args)) ≡ sum_by piece_len args
+  length_pieces [] = refl
+  length_pieces (a ∷ args) =
+      let b = with_ids object_number new_number a in
+      omega (arith, length-append (piece b) (pieces (map (with_ids object_number new_number) args)), length-piece b, piece_len-with_ids a, length_pieces args, sum_by-cons piece_len a args)
+
+  pub tokens-with_ids : (args : List (Argument Id Token)) → tokens (map (with_ids object_number new_number) args) ≡ tokens_of args
+  tokens-with_ids [] = refl
+  tokens-with_ids (a ∷ args) = rw (token-with_ids a, tokens-with_ids args) refl
+
+  -- so a message takes what its arguments take, and has their tokens
+  module _ (m : Message Id Token) (args : List (Argument Id Token)) (same : args ≡ m.args.items) where
+    pub size-numbered : size (numbered object_number new_number m) ≡ bytes_of args
+    size-numbered = ap (λ n. 8 + n) (length_pieces m.args.items) ∙ ap bytes_of (sym same)
+
+    pub tokens-numbered : tokens (numbered object_number new_number m).args ≡ tokens_of args
+    tokens-numbered = tokens-with_ids m.args.items ∙ ap tokens_of (sym same)
 
 -- an argument has one token at most
-pub token_count-few : {Id : Type 0} (a : Argument Id Token) → token_count a ≤ 1
-token_count-few (arg.Fd t) = omega arith
-token_count-few _ = omega arith
-
-pub length_pieces : {Id : Type 0} (object_number new_number : Id → ℕ) (args : List (Argument Id Token)) → length (pieces (map (with_ids object_number new_number) args)) ≡ sum_by piece_len args
-length_pieces f g [] = refl
-length_pieces f g (a ∷ args) =
-    omega (arith, length-append (piece (with_ids f g a)) (pieces (map (with_ids f g) args)), length-piece (with_ids f g a), piece_len-with_ids f g a, length_pieces f g args, sum_by-cons piece_len a args)
-
-pub length_tokens : {Id : Type 0} (object_number new_number : Id → ℕ) (args : List (Argument Id Token)) → length (tokens (map (with_ids object_number new_number) args)) ≡ sum_by token_count args
-length_tokens f g [] = refl
-length_tokens f g (a ∷ args) =
-    omega (arith, length-append (token (with_ids f g a)) (tokens (map (with_ids f g) args)), length-token-with_ids f g a, length_tokens f g args, sum_by-cons token_count a args)
+pub token_of-few : {Id : Type 0} (a : Argument Id Token) → length (token_of a) ≤ 1
+token_of-few (arg.Fd t) = omega arith
+token_of-few _ = omega arith
 
 own_argument : (a : WireArgument) → with_ids (λ n. n) (λ n. n) a ≡ a
 own_argument (arg.Fd t) = refl
@@ -77,6 +87,19 @@ pub sum_by-more : {A : Type 0} (f : A → ℕ) (args : List A) (i : ℕ) (a : A)
 sum_by-more f args i a lt is =
     ap (sum_by f) (take_more args i a lt ∙ ap (λ x. take i args ++ x ∷ []) (sym is)) ∙ sum_by_push f (take i args) a
 
+module _ {A B : Type 0} (f : A → List B) (args : List A) (i : ℕ) (a : A) (lt : i < length args) (is : a ≡ get_or args i a) where
+  pub flat_map-more : flat_map f (take (i + 1) args) ≡ flat_map f (take i args) ++ f a
+  flat_map-more =
+      ap (flat_map f) (take_more args i a lt ∙ ap (λ x. take i args ++ x ∷ []) (sym is))
+      ∙ flat_map-append f (take i args) (a ∷ []) ∙ ap (λ (p : List B). flat_map f (take i args) ++ p) (append-nil (f a))
+
+  pub length-flat_map-more : length (flat_map f (take (i + 1) args)) ≡ length (flat_map f (take i args)) + length (f a)
+  length-flat_map-more = ap length flat_map-more ∙ length-append (flat_map f (take i args)) (f a)
+
+  pub length-flat_map-front : length (flat_map f (take i args)) + length (f a) ≤ length (flat_map f args)
+  length-flat_map-front =
+      subst (λ (x : A). length (flat_map f (take i args)) + length (f x) ≤ length (flat_map f args)) (sym is) (length-flat_map-take f args i a lt)
+
 -- the argument that is looked at, with numbers for its ids
 pub got_with_ids : {Id : Type 0} (object_number new_number : Id → ℕ) (args : List (Argument Id Token)) (i : ℕ) (a : Argument Id Token) → i < length args → a ≡ get_or args i a
     → (i < length (map (with_ids object_number new_number) args))
@@ -88,25 +111,11 @@ got_with_ids f g args i a lt is =
 
 -- one more argument
 pub pieces-more : (args : List WireArgument) (i : ℕ) (a : WireArgument) → i < length args → a ≡ get_or args i a → pieces (take (i + 1) args) ≡ pieces (take i args) ++ piece a
-pieces-more args i a lt is =
-    ap pieces (take_more args i a lt ∙ ap (λ (x : WireArgument). take i args ++ x ∷ []) (sym is))
-    ∙ flat_map-append piece (take i args) (a ∷ []) ∙ ap (λ (p : List ℕ). pieces (take i args) ++ p) (append-nil (piece a))
-
-pub tokens-more : (args : List WireArgument) (i : ℕ) (a : WireArgument) → i < length args → a ≡ get_or args i a → tokens (take (i + 1) args) ≡ tokens (take i args) ++ token a
-tokens-more args i a lt is =
-    ap tokens (take_more args i a lt ∙ ap (λ (x : WireArgument). take i args ++ x ∷ []) (sym is))
-    ∙ flat_map-append token (take i args) (a ∷ []) ∙ ap (λ (p : List Token). tokens (take i args) ++ p) (append-nil (token a))
+pieces-more = flat_map-more piece
 
 -- so much of all the pieces is written behind an argument
 pub length-pieces-more : (args : List WireArgument) (i : ℕ) (a : WireArgument) → i < length args → a ≡ get_or args i a → length (pieces (take i args)) + length (piece a) ≤ length (pieces args)
-length-pieces-more args i a lt is =
-    let whole : pieces (take (i + 1) args) ++ pieces (drop (i + 1) args) ≡ pieces args = sym (flat_map-append piece (take (i + 1) args) (drop (i + 1) args)) ∙ ap pieces (take-append-drop (i + 1) args) in
-    omega (arith, ap length whole, length-append (pieces (take (i + 1) args)) (pieces (drop (i + 1) args)), ap length (pieces-more args i a lt is), length-append (pieces (take i args)) (piece a))
-
-pub length-tokens-more : (args : List WireArgument) (i : ℕ) (a : WireArgument) → i < length args → a ≡ get_or args i a → length (tokens (take i args)) + length (token a) ≤ length (tokens args)
-length-tokens-more args i a lt is =
-    let whole : tokens (take (i + 1) args) ++ tokens (drop (i + 1) args) ≡ tokens args = sym (flat_map-append token (take (i + 1) args) (drop (i + 1) args)) ∙ ap tokens (take-append-drop (i + 1) args) in
-    omega (arith, ap length whole, length-append (tokens (take (i + 1) args)) (tokens (drop (i + 1) args)), ap length (tokens-more args i a lt is), length-append (tokens (take i args)) (token a))
+length-pieces-more = length-flat_map-front piece
 
 module _ {A : Type 0} (P : A → Type 0) where
   all_behind : (xs : List A) (x : A) → AllByRecursion P xs → P x → AllByRecursion P (xs ++ x ∷ [])
@@ -160,9 +169,9 @@ rest_at_least (x ∷ args) (suc i) a lt is none =
 -- ---- words
 
 -- a word has no token and four bytes
-tokens_of_word : {Id : Type 0} (object_number new_number : Id → ℕ) (a : Argument Id Token) → IsWord a → token (with_ids object_number new_number a) ≡ []
-tokens_of_word f g (arg.Fd t) is = absurd (true≢false (sym is))
-tokens_of_word f g _ is = refl
+token_of_word : {Id : Type 0} (a : Argument Id Token) → IsWord a → token_of a ≡ []
+token_of_word (arg.Fd t) is = absurd (true≢false (sym is))
+token_of_word _ is = refl
 
 word-len : {Id : Type 0} (a : Argument Id Token) → IsWord a → piece_len a ≡ 4
 word-len (arg.Str text) is = absurd (true≢false (sym is))
@@ -170,14 +179,13 @@ word-len (arg.Array bytes) is = absurd (true≢false (sym is))
 word-len (arg.Fd t) is = absurd (true≢false (sym is))
 word-len _ is = refl
 
-sum_of_words : {Id : Type 0} (args : List (Argument Id Token)) → AllByRecursion IsWord args → sum_by piece_len args ≡ 4 * length args
+pub sum_of_words : {Id : Type 0} (args : List (Argument Id Token)) → AllByRecursion IsWord args → sum_by piece_len args ≡ 4 * length args
 sum_of_words [] all = refl
 sum_of_words (a ∷ args) all = omega (arith, sum_by-cons piece_len a args, word-len a all.0, sum_of_words args all.1)
 
-pub tokens_of_words : {Id : Type 0} (object_number new_number : Id → ℕ) (args : List (Argument Id Token)) → AllByRecursion IsWord args
-    → tokens (map (with_ids object_number new_number) args) ≡ []
-tokens_of_words f g [] all = refl
-tokens_of_words f g (a ∷ args) all = rw (tokens_of_word f g a all.0, tokens_of_words f g args all.1) refl
+pub tokens_of_words : {Id : Type 0} (args : List (Argument Id Token)) → AllByRecursion IsWord args → tokens_of args ≡ []
+tokens_of_words [] all = refl
+tokens_of_words (a ∷ args) all = rw (token_of_word a all.0, tokens_of_words args all.1) refl
 
 pub words_len : {Id : Type 0} (object_number new_number : Id → ℕ) (args : List (Argument Id Token)) → AllByRecursion IsWord args
     → length (pieces (map (with_ids object_number new_number) args)) ≡ 4 * length args

@@ -5,10 +5,10 @@
 
 ghost use Rattle.std.specs.Prelude.{◌≡◌, ◌≢◌, ◌↔◌, ◌+◌, ◌-◌, ◌*◌, ◌<◌, ◌≤◌, ◌^◌, ◌++◌, [], Err, length, drop, map, nat_le, replicate, IfOk, IfSome, IsTrue, OnOk, OnErr, MatchOption, vec_len, vec_capacity};
 ghost use Rattle.wl_wire.specs.declared.error.MessageWriteError.TheVariants.{OutOfMemory};
-ghost use Rattle.std.specs.List.{AllByRecursion, sum_by};
+ghost use Rattle.std.specs.List.{AllByRecursion};
 ghost use Rattle.wl_wire.specs.Message.{content, IsArgument, IsMessage, counted, pad_len, piece, pieces, size, spelling, token, tokens, word};
 ghost use Rattle.wl_wire.specs.MapIds.{numbered, with_ids};
-ghost use Rattle.wl_wire.specs.Inside.Buffer.{IsWord, is_word, overwritten, counted_len, piece_len, token_count};
+ghost use Rattle.wl_wire.specs.Inside.Buffer.{IsWord, is_word, overwritten, counted_len, piece_len, bytes_of, token_of, tokens_of};
 
 use crate::argument::{Argument, Token};
 use crate::error::MessageWriteError;
@@ -62,7 +62,7 @@ impl Count {
         requires small { self.old.tails ≤ 65535 }
         requires few_tokens { self.old.tokens < usize.MAX }
         ensures bytes { self.new.tails + 4 + 4 * self.old.tokens ≡ self.old.tails + 4 * self.new.tokens + piece_len arg.now }
-        ensures tokens { self.new.tokens ≡ self.old.tokens + token_count arg.now }
+        ensures tokens { self.new.tokens ≡ self.old.tokens + length (token_of arg.now) }
         ensures fits { result ≡ nat_le self.new.tails 65535 }
     {
         match arg {
@@ -198,11 +198,11 @@ fn put_arguments<Id, N: Numbering<Id>>(
     }
 }
 
-/// Appends the argument's token, if it has one. The numbers of its ids change nothing; contracts name them.
-fn push_token<Id, N: Numbering<Id>>(fds: &mut Vec<Token>, arg: &Argument<Id, Token>, _numbers: &N)
-    requires reserved { vec_len fds.old + length (token (with_ids (N.object_number _numbers.now) (N.new_number _numbers.now) arg.now)) ≤ vec_capacity fds.old }
-    ensures items { fds.new.items ≡ fds.old.items ++ token (with_ids (N.object_number _numbers.now) (N.new_number _numbers.now) arg.now) }
-    ensures len { vec_len fds.new ≡ vec_len fds.old + length (token (with_ids (N.object_number _numbers.now) (N.new_number _numbers.now) arg.now)) }
+/// Appends the argument's token, if it has one.
+fn push_token<Id>(fds: &mut Vec<Token>, arg: &Argument<Id, Token>)
+    requires reserved { vec_len fds.old + length (token_of arg.now) ≤ vec_capacity fds.old }
+    ensures items { fds.new.items ≡ fds.old.items ++ token_of arg.now }
+    ensures len { vec_len fds.new ≡ vec_len fds.old + length (token_of arg.now) }
     ensures capacity { vec_capacity fds.new ≡ vec_capacity fds.old }
 {
     if let Argument::Fd(fd) = arg {
@@ -210,18 +210,14 @@ fn push_token<Id, N: Numbering<Id>>(fds: &mut Vec<Token>, arg: &Argument<Id, Tok
     }
 }
 
-/// Appends the arguments' tokens. The numbers of their ids change nothing; contracts name them.
-fn push_tokens<Id, N: Numbering<Id>>(
-    fds: &mut Vec<Token>,
-    args: &[Argument<Id, Token>],
-    numbers: &N,
-)
-    requires reserved { vec_len fds.old + length (tokens (map (with_ids (N.object_number numbers.now) (N.new_number numbers.now)) args.now)) ≤ vec_capacity fds.old }
-    ensures items { fds.new.items ≡ fds.old.items ++ tokens (map (with_ids (N.object_number numbers.now) (N.new_number numbers.now)) args.now) }
+/// Appends the arguments' tokens.
+fn push_tokens<Id>(fds: &mut Vec<Token>, args: &[Argument<Id, Token>])
+    requires reserved { vec_len fds.old + length (tokens_of args.now) ≤ vec_capacity fds.old }
+    ensures items { fds.new.items ≡ fds.old.items ++ tokens_of args.now }
     ensures capacity { vec_capacity fds.new ≡ vec_capacity fds.old }
 {
     for arg in args {
-        push_token(fds, arg, numbers);
+        push_token(fds, arg);
     }
 }
 
@@ -230,14 +226,13 @@ fn push_tokens<Id, N: Numbering<Id>>(
 ///
 /// Few messages have tokens, so this is not inlined into what writes the others.
 #[inline(never)]
-fn append_tokens<Id, N: Numbering<Id>>(
+fn append_tokens<Id>(
     fds: &mut Vec<Token>,
     args: &[Argument<Id, Token>],
     count: usize,
-    numbers: &N,
 ) -> Result<(), AllocError>
-    requires count { count ≡ length (tokens (map (with_ids (N.object_number numbers.now) (N.new_number numbers.now)) args.now)) }
-    ensures items { OnOk result (fds.new.items ≡ fds.old.items ++ tokens (map (with_ids (N.object_number numbers.now) (N.new_number numbers.now)) args.now)) }
+    requires count { count ≡ length (tokens_of args.now) }
+    ensures items { OnOk result (fds.new.items ≡ fds.old.items ++ tokens_of args.now) }
     ensures memory { OnErr result (vec_capacity fds.old < vec_len fds.old + count) }
     ensures unchanged { OnErr result (fds.new.items ≡ fds.old.items) }
     ensures refused_room { OnErr result (vec_capacity fds.new ≡ vec_capacity fds.old) }
@@ -246,13 +241,13 @@ fn append_tokens<Id, N: Numbering<Id>>(
     if count > fds.capacity() - fds.len() {
         fds.reserve(count)?;
     }
-    push_tokens(fds, args, numbers);
+    push_tokens(fds, args);
     Ok(())
 }
 
 /// What a message with these arguments takes; `None` if it takes more than 65535 bytes.
-fn count_of<Id>(args: &[Argument<Id, Token>]) -> Option<Measure>
-    ensures { MatchOption result (65535 < 8 + sum_by piece_len args.now) (λ m. (m.bytes ≡ 8 + sum_by piece_len args.now) × (m.bytes ≤ 65535) × (m.tokens ≡ sum_by token_count args.now)) }
+fn measure_of<Id>(args: &[Argument<Id, Token>]) -> Option<Measure>
+    ensures { MatchOption result (65535 < bytes_of args.now) (λ m. (m.bytes ≡ bytes_of args.now) × (m.bytes ≤ 65535) × (m.tokens ≡ length (tokens_of args.now))) }
 {
     let mut count = Count {
         tails: 0,
@@ -266,13 +261,6 @@ fn count_of<Id>(args: &[Argument<Id, Token>]) -> Option<Measure>
     count.measure(args.len())
 }
 
-/// The same as `count_of`. The numbers of the ids change nothing; contracts name them.
-fn measure_of<Id, N: Numbering<Id>>(args: &[Argument<Id, Token>], _numbers: &N) -> Option<Measure>
-    ensures { MatchOption result (65535 < 8 + length (pieces (map (with_ids (N.object_number _numbers.now) (N.new_number _numbers.now)) args.now))) (λ m. (m.bytes ≡ 8 + length (pieces (map (with_ids (N.object_number _numbers.now) (N.new_number _numbers.now)) args.now))) × (m.bytes ≤ 65535) × (m.tokens ≡ length (tokens (map (with_ids (N.object_number _numbers.now) (N.new_number _numbers.now)) args.now)))) }
-{
-    count_of(args)
-}
-
 /// How many bytes the message takes, 8 to 65535, with the numbers that `numbers` gives its ids; `None` if it would take
 /// more.
 pub fn numbered_size<Id, N: Numbering<Id>>(
@@ -281,7 +269,7 @@ pub fn numbered_size<Id, N: Numbering<Id>>(
 ) -> Option<usize>
     ensures { MatchOption result (65535 < size (numbered (N.object_number numbers.now) (N.new_number numbers.now) message.now)) (λ n. n ≡ size (numbered (N.object_number numbers.now) (N.new_number numbers.now) message.now)) }
 {
-    let measure = measure_of(message.args.as_slice(), numbers)?;
+    let measure = measure_of(message.args.as_slice())?;
     Some(measure.bytes)
 }
 
@@ -345,11 +333,10 @@ fn put_words<Id, N: Numbering<Id>>(payload: &mut [u8], args: &[Argument<Id, Toke
     }
 }
 
-/// How many bytes a message takes whose arguments are one word each; `None` if it takes more than 65535. The numbers of the
-/// ids change nothing; contracts name them.
-fn size_of_words<Id, N: Numbering<Id>>(args: &[Argument<Id, Token>], _numbers: &N) -> Option<usize>
+/// How many bytes a message takes whose arguments are one word each; `None` if it takes more than 65535.
+fn size_of_words<Id>(args: &[Argument<Id, Token>]) -> Option<usize>
     requires { AllByRecursion IsWord args.now }
-    ensures { MatchOption result (65535 < 8 + length (pieces (map (with_ids (N.object_number _numbers.now) (N.new_number _numbers.now)) args.now))) (λ n. (n ≡ 8 + length (pieces (map (with_ids (N.object_number _numbers.now) (N.new_number _numbers.now)) args.now))) × (n ≤ 65535)) }
+    ensures { MatchOption result (65535 < bytes_of args.now) (λ n. (n ≡ bytes_of args.now) × (n ≤ 65535)) }
 {
     if args.len() > MAX_WORDS {
         return None;
@@ -374,7 +361,7 @@ fn write_words<Id, N: Numbering<Id>>(
     ensures unchanged { OnErr result (payload.new ≡ payload.old) }
 {
     let args = message.args.as_slice();
-    let Some(bytes) = size_of_words(args, numbers) else {
+    let Some(bytes) = size_of_words(args) else {
         return Err(MessageWriteError::TooLong);
     };
     if payload.len() < bytes {
@@ -415,14 +402,14 @@ fn write_mixed<Id, N: Numbering<Id>>(
     ensures room { vec_len fds.old + length (tokens (numbered (N.object_number numbers.now) (N.new_number numbers.now) message.now).args) ≤ vec_capacity fds.old → vec_capacity fds.new ≡ vec_capacity fds.old }
 {
     let args = message.args.as_slice();
-    let Some(measure) = measure_of(args, numbers) else {
+    let Some(measure) = measure_of(args) else {
         return Err(MessageWriteError::TooLong);
     };
     if payload.len() < measure.bytes {
         return Err(MessageWriteError::BufferTooSmall);
     }
     if measure.tokens > 0 {
-        append_tokens(fds, args, measure.tokens, numbers)?;
+        append_tokens(fds, args, measure.tokens)?;
     }
     put_header(
         payload,

@@ -1,5 +1,6 @@
 -- Writing into a slice, as the functions inside the writer say it.
-use Rattle.std.specs.Prelude.{Bool, true, false, IsTrue, ℕ, ◌+◌, List, ◌++◌, length, take, drop, Some}
+use Rattle.std.specs.Prelude.{Bool, true, false, IsTrue, ℕ, ◌+◌, List, [], ◌∷◌, ◌++◌, length, take, drop, Some}
+use Rattle.std.specs.List.{flat_map, sum_by}
 use Rattle.wl_wire.specs.declared.argument.Argument.TheVariants as arg
 use Rattle.wl_wire.specs.declared.argument.Argument.{Argument}
 use Rattle.wl_wire.specs.declared.argument.Token.{Token}
@@ -20,10 +21,17 @@ piece_len (arg.Array bytes) = counted_len (length bytes)
 piece_len (arg.Fd _) = 0
 piece_len _ = 4
 
--- how many tokens the argument has
-abbrev pub token_count : {Id : Type 0} → Argument Id Token → ℕ
-token_count (arg.Fd _) = 1
-token_count _ = 0
+-- how many bytes a message with these arguments takes, whatever the numbers of its ids are
+abbrev pub bytes_of : {Id : Type 0} → List (Argument Id Token) → ℕ
+bytes_of args = 8 + sum_by piece_len args
+
+-- the token of an argument that has one
+abbrev pub token_of : {Id : Type 0} → Argument Id Token → List Token
+token_of (arg.Fd t) = t ∷ []
+token_of _ = []
+
+abbrev pub tokens_of : {Id : Type 0} → List (Argument Id Token) → List Token
+tokens_of args = flat_map token_of args
 
 -- whether the argument is a word: a number or the id of an object
 abbrev pub is_word : {Id : Type 0} → Argument Id Token → Bool

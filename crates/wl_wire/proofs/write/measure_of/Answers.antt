@@ -1,15 +1,23 @@
-use Rattle.std.proofs.Common.{◌≡◌, ℕ, ◌+◌, ◌<◌, ◌≤◌, length, map, MatchOption, subst, sym}
-use Rattle.std.specs.List.{sum_by}
-use Rattle.wl_wire.specs.Inside.Buffer.{piece_len}
-use Rattle.wl_wire.specs.MapIds.{with_ids}
-use Rattle.wl_wire.specs.Message.{tokens}
-use Rattle.wl_wire.proofs.Pieces.{length_pieces, length_tokens}
+use Rattle.std.proofs.Common.{◌∙◌, sym, arith}
+use Rattle.std.proofs.lemmas.Bool.{leb-true}
+use Rattle.std.proofs.lemmas.Grind.{common_steps}
+use Rattle.wl_wire.specs.Inside.Buffer.{piece_len, token_of}
+use Rattle.wl_wire.proofs.Pieces.{length-flat_map-more, sum_by-more, token_of-few}
 use Rattle.wl_wire.proofs.write.measure_of.Goals as goal
 
+pub loop-arg-preserved : goal.loop-arg-preserved
+loop-arg-preserved g c =
+    let i = c.loop-arg.arg-index in
+    let a = c.arg-item.result in
+    let tokens = length-flat_map-more token_of c.args.args.now i a c.loop-arg-test.true c.arg-item.is in record {
+      bytes = omega (arith, c.loop-arg.invariant.bytes, c.add.ensures.bytes, sum_by-more piece_len c.args.args.now i a c.loop-arg-test.true c.arg-item.is);
+      small = leb-true _ _ (sym c.add.ensures.fits ∙ c.if-not-add.false);
+      tokens = omega (arith, c.loop-arg.invariant.tokens, c.add.ensures.tokens, tokens);
+      few = omega (arith, c.loop-arg.invariant.few, c.add.ensures.tokens, token_of-few a);
+    }
+
+pub returns-then-not-add : goal.returns-then-not-add
+returns-then-not-add g c = grind (arith, common_steps)
+
 pub returns : goal.returns
-returns g c =
-    let f = g.N.Numbering.object_number c.args._numbers.now in
-    let n = g.N.Numbering.new_number c.args._numbers.now in
-    let args = c.args.args.now in
-    subst (λ (k : ℕ). MatchOption c.count_of.result (65535 < 8 + k) (λ m. (m.bytes ≡ 8 + k) × (m.bytes ≤ 65535) × (m.tokens ≡ length (tokens (map (with_ids f n) args))))) (sym (length_pieces f n args))
-    (subst (λ (k : ℕ). MatchOption c.count_of.result (65535 < 8 + sum_by piece_len args) (λ m. (m.bytes ≡ 8 + sum_by piece_len args) × (m.bytes ≤ 65535) × (m.tokens ≡ k))) (sym (length_tokens f n args)) c.count_of.ensures)
+returns g c = grind (arith, common_steps)

@@ -3,7 +3,7 @@ use Rattle.wl_wire.specs.MapIds.{with_ids}
 use Rattle.wl_wire.specs.Message.{IsArgument, piece, pieces, token}
 use Rattle.std.proofs.lemmas.List.{length-map}
 use Rattle.std.proofs.lemmas.Grind.{common_steps}
-use Rattle.wl_wire.proofs.Pieces.{all-more, got_with_ids, length-piece, pieces-more, rest_at_least, tokens-more, overwritten-nil, overwritten-next, words_at_least}
+use Rattle.wl_wire.proofs.Pieces.{all-more, flat_map-more, got_with_ids, length-piece, pieces-more, rest_at_least, overwritten-nil, overwritten-next, words_at_least}
 use Rattle.wl_wire.proofs.write.put_each_within.Goals as goal
 use Rattle.wl_wire.proofs.write.put_each_within.Goals.{then-args-gt-MAX_WORDS-via-then-args-gt-MAX_WORDS, then-args-gt-MAX_WORDS-via-else-args-gt-MAX_WORDS+then-end-args}
 
@@ -23,7 +23,7 @@ loop-arg-preserved g c =
       omega (arith, c.loop-arg-test.true),
       overwritten-next c.args.payload.now c.loop-arg.payload c.put_within.new.payload args i c.loop-arg.at a got.0 got.1
           (omega (arith, c.loop-arg.invariant.1, c.loop-arg.invariant.2, c.loop-arg-test.true, c.in_ok-at.ensures.next.0, c.in_ok-at.ensures.next.1, c.requires.end, length-piece a)) c.loop-arg.invariant.0 c.loop-arg.invariant.3 c.in_ok-at.ensures.bytes,
-      tokens-more args i a got.0 got.1 ∙ ap (λ t. t ++ token a) c.loop-arg.invariant.4 ∙ c.in_ok-at.ensures.token,
+      flat_map-more token args i a got.0 got.1 ∙ ap (λ t. t ++ token a) c.loop-arg.invariant.4 ∙ c.in_ok-at.ensures.token,
       all-more IsArgument args i a got.0 got.1 c.loop-arg.invariant.5 c.in_ok-at.ensures.value,
     )
 

@@ -4,7 +4,7 @@ use Rattle.std.proofs.lemmas.Result.{on_err_weaker, on_ok_weaker}
 use Rattle.std.specs.List.{AllByRecursion}
 use Rattle.std.proofs.lemmas.Grind.{common_steps}
 use Rattle.wl_wire.specs.Inside.Buffer.{IsWord}
-use Rattle.wl_wire.proofs.Pieces.{tokens_of_words}
+use Rattle.wl_wire.proofs.Pieces.{tokens-with_ids, tokens_of_words}
 use Rattle.wl_wire.proofs.write.write_numbered.Goals as goal
 
 -- words have no tokens
@@ -12,7 +12,7 @@ pub returns-then-are_words-clause-tokens : goal.returns-then-are_words-clause-to
 returns-then-are_words-clause-tokens g c =
     let items = c.args.message.now.args.items in
     let words : AllByRecursion IsWord items = subst (AllByRecursion IsWord) c.as_slice.ensures (c.are_words.ensures.words c.if-are_words.true) in
-    let none = tokens_of_words (g.N.Numbering.object_number c.args.numbers.now) (g.N.Numbering.new_number c.args.numbers.now) items words in
+    let none = tokens-with_ids (g.N.Numbering.object_number c.args.numbers.now) (g.N.Numbering.new_number c.args.numbers.now) items ∙ tokens_of_words items words in
     on_ok_weaker c.write_words.result (λ _. sym (ap (λ t. c.args.fds.now.items ++ t) none ∙ append-nil c.args.fds.now.items)) c.write_words.ensures.message
 
 pub returns-then-are_words-clause-unchanged : goal.returns-then-are_words-clause-unchanged
