@@ -1,6 +1,6 @@
 -- How long the pieces of arguments are, and how one is written behind another.
 use Rattle.std.proofs.Common.{◌≡◌, ℕ, zero, suc, ◌+◌, ◌*◌, ◌-◌, ◌≤◌, ◌<◌, List, [], ◌∷◌, ◌++◌, length, get_or, map, take, drop, replicate, Some, None, refl, sym, ap, subst, ◌∙◌, append_assoc, arith, length-append, add-zero, zero-add, true≢false}
-use Rattle.std.proofs.lemmas.List.{nil_from_length, length-map, get_or-map, append-nil, length-replicate, replicate-append-replicate, take_more, length-take-le, length-drop, take_at, drop_at, drop-drop, take-append-drop, take-append-le, take-take, drop-append-le, drop-replicate}
+use Rattle.std.proofs.lemmas.List.{nil_from_length, length-map, get_or-map, append-nil, length-replicate, replicate-append-replicate, take_more, length-take-le, length-drop, take_at, drop_at, drop-drop, take-append-drop, take-append-le, take-take, drop-append-le, drop-replicate, take-map}
 use Rattle.std.proofs.lemmas.Grind.{flat_map-append}
 use Rattle.std.proofs.lemmas.List.Folds.{length-flat_map-take}
 use Rattle.std.proofs.lemmas.List.Sums.{sum_by-cons, sum_by_push}
@@ -23,7 +23,7 @@ pub length-counted : (bytes : List ℕ) → length (counted bytes) ≡ counted_l
 length-counted bytes =
     omega (arith, length-append (word (length bytes)) (bytes ++ replicate (pad_len (length bytes)) 0), length-append (word (length bytes) ++ bytes) (replicate (pad_len (length bytes)) 0), length-append (word (length bytes)) bytes, length-word (length bytes), length-replicate {A = ℕ} (pad_len (length bytes)) 0)
 
-pub length-piece : (a : WireArgument) → length (piece a) ≡ piece_len a
+length-piece : (a : WireArgument) → length (piece a) ≡ piece_len a
 unfolding piece
 length-piece (arg.Int z) = length-word _
 length-piece (arg.Uint n) = length-word n
@@ -46,11 +46,16 @@ module _ {Id : Type 0} (object_number new_number : Id → ℕ) where
   token-with_ids (arg.Fd t) = refl
   token-with_ids _ = refl
 
+  pub length-piece-with_ids : (a : Argument Id Token) → length (piece (with_ids object_number new_number a)) ≡ piece_len a
+  length-piece-with_ids a = length-piece (with_ids object_number new_number a) ∙ piece_len-with_ids a
+
   pub length_pieces : (args : List (Argument Id Token)) → length (pieces (map (with_ids object_number new_number) args)) ≡ sum_by piece_len args
   length_pieces [] = refl
   length_pieces (a ∷ args) =
-      let b = with_ids object_number new_number a in
-      omega (arith, length-append (piece b) (pieces (map (with_ids object_number new_number) args)), length-piece b, piece_len-with_ids a, length_pieces args, sum_by-cons piece_len a args)
+      omega (arith, length-append (piece (with_ids object_number new_number a)) (pieces (map (with_ids object_number new_number) args)), length-piece-with_ids a, length_pieces args, sum_by-cons piece_len a args)
+
+  pub length-pieces-front : (args : List (Argument Id Token)) (i : ℕ) → length (pieces (take i (map (with_ids object_number new_number) args))) ≡ sum_by piece_len (take i args)
+  length-pieces-front args i = ap (λ (xs : List WireArgument). length (pieces xs)) (take-map (with_ids object_number new_number) i args) ∙ length_pieces (take i args)
 
   pub tokens-with_ids : (args : List (Argument Id Token)) → tokens (map (with_ids object_number new_number) args) ≡ tokens_of args
   tokens-with_ids [] = refl
@@ -134,7 +139,7 @@ module _ {A : Type 0} (P : A → Type 0) where
   all-at (y ∷ xs) (suc i) x all lt is = all-at xs i x all.1 (omega arith) is
 
 -- an argument without a token takes a word at least
-piece_len-some : (a : WireArgument) → token a ≡ [] → 4 ≤ piece_len a
+piece_len-some : {Id : Type 0} (a : Argument Id Token) → token_of a ≡ [] → 4 ≤ piece_len a
 piece_len-some (arg.Str None) none = omega arith
 piece_len-some (arg.Str (Some text)) none = omega arith
 piece_len-some (arg.Array bytes) none = omega arith
@@ -142,29 +147,29 @@ piece_len-some (arg.Fd t) none = absurd (cc)
 piece_len-some _ none = omega arith
 
 -- if no argument has a token, this one has none, nor have those after it
-no_token_first : (a : WireArgument) (args : List WireArgument) → tokens (a ∷ args) ≡ [] → (token a ≡ []) × (tokens args ≡ [])
+no_token_first : {Id : Type 0} (a : Argument Id Token) (args : List (Argument Id Token)) → tokens_of (a ∷ args) ≡ [] → (token_of a ≡ []) × (tokens_of args ≡ [])
 no_token_first a args none =
-    let len : length (token a) + length (tokens args) ≡ 0 = sym (length-append (token a) (tokens args)) ∙ ap length none in
-    (nil_from_length (token a) (omega (arith, len)), nil_from_length (tokens args) (omega (arith, len)))
+    let len : length (token_of a) + length (tokens_of args) ≡ 0 = sym (length-append (token_of a) (tokens_of args)) ∙ ap length none in
+    (nil_from_length (token_of a) (omega (arith, len)), nil_from_length (tokens_of args) (omega (arith, len)))
 
 -- arguments without tokens take a word each at least
-pub words_at_least : (args : List WireArgument) → tokens args ≡ [] → 4 * length args ≤ length (pieces args)
+pub words_at_least : {Id : Type 0} (args : List (Argument Id Token)) → tokens_of args ≡ [] → 4 * length args ≤ sum_by piece_len args
 words_at_least [] none = omega arith
 words_at_least (a ∷ args) none =
     let nones = no_token_first a args none in
-    omega (arith, length-append (piece a) (pieces args), length-piece a, piece_len-some a nones.0, words_at_least args nones.1)
+    omega (arith, sum_by-cons piece_len a args, piece_len-some a nones.0, words_at_least args nones.1)
 
 -- so do those after this one, which has no token either
-pub rest_at_least : (args : List WireArgument) (i : ℕ) (a : WireArgument) → i < length args → a ≡ get_or args i a → tokens args ≡ []
-    → (token a ≡ []) × (length (pieces (take i args)) + length (piece a) + 4 * (length args - (i + 1)) ≤ length (pieces args))
+pub rest_at_least : {Id : Type 0} (args : List (Argument Id Token)) (i : ℕ) (a : Argument Id Token) → i < length args → a ≡ get_or args i a → tokens_of args ≡ []
+    → (token_of a ≡ []) × (sum_by piece_len (take i args) + piece_len a + 4 * (length args - (i + 1)) ≤ sum_by piece_len args)
 rest_at_least [] i a lt is none = absurd (omega arith)
 rest_at_least (x ∷ args) zero a lt is none =
     let nones = no_token_first x args none in
-    (ap token is ∙ nones.0, omega (arith, length-append (piece x) (pieces args), ap (λ (b : WireArgument). length (piece b)) is, words_at_least args nones.1))
+    (ap token_of is ∙ nones.0, omega (arith, sum_by-cons piece_len x args, ap piece_len is, words_at_least args nones.1))
 rest_at_least (x ∷ args) (suc i) a lt is none =
     let nones = no_token_first x args none in
     let others = rest_at_least args i a (omega arith) is nones.1 in
-    (others.0, omega (arith, others.1, length-append (piece x) (pieces args), length-append (piece x) (pieces (take i args))))
+    (others.0, omega (arith, others.1, sum_by-cons piece_len x args, sum_by-cons piece_len x (take i args)))
 
 -- ---- words
 

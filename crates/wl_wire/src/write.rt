@@ -5,10 +5,11 @@
 
 ghost use Rattle.std.specs.Prelude.{◌≡◌, ◌≢◌, ◌↔◌, ◌+◌, ◌-◌, ◌*◌, ◌<◌, ◌≤◌, ◌^◌, ◌++◌, [], Err, length, drop, map, nat_le, replicate, IfOk, IfSome, IsTrue, OnOk, OnErr, MatchOption, vec_len, vec_capacity};
 ghost use Rattle.wl_wire.specs.declared.error.MessageWriteError.TheVariants.{OutOfMemory};
-ghost use Rattle.std.specs.List.{AllByRecursion};
-ghost use Rattle.wl_wire.specs.Message.{content, IsArgument, IsMessage, counted, pad_len, piece, pieces, size, spelling, token, tokens, word};
+ghost use Rattle.std.specs.List.{AllByRecursion, sum_by};
+ghost use Rattle.wl_wire.specs.Message.{content, IsArgument, IsMessage, counted, pad_len, piece, pieces, size, spelling, tokens, word};
 ghost use Rattle.wl_wire.specs.MapIds.{numbered, with_ids};
 ghost use Rattle.wl_wire.specs.Inside.Buffer.{IsWord, is_word, overwritten, counted_len, piece_len, bytes_of, token_of, tokens_of};
+ghost use Rattle.wl_wire.specs.Inside.Writing.{AnswersWriting};
 
 use crate::argument::{Argument, Token};
 use crate::error::MessageWriteError;
@@ -162,10 +163,10 @@ fn put_argument<Id, N: Numbering<Id>>(
     arg: &Argument<Id, Token>,
     numbers: &N,
 ) -> usize
-    requires room { at + piece_len (with_ids (N.object_number numbers.now) (N.new_number numbers.now) arg.now) ≤ length payload.old }
-    requires small { piece_len (with_ids (N.object_number numbers.now) (N.new_number numbers.now) arg.now) ≤ 65535 }
+    requires room { at + piece_len arg.now ≤ length payload.old }
+    requires small { piece_len arg.now ≤ 65535 }
     ensures bytes { payload.new ≡ overwritten payload.old at (piece (with_ids (N.object_number numbers.now) (N.new_number numbers.now) arg.now)) }
-    ensures next { result ≡ at + piece_len (with_ids (N.object_number numbers.now) (N.new_number numbers.now) arg.now) }
+    ensures next { result ≡ at + piece_len arg.now }
     ensures value { IsArgument (with_ids (N.object_number numbers.now) (N.new_number numbers.now) arg.now) }
 {
     match arg {
@@ -187,8 +188,8 @@ fn put_arguments<Id, N: Numbering<Id>>(
     args: &[Argument<Id, Token>],
     numbers: &N,
 )
-    requires bytes { 8 + length (pieces (map (with_ids (N.object_number numbers.now) (N.new_number numbers.now)) args.now)) ≤ length payload.old }
-    requires small { length (pieces (map (with_ids (N.object_number numbers.now) (N.new_number numbers.now)) args.now)) ≤ 65535 }
+    requires bytes { bytes_of args.now ≤ length payload.old }
+    requires small { sum_by piece_len args.now ≤ 65535 }
     ensures bytes { payload.new ≡ overwritten payload.old 8 (pieces (map (with_ids (N.object_number numbers.now) (N.new_number numbers.now)) args.now)) }
     ensures values { AllByRecursion IsArgument (map (with_ids (N.object_number numbers.now) (N.new_number numbers.now)) args.now) }
 {
@@ -353,10 +354,7 @@ fn write_words<Id, N: Numbering<Id>>(
     payload: &mut [u8],
 ) -> Result<usize, MessageWriteError>
     requires words { AllByRecursion IsWord message.now.args.items }
-    ensures written { IfOk result (λ n. (n ≡ size (numbered (N.object_number numbers.now) (N.new_number numbers.now) message.now)) × (payload.new ≡ spelling (numbered (N.object_number numbers.now) (N.new_number numbers.now) message.now) ++ drop n payload.old)) }
-    ensures message { OnOk result (IsMessage (numbered (N.object_number numbers.now) (N.new_number numbers.now) message.now)) }
-    ensures too_long { (result ≡ Err MessageWriteError.TooLong) ↔ (65535 < size (numbered (N.object_number numbers.now) (N.new_number numbers.now) message.now)) }
-    ensures too_small { (result ≡ Err MessageWriteError.BufferTooSmall) ↔ ((size (numbered (N.object_number numbers.now) (N.new_number numbers.now) message.now) ≤ 65535) × (length payload.old < size (numbered (N.object_number numbers.now) (N.new_number numbers.now) message.now))) }
+    ensures answer { AnswersWriting (numbered (N.object_number numbers.now) (N.new_number numbers.now) message.now) payload.old payload.new result }
     ensures memory { result ≢ Err MessageWriteError.OutOfMemory }
     ensures unchanged { OnErr result (payload.new ≡ payload.old) }
 {
@@ -387,19 +385,15 @@ fn write_mixed<Id, N: Numbering<Id>>(
     payload: &mut [u8],
     fds: &mut Vec<Token>,
 ) -> Result<usize, MessageWriteError>
-    ensures written { IfOk result (λ n. (n ≡ size (numbered (N.object_number numbers.now) (N.new_number numbers.now) message.now)) × (payload.new ≡ spelling (numbered (N.object_number numbers.now) (N.new_number numbers.now) message.now) ++ drop n payload.old)) }
-    ensures tokens { OnOk result (fds.new.items ≡ fds.old.items ++ tokens (numbered (N.object_number numbers.now) (N.new_number numbers.now) message.now).args) }
-    ensures message { OnOk result (IsMessage (numbered (N.object_number numbers.now) (N.new_number numbers.now) message.now)) }
+    ensures answer { AnswersWriting (numbered (N.object_number numbers.now) (N.new_number numbers.now) message.now) payload.old payload.new result }
 
-    ensures too_long { (result ≡ Err MessageWriteError.TooLong) ↔ (65535 < size (numbered (N.object_number numbers.now) (N.new_number numbers.now) message.now)) }
-    ensures too_small { (result ≡ Err MessageWriteError.BufferTooSmall) ↔ ((size (numbered (N.object_number numbers.now) (N.new_number numbers.now) message.now) ≤ 65535) × (length payload.old < size (numbered (N.object_number numbers.now) (N.new_number numbers.now) message.now))) }
-
-    ensures memory { (result ≡ Err MessageWriteError.OutOfMemory) → (vec_capacity fds.old < vec_len fds.old + length (tokens (numbered (N.object_number numbers.now) (N.new_number numbers.now) message.now).args)) }
-    ensures no_tokens { tokens (numbered (N.object_number numbers.now) (N.new_number numbers.now) message.now).args ≡ [] → result ≢ Err MessageWriteError.OutOfMemory }
+    ensures tokens { OnOk result (fds.new.items ≡ fds.old.items ++ tokens_of message.now.args.items) }
+    ensures memory { (result ≡ Err MessageWriteError.OutOfMemory) → (vec_capacity fds.old < vec_len fds.old + length (tokens_of message.now.args.items)) }
+    ensures no_tokens { tokens_of message.now.args.items ≡ [] → result ≢ Err MessageWriteError.OutOfMemory }
     ensures unchanged { OnErr result ((payload.new ≡ payload.old) × (fds.new.items ≡ fds.old.items)) }
 
     ensures refused_room { OnErr result (vec_capacity fds.new ≡ vec_capacity fds.old) }
-    ensures room { vec_len fds.old + length (tokens (numbered (N.object_number numbers.now) (N.new_number numbers.now) message.now).args) ≤ vec_capacity fds.old → vec_capacity fds.new ≡ vec_capacity fds.old }
+    ensures room { vec_len fds.old + length (tokens_of message.now.args.items) ≤ vec_capacity fds.old → vec_capacity fds.new ≡ vec_capacity fds.old }
 {
     let args = message.args.as_slice();
     let Some(measure) = measure_of(args) else {
@@ -493,11 +487,11 @@ fn put_within<Id, N: Numbering<Id>>(
     requires at { at + 4 ≤ end }
     requires end { end ≤ length payload.old }
     requires small { end ≤ 65535 }
-    ensures next { IfSome result (λ next. (next ≡ at + piece_len (with_ids (N.object_number numbers.now) (N.new_number numbers.now) arg.now)) × (next ≤ end)) }
+    ensures next { IfSome result (λ next. (next ≡ at + piece_len arg.now) × (next ≤ end)) }
     ensures bytes { IfSome result (λ _. payload.new ≡ overwritten payload.old at (piece (with_ids (N.object_number numbers.now) (N.new_number numbers.now) arg.now))) }
-    ensures token { IfSome result (λ _. token (with_ids (N.object_number numbers.now) (N.new_number numbers.now) arg.now) ≡ []) }
+    ensures token { IfSome result (λ _. token_of arg.now ≡ []) }
     ensures value { IfSome result (λ _. IsArgument (with_ids (N.object_number numbers.now) (N.new_number numbers.now) arg.now)) }
-    ensures none { result ≡ None → token (with_ids (N.object_number numbers.now) (N.new_number numbers.now) arg.now) ≡ [] → end < at + piece_len (with_ids (N.object_number numbers.now) (N.new_number numbers.now) arg.now) }
+    ensures none { result ≡ None → token_of arg.now ≡ [] → end < at + piece_len arg.now }
 {
     match arg {
         Argument::Int(n) => Some(put_word(payload, at, n.cast_unsigned())),
@@ -523,11 +517,11 @@ fn put_each_within<Id, N: Numbering<Id>>(
     requires header { 8 ≤ end }
     requires end { end ≤ length payload.old }
     requires small { end ≤ 65535 }
-    ensures next { IfSome result (λ next. (next ≡ 8 + length (pieces (map (with_ids (N.object_number numbers.now) (N.new_number numbers.now)) args.now))) × (next ≤ end)) }
+    ensures next { IfSome result (λ next. (next ≡ bytes_of args.now) × (next ≤ end)) }
     ensures bytes { IfSome result (λ _. payload.new ≡ overwritten payload.old 8 (pieces (map (with_ids (N.object_number numbers.now) (N.new_number numbers.now)) args.now))) }
-    ensures tokens { IfSome result (λ _. tokens (map (with_ids (N.object_number numbers.now) (N.new_number numbers.now)) args.now) ≡ []) }
+    ensures tokens { IfSome result (λ _. tokens_of args.now ≡ []) }
     ensures values { IfSome result (λ _. AllByRecursion IsArgument (map (with_ids (N.object_number numbers.now) (N.new_number numbers.now)) args.now)) }
-    ensures none { result ≡ None → tokens (map (with_ids (N.object_number numbers.now) (N.new_number numbers.now)) args.now) ≡ [] → end < 8 + length (pieces (map (with_ids (N.object_number numbers.now) (N.new_number numbers.now)) args.now)) }
+    ensures none { result ≡ None → tokens_of args.now ≡ [] → end < bytes_of args.now }
 {
     if args.len() > MAX_WORDS || end - 8 < 4 * args.len() {
         return None;

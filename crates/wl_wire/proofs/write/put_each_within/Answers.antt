@@ -1,9 +1,9 @@
-use Rattle.std.proofs.Common.{◌++◌, length, map, take, refl, sym, ap, arith, length-append, ◌∙◌}
-use Rattle.wl_wire.specs.MapIds.{with_ids}
-use Rattle.wl_wire.specs.Message.{IsArgument, piece, pieces, token}
-use Rattle.std.proofs.lemmas.List.{length-map}
+use Rattle.std.proofs.Common.{◌++◌, map, refl, sym, ap, arith, ◌∙◌}
 use Rattle.std.proofs.lemmas.Grind.{common_steps}
-use Rattle.wl_wire.proofs.Pieces.{all-more, flat_map-more, got_with_ids, length-piece, pieces-more, rest_at_least, overwritten-nil, overwritten-next, words_at_least}
+use Rattle.wl_wire.specs.MapIds.{with_ids}
+use Rattle.wl_wire.specs.Message.{IsArgument}
+use Rattle.wl_wire.specs.Inside.Buffer.{piece_len, token_of}
+use Rattle.wl_wire.proofs.Pieces.{all-more, flat_map-more, got_with_ids, length-piece-with_ids, length-pieces-front, rest_at_least, sum_by-more, overwritten-nil, overwritten-next, words_at_least}
 use Rattle.wl_wire.proofs.write.put_each_within.Goals as goal
 use Rattle.wl_wire.proofs.write.put_each_within.Goals.{then-args-gt-MAX_WORDS-via-then-args-gt-MAX_WORDS, then-args-gt-MAX_WORDS-via-else-args-gt-MAX_WORDS+then-end-args}
 
@@ -17,35 +17,29 @@ loop-arg-preserved g c =
     let i = c.loop-arg.arg-index in
     let args = map (with_ids object_number new_number) c.args.args.now in
     let a = with_ids object_number new_number c.arg-item.result in
-    let got = got_with_ids object_number new_number c.args.args.now i c.arg-item.result c.loop-arg-test.true c.arg-item.is in (
-      omega (arith, c.loop-arg.invariant.0, c.in_ok-at.ensures.next.0, length-piece a, ap length (pieces-more args i a got.0 got.1), length-append (pieces (take i args)) (piece a)),
+    let got = got_with_ids object_number new_number c.args.args.now i c.arg-item.result c.loop-arg-test.true c.arg-item.is in
+    let front = length-pieces-front object_number new_number c.args.args.now i in (
+      omega (arith, c.loop-arg.invariant.0, c.in_ok-at.ensures.next.0, sum_by-more piece_len c.args.args.now i c.arg-item.result c.loop-arg-test.true c.arg-item.is),
       omega (arith, c.loop-arg.invariant.1, c.loop-arg.invariant.2, c.in_ok-at.ensures.next.1, c.loop-arg-test.true),
       omega (arith, c.loop-arg-test.true),
       overwritten-next c.args.payload.now c.loop-arg.payload c.put_within.new.payload args i c.loop-arg.at a got.0 got.1
-          (omega (arith, c.loop-arg.invariant.1, c.loop-arg.invariant.2, c.loop-arg-test.true, c.in_ok-at.ensures.next.0, c.in_ok-at.ensures.next.1, c.requires.end, length-piece a)) c.loop-arg.invariant.0 c.loop-arg.invariant.3 c.in_ok-at.ensures.bytes,
-      flat_map-more token args i a got.0 got.1 ∙ ap (λ t. t ++ token a) c.loop-arg.invariant.4 ∙ c.in_ok-at.ensures.token,
+          (omega (arith, c.loop-arg.invariant.1, c.loop-arg.invariant.2, c.loop-arg-test.true, c.in_ok-at.ensures.next.0, c.in_ok-at.ensures.next.1, c.requires.end, length-piece-with_ids object_number new_number c.arg-item.result)) (omega (arith, c.loop-arg.invariant.0, front)) c.loop-arg.invariant.3 c.in_ok-at.ensures.bytes,
+      flat_map-more token_of c.args.args.now i c.arg-item.result c.loop-arg-test.true c.arg-item.is ∙ ap (λ t. t ++ token_of c.arg-item.result) c.loop-arg.invariant.4 ∙ c.in_ok-at.ensures.token,
       all-more IsArgument args i a got.0 got.1 c.loop-arg.invariant.5 c.in_ok-at.ensures.value,
     )
 
 pub returns-then-args-gt-MAX_WORDS-clause-none : goal.returns-then-args-gt-MAX_WORDS-clause-none
 returns-then-args-gt-MAX_WORDS-clause-none g c = λ is none.
-    let put = with_ids (g.N.Numbering.object_number c.args.numbers.now) (g.N.Numbering.new_number c.args.numbers.now) in
-    let least = words_at_least (map put c.args.args.now) none in
-    let len = length-map c.args.args.now put in
+    let least = words_at_least c.args.args.now none in
     elim c.then-args-gt-MAX_WORDS.branch [
-      | then-args-gt-MAX_WORDS-via-then-args-gt-MAX_WORDS w ↦ omega (arith, least, len, w.if-args-gt-MAX_WORDS.true, c.requires.end, c.requires.small)
-      | then-args-gt-MAX_WORDS-via-else-args-gt-MAX_WORDS+then-end-args w ↦ omega (arith, least, len, w.if-end-args.true, c.requires.header)
+      | then-args-gt-MAX_WORDS-via-then-args-gt-MAX_WORDS w ↦ omega (arith, least, w.if-args-gt-MAX_WORDS.true, c.requires.end, c.requires.small)
+      | then-args-gt-MAX_WORDS-via-else-args-gt-MAX_WORDS+then-end-args w ↦ omega (arith, least, w.if-end-args.true, c.requires.header)
     ]
 
 pub returns-in_err-at-clause-none : goal.returns-in_err-at-clause-none
 returns-in_err-at-clause-none g c = λ is none.
-    let put = with_ids (g.N.Numbering.object_number c.args.numbers.now) (g.N.Numbering.new_number c.args.numbers.now) in
-    let i = c.loop-arg.arg-index in
-    let args = map put c.args.args.now in
-    let a = put c.arg-item.result in
-    let got = got_with_ids (g.N.Numbering.object_number c.args.numbers.now) (g.N.Numbering.new_number c.args.numbers.now) c.args.args.now i c.arg-item.result c.loop-arg-test.true c.arg-item.is in
-    let rest = rest_at_least args i a got.0 got.1 none in
-    omega (arith, rest.1, c.in_err-at.ensures.none refl rest.0, c.loop-arg.invariant.0, c.loop-arg.invariant.1, length-piece a, length-map c.args.args.now put)
+    let rest = rest_at_least c.args.args.now c.loop-arg.arg-index c.arg-item.result c.loop-arg-test.true c.arg-item.is none in
+    omega (arith, rest.1, c.in_err-at.ensures.none refl rest.0, c.loop-arg.invariant.0, c.loop-arg.invariant.1)
 
 pub overflow_sub-room-in-loop-arg : goal.overflow_sub-room-in-loop-arg
 overflow_sub-room-in-loop-arg g c = grind (arith, common_steps)

@@ -1,10 +1,11 @@
-use Rattle.std.proofs.Common.{◌≡◌, ◌<◌, ◌+◌, ◌*◌, ◌++◌, refl, sym, ◌∙◌, subst, arith, rules}
+use Rattle.std.proofs.Common.{◌≡◌, ◌≤◌, ◌+◌, ◌*◌, ◌++◌, length, sym, ◌∙◌, subst, arith, rules}
 use Rattle.std.specs.List.{AllByRecursion}
 use Rattle.std.proofs.lemmas.Grind.{common_steps}
 use Rattle.wl_wire.specs.Inside.Buffer.{IsWord}
 use Rattle.wl_wire.specs.MapIds.{numbered}
 use Rattle.wl_wire.specs.Message.{word, pieces, size}
 use Rattle.wl_wire.proofs.Pieces.{length-header, overwritten-header, size-numbered, sum_of_words}
+use Rattle.wl_wire.proofs.Writing.{answers-too_long, answers-too_small, answers-written}
 use Rattle.wl_wire.proofs.write.write_words.Goals as goal
 
 pub put_words-requires-clause-room : goal.put_words-requires-clause-room
@@ -13,52 +14,28 @@ put_words-requires-clause-room g c =
     let words : AllByRecursion IsWord args = subst (AllByRecursion IsWord) (sym c.as_slice-args.ensures) c.requires.words in
     omega (arith, sum_of_words args words, c.in-Some.ensures.0, c.if-payload-bytes.false, c.put_header.auto.payload)
 
-pub returns-clause-written : goal.returns-clause-written
-returns-clause-written g c =
+pub returns-in_default-clause-answer : goal.returns-in_default-clause-answer
+returns-in_default-clause-answer g c =
     let m = numbered (g.N.Numbering.object_number c.args.numbers.now) (g.N.Numbering.new_number c.args.numbers.now) c.args.message.now in
-    let bytes-is : c.in-Some.bytes ≡ size m = c.in-Some.ensures.0 ∙ sym (size-numbered _ _ c.args.message.now _ c.as_slice-args.ensures) in (
-      bytes-is,
-      rw (c.put_words.ensures.bytes, c.put_header.ensures, c.number_object.ensures, c.as_slice-args.ensures, bytes-is)
-          (overwritten-header c.args.payload.now (word m.sender ++ word (size m * 65536 + m.opcode)) (pieces m.args) (length-header _ _) (omega (arith, bytes-is, c.if-payload-bytes.false))),
-    )
-
-pub returns-in_default-clause-too_long : goal.returns-in_default-clause-too_long
-returns-in_default-clause-too_long g c = (λ _. omega (arith, c.in_default.ensures, size-numbered (g.N.Numbering.object_number c.args.numbers.now) (g.N.Numbering.new_number c.args.numbers.now) c.args.message.now _ c.as_slice-args.ensures), λ _. refl)
-
-pub returns-in_default-clause-too_small : goal.returns-in_default-clause-too_small
-returns-in_default-clause-too_small g c =
-    let m = numbered (g.N.Numbering.object_number c.args.numbers.now) (g.N.Numbering.new_number c.args.numbers.now) c.args.message.now in
-    let long : 65535 < size m = rw (size-numbered (g.N.Numbering.object_number c.args.numbers.now) (g.N.Numbering.new_number c.args.numbers.now) c.args.message.now _ c.as_slice-args.ensures) c.in_default.ensures in
-    (λ e. absurd cc, λ p. absurd (omega (arith, p.0, long)))
-
-pub returns-then-payload-bytes-clause-too_long : goal.returns-then-payload-bytes-clause-too_long
-returns-then-payload-bytes-clause-too_long g c =
-    let m = numbered (g.N.Numbering.object_number c.args.numbers.now) (g.N.Numbering.new_number c.args.numbers.now) c.args.message.now in
-    let bytes-is : c.in-Some.bytes ≡ size m = c.in-Some.ensures.0 ∙ sym (size-numbered _ _ c.args.message.now _ c.as_slice-args.ensures) in
-    (λ e. absurd cc, λ long. absurd (omega (arith, long, bytes-is, c.in-Some.ensures.1)))
-
-pub returns-then-payload-bytes-clause-too_small : goal.returns-then-payload-bytes-clause-too_small
-returns-then-payload-bytes-clause-too_small g c =
-    let m = numbered (g.N.Numbering.object_number c.args.numbers.now) (g.N.Numbering.new_number c.args.numbers.now) c.args.message.now in
-    let bytes-is : c.in-Some.bytes ≡ size m = c.in-Some.ensures.0 ∙ sym (size-numbered _ _ c.args.message.now _ c.as_slice-args.ensures) in
-    (λ _. (omega (arith, bytes-is, c.in-Some.ensures.1), omega (arith, bytes-is, c.if-payload-bytes.true)), λ _. refl)
-
-pub returns-clause-message : goal.returns-clause-message
-returns-clause-message g c =
     let size-is = size-numbered (g.N.Numbering.object_number c.args.numbers.now) (g.N.Numbering.new_number c.args.numbers.now) c.args.message.now _ c.as_slice-args.ensures in
-    record { sender = search rules; opcode = search rules; args = search rules; size = omega (arith, size-is, c.in-Some.ensures.0, c.in-Some.ensures.1) }
+    answers-too_long m c.args.payload.now _ (omega (arith, c.in_default.ensures, size-is))
 
-pub returns-clause-too_long : goal.returns-clause-too_long
-returns-clause-too_long g c =
+pub returns-then-payload-bytes-clause-answer : goal.returns-then-payload-bytes-clause-answer
+returns-then-payload-bytes-clause-answer g c =
     let m = numbered (g.N.Numbering.object_number c.args.numbers.now) (g.N.Numbering.new_number c.args.numbers.now) c.args.message.now in
     let bytes-is : c.in-Some.bytes ≡ size m = c.in-Some.ensures.0 ∙ sym (size-numbered _ _ c.args.message.now _ c.as_slice-args.ensures) in
-    (λ e. absurd cc, λ long. absurd (omega (arith, long, bytes-is, c.in-Some.ensures.1)))
+    answers-too_small m c.args.payload.now _ (omega (arith, bytes-is, c.in-Some.ensures.1)) (omega (arith, bytes-is, c.if-payload-bytes.true))
 
-pub returns-clause-too_small : goal.returns-clause-too_small
-returns-clause-too_small g c =
+pub returns-clause-answer : goal.returns-clause-answer
+returns-clause-answer g c =
     let m = numbered (g.N.Numbering.object_number c.args.numbers.now) (g.N.Numbering.new_number c.args.numbers.now) c.args.message.now in
     let bytes-is : c.in-Some.bytes ≡ size m = c.in-Some.ensures.0 ∙ sym (size-numbered _ _ c.args.message.now _ c.as_slice-args.ensures) in
-    (λ e. absurd cc, λ q. absurd (omega (arith, q.1, bytes-is, c.if-payload-bytes.false)))
+    let small : size m ≤ 65535 = omega (arith, bytes-is, c.in-Some.ensures.1) in
+    let room : size m ≤ length c.args.payload.now = omega (arith, bytes-is, c.if-payload-bytes.false) in
+    answers-written m c.args.payload.now c.put_words.new.payload small room c.in-Some.bytes bytes-is
+    (rw (c.put_words.ensures.bytes, c.put_header.ensures, c.number_object.ensures, c.as_slice-args.ensures, bytes-is)
+    (overwritten-header c.args.payload.now (word m.sender ++ word (size m * 65536 + m.opcode)) (pieces m.args) (length-header _ _) room))
+    (record { sender = search rules; opcode = search rules; args = search rules; size = small })
 
 pub put_words-requires-clause-words : goal.put_words-requires-clause-words
 put_words-requires-clause-words g c = subst (AllByRecursion IsWord) (sym c.as_slice-args.ensures) c.requires.words
