@@ -10,7 +10,7 @@ use Rattle.wl_wire.specs.declared.argument.Token.{Token}
 use Rattle.wl_wire.specs.declared.interface.InterfaceId.{InterfaceId}
 use Rattle.wl_wire.specs.Table.{InterfaceRow, MessageRow, first_message, fixed_rows}
 use Rattle.wl_link.specs.Identity.{Objects}
-use Rattle.wl_link.specs.Store.{Store, removed, rewritten}
+use Rattle.wl_link.specs.Store.{Store, removed}
 use Rattle.wl_link.specs.declared.object.Object.{Object}
 use Rattle.wl_client.specs.declared.error.RequestError.{RequestError}
 use Rattle.wl_client.specs.declared.error.RequestError.TheVariants as refused
@@ -20,7 +20,7 @@ use Rattle.wl_client.specs.declared.objects.Kept.{Kept}
 use Rattle.wl_client.specs.ObjectId.{IdParts}
 use Rattle.wl_client.specs.Events.{Wrong, after_delete, convert, object_argument, object_argument_of, start, fault_text, Fails, Deletes, Unreadable, display_event}
 use Rattle.wl_client.specs.Requests.{SessionMessage, Spec, checked_sender, interface_fault, object_fault}
-use Rattle.wl_client.specs.Session.{display_object, fresh_object, null_parts, with_flags}
+use Rattle.wl_client.specs.Session.{display_object, flagged, fresh_object, null_parts}
 
 -- ---- a table of one interface more
 
@@ -55,7 +55,7 @@ abbrev quad : Object (Kept ℕ)
 quad = fresh_object quad_id 3 2 (Some 6)
 
 abbrev destroyed_quad : Object (Kept ℕ)
-destroyed_quad = with_flags true false quad
+destroyed_quad = flagged true quad
 
 abbrev quad_at_3 : IdParts
 quad_at_3 = record { number = 3; serial = 2; interface = quad_id }
@@ -138,7 +138,7 @@ module _ (store : Store (Kept ℕ)) where
   deleted_after_destruction : after_delete store 3 (Some destroyed_quad) ≡ removed store 3
   deleted_after_destruction = refl
 
-  deleted_before_destruction : after_delete store 3 (Some quad) ≡ rewritten store 3 (with_flags false true quad)
+  deleted_before_destruction : after_delete store 3 (Some quad) ≡ store
   deleted_before_destruction = refl
 
 invalid_text : fault_text table (wrong.InvalidNewId 5 quad_id)

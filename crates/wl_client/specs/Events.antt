@@ -14,13 +14,13 @@ use Rattle.wl_wire.specs.Argument.{WireArgument}
 use Rattle.wl_wire.specs.Table.{InterfaceRow, MessageRow, anonymous_id, name_of}
 use Rattle.wl_link.specs.declared.object.Object.{Object}
 use Rattle.wl_link.specs.Identity.{Objects}
-use Rattle.wl_link.specs.Store.{Store, held, is_free, is_server_number, removed, rewritten, stored}
+use Rattle.wl_link.specs.Store.{Store, held, is_free, is_server_number, removed, stored}
 use Rattle.wl_wire.specs.MessageRows.{fits, next_interface, rest_of}
 use Rattle.wl_client.specs.declared.protocol_error.EventFault.{EventFault}
 use Rattle.wl_client.specs.declared.protocol_error.EventFault.TheVariants as wrong
 use Rattle.wl_client.specs.declared.objects.Kept.{Kept}
 use Rattle.wl_client.specs.ObjectId.{IdParts}
-use Rattle.wl_client.specs.Session.{null_parts, id_at, last_possible_serial, fresh_object, with_flags}
+use Rattle.wl_client.specs.Session.{null_parts, id_at, last_possible_serial, flagged, fresh_object}
 
 -- ---- what is wrong with an event
 
@@ -85,7 +85,7 @@ module _ {U : Type 0} where
 
   -- the object that an event makes: it has its receiver's version, and is destroyed by the client if the receiver is
   abbrev pub made_object : ℕ → Bool → InterfaceId → ℕ → Object (Kept U)
-  made_object version destroyed i serial = with_flags destroyed false (fresh_object i version serial None)
+  made_object version destroyed i serial = flagged destroyed (fresh_object i version serial None)
 
   abbrev pub with_made_object : Objects (Kept U) → ℕ → Object (Kept U) → Objects (Kept U)
   with_made_object objects n x = record {
@@ -179,10 +179,8 @@ told_error table store code n text = record {
 module _ {U : Type 0} where
   abbrev pub after_delete : Store (Kept U) → ℕ → Option (Object (Kept U)) → Store (Kept U)
   after_delete store n None = store
-  after_delete store n (Some x) =
-      if x.value.client_destroyed then removed store n else rewritten store n (with_flags false true x)
+  after_delete store n (Some x) = if x.value.client_destroyed then removed store n else store
 
-  -- What is left after the server gave up a number: an object that the client destroyed leaves the store; another is
-  -- flagged, and stays.
+  -- What is left after the server gave up a number: an object that the client destroyed leaves the store; another stays.
   abbrev pub deleted : Store (Kept U) → ℕ → Store (Kept U)
   deleted store n = after_delete store n (held store n)

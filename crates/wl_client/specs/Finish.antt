@@ -16,7 +16,8 @@ use Rattle.wl_client.specs.declared.error.WaylandError.TheVariants.{Io}
 use Rattle.wl_client.specs.declared.objects.Kept.{Kept}
 use Rattle.wl_client.specs.declared.event.OpenEvent.{OpenEvent}
 use Rattle.wl_client.specs.ObjectId.{IdParts}
-use Rattle.wl_client.specs.Session.{Core, SessionState, named, alive, core_of, noted, id_at, with_core, with_flags, with_user_data}
+use Rattle.wl_client.specs.Objects.{given_up}
+use Rattle.wl_client.specs.Session.{Core, SessionState, named, alive, core_of, noted, id_at, with_core, with_user_data}
 
 module _ {U : Type 0} where
   -- the object at the number gets the data, if there is one
@@ -33,11 +34,11 @@ module _ {U : Type 0} where
       ∷ when (is_none created && is_some u) finish.UnexpectedData
       ∷ [])
 
-  -- an object is destroyed by both sides, and noted if the client had not destroyed it and it has user data
+  -- an object is no longer the client's, and noted if the client had not destroyed it and it has user data
   abbrev pub with_dead : Core U → ℕ → Option (Object (Kept U)) → Core U
   with_dead c n None = c
   with_dead c n (Some x) = record c {
-    store = rewritten c.store n (with_flags true true x);
+    store = given_up c.store n x;
     notes = if x.value.client_destroyed then c.notes else noted c.notes x.value.user_data (id_at n x);
   }
 

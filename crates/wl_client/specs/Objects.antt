@@ -8,7 +8,7 @@ use Rattle.wl_client.specs.declared.error.DestroyError.{DestroyError}
 use Rattle.wl_client.specs.declared.error.DestroyError.TheVariants as destroy
 use Rattle.wl_client.specs.declared.objects.Kept.{Kept}
 use Rattle.wl_client.specs.ObjectId.{IdParts}
-use Rattle.wl_client.specs.Session.{SessionState, named, alive, noted, id_at, with_flags, with_user_data}
+use Rattle.wl_client.specs.Session.{SessionState, named, alive, flagged, noted, id_at, with_user_data}
 
 module _ {U : Type 0} where
   abbrev pub info_in : ℕ → Option (Object (Kept U)) → Option ObjectInfo
@@ -35,7 +35,7 @@ module _ {U : Type 0} where
 
   -- the object at the number is no longer the client's
   abbrev pub given_up : Store (Kept U) → ℕ → Object (Kept U) → Store (Kept U)
-  given_up store n x = rewritten store n (with_flags true x.value.server_destroyed x)
+  given_up store n x = rewritten store n (flagged true x)
 
 module _ {T U : Type 0} where
   -- what is known of the object that the id names, unless the client destroyed it

@@ -78,22 +78,22 @@ module _ {U : Type 0} where
   fresh_object interface version serial user_data = record {
     interface = interface;
     version = version;
-    value = record { serial = serial; user_data = user_data; client_destroyed = false; server_destroyed = false };
+    value = record { serial = serial; user_data = user_data; client_destroyed = false };
   }
 
   -- the display: it has no user data
   abbrev pub display_object : Object (Kept U)
   display_object = fresh_object display_id 1 0 None
 
-  abbrev pub with_flags : Bool → Bool → Object (Kept U) → Object (Kept U)
-  with_flags client server x = record {
+  -- the object, flagged as destroyed by the client, or as not
+  abbrev pub flagged : Bool → Object (Kept U) → Object (Kept U)
+  flagged destroyed x = record {
     interface = x.interface;
     version = x.version;
     value = record {
       serial = x.value.serial;
       user_data = x.value.user_data;
-      client_destroyed = client;
-      server_destroyed = server;
+      client_destroyed = destroyed;
     };
   }
 
@@ -105,7 +105,6 @@ module _ {U : Type 0} where
       serial = x.value.serial;
       user_data = Some u;
       client_destroyed = x.value.client_destroyed;
-      server_destroyed = x.value.server_destroyed;
     };
   }
 

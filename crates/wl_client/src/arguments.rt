@@ -101,7 +101,6 @@ fn make_object<U: Drop>(
             serial,
             user_data: None,
             client_destroyed: receiver.client_destroyed,
-            server_destroyed: false,
         },
     };
     match objects.insert_at(number, object) {

@@ -39,8 +39,8 @@ pub fn display_event(message: &Message<u32, Token>) -> DisplayMessage<'_>
     }
 }
 
-/// Handles that the server has given up the number. If the client has destroyed the object, it leaves the map. Otherwise it
-/// is flagged as destroyed by the server.
+/// Handles that the server has given up the number. If the client has destroyed the object, it leaves the map. Otherwise
+/// nothing is changed.
 pub fn delete_id<U: Drop>(objects: &mut ObjectMap<Kept<U>>, number: u32)
     ensures { objects.new.store ≡ deleted objects.old.store number }
 {
@@ -49,7 +49,5 @@ pub fn delete_id<U: Drop>(objects: &mut ObjectMap<Kept<U>>, number: u32)
     };
     if object.value.client_destroyed {
         objects.remove(number);
-        return;
     }
-    objects.with(number, |object| object.value.server_destroyed = true);
 }

@@ -14,7 +14,7 @@ use crate::backend::Backend;
 use crate::error::{FinishError, FinishRefused};
 use crate::event::OpenEvent;
 use crate::object_id::ObjectId;
-use crate::objects::{give_data, named_in, note_end};
+use crate::objects::{give_data, give_up, named_in, note_end};
 use wl_wire::OutOfMemory;
 
 /// Why an event that made this object cannot be ended with these data, if memory does not run out.
@@ -31,8 +31,8 @@ fn refusal<U>(created: &Option<ObjectId>, user_data: &Option<U>) -> Option<Finis
 impl<T: Drop, U: Drop> Backend<T, U> {
     /// Ends the event that `next_event` handed out. If the event made an object, the object gets this user data.
     ///
-    /// An event may end its sender (`MessageDesc::is_destructor`). Then the sender is marked as destroyed by both sides. It
-    /// is noted, if it has user data and the client had not destroyed it. The errors are, in this order:
+    /// An event may end its sender (`MessageDesc::is_destructor`). Then the sender is marked as destroyed. It is noted, if it
+    /// has user data and the client had not destroyed it. The errors are, in this order:
     ///
     /// - `NoOpenEvent` if no event is open;
     /// - `MissingObjectData` if the event made an object, and no data are given;
@@ -93,8 +93,8 @@ impl<T: Drop, U: Drop> Backend<T, U> {
         }
     }
 
-    /// Marks the object that the id names as destroyed by both sides. It is noted, if it has user data and the client had
-    /// not destroyed it.
+    /// Marks the object that the id names as destroyed. It is noted, if it has user data and the client had not destroyed
+    /// it.
     ///
     /// If there is no memory for the note, nothing is changed.
     fn end_object(&mut self, id: &ObjectId) -> Result<(), OutOfMemory>
@@ -110,10 +110,7 @@ impl<T: Drop, U: Drop> Backend<T, U> {
         if !object.value.client_destroyed {
             note_end(&mut self.notes, number, object)?;
         }
-        self.objects.with(number, |object| {
-            object.value.client_destroyed = true;
-            object.value.server_destroyed = true;
-        });
+        give_up(&mut self.objects, number);
         Ok(())
     }
 }

@@ -28,8 +28,6 @@ pub struct Kept<U> {
     pub user_data: Option<U>,
     /// Whether the client destroyed it, or an event did.
     pub client_destroyed: bool,
-    /// Whether the server has given up its number, or an event destroyed it. It is kept, but no call decides by it.
-    pub server_destroyed: bool,
 }
 
 /// What happened to an object. `Backend::take_notes` returns the notes.
@@ -55,7 +53,6 @@ pub fn fresh_object<U>(
             serial,
             user_data,
             client_destroyed: false,
-            server_destroyed: false,
         },
     }
 }

@@ -52,7 +52,7 @@ use Rattle.wl_client.specs.Handling.{Handling, Swallows, HandsOut, event_of, han
 use Rattle.wl_client.specs.Reading.{NextEvent, event_content, handed_by, objects_in as cored}
 use Rattle.wl_client.proofs.OverRuns.ReadingLaws.{SeesObjects, next_event_respects, read_fails, objects_after}
 use Rattle.wl_client.specs.Requests.{Numbered, Requested, error_after, Sent, SentAs, SentWithChild, SessionMessage, Spec, Written, checked_row, checked_sender, ended_by, grant, id_of_new, new_child, number_of_new, request_check, session_content, unless, wire_message, with_born, with_ended}
-use Rattle.wl_client.specs.Session.{Core, SessionState, alive, core_of, id_at, id_of, last_possible_serial, named, noted, null_parts, objects_of, serial_of, with_core, with_flags, with_user_data}
+use Rattle.wl_client.specs.Session.{Core, SessionState, alive, core_of, flagged, id_at, id_of, last_possible_serial, named, noted, null_parts, objects_of, serial_of, with_core, with_user_data}
 use Rattle.wl_client.specs.Steps.{CallOf, Making, StepOf}
 use Rattle.wl_link.proofs.Ids.HandedIds.{argument_ids_both}
 
@@ -423,9 +423,9 @@ module _ {U : Type 0} where
       deletes (Some x) e = go x.value.client_destroyed refl
         where
           go : (b : Bool) → x.value.client_destroyed ≡ b
-              → Moved (at 0 false notes o) [] (at 0 false notes (record o { store = cond b (removed o.store n) (rewritten o.store n (with_flags false true x)) }))
+              → Moved (at 0 false notes o) [] (at 0 false notes (record o { store = cond b (removed o.store n) o.store }))
           go true is = gone (at 0 false notes o) n (λ y h. ap (λ (a : Object (Kept U)). is_over a.value) (sym (same_Some x y (sym e ∙ h))) ∙ is)
-          go false is = wrote (at 0 false notes o) n (with_flags false true x) x e refl (sym is)
+          go false is = still (at 0 false notes o)
   display_moves notes table o Unreadable = still (at 0 false notes o)
 
   converted_moves : (notes : List Note) (table : List InterfaceRow) (o : Objects (Kept U)) (m : WireMessage) (receiver : Object (Kept U)) (row : MessageRow) (outcome : Outcome U)
@@ -519,7 +519,7 @@ module _ {T U : Type 0} where
   -- an object that is no longer the client's
   ended : (s : SessionState T U) (o : Option (Numbered U)) → IsAlive s o → Moves s [] (with_ended s o)
   ended s None live = idle s
-  ended s (Some (n, x)) (h, live) = (ends (holding s) n x (with_flags true x.value.server_destroyed x) h live refl refl, λ failed. failed)
+  ended s (Some (n, x)) (h, live) = (ends (holding s) n x (flagged true x) h live refl refl, λ failed. failed)
 
   sets : (s : SessionState T U) (id : IdParts) (u : U) (answer : _) (after : SessionState T U) → DataSet s id u answer after → Moves s [] after
   sets s id u answer after h =
@@ -641,11 +641,11 @@ module _ {T U : Type 0} where
   dead s n (Some x) h = go x.value.client_destroyed refl
     where
       go : (b : Bool) → x.value.client_destroyed ≡ b → Moves s [] (record s {
-        store = rewritten s.store n (with_flags true true x);
+        store = rewritten s.store n (flagged true x);
         notes = cond b s.notes (noted s.notes x.value.user_data (id_at n x));
       })
-      go true is = (wrote (holding s) n (with_flags true true x) x (h x refl) refl (sym is), λ failed. failed)
-      go false is = (ends (holding s) n x (with_flags true true x) (h x refl) is refl refl, λ failed. failed)
+      go true is = (wrote (holding s) n (flagged true x) x (h x refl) refl (sym is), λ failed. failed)
+      go false is = (ends (holding s) n x (flagged true x) (h x refl) is refl refl, λ failed. failed)
 
   destructor : (s : SessionState T U) (event : OpenEvent) → Moves s [] (with_core s (after_destructor (core_of s) event))
   destructor s event = go event.is_destructor

@@ -19,7 +19,7 @@ use Rattle.wl_client.specs.Finish.{FlushEnds, SessionFlushed}
 use Rattle.wl_client.specs.ObjectId.{IdParts}
 use Rattle.wl_client.specs.Objects.{DataSet, DestroyedBy, LendsData, destroyable, given_up, user_data_of}
 use Rattle.wl_client.specs.Plain.Calls.{DestroysObject, EndsSession, FlushesSession, SetsData, SetsWhatIsLeft}
-use Rattle.wl_client.specs.Session.{SessionState, alive, id_at, named, noted, with_flags, with_user_data}
+use Rattle.wl_client.specs.Session.{SessionState, alive, flagged, id_at, named, noted, with_user_data}
 use Rattle.wl_client.proofs.Plain.Naming.{names_so, rewritten_named, rewritten_others}
 
 -- ---- objects
@@ -78,8 +78,8 @@ module _ {T U : Type 0} (s : SessionState T U) (id : IdParts) where
       → DestroysObject s id (Ok tt) (record s { store = given_up s.store id.number x; notes = noted s.notes x.value.user_data (id_at id.number x) })
   destroyed x may =
       let by = names_so s.store id x (named_destroyable x may) in record {
-        object = (x, may, rewritten_named s.store id x (with_flags true x.value.server_destroyed x) by refl, refl);
-        objects = λ other differ. rewritten_others s.store id x (with_flags true x.value.server_destroyed x) by refl other differ;
+        object = (x, may, rewritten_named s.store id x (flagged true x) by refl, refl);
+        objects = λ other differ. rewritten_others s.store id x (flagged true x) by refl other differ;
         link = refl;
         rest = (refl, refl, refl, refl);
       }

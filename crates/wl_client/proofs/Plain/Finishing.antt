@@ -14,7 +14,7 @@ use Rattle.wl_client.specs.Finish.{Finishes, Refuses, after_destructor, core_fin
 use Rattle.wl_client.specs.ObjectId.{IdParts}
 use Rattle.wl_client.specs.Objects.{info_in, user_data_in}
 use Rattle.wl_client.specs.Plain.{EndsEvent, EventIsEnded, NotEnded, is_made, same_object, with_end}
-use Rattle.wl_client.specs.Session.{Core, SessionState, alive, core_of, id_at, named, noted, with_core, with_flags, with_user_data}
+use Rattle.wl_client.specs.Session.{Core, SessionState, alive, core_of, flagged, id_at, named, noted, with_core, with_user_data}
 use Rattle.wl_client.proofs.OverRuns.ReadingLaws.{finish_as}
 use Rattle.wl_client.proofs.Plain.Naming.{names_so, rewritten_named, rewritten_others, same_names}
 
@@ -66,37 +66,37 @@ module _ {U : Type 0} (c : Core U) (id : IdParts) where
   abbrev dead : Core U
   dead = with_dead c id.number (named c.store id)
 
-  dead_here : named dead.store id ≡ option_map (with_flags true true) (named c.store id)
+  dead_here : named dead.store id ≡ option_map (flagged true) (named c.store id)
   dead_here = at (named c.store id) refl
     where
-      at : (o : Option (Object (Kept U))) → named c.store id ≡ o → named (with_dead c id.number o).store id ≡ option_map (with_flags true true) o
+      at : (o : Option (Object (Kept U))) → named c.store id ≡ o → named (with_dead c id.number o).store id ≡ option_map (flagged true) o
       at None none = none
-      at (Some x) is = rewritten_named c.store id x (with_flags true true x) (names_so c.store id x is) refl
+      at (Some x) is = rewritten_named c.store id x (flagged true x) (names_so c.store id x is) refl
 
   dead_others : (other : IdParts) → same_object id other ≡ false → named dead.store other ≡ named c.store other
   dead_others other differ = at (named c.store id) refl
     where
       at : (o : Option (Object (Kept U))) → named c.store id ≡ o → named (with_dead c id.number o).store other ≡ named c.store other
       at None none = refl
-      at (Some x) is = rewritten_others c.store id x (with_flags true true x) (names_so c.store id x is) refl other differ
+      at (Some x) is = rewritten_others c.store id x (flagged true x) (names_so c.store id x is) refl other differ
 
   dead_kept : (other : IdParts) → IsSome (named c.store other) → IsSome (named dead.store other)
   dead_kept other kept = at (same_object id other) refl
     where
-      flagged : (o : Option (Object (Kept U))) → IsSome o → IsSome (option_map (with_flags true true) o)
-      flagged None some = some
-      flagged (Some x) some = refl
+      still : (o : Option (Object (Kept U))) → IsSome o → IsSome (option_map (flagged true) o)
+      still None some = some
+      still (Some x) some = refl
 
       at : (b : Bool) → same_object id other ≡ b → IsSome (named dead.store other)
       at false differ = ap is_some (dead_others other differ) ∙ kept
       at true same =
           ap is_some (sym (same_names dead.store id other same) ∙ dead_here)
-          ∙ flagged (named c.store id) (ap is_some (same_names c.store id other same) ∙ kept)
+          ∙ still (named c.store id) (ap is_some (same_names c.store id other same) ∙ kept)
 
   dead_gone : alive (named dead.store id) ≡ None
   dead_gone = ap alive dead_here ∙ none (named c.store id)
     where
-      none : (o : Option (Object (Kept U))) → alive (option_map (with_flags true true) o) ≡ None
+      none : (o : Option (Object (Kept U))) → alive (option_map (flagged true) o) ≡ None
       none None = refl
       none (Some x) = refl
 

@@ -1,5 +1,5 @@
 -- What is known of an event that is handed out, and of the object that it made.
-use Rattle.std.proofs.Common.{◌≡◌, ◌≢◌, ℕ, Bool, true, false, not, cond, eqb, List, [], ◌∷◌, ◌++◌, Option, None, Some, is_some, Result, Ok, Err, MatchOption, refl, sym, ap, ap₂, subst, ◌∙◌, true≢false}
+use Rattle.std.proofs.Common.{◌≡◌, ◌≢◌, ℕ, Bool, true, false, not, cond, List, [], ◌∷◌, ◌++◌, Option, None, Some, is_some, Result, Ok, Err, MatchOption, refl, sym, ap, ap₂, subst, ◌∙◌, true≢false}
 use mathlib.Core.Logic.{inl, inr}
 use Rattle.std.proofs.lemmas.Bool.{eq-eqb}
 use Rattle.std.specs.List.{list_any}
@@ -19,13 +19,13 @@ use Rattle.wl_wire.specs.Reading.{Reads}
 use Rattle.wl_wire.specs.Table.{InterfaceRow, MessageRow, is_new_id}
 use Rattle.wl_wire.proofs.Spelling.CursorLaws.{piece_fits}
 use Rattle.wl_link.proofs.Calls.Branches.{either_bool}
-use Rattle.wl_link.proofs.Ids.StoreLaws.{held_rewritten, removed_other, stored_here, stored_other}
+use Rattle.wl_link.proofs.Ids.StoreLaws.{removed_other, stored_here, stored_other}
 use Rattle.wl_link.specs.declared.object.Object.{Object}
 use Rattle.wl_link.specs.Exchange.{Queue}
 use Rattle.wl_link.specs.Identity.{Objects}
 use Rattle.wl_link.specs.Link.{LinkState, ReadFound}
 use Rattle.wl_link.specs.Reader.{ReaderState, ReadsAs}
-use Rattle.wl_link.specs.Store.{Store, held, is_free, is_server_number, removed, rewritten, stored}
+use Rattle.wl_link.specs.Store.{Store, held, is_free, is_server_number, removed, stored}
 use Rattle.wl_client.specs.declared.event.OpenEvent.{OpenEvent}
 use Rattle.wl_client.specs.declared.objects.Kept.{Kept}
 use Rattle.wl_client.specs.declared.protocol_error.EventFault.{EventFault}
@@ -36,7 +36,7 @@ use Rattle.wl_client.specs.ObjectId.{IdParts}
 use Rattle.wl_client.specs.Plain.{IsMade, new_id_in}
 use Rattle.wl_client.specs.Reading.{client}
 use Rattle.wl_client.specs.Requests.{SessionMessage}
-use Rattle.wl_client.specs.Session.{Core, alive, id_at, last_possible_serial, with_flags}
+use Rattle.wl_client.specs.Session.{Core, alive, id_at, last_possible_serial}
 
 both : (a b : Bool) → (a && b) ≡ true → (a ≡ true) × (b ≡ true)
 both true b is = (refl, is)
@@ -196,17 +196,12 @@ module _ {U : Type 0} where
       at None e k is = is
       at (Some y) e k is = go y.value.client_destroyed refl k is
         where
-          go : (b : Bool) → y.value.client_destroyed ≡ b → Stay store (cond b (removed store n) (rewritten store n (with_flags false true y)))
+          go : (b : Bool) → y.value.client_destroyed ≡ b → Stay store (cond b (removed store n) store)
           go true over k is =
               let (z, there, live) = alive_is (held store k) is in
               let apart : k ≢ n = λ same. true≢false (sym over ∙ ap is_destroyed (sym e ∙ ap (held store) (sym same) ∙ there) ∙ live) in
               subst (λ (o : Option (Object (Kept U))). IsSome (alive o)) (sym (removed_other store n k apart)) is
-          go false lives k is =
-              subst (λ (o : Option (Object (Kept U))). IsSome (alive o)) (sym (held_rewritten store n (with_flags false true y) k)) (here (eqb k n))
-            where
-              here : (b : Bool) → IsSome (alive (cond b (Some (with_flags false true y)) (held store k)))
-              here true = refl
-              here false = is
+          go false lives k is = is
 
 -- the arguments of an event leave them
 module _ {U : Type 0} (version : ℕ) (destroyed : Bool) (first : Store (Kept U)) where

@@ -26,7 +26,7 @@ use Rattle.wl_client.specs.ObjectId.{IdParts}
 use Rattle.wl_client.specs.Objects.{info_in, info_of}
 use Rattle.wl_client.specs.Plain.{MadeAs, RequestIsSent, SendsRequest, same_object}
 use Rattle.wl_client.specs.Requests.{Numbered, Requested, Sent, SentAs, SessionMessage, Spec, Written, checked_row, checked_sender, child_of, ended_by, error_after, grant, id_of_new, new_child, number_of_new, request_check, unless, wire_message, with_born, with_ended}
-use Rattle.wl_client.specs.Session.{SessionState, alive, core_of, id_at, id_of, last_possible_serial, named, noted, serial_of, with_flags}
+use Rattle.wl_client.specs.Session.{SessionState, alive, core_of, flagged, id_at, id_of, last_possible_serial, named, noted, serial_of}
 use Rattle.wl_client.proofs.Plain.Naming.{Names, both_none, named_here, names_so, nothing_has, other_named, rewritten_named, rewritten_others}
 
 -- ---- what is known of a request that is granted
@@ -109,12 +109,12 @@ module _ {T U : Type 0} (t : SessionState T U) (id : IdParts) (x : Object (Kept 
 
   ended_elsewhere : (b : Bool) → Names t.store id x → (other : IdParts) → (b && same_object id other) ≡ false
       → named (with_ended t (ended_at b)).store other ≡ named t.store other
-  ended_elsewhere true by other differ = rewritten_others t.store id x (with_flags true x.value.server_destroyed x) by refl other differ
+  ended_elsewhere true by other differ = rewritten_others t.store id x (flagged true x) by refl other differ
   ended_elsewhere false by other differ = refl
 
   ended_gone : (b : Bool) → Names t.store id x → b ≡ true → info_of (with_ended t (ended_at b)) id ≡ None
   ended_gone true by is =
-      ap (λ (o : Option (Object (Kept U))). info_in id.number (alive o)) (rewritten_named t.store id x (with_flags true x.value.server_destroyed x) by refl)
+      ap (λ (o : Option (Object (Kept U))). info_in id.number (alive o)) (rewritten_named t.store id x (flagged true x) by refl)
   ended_gone false by is = absurd (true≢false (sym is))
 
   ended_notes : (b : Bool) → (with_ended t (ended_at b)).notes ≡ cond b (noted t.notes x.value.user_data (id_at id.number x)) t.notes

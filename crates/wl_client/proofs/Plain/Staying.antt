@@ -11,11 +11,11 @@ use Rattle.wl_wire.specs.Argument.{WireArgument}
 use Rattle.wl_wire.specs.Message.{WireMessage}
 use Rattle.wl_wire.specs.MessageRows.{next_interface}
 use Rattle.wl_wire.specs.Table.{InterfaceRow, MessageRow}
-use Rattle.wl_link.proofs.Calls.Branches.{at_false, at_true}
-use Rattle.wl_link.proofs.Ids.StoreLaws.{held_removed, held_rewritten, held_stored}
+use Rattle.wl_link.proofs.Calls.Branches.{at_true}
+use Rattle.wl_link.proofs.Ids.StoreLaws.{held_removed, held_stored}
 use Rattle.wl_link.specs.declared.object.Object.{Object}
 use Rattle.wl_link.specs.Identity.{Objects, named_in}
-use Rattle.wl_link.specs.Store.{Store, held, removed, rewritten, stored}
+use Rattle.wl_link.specs.Store.{Store, held, removed, stored}
 use Rattle.wl_client.specs.declared.objects.Kept.{Kept}
 use Rattle.wl_client.specs.declared.protocol_error.EventFault.{EventFault}
 use Rattle.wl_client.specs.declared.protocol_error.EventFault.TheVariants as wrong
@@ -23,7 +23,7 @@ use Rattle.wl_client.specs.Events.{Converted, Converting, Deletes, DisplayEvent,
 use Rattle.wl_client.specs.Handling.{Breaks, Handling, HandsOut, Swallows, event_of, handling, of_converted, of_display, of_event, opened_of, row_in}
 use Rattle.wl_client.specs.ObjectId.{IdParts}
 use Rattle.wl_client.specs.Plain.{IdsStay, IsOld, StaysAs}
-use Rattle.wl_client.specs.Session.{alive, id_of, named, serial_of, with_flags}
+use Rattle.wl_client.specs.Session.{alive, id_of, named, serial_of}
 use Rattle.wl_client.proofs.Plain.Naming.{both_none}
 use Rattle.wl_client.proofs.Plain.Opening.{new_number, vacated_elsewhere}
 
@@ -34,29 +34,24 @@ module _ {U : Type 0} where
   stays_same None = refl
   stays_same (Some x) = at x.value.client_destroyed
     where
-      at : (b : Bool) → MatchBool b ((Some x ≡ Some x) ⊎ (Some x ≡ None)) ((Some x ≡ Some x) ⊎ (Some x ≡ Some (with_flags false true x)))
+      at : (b : Bool) → MatchBool b ((Some x ≡ Some x) ⊎ (Some x ≡ None)) (Some x ≡ Some x)
       at true = inl refl
-      at false = inl refl
+      at false = refl
 
   stays_then : (a b c : Option (Object (Kept U))) → StaysAs a b → StaysAs b c → StaysAs a c
   stays_then None b c first second = subst (λ (o : Option (Object (Kept U))). StaysAs o c) first second
   stays_then (Some x) b c first second = at x.value.client_destroyed refl first
     where
       at : (d : Bool) → x.value.client_destroyed ≡ d
-          → MatchBool d ((b ≡ Some x) ⊎ (b ≡ None)) ((b ≡ Some x) ⊎ (b ≡ Some (with_flags false true x)))
-          → MatchBool d ((c ≡ Some x) ⊎ (c ≡ None)) ((c ≡ Some x) ⊎ (c ≡ Some (with_flags false true x)))
+          → MatchBool d ((b ≡ Some x) ⊎ (b ≡ None)) (b ≡ Some x)
+          → MatchBool d ((c ≡ Some x) ⊎ (c ≡ None)) (c ≡ Some x)
       at true is (inl same) =
-          subst (λ (d : Bool). MatchBool d ((c ≡ Some x) ⊎ (c ≡ None)) ((c ≡ Some x) ⊎ (c ≡ Some (with_flags false true x)))) is
+          subst (λ (d : Bool). MatchBool d ((c ≡ Some x) ⊎ (c ≡ None)) (c ≡ Some x)) is
           (subst (λ (o : Option (Object (Kept U))). StaysAs o c) same second)
       at true is (inr none) = inr (subst (λ (o : Option (Object (Kept U))). StaysAs o c) none second)
-      at false is (inl same) =
-          subst (λ (d : Bool). MatchBool d ((c ≡ Some x) ⊎ (c ≡ None)) ((c ≡ Some x) ⊎ (c ≡ Some (with_flags false true x)))) is
+      at false is same =
+          subst (λ (d : Bool). MatchBool d ((c ≡ Some x) ⊎ (c ≡ None)) (c ≡ Some x)) is
           (subst (λ (o : Option (Object (Kept U))). StaysAs o c) same second)
-      at false is (inr same) = flagged (subst (λ (o : Option (Object (Kept U))). StaysAs o c) same second)
-        where
-          flagged : (c ≡ Some (with_flags false true x)) ⊎ (c ≡ Some (with_flags false true x)) → (c ≡ Some x) ⊎ (c ≡ Some (with_flags false true x))
-          flagged (inl stays) = inr stays
-          flagged (inr stays) = inr stays
 
   -- one that was not destroyed is not destroyed
   live_still : (a b : Option (Object (Kept U))) → IsSome (alive a) → StaysAs a b → IsSome (alive b)
@@ -64,10 +59,9 @@ module _ {U : Type 0} where
   live_still (Some x) b live stays = at x.value.client_destroyed live stays
     where
       at : (d : Bool) → IsSome (cond d None (Some x))
-          → MatchBool d ((b ≡ Some x) ⊎ (b ≡ None)) ((b ≡ Some x) ⊎ (b ≡ Some (with_flags false true x))) → IsSome (alive b)
+          → MatchBool d ((b ≡ Some x) ⊎ (b ≡ None)) (b ≡ Some x) → IsSome (alive b)
       at true none stays = absurd (true≢false (sym none))
-      at false some (inl same) = subst (λ (o : Option (Object (Kept U))). IsSome (alive o)) (sym same) live
-      at false some (inr same) = subst (λ (o : Option (Object (Kept U))). IsSome (alive o)) (sym same) refl
+      at false some same = subst (λ (o : Option (Object (Kept U))). IsSome (alive o)) (sym same) live
 
   -- ---- what ids name
 
@@ -113,12 +107,6 @@ module _ {U : Type 0} where
   gone_from y over false true = at_true _ y.value.client_destroyed over (inr refl)
   gone_from y over false false = refl
 
-  flagged_from : (y : Object (Kept U)) → y.value.client_destroyed ≡ false → (z t : Bool)
-      → StaysAs (cond z None (cond t (Some y) None)) (cond z None (cond t (Some (with_flags false true y)) None))
-  flagged_from y live true t = refl
-  flagged_from y live false true = at_false _ y.value.client_destroyed live (inr refl)
-  flagged_from y live false false = refl
-
   ids_by_deletion : (a : Objects (Kept U)) (n : ℕ) → IdsStay a (record a { store = deleted a.store n })
   ids_by_deletion a n = record { serials = omega arith; ids = λ id old. at (held a.store n) refl id }
     where
@@ -127,15 +115,12 @@ module _ {U : Type 0} where
       at (Some y) there id = go y.value.client_destroyed refl
         where
           go : (b : Bool) → y.value.client_destroyed ≡ b
-              → StaysAs (named a.store id) (named (cond b (removed a.store n) (rewritten a.store n (with_flags false true y))) id)
+              → StaysAs (named a.store id) (named (cond b (removed a.store n) a.store) id)
           go true over =
               by_number a.store (removed a.store n) n None (held_removed a.store n) id
               (λ same. subst (λ (o : Option (Object (Kept U))). StaysAs (names_at id o) (names_at id None)) (sym there)
               (gone_from y over (id.number == 0) (y.value.serial == id.serial)))
-          go false live =
-              by_number a.store (rewritten a.store n (with_flags false true y)) n (Some (with_flags false true y)) (held_rewritten a.store n (with_flags false true y)) id
-              (λ same. subst (λ (o : Option (Object (Kept U))). StaysAs (names_at id o) (names_at id (Some (with_flags false true y)))) (sym there)
-              (flagged_from y live (id.number == 0) (y.value.serial == id.serial)))
+          go false live = stays_same (named a.store id)
 
   -- ---- a new object
 

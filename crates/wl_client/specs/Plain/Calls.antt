@@ -20,7 +20,7 @@ use Rattle.wl_client.specs.declared.objects.Note.{Note}
 use Rattle.wl_client.specs.ObjectId.{IdParts}
 use Rattle.wl_client.specs.Objects.{destroyable, user_data_of}
 use Rattle.wl_client.specs.Plain.{object_of, same_object}
-use Rattle.wl_client.specs.Session.{SessionState, id_at, noted, with_flags, with_user_data}
+use Rattle.wl_client.specs.Session.{SessionState, flagged, id_at, noted, with_user_data}
 
 -- the session gets this fault as its error; after `WouldBlock` and `OutOfMemory` more may be sent later
 abbrev pub EndsSession : IoFault → Type 0
@@ -66,7 +66,7 @@ module _ {T U : Type 0} where
   -- there was no memory for the note. An error changes nothing.
   abbrev pub DestroyedAs : SessionState T U → IdParts → Result (Unit {0}) DestroyError → SessionState T U → Type 0
   DestroyedAs before id (Ok _) after =
-      (x : Object (Kept U)) × (destroyable before id ≡ Some x) × (object_of after id ≡ Some (with_flags true x.value.server_destroyed x))
+      (x : Object (Kept U)) × (destroyable before id ≡ Some x) × (object_of after id ≡ Some (flagged true x))
       × (after.notes ≡ noted before.notes x.value.user_data (id_at id.number x))
   DestroyedAs before id (Err destroy.InvalidId) after = (destroyable before id ≡ None) × (after ≡ before)
   DestroyedAs before id (Err destroy.OutOfMemory) after =
