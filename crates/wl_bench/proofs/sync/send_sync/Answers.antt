@@ -8,8 +8,8 @@ use Rattle.wl_client.specs.Requests.{SessionMessage}
 use Rattle.wl_bench.proofs.FirstSync.{first_sync, fresh_script, sync_message}
 use Rattle.wl_bench.proofs.sync.send_sync.Goals as goal
 
-pub returns : goal.returns
-returns c =
+pub returns-clause-ok : goal.returns-clause-ok
+returns-clause-ok c =
     let args : c.push.new.self.items ≡ sync_message.args
     = c.in_ok-push.ensures.ok
     ∙ ap (λ (xs : List (Argument IdParts Token)). xs ++ arg.NewId c.null.result ∷ []) c.new-args.ensures.items
