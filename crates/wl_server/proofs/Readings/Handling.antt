@@ -1,8 +1,6 @@
 -- How a verdict that was carried out is a turn of a reading.
 use Rattle.std.proofs.Common.{◌≡◌, ◌∙◌, ℕ, Bool, true, false, ◌&&◌, ◌||◌, if◌then◌else◌, not, List, [], ◌∷◌, ◌++◌, append-nil, map, Some, is_none, Result, Ok, Err, MatchResult, refl, sym, ap}
 use mathlib.Core.Logic.{inl, inr}
-use Rattle.wl_wire.specs.declared.argument.Argument.{Argument}
-use Rattle.wl_wire.specs.declared.argument.Token.{Token}
 use Rattle.wl_wire.specs.declared.error.IoFault.{IoFault}
 use Rattle.wl_wire.specs.declared.error.IoFault.TheVariants as fault
 use Rattle.wl_link.specs.Exchange.{Queue}
@@ -13,7 +11,6 @@ use Rattle.wl_link.specs.Reader.{Given, HandedOut, Queued, Verdict, came_to, put
 use Rattle.wl_server.specs.declared.reading.action.OpenAction.{OpenAction}
 use Rattle.wl_server.specs.declared.notes.Happening.{Happening}
 use Rattle.wl_server.specs.declared.notes.DisconnectReason.TheVariants.{ConnectionClosed}
-use Rattle.wl_server.specs.declared.reading.action.Found.{Found}
 use Rattle.wl_server.specs.declared.reading.action.NoAction.{NoAction}
 use Rattle.wl_server.specs.declared.reading.action.MessageEnd.{MessageEnd}
 use Rattle.wl_server.specs.declared.reading.action.MessageEnd.TheVariants as came
@@ -21,7 +18,6 @@ use Rattle.wl_server.specs.Inside.Carried.{IsCarried}
 use Rattle.wl_server.specs.Inside.Client.{Does}
 use Rattle.wl_server.specs.Deeds.{Acted, Deed, Handed, Remembered, notes_in}
 use Rattle.wl_server.specs.Errors.{posts}
-use Rattle.wl_server.specs.Ids.{IdParts}
 use Rattle.wl_server.specs.Part.{display_of, with_link}
 use Rattle.wl_server.specs.Inside.Puts.{Puts}
 use Rattle.wl_server.specs.Reading.{Around, action_in, breaks, garbled, hands_out, replies, stops_if}
@@ -233,9 +229,9 @@ module _ {T U C : Type 0} (sends : T → Queue → Result ℕ IoFault → T → 
 
   -- as a reply was put, and as that was answered
   pub replied : (s after : Stored T U C) (link : LinkState T) (puts : List Said) (did : List (Deed U)) (wrote : Result (Unit {0}) IoFault) (end : MessageEnd)
-      (f : Found) (args : List (Argument IdParts Token)) → AreQuiet did → Live s.part → Puts sends s.part.link puts wrote link
+      (h : Handed) → AreQuiet did → Live s.part → Puts sends s.part.link puts wrote link
       → MatchResult wrote (λ _. (end ≡ came.Continues) × (after ≡ over_link s link))
       (λ f. (end ≡ came.Ends (broken_with (lacks_memory (Err f)))) × Does (over_link s link) (λ p did q. Kills p ConnectionClosed did q) after)
-      → IsHandled sends (replies (core_of s.part) puts did) s (message_result end f args) after
-  replied s after link puts did (Ok u) end found args quiet live put (is, same) = rw is (replied_all s after link puts did quiet live put same)
-  replied s after link puts did (Err f) end found args quiet live put (is, kills) = rw is (replied_failed s after link puts did f quiet put kills)
+      → IsHandled sends (replies (core_of s.part) puts did) s (message_result end h) after
+  replied s after link puts did (Ok u) end h quiet live put (is, same) = rw is (replied_all s after link puts did quiet live put same)
+  replied s after link puts did (Err f) end h quiet live put (is, kills) = rw is (replied_failed s after link puts did f quiet put kills)

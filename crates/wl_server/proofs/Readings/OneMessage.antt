@@ -1,5 +1,5 @@
 -- How turns and receives join to a reading of a client.
-use Rattle.std.proofs.Common.{◌≡◌, ◌≢◌, ◌∙◌, ℕ, suc, ◌+◌, ◌<◌, ◌≤◌, Bool, true, false, ◌&&◌, ◌||◌, not, List, [], ◌∷◌, ◌++◌, append-nil, append_assoc, length, map, Option, None, Some, is_some, is_none, option_map, Result, Ok, Err, MatchBool, MatchOption, MatchResult, refl, sym, ap, ap₂, subst, arith, true≢false}
+use Rattle.std.proofs.Common.{◌≡◌, nat_le, ◌≢◌, ◌∙◌, ℕ, suc, ◌+◌, ◌<◌, ◌≤◌, Bool, true, false, ◌&&◌, ◌||◌, not, List, [], ◌∷◌, ◌++◌, append-nil, append_assoc, length, map, Option, None, Some, is_some, is_none, option_map, Result, Ok, Err, is_ok, MatchBool, MatchOption, MatchResult, refl, sym, ap, ap₂, subst, arith, true≢false}
 use mathlib.Core.Logic.{inl, inr}
 use Rattle.wl_wire.specs.declared.argument.Argument.{Argument}
 use Rattle.wl_wire.specs.declared.argument.Token.{Token}
@@ -11,13 +11,15 @@ use Rattle.wl_wire.specs.Message.{WireMessage}
 use Rattle.wl_link.proofs.Calls.Branches.{at_false, at_true}
 use Rattle.wl_link.specs.Exchange.{Queue, Sending}
 use Rattle.wl_link.proofs.Streams.LengthLaws.{carries_stays}
-use Rattle.wl_link.specs.Link.{Filled, FindsRoom, LinkState, grown_capacity}
+use Rattle.wl_link.specs.Link.{Filled, FindsRoom, LinkState, ReadFound, ReadOne, grown_capacity}
 use Rattle.wl_link.proofs.Readings.ReaderLoops.{room_found}
 use Rattle.wl_link.specs.Puts.{lacks_memory}
 use Rattle.wl_link.specs.Reader.{CarriesOut, FrontAsks, Given, Gives, Halts, Handled, Leaves, Reads, Received, Takes, Turn, Unread, Verdict, given_first, handled_in, stops, ReaderState}
 use Rattle.wl_link.specs.declared.object.Object.{Object}
-use Rattle.wl_link.specs.Store.{held}
-use Rattle.wl_wire.specs.Table.{MessageRow}
+use Rattle.wl_link.specs.Store.{Store, held}
+use Rattle.wl_wire.specs.Table.{InterfaceRow, MessageRow, message_row}
+use Rattle.wl_wire.specs.Parse.{opcode_of, sender_of}
+use Rattle.wl_wire.specs.declared.argument.ArgumentType.{ArgumentType}
 use Rattle.wl_server.specs.declared.reading.action.OpenAction.{OpenAction}
 use Rattle.wl_server.specs.declared.reading.action.Reading.{Reading}
 use Rattle.wl_server.specs.declared.error.ActionError.{ActionError}
@@ -29,6 +31,7 @@ use Rattle.wl_server.specs.declared.reading.action.Found.{Found}
 use Rattle.wl_server.specs.declared.reading.action.NoAction.{NoAction}
 use Rattle.wl_server.specs.declared.objects.ClientObjects.{ClientObjects}
 use Rattle.wl_server.specs.declared.objects.Kept.{Kept}
+use Rattle.wl_server.specs.declared.reading.front_request.FrontRequest.{FrontRequest}
 use Rattle.wl_server.specs.declared.reading.response.Response.{Response}
 use Rattle.wl_server.specs.Inside.Client.{Does}
 use Rattle.wl_server.specs.Ids.{IdParts}
@@ -38,7 +41,7 @@ use Rattle.wl_server.specs.Part.{Part}
 use Rattle.wl_server.specs.Reading.{Around, action_in, NextAction, ReadsNone, ReadsTo, answered, exchanges_in, faulted, read_on, reads_on, request, request_to, row_asks, row_in, server}
 use Rattle.wl_server.specs.Server.{Stored, no_times, untimed}
 use Rattle.wl_server.specs.Telling.{Core, Kills, Told, core_of, deeds_in, deeds_of, end_deeds, part_of, reader_part}
-use Rattle.wl_server.specs.Inside.ReadingLoop.{Acts, Ended, EndsAs, Fills, ReadsOn, WentOn, HasNoNote, IsHandled, IsSilent, LacksIn, LacksMore, Live, NotTaken, MessageResult, HandlesMessage, answer_of, counted, linked, refused_of, stored_as}
+use Rattle.wl_server.specs.Inside.ReadingLoop.{Acts, Ended, EndsAs, Fills, ReadsOn, WentOn, HasNoNote, IsHandled, IsFront, IsSenderOf, IsSilent, LacksIn, LacksMore, Live, NotTaken, ReadsIn, MessageResult, HandlesMessage, answer_of, counted, linked, refused_of, stored_as}
 use Rattle.wl_server.proofs.Readings.Handling.{from_there}
 use Rattle.wl_server.proofs.Readings.Notes.{notes_append, notes_of_sends}
 use Rattle.wl_server.proofs.ObjectCalls.Posting.{kills_is}
@@ -89,6 +92,46 @@ module _ {T U C : Type 0} where
   -- a client that lives on is as it was stored, with that part
   stored_live : (s : Stored T U C) (p : Part T U C) → record { serial = s.serial; part = p; made = s.made; times = no_times } ≡ stored_as s (reader_part p)
   stored_live s p = ap (λ (m : List (Happening U)). let x : Stored T U C = record { serial = s.serial; part = p; made = m; times = no_times } in x) (sym (append-nil s.made))
+
+-- ---- a read under the signature of the request at the front
+
+other_look_up : (b : Bool) (P Q R : Option (List ArgumentType) → Type 0) (E : Type 0) → ((f : Option (List ArgumentType)) → P f → Q f)
+    → MatchBool b ((f : Option (List ArgumentType)) × P f × R f) E → MatchBool b ((f : Option (List ArgumentType)) × Q f × R f) E
+other_look_up true P Q R E q (f, p, r) = (f, q f p, r)
+other_look_up false P Q R E q e = e
+
+header_found : {T : Type 0} (f : Option (List ArgumentType)) (before : LinkState T) (m : WireMessage) (after : LinkState T) → ReadFound f before (Ok m) after
+    → (m.sender ≡ sender_of before.incoming.bytes) × (m.opcode ≡ opcode_of before.incoming.bytes)
+header_found None before m after read = absurd (true≢false (ap is_ok read.0))
+header_found (Some s) before m after read = (read.0.sender, read.0.opcode)
+
+abbrev ok_answer : WireMessage → Result WireMessage MessageParseError
+ok_answer m = Ok m
+
+header_at : {T : Type 0} (b : Bool) (P : Option (List ArgumentType) → Type 0) (before : LinkState T) (m : WireMessage) (after : LinkState T)
+    → MatchBool b ((f : Option (List ArgumentType)) × P f × ReadFound f before (Ok m) after) ((ok_answer m ≡ Err parse.MissingData) × (after ≡ before))
+    → (m.sender ≡ sender_of before.incoming.bytes) × (m.opcode ≡ opcode_of before.incoming.bytes)
+header_at true P before m after (f, p, read) = header_found f before m after read
+header_at false P before m after (answer, same) = absurd (true≢false (ap is_ok answer))
+
+module _ {T U : Type 0} (table : List InterfaceRow) (store : Store (Kept U)) (link : LinkState T) (r : FrontRequest) (front : IsFront table store link r) (after : LinkState T) where
+  abbrev AsAsked : Option (List ArgumentType) → Type 0
+  AsAsked f = f ≡ Some r.desc.now.signature.items
+
+  pub read_in : (answer : Result WireMessage MessageParseError) → ReadOne (λ _ _ f. AsAsked f) link answer after → ReadsIn table store link answer after
+  read_in answer read =
+      other_look_up (nat_le 8 (length link.incoming.bytes)) AsAsked (λ f. f ≡ option_map (λ row. row.signature) (row_in table (held store (sender_of link.incoming.bytes)) (opcode_of link.incoming.bytes)))
+      (λ f. ReadFound f link answer after) ((answer ≡ Err parse.MissingData) × (after ≡ link)) (λ f is. is ∙ ap (option_map (λ row. row.signature)) front.row) read
+
+  module _ (m : WireMessage) (read : ReadOne (λ _ _ f. AsAsked f) link (Ok m) after) where
+    header_is : (m.sender ≡ sender_of link.incoming.bytes) × (m.opcode ≡ opcode_of link.incoming.bytes)
+    header_is = header_at _ AsAsked link m after read
+
+    pub row_read : row_in table (held store m.sender) m.opcode ≡ Some (message_row r.desc.now)
+    row_read = ap₂ (λ (n o : ℕ). row_in table (held store n) o) header_is.0 header_is.1 ∙ sym front.row
+
+    pub sender_read : (x : Object (Kept U)) → held store m.sender ≡ Some x → IsSenderOf r.sender x
+    sender_read x is = front.sender x (ap (held store) (sym header_is.0) ∙ is)
 
 module _ {T U G C : Type 0} (sends : T → Queue → Result ℕ IoFault → T → Type 0) (receives : T → ℕ → Result Queue IoFault → T → Type 0) (a : Around G C) where
   -- ---- joining

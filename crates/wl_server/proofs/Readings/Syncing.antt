@@ -12,7 +12,7 @@ use Rattle.wl_wire.specs.MessageRows.{request_in}
 use Rattle.wl_wire.specs.Parse.{IsWhole, length_of, opcode_of, payload_of, sender_of}
 use Rattle.std.specs.Prelude.{IfSome, MatchOption}
 use Rattle.wl_wire.specs.Reading.{IsPiece, IsWord, Reads as ReadsArgs}
-use Rattle.wl_wire.specs.Table.{InterfaceRow, IsAcceptedTable, MessageRow, display_id, display_row, fixed_rows, first_message, callback_id}
+use Rattle.wl_wire.specs.Table.{InterfaceRow, IsAcceptedTable, MessageRow, display_id, display_row, fixed_rows, first_message, callback_id, message_row}
 use Rattle.wl_link.specs.declared.object.Object.{Object}
 use Rattle.wl_link.specs.Exchange.{Queue}
 use Rattle.wl_link.specs.Identity.{Objects}
@@ -22,9 +22,10 @@ use Rattle.wl_link.specs.Reader.{ReadsAs, Takes}
 use Rattle.wl_link.specs.Store.{Store, held, is_server_number}
 use Rattle.wl_server.specs.declared.objects.Kept.{Kept}
 use Rattle.wl_server.specs.declared.reading.action.Reading.{Reading}
+use Rattle.wl_server.specs.declared.reading.front_request.FrontRequest.{FrontRequest}
 use Rattle.wl_server.specs.Inside.Puts.{Puts}
-use Rattle.wl_server.specs.Inside.ReadingLoop.{HandlesMessage, IsHandled, Live, WentOn, counted, linked}
-use Rattle.wl_server.specs.Inside.Syncing.{LeavesNoTrace, SyncWaits}
+use Rattle.wl_server.specs.Inside.ReadingLoop.{HandlesMessage, IsFront, IsHandled, Live, WentOn, counted, linked}
+use Rattle.wl_server.specs.Inside.Syncing.{IsSyncOf, LeavesNoTrace}
 use Rattle.wl_server.specs.Part.{Part, objects_of}
 use Rattle.wl_server.specs.Reading.{Around, made_at, new_at, replies, request, request_to, row_in, server, synced, syncs}
 use Rattle.wl_server.specs.Requests.{made_object}
@@ -53,28 +54,39 @@ module _ (table : List InterfaceRow) (accepted : IsAcceptedTable table) where
   receiver_of None opcode row is = cc
   receiver_of (Some x) opcode row is = (x, refl)
 
-  module _ {T U : Type 0} (store : Store (Kept U)) (link : LinkState T) (row : MessageRow)
-      (asked : Some row ≡ row_in table (held store (sender_of link.incoming.bytes)) (opcode_of link.incoming.bytes))
-      (display : (x : Object (Kept U)) → held store (sender_of link.incoming.bytes) ≡ Some x → x.interface ≡ display_id)
-      (zero : opcode_of link.incoming.bytes ≡ 0) where
-    -- what the word after the header shows
-    pub waits_if : (o : Option ℕ)
-        → MatchOption o (¬ (IsWhole link.incoming.bytes × (length_of link.incoming.bytes ≡ 12)))
-        (λ word. IsWhole link.incoming.bytes × (length_of link.incoming.bytes ≡ 12) × IsWord word (payload_of link.incoming.bytes))
-        → IfSome o (λ n. SyncWaits table store link n)
-    waits_if None none = tt
-    waits_if (Some n) (whole, twelve, word) =
-        let x = receiver_of (held store (sender_of link.incoming.bytes)) (opcode_of link.incoming.bytes) row asked in
-        record {
-          accepted = accepted;
-          receiver = x.0;
-          holds = x.1;
-          display = display x.0 x.1;
-          opcode = zero;
-          whole = whole;
-          twelve = twelve;
-          word = word;
-        }
+-- The message at the front is a sync of a callback with this number.
+record SyncWaits {T U : Type 0} (table : List InterfaceRow) (store : Store (Kept U)) (link : LinkState T) (n : ℕ) : Type 0 where
+  accepted : IsAcceptedTable table
+  receiver : Object (Kept U)
+  holds : held store (sender_of link.incoming.bytes) ≡ Some receiver
+  display : receiver.interface ≡ display_id
+  opcode : opcode_of link.incoming.bytes ≡ 0
+  whole : IsWhole link.incoming.bytes
+  twelve : length_of link.incoming.bytes ≡ 12
+  word : IsWord n (payload_of link.incoming.bytes)
+
+module _ {T : Type 0} (link : LinkState T) (r : FrontRequest) where
+  -- what the word after the header shows
+  pub sync_of : r.sender.interface ≡ display_id → r.opcode ≡ 0 → (o : Option ℕ)
+      → MatchOption o (¬ (IsWhole link.incoming.bytes × (length_of link.incoming.bytes ≡ 12)))
+      (λ word. IsWhole link.incoming.bytes × (length_of link.incoming.bytes ≡ 12) × IsWord word (payload_of link.incoming.bytes))
+      → IfSome o (λ n. IsSyncOf link r n)
+  sync_of display zero None none = tt
+  sync_of display zero (Some n) (whole, twelve, word) = record { display = display; opcode = zero; whole = whole; twelve = twelve; word = word }
+
+  sync_waits : {U : Type 0} (table : List InterfaceRow) (store : Store (Kept U)) (n : ℕ) → IsFront table store link r → IsSyncOf link r n → SyncWaits table store link n
+  sync_waits table store n front sync =
+      let x = receiver_of table front.accepted (held store (sender_of link.incoming.bytes)) (opcode_of link.incoming.bytes) (message_row r.desc.now) front.row in
+      record {
+        accepted = front.accepted;
+        receiver = x.0;
+        holds = x.1;
+        display = (front.sender x.0 x.1).1 ∙ sync.display;
+        opcode = sym front.opcode ∙ sync.opcode;
+        whole = sync.whole;
+        twelve = sync.twelve;
+        word = sync.word;
+      }
 
 -- the link without the message at its front
 abbrev pub taken : {T : Type 0} → LinkState T → LinkState T
@@ -93,7 +105,11 @@ unfolding ReadsArgs IsPiece
 one_word raw fds n word = (payload_of raw, [], fds, sym (append-nil (payload_of raw)), refl, word, tt)
 
 module _ {T U G C : Type 0} (sends : T → Queue → Result ℕ IoFault → T → Type 0) (receives : T → ℕ → Result Queue IoFault → T → Type 0) (a : Around G C)
-    (s : Stored T U C) (n : ℕ) (live : Live s.part) (waits : SyncWaits a.table s.part.store s.part.link n) (no_trace : LeavesNoTrace (objects_of s.part) n) where
+    (s : Stored T U C) (n : ℕ) (live : Live s.part) (r : FrontRequest) (front : IsFront a.table s.part.store s.part.link r) (sync : IsSyncOf s.part.link r n)
+    (no_trace : LeavesNoTrace (objects_of s.part) n) where
+  waits : SyncWaits a.table s.part.store s.part.link n
+  waits = sync_waits s.part.link r a.table s.part.store n front sync
+
   abbrev bytes : List ℕ
   bytes = s.part.link.incoming.bytes
 
@@ -137,14 +153,14 @@ module _ {T U G C : Type 0} (sends : T → Queue → Result ℕ IoFault → T �
   fewer : length (drop (length_of bytes) bytes) < length bytes
   fewer = let long = waits.twelve in let there = waits.whole.there in omega (arith, length-drop (length_of bytes) bytes, long, there)
 
-  pub sync_answered : (r r' : Reading) (link : LinkState T) (after : Stored T U C)
+  pub sync_answered : (reading reading' : Reading) (link : LinkState T) (after : Stored T U C)
       → Puts sends (taken s.part.link) (done_message (new_at a core n) ∷ deletions n) (Ok tt) link
-      → after ≡ record s { part = after_sync s.part link } → r'.turns_left ≡ r.turns_left → r'.read ≡ counted r.read 1
-      → HandlesMessage sends receives a s r WentOn after r'
-  sync_answered r r' link after puts is left read =
+      → after ≡ record s { part = after_sync s.part link } → reading'.turns_left ≡ reading.turns_left → reading'.read ≡ counted reading.read 1
+      → HandlesMessage sends receives a s reading WentOn after reading'
+  sync_answered reading reading' link after puts is left read =
       let puts_all : List Said = done_message (new_at a core n) ∷ deletions n in
       let there : IsHandled sends (syncs a core n) mid WentOn after
       = subst (λ (c : Core U C). IsHandled sends (replies c puts_all []) mid WentOn after) (sym kept) (replied_all sends mid after link puts_all [] none_quiet live puts is) in
-      message_handled sends receives a s r r' live (syncs a core n) (taken s.part.link) WentOn after takes
+      message_handled sends receives a s reading reading' live (syncs a core n) (taken s.part.link) WentOn after takes
       (from_there sends (syncs a core n) (linked s (taken s.part.link)) mid after WentOn refl refl refl there)
       fewer left read

@@ -15,9 +15,9 @@ use Rattle.wl_wire.specs.declared.interface.InterfaceId.{InterfaceId}
 use Rattle.wl_wire.specs.Argument.{WireArgument}
 use Rattle.wl_wire.specs.Message.{WireMessage, token}
 use Rattle.wl_wire.specs.MessageRows.{next_interface}
-use Rattle.wl_wire.specs.Parse.{IsWhole, fd_count, length_of, opcode_of, sender_of}
+use Rattle.wl_wire.specs.Parse.{IsWhole, fd_count, length_of, opcode_of, payload_of, sender_of}
 use Rattle.wl_wire.specs.Reading.{IsPiece, IsWord, Reads as ReadsArgs}
-use Rattle.wl_wire.specs.Table.{InterfaceRow, MessageRow, display_id, registry_id}
+use Rattle.wl_wire.specs.Table.{InterfaceRow, MessageRow, display_id, message_row, registry_id}
 use Rattle.wl_link.specs.declared.object.Object.{Object}
 use Rattle.wl_link.specs.Exchange.{Queue}
 use Rattle.wl_link.specs.Identity.{Objects}
@@ -28,17 +28,18 @@ use Rattle.wl_server.specs.declared.objects.Kept.{Kept}
 use Rattle.wl_server.specs.declared.reading.action.OpenAction.{OpenAction}
 use Rattle.wl_server.specs.declared.reading.action.OpenAction.TheVariants as opened
 use Rattle.wl_server.specs.declared.reading.action.Reading.{Reading}
-use Rattle.wl_server.specs.declared.reading.request.Sender.{Sender}
+use Rattle.wl_server.specs.declared.reading.front_request.FrontRequest.{FrontRequest}
+use Rattle.wl_server.specs.declared.reading.front_request.Sender.{Sender}
 use Rattle.wl_server.specs.declared.reading.response.RequestFault.{RequestFault}
 use Rattle.wl_server.specs.declared.reading.response.RequestFault.TheVariants as wrong
 use Rattle.wl_server.specs.Deeds.{Handed, Request}
 use Rattle.wl_server.specs.Ids.{ClientParts, IdParts}
-use Rattle.wl_server.specs.Inside.ReadingLoop.{Acts, HandlesMessage, IsHandled, IsSenderOf, Live, counted, linked}
+use Rattle.wl_server.specs.Inside.ReadingLoop.{Acts, HandlesMessage, IsFront, IsHandled, IsSenderOf, Live, counted, linked}
 use Rattle.wl_wire.specs.Inside.Cursor.{◌>>=◌, argument_at, counted_at, text_of}
 use Rattle.wl_wire.proofs.Spelling.CursorLaws.{IsRead, argument_reads}
 use Rattle.wl_server.specs.Inside.Conversion.{MakesObject}
-use Rattle.wl_server.specs.Inside.InPlace.{Front, HandsOut, front_of, fronts, word_front}
-use Rattle.wl_server.specs.Inside.Words.{MayStand, RequestWaits, asked_after, first_word, handed_object, handed_word, handed_words, held_fits, held_id, object_fits, word_fits, words_fit}
+use Rattle.wl_server.specs.Inside.InPlace.{Front, HandsOut, IsPut, front_of, fronts, word_front}
+use Rattle.wl_server.specs.Inside.Words.{MayStand, asked_after, first_word, handed_object, handed_word, handed_words, held_fits, held_id, object_fits, word_fits, words_fit}
 use Rattle.wl_server.specs.Part.{id_at, null_id, objects_of}
 use Rattle.wl_server.specs.Reading.{Around, hands_out, request, row_in, server}
 use Rattle.wl_server.specs.Requests.{Converting, Whole, allows_null, convert, convert_one, going_on, kinds_after, object_argument, object_found, start, with_object_argument}
@@ -269,31 +270,44 @@ receiver_of : {U : Type 0} (table : List InterfaceRow) (o : Option (Object (Kept
 receiver_of table None opcode row is = cc
 receiver_of table (Some x) opcode row is = (x, refl)
 
--- what was looked at is a request that waits
-module _ {T U : Type 0} (table : List InterfaceRow) (store : Store (Kept U)) (link : LinkState T) (row : MessageRow) (sender : Sender) (front payload : List ℕ) where
-  abbrev raw : List ℕ
-  raw = link.incoming.bytes
+-- The message at the front is a request of this row, to an object of this kind, that may be handed out where it stands.
+record RequestWaits {T U : Type 0} (table : List InterfaceRow) (store : Store (Kept U)) (link : LinkState T) (row : MessageRow) (sender : Sender) : Type 0 where
+  receiver : Object (Kept U)
+  holds : held store (sender_of link.incoming.bytes) ≡ Some receiver
+  is_sender : IsSenderOf sender receiver
+  has : row_in table (Some receiver) (opcode_of link.incoming.bytes) ≡ Some row
+  stands : MayStand row sender
+  whole : IsWhole link.incoming.bytes
 
-  pub request_waits : IsWhole raw → front ≡ take (length_of raw) raw → payload ≡ drop 8 front
-      → Some row ≡ row_in table (held store (sender_of raw)) (opcode_of raw) → ((x : Object (Kept U)) → held store (sender_of raw) ≡ Some x → IsSenderOf sender x)
-      → MayStand row sender → RequestWaits table store link row sender payload
-  request_waits whole front_is payload_is asked is_sender stands =
-      let x = receiver_of table (held store (sender_of raw)) (opcode_of raw) row asked in
-      record {
-        receiver = x.0;
-        holds = x.1;
-        is_sender = is_sender x.0 x.1;
-        has = ap (λ o. row_in table o (opcode_of raw)) (sym x.1) ∙ sym asked;
-        stands = stands;
-        whole = whole;
-        payload = payload_is ∙ ap (drop 8) front_is;
-      }
+request_waits : {T U : Type 0} (table : List InterfaceRow) (store : Store (Kept U)) (link : LinkState T) (r : FrontRequest) → IsFront table store link r → IsWhole link.incoming.bytes
+    → MayStand (message_row r.desc.now) r.sender → RequestWaits table store link (message_row r.desc.now) r.sender
+request_waits table store link r front whole stands =
+    let x = receiver_of table (held store (sender_of link.incoming.bytes)) (opcode_of link.incoming.bytes) (message_row r.desc.now) front.row in
+    record {
+      receiver = x.0;
+      holds = x.1;
+      is_sender = front.sender x.0 x.1;
+      has = ap (λ o. row_in table o (opcode_of link.incoming.bytes)) (sym x.1) ∙ sym front.row;
+      stands = stands;
+      whole = whole;
+    }
 
 module _ {T U G C : Type 0} (sends : T → Queue → Result ℕ IoFault → T → Type 0) (receives : T → ℕ → Result Queue IoFault → T → Type 0) (a : Around G C)
-    (s : Stored T U C) (row : MessageRow) (sender : Sender) (payload : List ℕ) (live : Live s.part)
-    (waits : RequestWaits a.table s.part.store s.part.link row sender payload)
+    (s : Stored T U C) (live : Live s.part) (front : FrontRequest) (is_front : IsFront a.table s.part.store s.part.link front)
     (created : Option IdParts) (objects : Objects (Kept U)) (handed_args : List (Argument IdParts Token))
-    (hands : HandsOut a.client sender.version (objects_of s.part) row payload s.part.link.incoming.tokens created objects handed_args) where
+    (put : IsPut a.client (objects_of s.part) s.part.link front objects handed_args created) where
+  abbrev row : MessageRow
+  row = message_row front.desc.now
+
+  abbrev sender : Sender
+  sender = front.sender
+
+  waits : RequestWaits a.table s.part.store s.part.link row sender
+  waits = request_waits a.table s.part.store s.part.link front is_front put.whole put.stands
+
+  hands : HandsOut a.client sender.version (objects_of s.part) row (payload_of s.part.link.incoming.bytes) s.part.link.incoming.tokens created objects handed_args
+  hands = put.hands s.part.link.incoming.tokens
+
   abbrev bytes : List ℕ
   bytes = s.part.link.incoming.bytes
 
@@ -329,7 +343,7 @@ module _ {T U G C : Type 0} (sends : T → Queue → Result ℕ IoFault → T �
             whole = waits.whole;
             sender = refl;
             opcode = refl;
-            args = subst (λ (p : List ℕ). ReadsArgs row.signature hands.args p s.part.link.incoming.tokens) waits.payload hands.reads;
+            args = hands.reads;
           },
           ap (λ (n : ℕ). with_incoming s.part.link s.part.link.transport (record { bytes = drop (length_of bytes) bytes; tokens = drop n s.part.link.incoming.tokens })) (sym hands.no_fd),
         ),
@@ -369,17 +383,17 @@ module _ {T U G C : Type 0} (sends : T → Queue → Result ℕ IoFault → T �
     part = record s.part { link = link; store = objects.store; last_serial = objects.last_serial; action = Some (opened.Request id row.is_destructor created) };
   }
 
-  pub request_handed : (r r' : Reading) (link : LinkState T) (after : Stored T U C) (number opcode : ℕ) → number ≡ sender_of bytes → opcode ≡ opcode_of bytes
-      → link ≡ taken s.part.link
-      → (let id : IdParts = record { number = number; serial = sender.serial; client = a.client; interface = sender.interface } in
+  pub request_handed : (r r' : Reading) (link : LinkState T) (after : Stored T U C) → link ≡ taken s.part.link
+      → (let id : IdParts = record { number = front.number; serial = sender.serial; client = a.client; interface = sender.interface } in
       after ≡ acted link id → r'.turns_left ≡ r.turns_left → r'.read ≡ counted r.read 1
-      → HandlesMessage sends receives a s r (Acts (Request id opcode handed_args row.is_destructor created)) after r')
-  request_handed r r' link after number opcode number_is opcode_is link_is after_is left read =
-      let id : IdParts = record { number = number; serial = sender.serial; client = a.client; interface = sender.interface } in
+      → HandlesMessage sends receives a s r (Acts (Request id front.opcode handed_args row.is_destructor created)) after r')
+  request_handed r r' link after link_is after_is left read =
+      let id : IdParts = record { number = front.number; serial = sender.serial; client = a.client; interface = sender.interface } in
       let id_is : receiver_id ≡ id
-      = rw (number_is, ← waits.is_sender.0, ← waits.is_sender.1) refl in
-      let handed_is : handed created ≡ Request id opcode handed_args row.is_destructor created
-      = rw (id_is, opcode_is) refl in
+      = ap₂ (λ (n : ℕ) (p : ℕ × InterfaceId). let x : IdParts = record { number = n; serial = p.0; client = a.client; interface = p.1 } in x) (sym is_front.number)
+      (ap₂ (λ (n : ℕ) (i : InterfaceId). let p : ℕ × InterfaceId = (n, i) in p) waits.is_sender.0 waits.is_sender.1) in
+      let handed_is : handed created ≡ Request id front.opcode handed_args row.is_destructor created
+      = ap₂ (λ (i : IdParts) (o : ℕ). Request i o handed_args row.is_destructor created) id_is (sym is_front.opcode) in
       let same : acted (taken s.part.link) receiver_id ≡ after
       = ap₂ acted (sym link_is) id_is ∙ sym after_is in
       let there : IsHandled sends (verdict created objects) mid (Acts (handed created)) after

@@ -8,18 +8,18 @@ use Rattle.wl_wire.specs.declared.argument.Token.{Token}
 use Rattle.wl_wire.specs.declared.interface.InterfaceId.{InterfaceId}
 use Rattle.wl_wire.specs.Argument.{WireArgument}
 use Rattle.wl_wire.specs.MessageRows.{next_interface}
-use Rattle.wl_wire.specs.Parse.{fd_count}
+use Rattle.wl_wire.specs.Parse.{IsWhole, fd_count, payload_of}
 use Rattle.wl_wire.specs.Reading.{Reads}
-use Rattle.wl_wire.specs.Table.{InterfaceRow, MessageRow}
+use Rattle.wl_wire.specs.Table.{MessageRow, message_row}
 use Rattle.wl_wire.specs.Inside.Cursor.{◌>>=◌, counted_at, text_of}
 use Rattle.wl_link.specs.Identity.{Objects}
 use Rattle.wl_link.specs.Link.{LinkState}
 use Rattle.wl_link.specs.Store.{Store}
 use Rattle.wl_server.specs.declared.objects.Kept.{Kept}
-use Rattle.wl_server.specs.declared.reading.request.Sender.{Sender}
+use Rattle.wl_server.specs.declared.reading.front_request.FrontRequest.{FrontRequest}
 use Rattle.wl_server.specs.Ids.{ClientParts, IdParts}
 use Rattle.wl_server.specs.Requests.{Converting, Whole, convert, start}
-use Rattle.wl_server.specs.Inside.Words.{RequestWaits, asked_after, first_word, handed_word, word_fits}
+use Rattle.wl_server.specs.Inside.Words.{MayStand, asked_after, first_word, handed_word, word_fits}
 
 -- an argument that is handed out, and the bytes behind it
 abbrev pub Front : Type 0
@@ -63,14 +63,9 @@ module _ {U : Type 0} where
     pub objects_are : done.objects ≡ after
     pub created_is : done.created ≡ created
 
-  -- The request at the front was put so: it is handed out as one to this object, which is a destructor or not, and which made
-  -- this object. `number` is that of the object.
-  pub record IsPut {T : Type 0} (table : List InterfaceRow) (client : ClientParts) (objects : Objects (Kept U)) (link : LinkState T) (number : ℕ)
-      (after : Objects (Kept U)) (handed : List (Argument IdParts Token)) (id : IdParts) (is_destructor : Bool) (created : Option IdParts) : Type 0 where
-    pub row : MessageRow
-    pub sender : Sender
-    pub bytes : List ℕ
-    pub waits : RequestWaits table objects.store link row sender bytes
-    pub hands : (fds : List Token) → HandsOut client sender.version objects row bytes fds created after handed
-    pub id_is : id ≡ record { number = number; serial = sender.serial; client = client; interface = sender.interface }
-    pub destructor : is_destructor ≡ row.is_destructor
+  -- the arguments of the request at the front were put so, and it made this object
+  pub record IsPut {T : Type 0} (client : ClientParts) (objects : Objects (Kept U)) (link : LinkState T) (request : FrontRequest) (after : Objects (Kept U))
+      (handed : List (Argument IdParts Token)) (created : Option IdParts) : Type 0 where
+    pub stands : MayStand (message_row request.desc.now) request.sender
+    pub whole : IsWhole link.incoming.bytes
+    pub hands : (fds : List Token) → HandsOut client request.sender.version objects (message_row request.desc.now) (payload_of link.incoming.bytes) fds created after handed

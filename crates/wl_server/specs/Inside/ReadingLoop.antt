@@ -1,15 +1,13 @@
 -- What the functions of a reading say to each other.
 use Rattle.std.specs.Prelude.{◌≡◌, ◌⊎◌, ◌<◌, ◌≤◌, ◌+◌, ℕ, min, length, List, [], ◌++◌, Bool, true, false, Option, None, Some, option_map, Result, Ok, Err}
-use Rattle.std.specs.Borrow.{Bor}
 use Rattle.wl_wire.specs.declared.argument.Argument.{Argument}
 use Rattle.wl_wire.specs.declared.argument.Token.{Token}
 use Rattle.wl_wire.specs.declared.error.IoFault.{IoFault}
 use Rattle.wl_wire.specs.declared.error.MessageParseError.{MessageParseError}
 use Rattle.wl_wire.specs.declared.error.MessageParseError.TheVariants as parse
-use Rattle.wl_wire.specs.declared.interface.MessageDesc.{MessageDesc}
 use Rattle.wl_wire.specs.Message.{WireMessage}
 use Rattle.wl_wire.specs.Parse.{IsThere, opcode_of, sender_of}
-use Rattle.wl_wire.specs.Table.{InterfaceRow, MessageRow, message_row}
+use Rattle.wl_wire.specs.Table.{InterfaceRow, IsAcceptedTable, MessageRow, message_row}
 use Rattle.wl_link.specs.Exchange.{Queue, Sending}
 use Rattle.wl_link.specs.Link.{Filled, FindsRoom, LinkState, ReadOne, grown_capacity}
 use Rattle.wl_link.specs.Puts.{lacks_memory}
@@ -22,7 +20,8 @@ use Rattle.wl_server.specs.declared.error.ActionError.{ActionError}
 use Rattle.wl_server.specs.declared.error.ActionError.TheVariants.{Io}
 use Rattle.wl_server.specs.declared.objects.Kept.{Kept}
 use Rattle.wl_server.specs.declared.reading.Surroundings.{Surroundings}
-use Rattle.wl_server.specs.declared.reading.request.Sender.{Sender}
+use Rattle.wl_server.specs.declared.reading.front_request.FrontRequest.{FrontRequest}
+use Rattle.wl_server.specs.declared.reading.front_request.Sender.{Sender}
 use Rattle.wl_server.specs.declared.reading.action.Found.{Found}
 use Rattle.wl_server.specs.declared.reading.action.Found.TheVariants as found
 use Rattle.wl_server.specs.declared.reading.action.NoAction.{NoAction}
@@ -43,11 +42,6 @@ around_of views s = record {
   globals = record { store = s.globals.now.store; last_serial = 0 };
   views = views;
 }
-
--- this is the sender and the opcode of the header that waits
-abbrev pub IsHeader : {T : Type 0} → LinkState T → ℕ × ℕ → Type 0
-IsHeader link header =
-    (8 ≤ length link.incoming.bytes) × (header.0 ≡ sender_of link.incoming.bytes) × (header.1 ≡ opcode_of link.incoming.bytes)
 
 -- ---- a message is taken
 
@@ -71,13 +65,14 @@ module _ {U : Type 0} where
   abbrev pub NotTaken : {T : Type 0} → List InterfaceRow → Store (Kept U) → LinkState T → MessageParseError → Type 0
   NotTaken table store link e = ReadsIn table store link (Err e) link ⊎ ((e ≡ parse.OutOfMemory) × RequestAsks table store link.incoming)
 
-  -- the message at the front was taken, with what the table says of it; or it was not, and the link is as before
-  abbrev pub TookWith : {T : Type 0} → List InterfaceRow → Store (Kept U) → LinkState T
-      → Result (Bor MessageDesc × Sender) MessageParseError → WireMessage → LinkState T → Type 0
-  TookWith table store before (Ok (desc, sender)) m after =
-      ReadsIn table store before (Ok m) after
-      × (row_in table (held store m.sender) m.opcode ≡ Some (message_row desc.now))
-  TookWith table store before (Err e) m after = (after ≡ before) × NotTaken table store before e
+  -- the message at the front, whose header is there, is this request
+  pub record IsFront {T : Type 0} (table : List InterfaceRow) (store : Store (Kept U)) (link : LinkState T) (request : FrontRequest) : Type 0 where
+    pub counts_header : 8 ≤ length link.incoming.bytes
+    pub number : request.number ≡ sender_of link.incoming.bytes
+    pub opcode : request.opcode ≡ opcode_of link.incoming.bytes
+    pub row : Some (message_row request.desc.now) ≡ row_in table (held store (sender_of link.incoming.bytes)) (opcode_of link.incoming.bytes)
+    pub sender : (x : Object (Kept U)) → held store (sender_of link.incoming.bytes) ≡ Some x → IsSenderOf request.sender x
+    pub accepted : IsAcceptedTable table
 
 -- ---- what the handling of a message comes to
 
@@ -93,17 +88,12 @@ pub data MessageResult : Type 0 where
   LacksMore : MessageResult
   Ended : NoAction → MessageResult
 
--- what was found, and the arguments of a request, stand in places of their own
-abbrev pub message_result : MessageEnd → Found → List (Argument IdParts Token) → MessageResult
-message_result came.HandsOut f args = Acts (found_with f args)
-message_result came.Continues f args = WentOn
-message_result came.Lacks f args = LacksMore
-message_result (came.Ends e) f args = Ended e
-
--- how a reading ended, with the action that it hands out
-abbrev pub action_of : {E : Type 0} → Result (Unit {0}) E → Found → List (Argument IdParts Token) → Result Handed E
-action_of (Ok u) f args = Ok (found_with f args)
-action_of (Err e) f args = Err e
+-- an action that is handed out stands in a place of its own
+abbrev pub message_result : MessageEnd → Handed → MessageResult
+message_result came.HandsOut h = Acts h
+message_result came.Continues h = WentOn
+message_result came.Lacks h = LacksMore
+message_result (came.Ends e) h = Ended e
 
 -- the answer of a reading, and whether memory was refused in it
 abbrev pub answer_of : Result Handed NoAction → Result Handed ActionError

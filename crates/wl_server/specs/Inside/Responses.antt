@@ -74,10 +74,11 @@ abbrev pub HasNames : Response → Type 0
 HasNames (response.Breaks b) = HasName b
 HasNames _ = ⊤
 
--- it is no sync, which is answered apart
-abbrev pub IsNoSync : Response → Type 0
-IsNoSync (response.Syncs _) = ⊥
-IsNoSync _ = ⊤
+-- it is neither a sync nor an action that is handed out
+abbrev pub IsOther : Response → Type 0
+IsOther (response.Syncs _) = ⊥
+IsOther response.HandsOut = ⊥
+IsOther _ = ⊤
 
 -- what the end of an action has to know of it
 abbrev pub opened_of : Found → OpenAction

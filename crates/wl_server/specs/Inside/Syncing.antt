@@ -1,13 +1,14 @@
 -- A sync that is answered in place, without its callback being made.
-use Rattle.std.specs.Prelude.{◌≡◌, ℕ, List, true, Some}
-use Rattle.wl_wire.specs.Parse.{IsWhole, length_of, opcode_of, payload_of, sender_of}
+use Rattle.std.specs.Prelude.{◌≡◌, ℕ, true}
+use Rattle.wl_wire.specs.Parse.{IsWhole, length_of, payload_of}
 use Rattle.wl_wire.specs.Reading.{IsWord}
-use Rattle.wl_wire.specs.Table.{InterfaceRow, IsAcceptedTable, display_id}
+use Rattle.wl_wire.specs.Table.{display_id}
 use Rattle.wl_link.specs.declared.object.Object.{Object}
 use Rattle.wl_link.specs.Identity.{Objects}
 use Rattle.wl_link.specs.Link.{LinkState}
-use Rattle.wl_link.specs.Store.{Store, held, removed, stored}
+use Rattle.wl_link.specs.Store.{removed, stored}
 use Rattle.wl_server.specs.declared.objects.Kept.{Kept}
+use Rattle.wl_server.specs.declared.reading.front_request.FrontRequest.{FrontRequest}
 use Rattle.wl_server.specs.Requests.{is_valid_new}
 
 module _ {U : Type 0} where
@@ -16,14 +17,11 @@ module _ {U : Type 0} where
     pub valid : is_valid_new objects n ≡ true
     pub stays : (x : Object (Kept U)) → removed (stored objects.store n x) n ≡ objects.store
 
-  -- The message at the front is a sync of a callback with this number: its sender is a display, it is there whole, and it has
-  -- one word after its header.
-  pub record SyncWaits {T : Type 0} (table : List InterfaceRow) (store : Store (Kept U)) (link : LinkState T) (n : ℕ) : Type 0 where
-    pub accepted : IsAcceptedTable table
-    pub receiver : Object (Kept U)
-    pub holds : held store (sender_of link.incoming.bytes) ≡ Some receiver
-    pub display : receiver.interface ≡ display_id
-    pub opcode : opcode_of link.incoming.bytes ≡ 0
-    pub whole : IsWhole link.incoming.bytes
-    pub twelve : length_of link.incoming.bytes ≡ 12
-    pub word : IsWord n (payload_of link.incoming.bytes)
+-- This request at the front is a sync of a callback with this number: it was sent to a display, it is there whole, and it has
+-- one word after its header.
+pub record IsSyncOf {T : Type 0} (link : LinkState T) (request : FrontRequest) (n : ℕ) : Type 0 where
+  pub display : request.sender.interface ≡ display_id
+  pub opcode : request.opcode ≡ 0
+  pub whole : IsWhole link.incoming.bytes
+  pub twelve : length_of link.incoming.bytes ≡ 12
+  pub word : IsWord n (payload_of link.incoming.bytes)

@@ -8,18 +8,14 @@ use Rattle.wl_wire.specs.declared.argument.ArgumentType.TheVariants as kind
 use Rattle.wl_wire.specs.declared.argument.Token.{Token}
 use Rattle.wl_wire.specs.declared.interface.InterfaceId.{InterfaceId}
 use Rattle.wl_wire.specs.MessageRows.{fits, next_interface, rest_of}
-use Rattle.wl_wire.specs.Parse.{IsWhole, opcode_of, payload_of, sender_of}
-use Rattle.wl_wire.specs.Table.{InterfaceRow, MessageRow, display_id, registry_id}
+use Rattle.wl_wire.specs.Table.{MessageRow, display_id, registry_id}
 use Rattle.wl_link.specs.declared.object.Object.{Object}
-use Rattle.wl_link.specs.Link.{LinkState}
 use Rattle.wl_link.specs.Store.{Store, held}
 use Rattle.wl_server.specs.declared.objects.Kept.{Kept}
-use Rattle.wl_server.specs.declared.reading.request.Sender.{Sender}
+use Rattle.wl_server.specs.declared.reading.front_request.Sender.{Sender}
 use Rattle.wl_server.specs.Ids.{ClientParts, IdParts}
 use Rattle.wl_server.specs.Part.{id_at, null_id}
-use Rattle.wl_server.specs.Reading.{row_in}
 use Rattle.wl_server.specs.Requests.{allows_null}
-use Rattle.wl_server.specs.Inside.ReadingLoop.{IsSenderOf}
 
 -- the word at the front of the bytes
 abbrev pub first_word : List ℕ → ℕ
@@ -83,17 +79,3 @@ module _ {U : Type 0} where
   handed_words client store [] bytes = []
   handed_words client store (k ∷ kinds) bytes =
       handed_word client store k (first_word bytes) ∷ handed_words client store kinds (drop 4 bytes)
-
-  -- ---- the request at the front
-
-  -- The message at the front is a request of this row, to an object of this kind, that may be handed out where it stands. It is
-  -- there whole, and these bytes are its arguments.
-  pub record RequestWaits {T : Type 0} (table : List InterfaceRow) (store : Store (Kept U)) (link : LinkState T) (row : MessageRow) (sender : Sender)
-      (bytes : List ℕ) : Type 0 where
-    pub receiver : Object (Kept U)
-    pub holds : held store (sender_of link.incoming.bytes) ≡ Some receiver
-    pub is_sender : IsSenderOf sender receiver
-    pub has : row_in table (Some receiver) (opcode_of link.incoming.bytes) ≡ Some row
-    pub stands : MayStand row sender
-    pub whole : IsWhole link.incoming.bytes
-    pub payload : bytes ≡ payload_of link.incoming.bytes

@@ -11,8 +11,7 @@ use crate::dispatch::request_handler::Handler;
 use crate::error::{ActionError, FinishError};
 use crate::globals::handler::GlobalHandler;
 use crate::ids::client_id::ClientId;
-use crate::reading::action::{Action, Found, Reading};
-use smallvec::SmallVec;
+use crate::reading::action::{Action, Reading};
 use wl_link::Transport;
 use wl_wire::IoFault;
 
@@ -147,7 +146,7 @@ impl<T: Transport + Drop, U: Drop, G: GlobalHandler<C> + Drop, C: Drop> Backend<
     {
         let mut reading = Reading::new();
         // One place serves all actions: requests are written into it, and lent to the handler.
-        let mut action = Found::none().with_args(SmallVec::new(self.alloc()));
+        let mut action = Action::none(self.alloc());
         loop {
             if let Some(fault) = self.serve_some(handler, id, &mut reading, &mut action) {
                 return answer_of(fault, reading.read);

@@ -1,14 +1,14 @@
 //! What a reading hands out, how much it may read, and what became of a message.
 
-ghost use Rattle.std.specs.Prelude.{◌≡◌, None, false};
+ghost use Rattle.std.specs.Prelude.{◌≡◌, ◌≤◌, []};
 ghost use Rattle.wl_server.specs.Deeds.{handed};
 ghost use Rattle.wl_server.specs.Inside.ReadingLoop.{found_with};
-ghost use Rattle.wl_server.specs.Part.{null_id};
-ghost use Rattle.wl_server.specs.declared.reading.action.Found.TheVariants as found;
 
 use crate::ids::global_id::GlobalId;
 use crate::ids::object_id::ObjectId;
-use wl_wire::{Args, IoFault};
+use smallvec::SmallVec;
+use std::alloc::Global;
+use wl_wire::{Args, INLINE_ARGS, IoFault};
 
 /// What a client asks of the program. `finish_request` or `finish_bind` ends it.
 #[derive(Debug, Drop)]
@@ -72,8 +72,7 @@ pub struct NoAction {
     pub refused: bool,
 }
 
-/// An action that is handed out, without the arguments of a request. An `Action` is large and is not to be moved, so what finds
-/// one is lent a `Found` and the arguments apart, and fills them.
+/// An action that is handed out, without the arguments of a request.
 #[derive(Clone, Copy)]
 pub enum Found {
     /// A request: the object that it was sent to, its opcode, whether it is a destructor, and the object that it made.
@@ -82,20 +81,33 @@ pub enum Found {
     Bind(GlobalId, ObjectId),
 }
 
-impl Found {
-    /// The value before an action is found: a request of no object.
-    pub fn none() -> Self
-        ensures { result ≡ found.Request (null_id record { slot = 0; serial = 0 }) 0 false None }
+/// An action that is being found. An `Action` is large and is not to be moved, so its parts are filled one by one.
+#[derive(Drop)]
+pub struct Finding {
+    /// The action, once it is found.
+    pub found: Found,
+    /// The arguments of the action, if it is a request.
+    pub args: Args<ObjectId>,
+}
+
+impl Finding {
+    /// The place of an action before it is found: a request of no object, without arguments.
+    pub fn new(alloc: Global) -> Self
+        ensures empty { result.args.items ≡ [] }
+        ensures inline { INLINE_ARGS ≤ result.args.capacity }
     {
-        Found::Request(ObjectId::null(), 0, false, None)
+        Finding {
+            found: Found::Request(ObjectId::null(), 0, false, None),
+            args: SmallVec::new(alloc),
+        }
     }
 
-    /// The action, with these arguments if it is a request.
-    #[inline(always)]
-    pub fn with_args(self, args: Args<ObjectId>) -> Action
-        ensures { handed result ≡ found_with self args.items }
+    /// The action that was found.
+    pub fn into_action(self) -> Action
+        ensures { handed result ≡ found_with self.found self.args.items }
     {
-        match self {
+        let Finding { found, args } = self;
+        match found {
             Found::Request(sender, opcode, is_destructor, created) => {
                 Action::Request {
                     sender,
@@ -110,15 +122,17 @@ impl Found {
     }
 }
 
-/// What a reading has to find an action: how much it may still receive, and the places of the action and of its arguments.
-#[derive(Drop)]
-pub struct Finding {
-    /// How much it may still receive, and how many requests it read.
-    pub reading: Reading,
-    /// The action, once it is found.
-    pub found: Found,
-    /// The arguments of the action, if it is a request.
-    pub args: Args<ObjectId>,
+impl Action {
+    /// The place of an action before one is found: a request of no object, without arguments.
+    pub(crate) fn none(alloc: Global) -> Self {
+        Action::Request {
+            sender: ObjectId::null(),
+            opcode: 0,
+            args: SmallVec::new(alloc),
+            is_destructor: false,
+            created: None,
+        }
+    }
 }
 
 /// What the handling of a message came to.

@@ -22,12 +22,12 @@ use wl_wire::opcodes::SYNC;
 use wl_wire::{Argument, Message, Token, WL_CALLBACK_INTERFACE, WL_REGISTRY_INTERFACE};
 
 /// Handles a request to a display, and returns what is still to be done for it.
-pub fn display_request<'m, U: Drop, G: GlobalHandler<C>, C>(
+pub fn display_request<'p, 'm, U: Drop, G: GlobalHandler<C>, C>(
     around: &Surroundings<'_, G>,
     client_data: &C,
     objects: &mut ClientObjects<U>,
     message: &'m Message<u32, Token>,
-) -> Response<'m>
+) -> Response<'p, 'm>
     requires can_make { list_any (λ x. is_new_id (type_of x)) message.now.args.items ≡ true → objects.old.map.reserved ≡ true }
     requires can_register { list_any (λ x. is_new_id (type_of x)) message.now.args.items ≡ true → vec_len objects.old.registries < vec_capacity objects.old.registries }
     ensures names { HasNames result }
@@ -55,12 +55,12 @@ fn new_id_in(message: &Message<u32, Token>) -> Option<u32>
 }
 
 /// Makes a callback with this number. It is removed at once.
-fn sync<'m, U: Drop, G: GlobalHandler<C>, C>(
+fn sync<'p, 'm, U: Drop, G: GlobalHandler<C>, C>(
     around: &Surroundings<'_, G>,
     client_data: &C,
     objects: &mut ClientObjects<U>,
     number: u32,
-) -> Response<'m>
+) -> Response<'p, 'm>
     requires { objects.old.map.reserved ≡ true }
     ensures names { HasNames result }
     ensures responds { (c : Core U C) (f : FoundOf) (args : List (Arg IdParts TokenParts))
@@ -78,12 +78,12 @@ fn sync<'m, U: Drop, G: GlobalHandler<C>, C>(
 }
 
 /// Makes a registry with this number.
-fn get_registry<'m, U: Drop, G: GlobalHandler<C>, C>(
+fn get_registry<'p, 'm, U: Drop, G: GlobalHandler<C>, C>(
     around: &Surroundings<'_, G>,
     client_data: &C,
     objects: &mut ClientObjects<U>,
     number: u32,
-) -> Response<'m>
+) -> Response<'p, 'm>
     requires can_make { objects.old.map.reserved ≡ true }
     requires can_register { vec_len objects.old.registries < vec_capacity objects.old.registries }
     ensures names { HasNames result }

@@ -1,288 +1,130 @@
-//! The arguments of a request that is handed out where it stands, if they are not all words: strings and arrays, or one new
-//! object. What cannot be done so is left to the general way, which also says what is wrong with a request.
+//! Requests that are handed out where they stand, without being read into a message.
 
-ghost use Rattle.std.specs.Prelude.{◌≡◌, ◌≤◌, ◌+◌, [], ◌∷◌, true, IfSome, IsTrue, List, MatchBool, MatchOption, None, Some, length, option_map};
-ghost use Rattle.wl_wire.specs.declared.argument.Argument.TheVariants as argument;
-ghost use Rattle.wl_wire.specs.declared.argument.ArgumentType.TheVariants as kind;
-ghost use Rattle.wl_wire.specs.declared.argument.Token.{Token as WireToken};
-ghost use Rattle.wl_wire.specs.Inside.Cursor.{counted_at, text_of, word_at};
-ghost use Rattle.wl_wire.specs.MessageRows.{next_interface};
+ghost use Rattle.std.specs.Prelude.{◌≡◌, IfSome, IsTrue, MatchBool, MatchOption, Some};
+ghost use Rattle.wl_wire.specs.Parse.{IsWhole, payload_of};
 ghost use Rattle.wl_wire.specs.Table.{message_row};
-ghost use Rattle.wl_server.specs.Inside.Conversion.{MakesObject, objects_of};
-ghost use Rattle.wl_server.specs.Inside.InPlace.{HandsOut, array_front, front_of, fronts, text_front, word_front};
-ghost use Rattle.wl_server.specs.Inside.Words.{first_word};
+ghost use Rattle.wl_server.specs.Deeds.{handed};
+ghost use Rattle.wl_server.specs.NoteOrder.{IsNumbered};
+ghost use Rattle.wl_server.specs.Inside.ReadingLoop.{Acts, HandlesMessage, IsFront, Live, around_of};
+ghost use Rattle.wl_server.specs.Inside.Conversion.{objects_of};
+ghost use Rattle.wl_server.specs.Inside.InPlace.{IsPut};
+ghost use Rattle.wl_server.specs.Inside.Words.{MayStand};
 
+// The arguments that are not all words.
+pub mod arguments;
+// A sync, which is answered where it stands.
+pub mod sync;
+// The arguments that are words.
+pub mod words;
+
+use crate::client::Client;
+use crate::globals::handler::GlobalHandler;
 use crate::ids::client_id::ClientId;
 use crate::ids::object_id::ObjectId;
-use crate::objects::{ClientObjects, Kept};
-use crate::reading::arguments::insert_object;
-use crate::reading::words::{
-    asked_after, empty, first_word, handed_word, put_words, word_fits, words_fit,
-};
-use smallvec::SmallVec;
-use std::alloc::Global;
-use wl_link::ObjectMap;
-use wl_wire::{
-    Args, Argument, ArgumentType, ByteArray, CString, INLINE_ARGS, InterfaceId, MessageDesc, Token,
-};
+use crate::objects::ClientObjects;
+use crate::reading::Surroundings;
+use crate::reading::action::{Action, Reading};
+use crate::reading::front_request::FrontRequest;
+use crate::reading::in_place::arguments::put_arguments;
+use wl_link::{BufferedSocket, Transport};
+use wl_wire::{Args, INLINE_ARGS, WL_DISPLAY_INTERFACE, WL_REGISTRY_INTERFACE};
 
-/// An argument that is handed out, and the bytes behind it.
-type Front<'b> = (Argument<ObjectId, Token>, &'b [u8]);
-
-/// The word at the front, and the bytes after it. `None` if there are fewer than four bytes.
-#[tactic(auto, unfolding(wl_wire::specs::Inside::Cursor::word_at))]
-fn read_word(bytes: &[u8]) -> Option<(u32, &[u8])>
-    ensures { option_map (λ x. (x.0, x.1.now)) result ≡ word_at bytes.now }
+/// Whether this request may be handed out where it stands: those to displays and registries are answered, those that the
+/// object's version does not have are refused, and more than four arguments need memory.
+fn may_stand(front: &FrontRequest<'_>) -> bool
+    ensures { IsTrue result → MayStand (message_row front.now.desc.now) front.now.sender }
 {
-    if bytes.len() < 4 {
+    let sender = front.sender;
+    let desc = front.desc;
+    let is_answered = sender.interface == WL_DISPLAY_INTERFACE
+        || sender.interface == WL_REGISTRY_INTERFACE;
+    !is_answered && sender.version >= desc.since && desc.signature.len() <= INLINE_ARGS
+}
+
+/// The bytes of the arguments of the request at the front, if it is complete and may be handed out where it stands.
+fn waiting_payload<'s, T: Drop>(
+    socket: &'s BufferedSocket<T>,
+    front: &FrontRequest<'_>,
+) -> Option<&'s [u8]>
+    ensures { IfSome result (λ bytes. MayStand (message_row front.now.desc.now) front.now.sender
+        × IsWhole socket.now.incoming.bytes × (bytes.now ≡ payload_of socket.now.incoming.bytes)) }
+{
+    if !may_stand(front) {
         return None;
     }
-    let (word, rest) = bytes.split_at(4);
-    Some((
-        u32::from_le_bytes([word[0], word[1], word[2], word[3]]),
-        rest,
-    ))
+    let message = socket.front()?;
+    Some(message.split_at(8).1)
 }
 
-/// The counted bytes at the front, and what follows their padding. `None` if they are not complete.
-#[tactic(auto, unfolding(wl_wire::specs::Inside::Cursor::counted_at))]
-fn read_counted(bytes: &[u8]) -> Option<(&[u8], &[u8])>
-    ensures { option_map (λ x. (x.0.now, x.1.now)) result ≡ counted_at bytes.now }
-{
-    let (count, rest) = read_word(bytes)?;
-    let count = count as usize;
-    let padded = count + (4 - count % 4) % 4;
-    if rest.len() < padded {
-        return None;
-    }
-    Some((&rest[..count], &rest[padded..]))
-}
-
-/// A copy of the string in the counted bytes, without the zero that ends it. No bytes at all are null (`Some(None)`). The
-/// outer `None` says that the bytes are no string, or that there is no memory.
-#[tactic(auto, unfolding(wl_wire::specs::Inside::Cursor::text_of))]
-fn copied_text(alloc: Global, bytes: &[u8]) -> Option<Option<CString>>
-    ensures { IfSome result (λ text. text_of bytes.now ≡ Some text) }
-{
-    let Some((last, text)) = bytes.split_last() else {
-        return Some(None);
-    };
-    if *last != 0 || text.contains(&0) {
-        return None;
-    }
-    let Ok(copy) = Vec::from_slice(alloc, text) else {
-        return None;
-    };
-    match CString::new(copy) {
-        Ok(text) => Some(Some(text)),
-        Err(_) => None,
-    }
-}
-
-/// The string at the front.
-fn text_front(alloc: Global, bytes: &[u8]) -> Option<Front<'_>>
-    ensures { IfSome result (λ x. text_front bytes.now ≡ Some (x.0, x.1.now)) }
-{
-    let (counted, rest) = read_counted(bytes)?;
-    let text = copied_text(alloc, counted)?;
-    Some((Argument::Str(text), rest))
-}
-
-/// The array at the front.
-fn array_front(alloc: Global, bytes: &[u8]) -> Option<Front<'_>>
-    ensures { IfSome result (λ x. array_front bytes.now ≡ Some (x.0, x.1.now)) }
-{
-    let (counted, rest) = read_counted(bytes)?;
-    let Ok(copy) = Vec::from_slice(alloc, counted) else {
-        return None;
-    };
-    Some((Argument::Array(ByteArray::new(copy)), rest))
-}
-
-/// The word at the front, if it may stand for an argument of this type.
-fn word_front<'b, U: Drop>(
+/// Puts the arguments of the request at the front into `args`, and makes the object that it makes. Returns that object. The
+/// outer `None` says that the request cannot be handed out where it stands. Then nothing is changed.
+#[inline(always)]
+fn put_waiting<T: Drop, U: Drop>(
     client: ClientId,
-    objects: &ObjectMap<Kept<U>>,
-    kind: ArgumentType,
-    asked: &[InterfaceId],
-    bytes: &'b [u8],
-) -> Option<Front<'b>>
-    ensures { IfSome result (λ x. word_front client objects.now.store kind (next_interface asked.now) bytes.now ≡ Some (x.0, x.1.now)) }
-{
-    if bytes.len() < 4 || !word_fits(objects, kind, asked, first_word(bytes)) {
-        return None;
-    }
-    let arg = handed_word(client, objects, kind, first_word(bytes));
-    Some((arg, bytes.split_at(4).1))
-}
-
-/// The argument of this type at the front. `None` if it makes an object or is a descriptor, if it is wrong, or if there is no
-/// memory for it.
-fn front_of<'b, U: Drop>(
-    client: ClientId,
-    objects: &ObjectMap<Kept<U>>,
-    kind: ArgumentType,
-    asked: &[InterfaceId],
-    bytes: &'b [u8],
-    alloc: Global,
-) -> Option<Front<'b>>
-    ensures { IfSome result (λ x. front_of client objects.now.store kind (next_interface asked.now) bytes.now ≡ Some (x.0, x.1.now)) }
-{
-    match kind {
-        ArgumentType::Str(_) => text_front(alloc, bytes),
-        ArgumentType::Array => array_front(alloc, bytes),
-        ArgumentType::Int
-        | ArgumentType::Uint
-        | ArgumentType::Fixed
-        | ArgumentType::Object(_)
-        | ArgumentType::NewId
-        | ArgumentType::Fd => word_front(client, objects, kind, asked, bytes),
-    }
-}
-
-/// Puts the arguments of the request, of which there are at most four, behind those in `args`. Returns whether all could be
-/// put: none makes an object or is a descriptor, none is wrong, and there is memory for each.
-fn put_fronts<U: Drop>(
-    client: ClientId,
-    objects: &ObjectMap<Kept<U>>,
-    desc: &MessageDesc,
-    payload: &[u8],
+    objects: &mut ClientObjects<U>,
+    socket: &BufferedSocket<T>,
+    front: &FrontRequest<'_>,
     args: &mut Args<ObjectId>,
-) -> bool
-    requires room { length args.old.items + length desc.now.signature.items ≤ args.old.capacity }
-    ensures put { IsTrue result → fronts client objects.now.store args.old.items desc.now.signature.items desc.now.arg_interfaces.items payload.now ≡ Some args.new.items }
-    ensures capacity { args.new.capacity ≡ args.old.capacity }
+) -> Option<Option<ObjectId>>
+    ensures put { MatchOption result ((objects_of objects.new ≡ objects_of objects.old) × (args.new ≡ args.old))
+        (λ created. IsPut client (objects_of objects.old) socket.now front.now (objects_of objects.new) args.new.items created) }
+    ensures registries { objects.new.registries ≡ objects.old.registries }
 {
-    let alloc = *args.allocator();
-    let mut kinds = desc.signature.as_slice();
-    let mut asked = desc.arg_interfaces.as_slice();
-    let mut bytes = payload;
-    while let Some((kind, others)) = kinds.split_first() {
-        let Some((arg, rest)) = front_of(client, objects, *kind, asked, bytes, alloc) else {
+    let payload = waiting_payload(socket, front)?;
+    put_arguments(
+        client,
+        front.sender.version,
+        front.desc,
+        objects,
+        payload,
+        args,
+    )
+}
+
+impl<T: Transport + Drop, U: Drop, C: Drop> Client<T, U, C> {
+    /// Hands the request at the front out into `action`, if that is a request, too, and it can be done where the request
+    /// stands: that has at most four arguments, without a descriptor, and makes no object or has no argument but that. Returns
+    /// whether it was done. If not, or if the request is not complete, nothing is changed.
+    #[inline(always)]
+    pub fn hand_out_in_place<G: GlobalHandler<C> + Drop>(
+        &mut self,
+        around: &Surroundings<'_, G>,
+        reading: &mut Reading,
+        front: &FrontRequest<'_>,
+        action: &mut Action,
+    ) -> bool
+        requires live { Live self.old.part }
+        requires front { IsFront around.now.protocol.now self.old.part.store self.old.part.link front.now }
+        ensures handles { MatchBool result
+            (HandlesMessage T.sends T.receives (around_of G.views around.now) self.old reading.old (Acts (handed action.new)) self.new reading.new)
+            ((self.new ≡ self.old) × (reading.new ≡ reading.old) × (action.new ≡ action.old)) }
+        ensures times { self.new.times ≡ self.old.times }
+        ensures numbered { IsNumbered (Some self.old) → IsNumbered (Some self.new) }
+    {
+        let Action::Request {
+            sender,
+            opcode,
+            args,
+            is_destructor,
+            created,
+        } = action
+        else {
             return false;
         };
-        args.push_reserved(arg);
-        kinds = others;
-        asked = asked_after(*kind, asked);
-        bytes = rest;
+        let put = put_waiting(around.client, &mut self.objects, &self.socket, front, args);
+        let Some(made) = put else {
+            return false;
+        };
+        let kept = front.sender;
+        let id = ObjectId::from_parts(front.number, kept.serial, around.client, kept.interface);
+        self.action
+            .open_request(id, front.desc.is_destructor, &made);
+        self.socket.skip_message();
+        reading.read = reading.read.saturating_add(1);
+        *sender = id;
+        *opcode = front.opcode;
+        *is_destructor = front.desc.is_destructor;
+        *created = made;
+        true
     }
-    true
-}
-
-/// Puts the arguments of the request, of which there are at most four, in place of those in `args`. Returns whether that could
-/// be done; if not, nothing is changed.
-fn put_each<U: Drop>(
-    client: ClientId,
-    objects: &ObjectMap<Kept<U>>,
-    desc: &MessageDesc,
-    payload: &[u8],
-    args: &mut Args<ObjectId>,
-) -> bool
-    requires few { length desc.now.signature.items ≤ INLINE_ARGS }
-    ensures put { MatchBool result
-        (fronts client objects.now.store [] desc.now.signature.items desc.now.arg_interfaces.items payload.now ≡ Some args.new.items)
-        (args.new ≡ args.old) }
-    ensures inline { INLINE_ARGS ≤ args.old.capacity → INLINE_ARGS ≤ args.new.capacity }
-{
-    // Those in `args` stay until there is memory for all.
-    let mut fresh = SmallVec::new(*args.allocator());
-    if !put_fronts(client, objects, desc, payload, &mut fresh) {
-        return false;
-    }
-    *args = fresh;
-    true
-}
-
-/// Makes the object of a request whose one argument is a new id, and puts that in place of the arguments in `args`. Returns the
-/// object; if none is made, nothing is changed.
-fn put_new<U: Drop>(
-    client: ClientId,
-    version: u32,
-    interface: InterfaceId,
-    objects: &mut ClientObjects<U>,
-    payload: &[u8],
-    args: &mut Args<ObjectId>,
-) -> Option<ObjectId>
-    ensures made { MatchOption result ((objects_of objects.new ≡ objects_of objects.old) × (args.new ≡ args.old))
-        (λ id. (4 ≤ length payload.now)
-        × MakesObject client (objects_of objects.old) interface version (first_word payload.now) (Some id) (objects_of objects.new)
-        × (args.new.items ≡ argument.NewId id ∷ [])) }
-    ensures capacity { args.new.capacity ≡ args.old.capacity }
-    ensures registries { objects.new.registries ≡ objects.old.registries }
-{
-    if payload.len() < 4 {
-        return None;
-    }
-    let made = insert_object(client, objects, interface, version, first_word(payload));
-    let Ok(id) = made else {
-        return None;
-    };
-    // There is always room for one.
-    let room = args.capacity();
-    prove!(INLINE_ARGS <= room);
-    empty(args);
-    args.push_reserved(Argument::NewId(id));
-    Some(id)
-}
-
-/// Whether a new id is the one argument of this signature.
-fn is_one_new(signature: &[ArgumentType]) -> bool
-    ensures { IsTrue result → signature.now ≡ kind.NewId ∷ [] }
-{
-    matches!(signature, [ArgumentType::NewId])
-}
-
-/// Does the same as `put_arguments` for a request whose arguments are not all words. It is not inlined, so that it costs
-/// nothing for a request of words.
-#[inline(never)]
-fn put_others<U: Drop>(
-    client: ClientId,
-    version: u32,
-    desc: &MessageDesc,
-    objects: &mut ClientObjects<U>,
-    payload: &[u8],
-    args: &mut Args<ObjectId>,
-) -> Option<Option<ObjectId>>
-    requires few { length desc.now.signature.items ≤ INLINE_ARGS }
-    ensures put { MatchOption result ((objects_of objects.new ≡ objects_of objects.old) × (args.new ≡ args.old))
-        (λ created. (fds : List WireToken) → HandsOut client version (objects_of objects.old) (message_row desc.now) payload.now fds created (objects_of objects.new) args.new.items) }
-    ensures inline { INLINE_ARGS ≤ args.old.capacity → INLINE_ARGS ≤ args.new.capacity }
-    ensures registries { objects.new.registries ≡ objects.old.registries }
-{
-    if is_one_new(desc.signature.as_slice()) {
-        let interface = desc.child_interface?;
-        let id = put_new(client, version, interface, objects, payload, args)?;
-        return Some(Some(id));
-    }
-    if !put_each(client, &objects.map, desc, payload, args) {
-        return None;
-    }
-    Some(None)
-}
-
-/// Puts the arguments of a request into `args`, in place of those that are there, and makes the object that it makes. Returns
-/// that object. `version` is the version of the object that the request was sent to, and `payload` has the bytes of the
-/// arguments.
-///
-/// The outer `None` says that it is a request for the general way. Then nothing is changed.
-#[inline(always)]
-pub fn put_arguments<U: Drop>(
-    client: ClientId,
-    version: u32,
-    desc: &MessageDesc,
-    objects: &mut ClientObjects<U>,
-    payload: &[u8],
-    args: &mut Args<ObjectId>,
-) -> Option<Option<ObjectId>>
-    requires few { length desc.now.signature.items ≤ INLINE_ARGS }
-    ensures put { MatchOption result ((objects_of objects.new ≡ objects_of objects.old) × (args.new ≡ args.old))
-        (λ created. (fds : List WireToken) → HandsOut client version (objects_of objects.old) (message_row desc.now) payload.now fds created (objects_of objects.new) args.new.items) }
-    ensures inline { INLINE_ARGS ≤ args.old.capacity → INLINE_ARGS ≤ args.new.capacity }
-    ensures registries { objects.new.registries ≡ objects.old.registries }
-{
-    if words_fit(&objects.map, desc, payload) {
-        put_words(client, &objects.map, desc, payload, args);
-        return Some(None);
-    }
-    put_others(client, version, desc, objects, payload, args)
 }

@@ -21,36 +21,34 @@ use crate::ids::client_id::ClientId;
 use crate::ids::object_id::ObjectId;
 use crate::objects::ClientObjects;
 use crate::reading::Surroundings;
-use crate::reading::action::Found;
+use crate::reading::action::{Finding, Found};
 use crate::reading::arguments::{Progress, convert};
-use crate::reading::request::Sender;
+use crate::reading::front_request::{FrontRequest, Sender};
 use crate::reading::response::{Breach, RequestFault, Response};
-use wl_wire::{Args, Message, MessageDesc, Token};
+use wl_wire::{Args, Message, Token};
 
-/// Converts the arguments of a request, and returns the object that the request makes. `version` is the version of the
-/// object that it was sent to. The arguments are put into `args`, which has room for them, and their texts and arrays are
-/// taken out of the message.
+/// Converts the arguments of the request that was read into the message, and returns the object that the request makes. The
+/// arguments are put into `args`, which has room for them, and their texts and arrays are taken out of the message.
 fn convert_request<U: Drop>(
     client: ClientId,
-    version: u32,
-    desc: &MessageDesc,
+    front: &FrontRequest<'_>,
     objects: &mut ClientObjects<U>,
     message: &mut Message<u32, Token>,
     args: &mut Args<ObjectId>,
 ) -> Result<Option<ObjectId>, RequestFault>
-    requires can_make { row_creates (message_row desc.now) ≡ true → objects.old.map.reserved ≡ true }
-    requires kinds { Matches desc.now.signature.items message.old.args.items }
+    requires can_make { row_creates (message_row front.now.desc.now) ≡ true → objects.old.map.reserved ≡ true }
+    requires kinds { Matches front.now.desc.now.signature.items message.old.args.items }
     requires empty { args.old.items ≡ [] }
     requires room { HasRoomFor args.old (length message.old.args.items) }
-    ensures capacity { args.new.capacity ≡ args.old.capacity }
     ensures registries { objects.new.registries ≡ objects.old.registries }
     ensures header { (message.new.sender_id ≡ message.old.sender_id) × (message.new.opcode ≡ message.old.opcode) }
     ensures converts { MatchResult result
-        (λ created. EndsWhole (outcome_of client version (start (objects_of objects.old) (message_row desc.now)) [] message.old.args.items)
+        (λ created. EndsWhole (outcome_of client front.now.sender.version (start (objects_of objects.old) (message_row front.now.desc.now)) [] message.old.args.items)
         (objects_of objects.new) created args.new.items)
-        (λ wrong. outcome_of client version (start (objects_of objects.old) (message_row desc.now)) [] message.old.args.items
+        (λ wrong. outcome_of client front.now.sender.version (start (objects_of objects.old) (message_row front.now.desc.now)) [] message.old.args.items
         ≡ Wrong wrong (objects_of objects.new)) }
 {
+    let desc = front.desc;
     let mut progress = Progress {
         kinds: desc.signature.as_slice(),
         asked: desc.arg_interfaces.as_slice(),
@@ -59,7 +57,7 @@ fn convert_request<U: Drop>(
     };
     convert(
         client,
-        version,
+        front.sender.version,
         objects,
         &mut progress,
         message.args.as_mut_slice(),
@@ -67,43 +65,43 @@ fn convert_request<U: Drop>(
     )
 }
 
-/// Handles a request to an object that is neither a display nor a registry, and returns what is still to be done for it.
-/// What its arguments own is taken out of the message. If it is handed out, it is in `found` then, and its arguments are in
-/// `args`, converted.
-pub fn object_request<'m, U: Drop, G: GlobalHandler<C>, C>(
+/// Handles the request that was read into the message, to an object that is neither a display nor a registry, and returns what
+/// is still to be done for it. What its arguments own is taken out of the message. If it is handed out, it is in `finding`
+/// then, with its arguments, converted.
+pub fn object_request<'p, 'm, U: Drop, G: GlobalHandler<C>, C>(
     around: &Surroundings<'_, G>,
     client_data: &C,
     objects: &mut ClientObjects<U>,
-    desc: &'m MessageDesc,
-    sender: Sender,
-    message: &mut Message<u32, Token>,
-    found: &mut Found,
-    args: &mut Args<ObjectId>,
-) -> Response<'m>
-    requires can_make { row_creates (message_row desc.now) ≡ true → objects.old.map.reserved ≡ true }
-    requires kinds { Matches desc.now.signature.items message.old.args.items }
-    requires empty { args.old.items ≡ [] }
-    requires room { HasRoomFor args.old (length message.old.args.items) }
-    requires sender { (x : ObjectOf (KeptOf U)) → held objects.old.map.store message.old.sender_id ≡ Some x → IsSenderOf sender x }
-    requires name { holds_zero (message_row desc.now).name ≡ false }
-    ensures capacity { args.new.capacity ≡ args.old.capacity }
+    front: &FrontRequest<'p>,
+    message: &'m mut Message<u32, Token>,
+    finding: &mut Finding,
+) -> Response<'p, 'm>
+    requires can_make { row_creates (message_row front.now.desc.now) ≡ true → objects.old.map.reserved ≡ true }
+    requires kinds { Matches front.now.desc.now.signature.items message.old.args.items }
+    requires empty { finding.old.args.items ≡ [] }
+    requires room { HasRoomFor finding.old.args (length message.old.args.items) }
+    requires sender { (x : ObjectOf (KeptOf U)) → held objects.old.map.store message.old.sender_id ≡ Some x → IsSenderOf front.now.sender x }
+    requires name { holds_zero (message_row front.now.desc.now).name ≡ false }
     ensures names { HasNames result }
     ensures responds { (x : ObjectOf (KeptOf U)) (c : Core U C) → held objects.old.map.store message.old.sender_id ≡ Some x
-        → request_verdict (around_of G.views around.now) (core_with c client_data.now objects.old) (content message.old) x (message_row desc.now)
-        ≡ response_to (around_of G.views around.now) (core_with c client_data.now objects.new) result found.new args.new.items }
+        → request_verdict (around_of G.views around.now) (core_with c client_data.now objects.old) (content message.old) x (message_row front.now.desc.now)
+        ≡ response_to (around_of G.views around.now) (core_with c client_data.now objects.new) result finding.new.found finding.new.args.items }
 {
     let number = message.sender_id;
     let opcode = message.opcode;
-    let interface = sender.interface;
-    let version = sender.version;
-    let sender = ObjectId::from_parts(number, sender.serial, around.client, interface);
+    let Sender {
+        serial,
+        interface,
+        version,
+    } = front.sender;
+    let desc = front.desc;
     if version < desc.since {
         return Response::Breaks(Breach::SinceLater(opcode, version, desc.since, interface, number));
     }
-    let is_destructor = desc.is_destructor;
-    match convert_request(around.client, version, desc, objects, message, args) {
+    match convert_request(around.client, front, objects, message, &mut finding.args) {
         Ok(created) => {
-            *found = Found::Request(sender, opcode, is_destructor, created);
+            let sender = ObjectId::from_parts(number, serial, around.client, interface);
+            finding.found = Found::Request(sender, opcode, desc.is_destructor, created);
             Response::HandsOut
         }
         Err(wrong) => Response::Breaks(Breach::WrongArgument(interface, desc, wrong)),

@@ -86,13 +86,13 @@ fn may_bind<G: GlobalHandler<C>, C>(
 
 /// Handles a request to a registry, and returns what is still to be done for it. A bind that is handed out is in `found`
 /// then.
-pub fn registry_request<'m, U: Drop, G: GlobalHandler<C> + Drop, C>(
+pub fn registry_request<'p, 'm, U: Drop, G: GlobalHandler<C> + Drop, C>(
     around: &Surroundings<'_, G>,
     client_data: &C,
     objects: &mut ClientObjects<U>,
     message: &'m Message<u32, Token>,
     found: &mut Found,
-) -> Response<'m>
+) -> Response<'p, 'm>
     requires { list_any (λ x. is_new_id (type_of x)) message.now.args.items ≡ true → objects.old.map.reserved ≡ true }
     ensures names { HasNames result }
     ensures responds { (c : Core U C) (args : List (Arg IdParts TokenParts))
@@ -106,13 +106,13 @@ pub fn registry_request<'m, U: Drop, G: GlobalHandler<C> + Drop, C>(
 }
 
 /// Binds a new object to the global that is asked for, if the client may do so.
-fn bind_to<'m, U: Drop, G: GlobalHandler<C> + Drop, C>(
+fn bind_to<'p, 'm, U: Drop, G: GlobalHandler<C> + Drop, C>(
     around: &Surroundings<'_, G>,
     client_data: &C,
     objects: &mut ClientObjects<U>,
     bind: &Bind<'m>,
     found: &mut Found,
-) -> Response<'m>
+) -> Response<'p, 'm>
     requires { objects.old.map.reserved ≡ true }
     ensures names { HasNames result }
     ensures responds { (c : Core U C) (args : List (Arg IdParts TokenParts))
@@ -130,14 +130,14 @@ fn bind_to<'m, U: Drop, G: GlobalHandler<C> + Drop, C>(
 }
 
 /// Makes an object that is bound to the global.
-fn make_bound<'m, U: Drop, G: GlobalHandler<C>, C>(
+fn make_bound<'p, 'm, U: Drop, G: GlobalHandler<C>, C>(
     around: &Surroundings<'_, G>,
     client_data: &C,
     objects: &mut ClientObjects<U>,
     bind: &Bind<'m>,
     global: &Object<KeptGlobal<G>>,
     found: &mut Found,
-) -> Response<'m>
+) -> Response<'p, 'm>
     requires { objects.old.map.reserved ≡ true }
     ensures names { HasNames result }
     ensures responds { (c : Core U C) (args : List (Arg IdParts TokenParts))

@@ -15,69 +15,44 @@ ghost use Rattle.wl_server.specs.Telling.{Core};
 ghost use Rattle.wl_server.specs.Inside.ReadingLoop.{IsSenderOf, around_of};
 
 use crate::globals::handler::GlobalHandler;
-use crate::ids::object_id::ObjectId;
 use crate::objects::ClientObjects;
 use crate::reading::Surroundings;
-use crate::reading::action::Found;
+use crate::reading::action::Finding;
 use crate::reading::display_request::display_request;
+use crate::reading::front_request::FrontRequest;
 use crate::reading::object_request::object_request;
 use crate::reading::registry_request::registry_request;
 use crate::reading::response::Response;
-use wl_wire::{
-    Args, InterfaceId, Message, MessageDesc, Token, WL_DISPLAY_INTERFACE, WL_REGISTRY_INTERFACE,
-};
+use wl_wire::{Message, Token, WL_DISPLAY_INTERFACE, WL_REGISTRY_INTERFACE};
 
-/// What the sender of a request is. It is found before the request is read, and handed on.
-#[derive(Clone, Copy)]
-pub struct Sender {
-    /// The serial of the object.
-    pub serial: u64,
-    /// Its interface.
-    pub interface: InterfaceId,
-    /// Its version.
-    pub version: u32,
-}
-
-/// Handles a request, by the kind of its object, and returns what is still to be done for it. If it is handed out, it is
-/// in `found` then. Its arguments are taken out of the message, and they are in `args` then, converted.
-pub fn request<'m, U: Drop, G: GlobalHandler<C> + Drop, C>(
+/// Handles the request that was read into the message, by the kind of its object, and returns what is still to be done for
+/// it. If it is handed out, it is in `finding` then, with its arguments, which are taken out of the message and converted.
+pub fn request<'p, 'm, U: Drop, G: GlobalHandler<C> + Drop, C>(
     around: &Surroundings<'_, G>,
     client_data: &C,
     objects: &mut ClientObjects<U>,
-    desc: &'m MessageDesc,
-    sender: Sender,
+    front: &FrontRequest<'p>,
     message: &'m mut Message<u32, Token>,
-    found: &mut Found,
-    args: &mut Args<ObjectId>,
-) -> Response<'m>
-    requires can_make { row_creates (message_row desc.now) ≡ true → objects.old.map.reserved ≡ true }
-    requires can_register { row_creates (message_row desc.now) ≡ true → vec_len objects.old.registries < vec_capacity objects.old.registries }
-    requires kinds { Matches desc.now.signature.items message.old.args.items }
-    requires sender { (x : ObjectOf (KeptOf U)) → held objects.old.map.store message.old.sender_id ≡ Some x → IsSenderOf sender x }
-    requires empty { args.old.items ≡ [] }
-    requires room { HasRoomFor args.old (length message.old.args.items) }
-    requires name { holds_zero (message_row desc.now).name ≡ false }
-    ensures capacity { args.new.capacity ≡ args.old.capacity }
+    finding: &mut Finding,
+) -> Response<'p, 'm>
+    requires can_make { row_creates (message_row front.now.desc.now) ≡ true → objects.old.map.reserved ≡ true }
+    requires can_register { row_creates (message_row front.now.desc.now) ≡ true → vec_len objects.old.registries < vec_capacity objects.old.registries }
+    requires kinds { Matches front.now.desc.now.signature.items message.old.args.items }
+    requires sender { (x : ObjectOf (KeptOf U)) → held objects.old.map.store message.old.sender_id ≡ Some x → IsSenderOf front.now.sender x }
+    requires empty { finding.old.args.items ≡ [] }
+    requires room { HasRoomFor finding.old.args (length message.old.args.items) }
+    requires name { holds_zero (message_row front.now.desc.now).name ≡ false }
     ensures names { HasNames result }
     ensures responds { (x : ObjectOf (KeptOf U)) (c : Core U C) → held objects.old.map.store message.old.sender_id ≡ Some x
-        → request_to (around_of G.views around.now) (core_with c client_data.now objects.old) (content message.old) x (message_row desc.now)
-        ≡ response_to (around_of G.views around.now) (core_with c client_data.now objects.new) result found.new args.new.items }
+        → request_to (around_of G.views around.now) (core_with c client_data.now objects.old) (content message.old) x (message_row front.now.desc.now)
+        ≡ response_to (around_of G.views around.now) (core_with c client_data.now objects.new) result finding.new.found finding.new.args.items }
 {
-    let interface = sender.interface;
+    let interface = front.sender.interface;
     if interface == WL_DISPLAY_INTERFACE {
         return display_request(around, client_data, objects, message);
     }
     if interface == WL_REGISTRY_INTERFACE {
-        return registry_request(around, client_data, objects, message, found);
+        return registry_request(around, client_data, objects, message, &mut finding.found);
     }
-    object_request(
-        around,
-        client_data,
-        objects,
-        desc,
-        sender,
-        message,
-        found,
-        args,
-    )
+    object_request(around, client_data, objects, front, message, finding)
 }

@@ -1,18 +1,14 @@
 //! What is still to be done for a request that was handled, and how it is done: the client is written to, or killed.
 
-ghost use Rattle.std.specs.Prelude.{◌≡◌, ◌∷◌, List, [], false, Err, IfOk, MatchResult, Some};
-ghost use Rattle.wl_wire.specs.declared.argument.Argument.{Argument as Arg};
-ghost use Rattle.wl_wire.specs.declared.argument.Token.{Token as TokenParts};
+ghost use Rattle.std.specs.Prelude.{◌≡◌, ◌∷◌, [], false, Err, IfOk, MatchResult, Some};
 ghost use Rattle.wl_wire.specs.declared.error.IoFault.TheVariants as io;
 ghost use Rattle.wl_link.specs.Puts.{lacks_memory};
 ghost use Rattle.wl_server.specs.NoteOrder.{IsNumbered, NotesInTime};
 ghost use Rattle.wl_server.specs.declared.notes.DisconnectReason.TheVariants.{ConnectionClosed};
-ghost use Rattle.wl_server.specs.declared.reading.action.Found.{Found as FoundOf};
 ghost use Rattle.wl_server.specs.declared.reading.action.MessageEnd.TheVariants as came;
 ghost use Rattle.wl_server.specs.Inside.Client.{Does};
-ghost use Rattle.wl_server.specs.Deeds.{Remembered};
+ghost use Rattle.wl_server.specs.Deeds.{Handed, Remembered};
 ghost use Rattle.wl_server.specs.Globals.{shown};
-ghost use Rattle.wl_server.specs.Ids.{IdParts};
 ghost use Rattle.wl_server.specs.Part.{id_of};
 ghost use Rattle.wl_server.specs.Reading.{breaks, garbled, replies};
 ghost use Rattle.wl_server.specs.Inside.Responses.{HasName, code_of, text_of};
@@ -51,7 +47,7 @@ pub enum RequestFault {
 
 /// How a client broke the protocol by a request.
 #[derive(Drop)]
-pub enum Breach<'m> {
+pub enum Breach<'p, 'm> {
     /// It may not make an object with this number.
     InvalidNewId(u32),
     /// The client may not bind the global of this name in this way. The other two values are the version and the name of
@@ -61,16 +57,16 @@ pub enum Breach<'m> {
     /// object's interface and number.
     SinceLater(u16, u32, u32, InterfaceId, u32),
     /// An argument of a request of this interface is wrong.
-    WrongArgument(InterfaceId, &'m MessageDesc, RequestFault),
+    WrongArgument(InterfaceId, &'p MessageDesc, RequestFault),
 }
 
 /// What is still to be done for a request after it changed the client's objects.
 #[derive(Drop)]
-pub enum Response<'m> {
+pub enum Response<'p, 'm> {
     /// The client may not send it, and is killed with the reason `ConnectionClosed`.
     Malformed,
     /// The client broke the protocol.
-    Breaks(Breach<'m>),
+    Breaks(Breach<'p, 'm>),
     /// It was a `sync`, and its callback is already removed. The client is told that the callback is done.
     Syncs(ObjectId),
     /// A registry was made. It is to be told of the globals.
@@ -85,7 +81,7 @@ pub enum Response<'m> {
 fn breach_error(
     alloc: Global,
     protocol: &Protocol,
-    breach: &Breach<'_>,
+    breach: &Breach<'_, '_>,
 ) -> Result<(u32, CString), OutOfMemory>
     requires { HasName breach.now }
     ensures code { IfOk result (λ error. error.0 ≡ code_of breach.now) }
@@ -132,7 +128,7 @@ impl<T: Transport + Drop, U: Drop, C: Drop> Client<T, U, C> {
         &mut self,
         numbers: &mut NoteNumbers,
         around: &Surroundings<'_, G>,
-        breach: &Breach<'_>,
+        breach: &Breach<'_, '_>,
     ) -> NoAction
         requires live { self.old.part.is_killed ≡ false }
         requires name { HasName breach.now }
@@ -188,9 +184,9 @@ impl<T: Transport + Drop, U: Drop, C: Drop> Client<T, U, C> {
         registry: &ObjectId,
     ) -> MessageEnd
         requires { Live self.old.part }
-        ensures handled { (f : FoundOf) (args : List (Arg IdParts TokenParts)) → IsHandled T.sends
+        ensures handled { (h : Handed) → IsHandled T.sends
             (replies (core_of self.old.part) (introductions around.now.protocol.now (id_of registry.now) 0 (shown G.views (around_of G.views around.now).globals around.now.client self.old.part.client_data))
-            (Remembered (id_of registry.now) ∷ [])) self.old (message_result result f args) self.new }
+            (Remembered (id_of registry.now) ∷ [])) self.old (message_result result h) self.new }
         ensures in_time { NotesInTime self.old.times numbers.old self.new.times numbers.new }
         ensures numbered { IsNumbered (Some self.old) → IsNumbered (Some self.new) }
     {
@@ -209,9 +205,9 @@ impl<T: Transport + Drop, U: Drop, C: Drop> Client<T, U, C> {
         callback: &ObjectId,
     ) -> MessageEnd
         requires { Live self.old.part }
-        ensures handled { (f : FoundOf) (args : List (Arg IdParts TokenParts)) → IsHandled T.sends
+        ensures handled { (h : Handed) → IsHandled T.sends
             (replies (core_of self.old.part) (done_message (id_of callback.now) ∷ deletions callback.now.number) [])
-            self.old (message_result result f args) self.new }
+            self.old (message_result result h) self.new }
         ensures in_time { NotesInTime self.old.times numbers.old self.new.times numbers.new }
         ensures numbered { IsNumbered (Some self.old) → IsNumbered (Some self.new) }
     {

@@ -5,7 +5,7 @@ use Rattle.wl_server.proofs.Plain.Reading.{next_action_within_reads}
 use Rattle.wl_server.proofs.backend.Backend.next_action_within_into.Goals as goal
 
 pub returns-clause-call : goal.returns-clause-call
-returns-clause-call g c = c.read_client_into.ensures.within
+returns-clause-call g c = c.read_client.ensures.within
 
 pub returns-clause-room : goal.returns-clause-room
 returns-clause-room g c = within_has_room _ _ _ _ _ _

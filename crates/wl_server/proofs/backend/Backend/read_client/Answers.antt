@@ -5,26 +5,26 @@ use Rattle.wl_server.proofs.CleanupSteps.Taken.{slots_set}
 use Rattle.wl_server.proofs.backend.Backend.read_client.Goals as goal
 
 pub returns-in_default-clause-fresh : goal.returns-in_default-clause-fresh
-returns-in_default-clause-fresh g c answer is fresh =
+returns-in_default-clause-fresh g c fresh =
     rw (← c.self.view_is)
-    (next_missing g.T.Transport.sends g.T.Transport.receives g.G.GlobalHandler.views _ c.args.id.now c.args.finding.now.reading c.args.finding.now.reading answer c.in_default.ensures.value is refl fresh c.self.invariant.2)
+    (next_missing g.T.Transport.sends g.T.Transport.receives g.G.GlobalHandler.views _ c.args.id.now c.args.reading.now c.args.reading.now _ c.in_default.ensures.value refl refl fresh c.self.invariant.2)
 
 pub returns-in_default-clause-within : goal.returns-in_default-clause-within
-returns-in_default-clause-within g c answer is =
+returns-in_default-clause-within g c =
     rw (← c.self.view_is)
-    (within_missing g.T.Transport.sends g.T.Transport.receives g.G.GlobalHandler.views _ c.args.id.now c.args.finding.now.reading c.args.finding.now.reading answer c.in_default.ensures.value is refl c.self.invariant.2)
+    (within_missing g.T.Transport.sends g.T.Transport.receives g.G.GlobalHandler.views _ c.args.id.now c.args.reading.now c.args.reading.now _ c.in_default.ensures.value refl refl c.self.invariant.2)
 
 pub returns-clause-fresh : goal.returns-clause-fresh
-returns-clause-fresh g c answer is fresh =
+returns-clause-fresh g c fresh =
     rw (← c.self.view_is)
-    (next_done g.T.Transport.sends g.T.Transport.receives g.G.GlobalHandler.views _ c.args.id.now c.args.finding.now.reading c.find_action-answer.new.finding.reading answer c.in-Some.client.now c.find_action-answer.new.self c.find_action-answer.result.1
-    c.in-Some.ensures.value (rw (← is) at c.find_action-answer.ensures.does) _ c.find_action-answer.ensures.in_time c.find_action-answer.ensures.numbered c.self.invariant.2 fresh)
+    (next_done g.T.Transport.sends g.T.Transport.receives g.G.GlobalHandler.views _ c.args.id.now c.args.reading.now c.find_action-answer.new.reading _ c.in-Some.client.now c.find_action-answer.new.self c.find_action-answer.result.1
+    c.in-Some.ensures.value c.find_action-answer.ensures.does _ c.find_action-answer.ensures.in_time c.find_action-answer.ensures.numbered c.self.invariant.2 fresh)
 
 pub returns-clause-within : goal.returns-clause-within
-returns-clause-within g c answer is =
+returns-clause-within g c =
     rw (← c.self.view_is)
-    (within_done g.T.Transport.sends g.T.Transport.receives g.G.GlobalHandler.views _ c.args.id.now c.args.finding.now.reading c.find_action-answer.new.finding.reading answer c.in-Some.client.now c.find_action-answer.new.self c.find_action-answer.result.1
-    c.in-Some.ensures.value (rw (← is) at c.find_action-answer.ensures.does) _ c.find_action-answer.ensures.in_time c.find_action-answer.ensures.numbered c.self.invariant.2)
+    (within_done g.T.Transport.sends g.T.Transport.receives g.G.GlobalHandler.views _ c.args.id.now c.args.reading.now c.find_action-answer.new.reading _ c.in-Some.client.now c.find_action-answer.new.self c.find_action-answer.result.1
+    c.in-Some.ensures.value c.find_action-answer.ensures.does _ c.find_action-answer.ensures.in_time c.find_action-answer.ensures.numbered c.self.invariant.2)
 
 pub invariant_of-self : goal.invariant_of-self
 invariant_of-self g c = (c.self.invariant.0, c.self.invariant.1, c.self.invariant.2, c.in_default.ensures.touched c.self.invariant.3)

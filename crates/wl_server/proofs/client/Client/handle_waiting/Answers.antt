@@ -1,17 +1,22 @@
-use Rattle.std.proofs.Common.{◌≤◌, ◌∙◌, rules, refl}
+use Rattle.std.proofs.Common.{◌≡◌, ◌≤◌, ◌∙◌, rules, refl}
 use Rattle.wl_server.specs.Inside.ReadingLoop.{around_of}
+use Rattle.wl_server.specs.declared.reading.action.MessageEnd.{MessageEnd}
+use Rattle.wl_server.specs.declared.reading.action.MessageEnd.TheVariants as came
 use Rattle.wl_server.proofs.CallSteps.Numbering.{in_time_both, in_time_none}
 use Rattle.wl_server.proofs.Readings.OneMessage.{goes_ends, goes_goes, goes_none}
 use Rattle.wl_server.proofs.client.Client.handle_waiting.Goals as goal
 
+never : ◌≡◌ {A = MessageEnd} came.Continues came.HandsOut → ⊥
+never same = cc
+
 pub loop-end-init : goal.loop-end-init
 loop-end-init g c =
-    let within : c.args.finding.now.reading.read ≤ 0xFFFFFFFFFFFFFFFF = search rules in
+    let within : c.args.reading.now.read ≤ 0xFFFFFFFFFFFFFFFF = search rules in
     record {
       place = c.requires.place;
-      inline = c.requires.inline;
+      kept = refl;
       left = refl;
-      goes = goes_none g.T.Transport.sends g.T.Transport.receives (around_of g.G.GlobalHandler.views c.args.around.now) c.args.self.now c.args.finding.now.reading within c.requires.live;
+      goes = goes_none g.T.Transport.sends g.T.Transport.receives (around_of g.G.GlobalHandler.views c.args.around.now) c.args.self.now c.args.reading.now within c.requires.live;
       in_time = in_time_none _ _;
       numbered = λ is. is;
     }
@@ -19,9 +24,9 @@ loop-end-init g c =
 pub loop-end-preserved : goal.loop-end-preserved
 loop-end-preserved g c = record {
   place = c.handle_message.ensures.place;
-  inline = c.handle_message.ensures.inline;
+  kept = c.in-Continues.ensures.kept never ∙ c.loop-end.invariant.kept;
   left = c.in-Continues.ensures.handles.1 ∙ c.loop-end.invariant.left;
-  goes = goes_goes g.T.Transport.sends g.T.Transport.receives (around_of g.G.GlobalHandler.views c.args.around.now) c.args.self.now c.loop-end.self c.handle_message.new.self c.args.finding.now.reading c.loop-end.finding.reading c.handle_message.new.finding.reading
+  goes = goes_goes g.T.Transport.sends g.T.Transport.receives (around_of g.G.GlobalHandler.views c.args.around.now) c.args.self.now c.loop-end.self c.handle_message.new.self c.args.reading.now c.loop-end.reading c.handle_message.new.reading
       c.loop-end.invariant.goes c.in-Continues.ensures.handles.0;
   in_time = in_time_both _ _ _ _ _ _ c.loop-end.invariant.in_time c.handle_message.ensures.in_time;
   numbered = λ is. c.handle_message.ensures.numbered (c.loop-end.invariant.numbered is);
@@ -29,12 +34,12 @@ loop-end-preserved g c = record {
 
 pub returns-in-HandsOut-clause-waited : goal.returns-in-HandsOut-clause-waited
 returns-in-HandsOut-clause-waited g c =
-    goes_ends g.T.Transport.sends g.T.Transport.receives (around_of g.G.GlobalHandler.views c.args.around.now) c.args.self.now c.loop-end.self c.handle_message.new.self c.args.finding.now.reading c.loop-end.finding.reading c.handle_message.new.finding.reading _
+    goes_ends g.T.Transport.sends g.T.Transport.receives (around_of g.G.GlobalHandler.views c.args.around.now) c.args.self.now c.loop-end.self c.handle_message.new.self c.args.reading.now c.loop-end.reading c.handle_message.new.reading _
     c.loop-end.invariant.goes c.in-HandsOut.ensures.handles
 
 pub returns-in-Ends-clause-waited : goal.returns-in-Ends-clause-waited
 returns-in-Ends-clause-waited g c =
-    goes_ends g.T.Transport.sends g.T.Transport.receives (around_of g.G.GlobalHandler.views c.args.around.now) c.args.self.now c.loop-end.self c.handle_message.new.self c.args.finding.now.reading c.loop-end.finding.reading c.handle_message.new.finding.reading _
+    goes_ends g.T.Transport.sends g.T.Transport.receives (around_of g.G.GlobalHandler.views c.args.around.now) c.args.self.now c.loop-end.self c.handle_message.new.self c.args.reading.now c.loop-end.reading c.handle_message.new.reading _
     c.loop-end.invariant.goes c.in-Ends.ensures.handles
 
 pub returns-in-Lacks-clause-in_time : goal.returns-in-Lacks-clause-in_time

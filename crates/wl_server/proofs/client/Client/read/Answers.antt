@@ -1,4 +1,4 @@
-use Rattle.std.proofs.Common.{◌≡◌, ◌≤◌, ◌-◌, suc, arith, rules, refl}
+use Rattle.std.proofs.Common.{◌≡◌, ◌≤◌, ◌-◌, suc, arith, rules, refl, ◌∙◌}
 use Rattle.wl_server.specs.Inside.ReadingLoop.{around_of}
 use Rattle.wl_server.proofs.CallSteps.Numbering.{in_time_both, in_time_none}
 use Rattle.wl_server.proofs.Readings.OneMessage.{fills_ends, fills_goes, goes_ends, goes_goes, goes_none, goes_within, none_left}
@@ -6,44 +6,44 @@ use Rattle.wl_server.proofs.client.Client.read.Goals as goal
 
 pub loop-end-init : goal.loop-end-init
 loop-end-init g c =
-    let within : c.args.finding.now.reading.read ≤ 0xFFFFFFFFFFFFFFFF = search rules in
+    let within : c.args.reading.now.read ≤ 0xFFFFFFFFFFFFFFFF = search rules in
     record {
       place = c.requires.place;
-      inline = c.requires.inline;
-      goes = goes_none g.T.Transport.sends g.T.Transport.receives (around_of g.G.GlobalHandler.views c.args.around.now) c.args.self.now c.args.finding.now.reading within c.requires.live;
+      kept = refl;
+      goes = goes_none g.T.Transport.sends g.T.Transport.receives (around_of g.G.GlobalHandler.views c.args.around.now) c.args.self.now c.args.reading.now within c.requires.live;
       in_time = in_time_none _ _;
       numbered = λ is. is;
     }
 
 pub returns-in-Some-clause-ends : goal.returns-in-Some-clause-ends
 returns-in-Some-clause-ends g c =
-    goes_ends g.T.Transport.sends g.T.Transport.receives (around_of g.G.GlobalHandler.views c.args.around.now) c.args.self.now c.loop-end.self c.handle_waiting.new.self c.args.finding.now.reading c.loop-end.finding.reading c.handle_waiting.new.finding.reading _ c.loop-end.invariant.goes c.in-Some.ensures.waited
+    goes_ends g.T.Transport.sends g.T.Transport.receives (around_of g.G.GlobalHandler.views c.args.around.now) c.args.self.now c.loop-end.self c.handle_waiting.new.self c.args.reading.now c.loop-end.reading c.handle_waiting.new.reading _ c.loop-end.invariant.goes c.in-Some.ensures.waited
 
-pub returns-then-finding-eq0-clause-ends : goal.returns-then-finding-eq0-clause-ends
-returns-then-finding-eq0-clause-ends g c =
+pub returns-then-reading-eq0-clause-ends : goal.returns-then-reading-eq0-clause-ends
+returns-then-reading-eq0-clause-ends g c =
     let waited = c.in_default.ensures.waited in
-    let so = goes_goes g.T.Transport.sends g.T.Transport.receives (around_of g.G.GlobalHandler.views c.args.around.now) c.args.self.now c.loop-end.self c.handle_waiting.new.self c.args.finding.now.reading c.loop-end.finding.reading c.handle_waiting.new.finding.reading c.loop-end.invariant.goes waited.0 in
-    goes_ends g.T.Transport.sends g.T.Transport.receives (around_of g.G.GlobalHandler.views c.args.around.now) c.args.self.now c.handle_waiting.new.self c.handle_waiting.new.self c.args.finding.now.reading c.handle_waiting.new.finding.reading c.handle_waiting.new.finding.reading _ so
-    (none_left g.T.Transport.sends g.T.Transport.receives (around_of g.G.GlobalHandler.views c.args.around.now) c.handle_waiting.new.self c.handle_waiting.new.finding.reading waited.0.live (goes_within g.T.Transport.sends g.T.Transport.receives (around_of g.G.GlobalHandler.views c.args.around.now) c.args.self.now c.handle_waiting.new.self c.args.finding.now.reading c.handle_waiting.new.finding.reading so) waited.2 c.if-finding-eq0.true)
+    let so = goes_goes g.T.Transport.sends g.T.Transport.receives (around_of g.G.GlobalHandler.views c.args.around.now) c.args.self.now c.loop-end.self c.handle_waiting.new.self c.args.reading.now c.loop-end.reading c.handle_waiting.new.reading c.loop-end.invariant.goes waited.0 in
+    goes_ends g.T.Transport.sends g.T.Transport.receives (around_of g.G.GlobalHandler.views c.args.around.now) c.args.self.now c.handle_waiting.new.self c.handle_waiting.new.self c.args.reading.now c.handle_waiting.new.reading c.handle_waiting.new.reading _ so
+    (none_left g.T.Transport.sends g.T.Transport.receives (around_of g.G.GlobalHandler.views c.args.around.now) c.handle_waiting.new.self c.handle_waiting.new.reading waited.0.live (goes_within g.T.Transport.sends g.T.Transport.receives (around_of g.G.GlobalHandler.views c.args.around.now) c.args.self.now c.handle_waiting.new.self c.args.reading.now c.handle_waiting.new.reading so) waited.2 c.if-reading-eq0.true)
 
 pub returns-in-Some-receive-clause-ends : goal.returns-in-Some-receive-clause-ends
 returns-in-Some-receive-clause-ends g c =
     let waited = c.in_default.ensures.waited in
-    let left : c.handle_waiting.new.finding.reading.turns_left ≡ suc (c.handle_waiting.new.finding.reading.turns_left - 1) = omega (arith, c.if-finding-eq0.false) in
-    let so = goes_goes g.T.Transport.sends g.T.Transport.receives (around_of g.G.GlobalHandler.views c.args.around.now) c.args.self.now c.loop-end.self c.handle_waiting.new.self c.args.finding.now.reading c.loop-end.finding.reading c.handle_waiting.new.finding.reading c.loop-end.invariant.goes waited.0 in
-    goes_ends g.T.Transport.sends g.T.Transport.receives (around_of g.G.GlobalHandler.views c.args.around.now) c.args.self.now c.handle_waiting.new.self c.receive.new.self c.args.finding.now.reading c.handle_waiting.new.finding.reading _ _ so
-    (fills_ends g.T.Transport.sends g.T.Transport.receives (around_of g.G.GlobalHandler.views c.args.around.now) c.handle_waiting.new.self c.handle_waiting.new.finding.reading _ waited.0.live (goes_within g.T.Transport.sends g.T.Transport.receives (around_of g.G.GlobalHandler.views c.args.around.now) c.args.self.now c.handle_waiting.new.self c.args.finding.now.reading c.handle_waiting.new.finding.reading so) waited.2 left refl c.in-Some-receive.end c.receive.new.self c.in-Some-receive.ensures.fills)
+    let left : c.handle_waiting.new.reading.turns_left ≡ suc (c.handle_waiting.new.reading.turns_left - 1) = omega (arith, c.if-reading-eq0.false) in
+    let so = goes_goes g.T.Transport.sends g.T.Transport.receives (around_of g.G.GlobalHandler.views c.args.around.now) c.args.self.now c.loop-end.self c.handle_waiting.new.self c.args.reading.now c.loop-end.reading c.handle_waiting.new.reading c.loop-end.invariant.goes waited.0 in
+    goes_ends g.T.Transport.sends g.T.Transport.receives (around_of g.G.GlobalHandler.views c.args.around.now) c.args.self.now c.handle_waiting.new.self c.receive.new.self c.args.reading.now c.handle_waiting.new.reading _ _ so
+    (fills_ends g.T.Transport.sends g.T.Transport.receives (around_of g.G.GlobalHandler.views c.args.around.now) c.handle_waiting.new.self c.handle_waiting.new.reading _ waited.0.live (goes_within g.T.Transport.sends g.T.Transport.receives (around_of g.G.GlobalHandler.views c.args.around.now) c.args.self.now c.handle_waiting.new.self c.args.reading.now c.handle_waiting.new.reading so) waited.2 left refl c.in-Some-receive.end c.receive.new.self c.in-Some-receive.ensures.fills)
 
 pub loop-end-preserved : goal.loop-end-preserved
 loop-end-preserved g c =
     let waited = c.in_default.ensures.waited in
-    let left : c.handle_waiting.new.finding.reading.turns_left ≡ suc (c.handle_waiting.new.finding.reading.turns_left - 1) = omega (arith, c.if-finding-eq0.false) in
-    let so = goes_goes g.T.Transport.sends g.T.Transport.receives (around_of g.G.GlobalHandler.views c.args.around.now) c.args.self.now c.loop-end.self c.handle_waiting.new.self c.args.finding.now.reading c.loop-end.finding.reading c.handle_waiting.new.finding.reading c.loop-end.invariant.goes waited.0 in
+    let left : c.handle_waiting.new.reading.turns_left ≡ suc (c.handle_waiting.new.reading.turns_left - 1) = omega (arith, c.if-reading-eq0.false) in
+    let so = goes_goes g.T.Transport.sends g.T.Transport.receives (around_of g.G.GlobalHandler.views c.args.around.now) c.args.self.now c.loop-end.self c.handle_waiting.new.self c.args.reading.now c.loop-end.reading c.handle_waiting.new.reading c.loop-end.invariant.goes waited.0 in
     record {
       place = c.handle_waiting.ensures.place;
-      inline = c.handle_waiting.ensures.inline;
-      goes = goes_goes g.T.Transport.sends g.T.Transport.receives (around_of g.G.GlobalHandler.views c.args.around.now) c.args.self.now c.handle_waiting.new.self c.receive.new.self c.args.finding.now.reading c.handle_waiting.new.finding.reading _ so
-          (fills_goes g.T.Transport.sends g.T.Transport.receives (around_of g.G.GlobalHandler.views c.args.around.now) c.handle_waiting.new.self c.handle_waiting.new.finding.reading _ waited.0.live (goes_within g.T.Transport.sends g.T.Transport.receives (around_of g.G.GlobalHandler.views c.args.around.now) c.args.self.now c.handle_waiting.new.self c.args.finding.now.reading c.handle_waiting.new.finding.reading so) waited.2 left refl c.receive.new.self c.in_default-receive.ensures.fills);
+      kept = c.in_default.ensures.kept ∙ c.loop-end.invariant.kept;
+      goes = goes_goes g.T.Transport.sends g.T.Transport.receives (around_of g.G.GlobalHandler.views c.args.around.now) c.args.self.now c.handle_waiting.new.self c.receive.new.self c.args.reading.now c.handle_waiting.new.reading _ so
+          (fills_goes g.T.Transport.sends g.T.Transport.receives (around_of g.G.GlobalHandler.views c.args.around.now) c.handle_waiting.new.self c.handle_waiting.new.reading _ waited.0.live (goes_within g.T.Transport.sends g.T.Transport.receives (around_of g.G.GlobalHandler.views c.args.around.now) c.args.self.now c.handle_waiting.new.self c.args.reading.now c.handle_waiting.new.reading so) waited.2 left refl c.receive.new.self c.in_default-receive.ensures.fills);
       in_time = in_time_both _ _ _ _ _ _ (in_time_both _ _ _ _ _ _ c.loop-end.invariant.in_time c.handle_waiting.ensures.in_time) c.receive.ensures.in_time;
       numbered = λ is. c.receive.ensures.numbered (c.handle_waiting.ensures.numbered (c.loop-end.invariant.numbered is));
     }
@@ -51,8 +51,8 @@ loop-end-preserved g c =
 pub returns-in-Some-clause-in_time : goal.returns-in-Some-clause-in_time
 returns-in-Some-clause-in_time g c = in_time_both _ _ _ _ _ _ c.loop-end.invariant.in_time c.handle_waiting.ensures.in_time
 
-pub returns-then-finding-eq0-clause-in_time : goal.returns-then-finding-eq0-clause-in_time
-returns-then-finding-eq0-clause-in_time g c = in_time_both _ _ _ _ _ _ c.loop-end.invariant.in_time c.handle_waiting.ensures.in_time
+pub returns-then-reading-eq0-clause-in_time : goal.returns-then-reading-eq0-clause-in_time
+returns-then-reading-eq0-clause-in_time g c = in_time_both _ _ _ _ _ _ c.loop-end.invariant.in_time c.handle_waiting.ensures.in_time
 
 pub returns-in-Some-receive-clause-in_time : goal.returns-in-Some-receive-clause-in_time
 returns-in-Some-receive-clause-in_time g c =
@@ -61,8 +61,8 @@ returns-in-Some-receive-clause-in_time g c =
 pub returns-in-Some-clause-numbered : goal.returns-in-Some-clause-numbered
 returns-in-Some-clause-numbered g c is = c.handle_waiting.ensures.numbered (c.loop-end.invariant.numbered is)
 
-pub returns-then-finding-eq0-clause-numbered : goal.returns-then-finding-eq0-clause-numbered
-returns-then-finding-eq0-clause-numbered g c is = c.handle_waiting.ensures.numbered (c.loop-end.invariant.numbered is)
+pub returns-then-reading-eq0-clause-numbered : goal.returns-then-reading-eq0-clause-numbered
+returns-then-reading-eq0-clause-numbered g c is = c.handle_waiting.ensures.numbered (c.loop-end.invariant.numbered is)
 
 pub returns-in-Some-receive-clause-numbered : goal.returns-in-Some-receive-clause-numbered
 returns-in-Some-receive-clause-numbered g c is = c.receive.ensures.numbered (c.handle_waiting.ensures.numbered (c.loop-end.invariant.numbered is))

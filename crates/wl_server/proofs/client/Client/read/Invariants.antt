@@ -1,4 +1,4 @@
-use Rattle.std.proofs.Common.{Some, ◌≤◌}
+use Rattle.std.proofs.Common.{◌≡◌, Some, ◌≤◌}
 use Rattle.wl_server.specs.NoteOrder.{IsNumbered, NotesInTime}
 use Rattle.wl_server.specs.Inside.ReadingLoop.{ReadsOn, around_of}
 use Rattle.wl_server.proofs.client.Client.read.Given as goal
@@ -7,11 +7,11 @@ use Rattle.wl_server.proofs.client.Client.read.Given as goal
 abbrev pub invariant-loop-end : goal.invariant-loop-end
 invariant-loop-end g l = record {
   place : 4 ≤ l.message.args.capacity;
-  inline : 4 ≤ l.finding.args.capacity;
-  goes : ReadsOn g.T.Transport.sends g.T.Transport.receives (around_of g.G.GlobalHandler.views l.fn.around) l.fn.self l.fn.finding.reading l.self l.finding.reading;
+  kept : l.action ≡ l.fn.action;
+  goes : ReadsOn g.T.Transport.sends g.T.Transport.receives (around_of g.G.GlobalHandler.views l.fn.around) l.fn.self l.fn.reading l.self l.reading;
   in_time : NotesInTime l.fn.self.times l.fn.numbers l.self.times l.numbers;
   numbered : IsNumbered (Some l.fn.self) → IsNumbered (Some l.self);
 }
 
 abbrev pub decreases-loop-end : goal.decreases-loop-end
-decreases-loop-end g l = l.finding.reading.turns_left
+decreases-loop-end g l = l.reading.turns_left

@@ -1,14 +1,10 @@
-use Rattle.wl_server.proofs.Readings.Handling.{handed_out}
 use Rattle.wl_server.proofs.client.Client.respond.Goals as goal
 
 pub returns-in-Malformed-clause-handled : goal.returns-in-Malformed-clause-handled
-returns-in-Malformed-clause-handled g c args = rw c.in-Malformed.is c.kill_for_malformed.ensures.handled
+returns-in-Malformed-clause-handled g c f args h = rw c.in-Malformed.is c.kill_for_malformed.ensures.handled
 
 pub returns-in-Breaks-clause-handled : goal.returns-in-Breaks-clause-handled
-returns-in-Breaks-clause-handled g c args = rw c.in-Breaks.is c.kill_for_breach.ensures.handled
+returns-in-Breaks-clause-handled g c f args h = rw c.in-Breaks.is c.kill_for_breach.ensures.handled
 
 pub returns-in-Registers-clause-handled : goal.returns-in-Registers-clause-handled
-returns-in-Registers-clause-handled g c args = rw c.in-Registers.is (c.tell_globals.ensures.handled c.args.found.now args)
-
-pub returns-in-HandsOut-clause-handled : goal.returns-in-HandsOut-clause-handled
-returns-in-HandsOut-clause-handled g c args = rw (← c.self.view_is, c.in-HandsOut.is, c.open_action.ensures) (handed_out g.T.Transport.sends _ _ _)
+returns-in-Registers-clause-handled g c f args h = rw c.in-Registers.is (c.tell_globals.ensures.handled h)

@@ -1,0 +1,56 @@
+use Rattle.std.proofs.Common.{arith, ap, length, inr, refl, subst, sym}
+use Rattle.wl_wire.specs.Message.{content}
+use Rattle.wl_wire.specs.Parse.{IsThere, opcode_of, sender_of}
+use Rattle.wl_wire.specs.Table.{message_row}
+use Rattle.wl_link.specs.Store.{held}
+use Rattle.wl_link.proofs.Calls.TakenLaws.{as_many, read_there}
+use Rattle.wl_server.proofs.Readings.OneMessage.{read_in, row_read, sender_read}
+use Rattle.wl_server.proofs.Readings.Texts.{free_looked_up}
+use Rattle.wl_server.proofs.reading.handle_message.take_request.Goals as goal
+
+-- what was read was there whole
+pub request-requires-clause-room : goal.request-requires-clause-room
+request-requires-clause-room g c =
+    let many = as_many _ _ (content c.read_with_signature.new.message) _ c.in_ok-read_with_signature.ensures.read in
+    let there = read_there _ _ (content c.read_with_signature.new.message) _ c.in_ok-read_with_signature.ensures.read in
+    let room = c.in-Ok.ensures.room (subst (λ s. IsThere c.args.socket.now.incoming.bytes s c.args.socket.now.incoming.tokens) c.as_slice-signature.ensures.value there) in
+    omega (arith, many, room, ap length c.make_room.ensures.empty, ap length c.as_slice-signature.ensures.value)
+
+pub request-requires-clause-can_make : goal.request-requires-clause-can_make
+request-requires-clause-can_make g c =
+    let there = read_there _ _ (content c.read_with_signature.new.message) _ c.in_ok-read_with_signature.ensures.read in
+    c.in-Ok.ensures.can_make (subst (λ s. IsThere c.args.socket.now.incoming.bytes s c.args.socket.now.incoming.tokens) c.as_slice-signature.ensures.value there)
+
+pub request-requires-clause-can_register : goal.request-requires-clause-can_register
+request-requires-clause-can_register g c =
+    let there = read_there _ _ (content c.read_with_signature.new.message) _ c.in_ok-read_with_signature.ensures.read in
+    c.in-Ok.ensures.can_register (subst (λ s. IsThere c.args.socket.now.incoming.bytes s c.args.socket.now.incoming.tokens) c.as_slice-signature.ensures.value there)
+
+-- the table is an accepted one
+pub request-requires-clause-name : goal.request-requires-clause-name
+request-requires-clause-name g c =
+    let bytes = c.args.socket.now.incoming.bytes in
+    free_looked_up c.args.around.now.protocol.now c.requires.front.accepted (held c.args.objects.now.map.store (sender_of bytes)) (opcode_of bytes)
+    (message_row c.args.front.now.desc.now) c.requires.front.row
+
+pub request-requires-clause-sender : goal.request-requires-clause-sender
+request-requires-clause-sender g c =
+    rw c.make_room.ensures.store
+    (sender_read c.args.around.now.protocol.now c.args.objects.now.map.store c.args.socket.now c.args.front.now c.requires.front c.read_with_signature.new.self
+    (content c.read_with_signature.new.message) (rw c.as_slice-signature.ensures.value at c.in_ok-read_with_signature.ensures.read))
+
+pub returns-clause-took : goal.returns-clause-took
+returns-clause-took g c =
+    let read = rw c.as_slice-signature.ensures.value at c.in_ok-read_with_signature.ensures.read in
+    let m = content c.read_with_signature.new.message in (
+      m,
+      message_row c.args.front.now.desc.now,
+      read_in c.args.around.now.protocol.now c.args.objects.now.map.store c.args.socket.now c.args.front.now c.requires.front c.read_with_signature.new.self _ read,
+      row_read c.args.around.now.protocol.now c.args.objects.now.map.store c.args.socket.now c.args.front.now c.requires.front c.read_with_signature.new.self m read,
+      rw (c.make_room.ensures.store, c.make_room.ensures.registries, c.make_room.ensures.serial) at c.request.ensures.responds,
+    )
+
+-- only a message that is there whole asks for memory
+pub returns-in_default-clause-took : goal.returns-in_default-clause-took
+returns-in_default-clause-took g c =
+    (refl, c.make_room.ensures.store, c.make_room.ensures.serial, c.make_room.ensures.registries, inr (refl, (message_row c.args.front.now.desc.now, sym c.requires.front.row, c.in_default.ensures.asked.0, c.in_default.ensures.asked.1)))
