@@ -6,12 +6,19 @@
 //! A client is *stored* from its insertion until `Backend::cleanup` takes it out. It is *live* as long as it is stored
 //! and not killed. Its *slot* is its index in the server's list of clients.
 
+/// `flush`: what waits is sent.
 pub mod flush;
+/// `insert_client`.
 pub mod insert;
+/// `kill_client`, and the end of a client for any other reason.
 pub mod kill;
+/// How large a client's messages may be.
 pub mod limits;
+/// A stored client is found by its id.
 pub mod stored;
+/// Which clients have something to send or a note to hand out.
 pub mod touched;
+/// `transport_mut`.
 pub mod transport;
 
 use crate::notes::queues::{MadeNotes, WaitingNotes};

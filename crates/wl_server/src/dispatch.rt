@@ -9,7 +9,9 @@ ghost use Rattle.wl_server.specs.Inside.Dispatching.{CleansUp};
 ghost use Rattle.wl_server.specs.PartStep.{over};
 ghost use Rattle.wl_server.specs.Plain.Dispatch.{DispatchOfOneLeaves, DispatchOfSeveralLeaves};
 
+/// The trait `Handler`, by which a program handles the actions of its clients.
 mod request_handler;
+/// The actions of one client are read, handled and finished.
 mod serve;
 
 use crate::backend::Backend;

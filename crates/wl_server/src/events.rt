@@ -1,6 +1,10 @@
 //! Events: which ones are refused, how one is sent, and which ones the server sends by itself.
 
+/// Whether an event may be sent.
 pub mod check;
+/// The events that the server sends by itself: `error`, `delete_id`, `done`, `global`, `global_remove`.
 pub mod own_events;
+/// `post_error`.
 pub mod post_error;
+/// `send_event` and `send_event_lent`.
 pub mod send;

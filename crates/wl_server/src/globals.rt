@@ -6,12 +6,19 @@ ghost use Rattle.wl_link.specs.ObjectMap.{InsertsNew, NextNew};
 ghost use Rattle.wl_link.specs.Store.{held, rewritten};
 ghost use Rattle.wl_server.specs.Globals.{CreatesGlobal, as_disabled, disabled, freed, global_serial, name_range, new_global, with_created};
 
+/// `add_interfaces`: the table grows.
 pub mod add_interfaces;
+/// Each registry is told of a change of a global.
 pub mod announce;
+/// `create_global`.
 pub mod create_global;
+/// The trait `GlobalHandler`: which clients see a global.
 pub mod handler;
+/// Look-ups of globals.
 pub mod lookups;
+/// A new registry is told of all globals.
 pub mod new_registry;
+/// `disable_global` and `remove_global`.
 pub mod remove_global;
 
 use crate::error::GlobalError;

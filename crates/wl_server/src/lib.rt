@@ -43,19 +43,33 @@
 //! `next_action` itself.
 #![tactic(auto)]
 
+/// The server: what it holds, and how one is made.
 mod backend;
+/// What a server keeps of one client; the calls that insert, kill and flush clients.
 mod client;
+/// `dispatch_single_client`, `dispatch_all_clients`, and the trait `Handler`.
 mod dispatch;
+/// The errors that calls return.
 mod error;
-mod error_texts;
+/// The errors that a client is killed for, and their texts.
+mod posted_errors;
+/// Events: `send_event`, `post_error`, and those that the server sends by itself.
 mod events;
+/// Globals: they are created, disabled, removed, and announced to registries.
 mod globals;
+/// The ids of clients, objects and globals.
 mod ids;
+/// The laws of runs.
 pub mod laws;
+/// Look-ups of clients and objects.
 mod lookups;
+/// Notes of what was destroyed or disconnected: `cleanup` and `take_notes`.
 mod notes;
+/// The objects of a client: they are created, destroyed, and have data.
 mod objects;
+/// The requests of a client are read up to an action, and actions are finished.
 mod reading;
+/// Calls as values, and runs of them.
 mod runs;
 
 pub use backend::Backend;

@@ -4,10 +4,15 @@
 //! objects *wait* first, until the next cleanup makes them. Until they are *gathered* in one list of the server, notes
 //! are kept with their client.
 
+/// `cleanup`: killed clients leave, and notes that wait are made.
 pub mod cleanup;
+/// The notes of all clients are put into one list.
 pub mod gather;
+/// The notes of a client that leaves.
 pub mod leaving;
+/// The notes of one client, and the numbers that order them.
 pub mod queues;
+/// `take_notes`.
 pub mod take;
 
 use crate::ids::client_id::ClientId;

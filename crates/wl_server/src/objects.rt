@@ -8,8 +8,11 @@ ghost use Rattle.wl_server.specs.NoteOrder.{GivesNumbers};
 ghost use Rattle.wl_server.specs.Inside.NoteOrder.{one_waits};
 ghost use Rattle.wl_server.specs.Part.{named, note_of_end, registries_without, same_id, fresh_object as the_object, id_at as the_id};
 
+/// `create_object`.
 pub mod create;
+/// The data of an object: set, or changed in place.
 pub mod data;
+/// `destroy_object`.
 pub mod destroy;
 
 use crate::ids::client_id::ClientId;

@@ -24,21 +24,37 @@
 //! `Parse`, and `Stream` (messages one after another).
 #![tactic(auto)]
 
+/// An argument of a message, and its type.
 mod argument;
+/// `ByteArray`: the bytes of an array argument.
 mod byte_array;
+/// `CString`: the bytes of a string argument.
 mod c_string;
+/// The interfaces that each table begins with: `wl_display`, `wl_registry`, `wl_callback`; and opcodes of theirs.
 mod core_interfaces;
+/// The enums of the protocol: `WEnum` and `WaylandEnum`.
 mod enums;
+/// The errors of the crate.
 mod error;
+/// An interface: its requests and events.
 mod interface;
+/// What follows from the definitions alone.
 pub mod laws;
+/// A message as a line of a log.
 mod log_text;
+/// `Message`.
 mod message;
+/// How the ids in arguments become numbers.
 mod numbering;
+/// The parser: bytes become a message.
 mod parse;
+/// `Protocol`: the table of interfaces.
 mod protocol;
+/// Whether a table may be accepted.
 mod table_check;
+/// `Text`: a text that a value of this crate owns.
 mod text;
+/// The writer: a message becomes bytes.
 mod write;
 
 pub use argument::{AllowNull, Argument, ArgumentType, Token};

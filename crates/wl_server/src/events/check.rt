@@ -1,10 +1,10 @@
-//! Which events are refused, and which numbers stand for the ids of those that are sent.
+//! Which events are refused.
 
 ghost use Rattle.std.specs.Prelude.{◌≡◌, Bool, Err, IfOk, MatchResult, Ok, Some};
 ghost use Rattle.wl_wire.specs.declared.argument.Argument.TheVariants as arg;
 ghost use Rattle.wl_wire.specs.declared.argument.ArgumentType.TheVariants as kind;
 ghost use Rattle.wl_wire.specs.declared.interface.InterfaceId.{InterfaceId};
-ghost use Rattle.wl_wire.specs.Table.{message_row};
+ghost use Rattle.wl_wire.specs.Table.{MessageRow, message_row};
 ghost use Rattle.wl_link.specs.Refusals.{first_refusal};
 ghost use Rattle.wl_server.specs.Inside.EventChecks.{fault_of};
 ghost use Rattle.wl_server.specs.Events.{argument_fault, argument_faults, event_check, id_fault, session_content};
@@ -42,12 +42,11 @@ fn kept_interface<U: Drop>(
 fn object_fault<U: Drop>(
     client: &ClientId,
     objects: &ObjectMap<Kept<U>>,
-    desc: &MessageDesc,
     null: AllowNull,
     asked: InterfaceId,
     id: &ObjectId,
 ) -> Option<EventError>
-    ensures { result ≡ argument_fault client.now objects.now.store (message_row desc.now) (kind.Object null) asked (arg.Object id.now) }
+    ensures { (row : MessageRow) → result ≡ argument_fault client.now objects.now.store row (kind.Object null) asked (arg.Object id.now) }
 {
     if id.protocol_id() == 0 {
         return match null {
@@ -67,10 +66,9 @@ fn new_id_fault<U: Drop>(
     client: &ClientId,
     objects: &ObjectMap<Kept<U>>,
     desc: &MessageDesc,
-    asked: InterfaceId,
     id: &ObjectId,
 ) -> Option<EventError>
-    ensures { result ≡ argument_fault client.now objects.now.store (message_row desc.now) kind.NewId asked (arg.NewId id.now) }
+    ensures { (asked : InterfaceId) → result ≡ argument_fault client.now objects.now.store (message_row desc.now) kind.NewId asked (arg.NewId id.now) }
 {
     if id.protocol_id() == 0 {
         return Some(EventError::NullNewId);
@@ -95,10 +93,10 @@ fn argument_fault<U: Drop>(
 {
     match (kind, arg) {
         (ArgumentType::Object(null), Argument::Object(id)) => {
-            object_fault(client, objects, desc, null, asked, id)
+            object_fault(client, objects, null, asked, id)
         }
         (ArgumentType::NewId, Argument::NewId(id)) => {
-            new_id_fault(client, objects, desc, asked, id)
+            new_id_fault(client, objects, desc, id)
         }
         _ => None,
     }

@@ -20,13 +20,13 @@ ghost use Rattle.wl_server.specs.declared.runs.step.Step.TheVariants as step;
 use crate::backend::Backend;
 use crate::client::Client;
 use crate::client::stored::stored_mut;
-use crate::error_texts::posted_error;
 use crate::events::own_events::{is_out_of_memory, put_error};
 use crate::globals::handler::GlobalHandler;
 use crate::ids::object_id::ObjectId;
 use crate::notes::DisconnectReason;
 use crate::notes::queues::NoteNumbers;
 use crate::objects::named_in;
+use crate::posted_errors::posted_error;
 use wl_link::Transport;
 use wl_wire::{CString, IoFault, Protocol, ProtocolError};
 

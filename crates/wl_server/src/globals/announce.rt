@@ -9,9 +9,9 @@ ghost use Rattle.wl_server.specs.Inside.News.{IsNews, room_in, text_len};
 ghost use Rattle.wl_server.specs.Inside.Puts.{Puts};
 ghost use Rattle.wl_server.specs.Telling.{by_object, making};
 
-use crate::error_texts::string_of_bytes;
 use crate::globals::KeptGlobal;
 use crate::objects::Registry;
+use crate::posted_errors::string_of_bytes;
 use smallvec::SmallVec;
 use std::alloc::Global;
 use std::marker::Model;

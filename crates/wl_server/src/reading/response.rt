@@ -16,13 +16,13 @@ ghost use Rattle.wl_server.specs.Telling.{Kills, core_of, deletions, done_messag
 ghost use Rattle.wl_server.specs.Inside.ReadingLoop.{Ended, IsHandled, Live, around_of, message_result};
 
 use crate::client::Client;
-use crate::error_texts::{bind_text, fault_text, new_id_text, since_text};
 use crate::events::own_events::put_done;
 use crate::globals::handler::GlobalHandler;
 use crate::globals::new_registry::put_globals;
 use crate::ids::object_id::ObjectId;
 use crate::notes::DisconnectReason;
 use crate::notes::queues::NoteNumbers;
+use crate::posted_errors::{bind_text, fault_text, new_id_text, since_text};
 use crate::reading::Surroundings;
 use crate::reading::action::{MessageEnd, NoAction};
 use std::alloc::Global;

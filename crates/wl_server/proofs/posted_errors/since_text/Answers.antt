@@ -1,6 +1,6 @@
 use Rattle.std.proofs.Common.{sym, subst}
 use Rattle.wl_server.proofs.Readings.Texts.{IsFree, free_found, free_since_text}
-use Rattle.wl_server.proofs.error_texts.since_text.Goals as goal
+use Rattle.wl_server.proofs.posted_errors.since_text.Goals as goal
 
 pub c_string-requires : goal.c_string-requires
 c_string-requires c =

@@ -1,7 +1,7 @@
 use Rattle.std.proofs.Common.{◌∙◌, ap, sym, subst}
 use Rattle.wl_wire.specs.Table.{holds_zero}
 use Rattle.wl_server.proofs.Readings.Texts.{IsFree, free_found, free_null_text, free_unknown_text, one_name}
-use Rattle.wl_server.proofs.error_texts.fault_text.Goals as goal
+use Rattle.wl_server.proofs.posted_errors.fault_text.Goals as goal
 
 pub c_string-requires : goal.c_string-requires
 c_string-requires c = subst IsFree (sym c.in_ok-text-in-UnknownId.ensures.ok) (free_unknown_text c.in-UnknownId.number)

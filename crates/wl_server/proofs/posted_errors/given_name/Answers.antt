@@ -3,7 +3,7 @@ use Rattle.std.specs.Str.Lossy.{utf8_lossy}
 use Rattle.std.proofs.lemmas.Str.{utf8_lossy_empty}
 use Rattle.wl_wire.specs.Table.{holds_zero}
 use Rattle.wl_server.proofs.Readings.Texts.{free_lossy, free_string}
-use Rattle.wl_server.proofs.error_texts.given_name.Goals as goal
+use Rattle.wl_server.proofs.posted_errors.given_name.Goals as goal
 
 pub returns-in_default-clause-text : goal.returns-in_default-clause-text
 returns-in_default-clause-text c = rw c.in_default.is (c.new.ensures.bytes ∙ sym (utf8_lossy_empty _ refl))
