@@ -95,9 +95,7 @@ fn argument_fault<U: Drop>(
         (ArgumentType::Object(null), Argument::Object(id)) => {
             object_fault(client, objects, null, asked, id)
         }
-        (ArgumentType::NewId, Argument::NewId(id)) => {
-            new_id_fault(client, objects, desc, id)
-        }
+        (ArgumentType::NewId, Argument::NewId(id)) => { new_id_fault(client, objects, desc, id) }
         _ => None,
     }
 }

@@ -154,14 +154,9 @@ pub struct CleanupMemory<T> {
 }
 
 /// Allocates the memory for the notes of a cleanup that does this work.
-fn memory_for_notes<T: Drop, U: Drop, C: Drop>(
-    clients: &[Option<Client<T, U, C>>],
-    work: &Work,
-    notes: &mut Vec<Note<U>>,
-) -> Result<(), OutOfMemory>
-    requires gathered { work.now.gathered < 0xFFFFFFFFFFFFFFFF → count_leaving true clients.now ≤ work.now.gathered }
-    requires ends { work.now.ends < 0xFFFFFFFFFFFFFFFF → length (collected ends_at 0 clients.now) ≤ work.now.ends }
-    ensures room { OnOk result (vec_len notes.new + count_leaving true clients.now + length (collected ends_at 0 clients.now) ≤ vec_capacity notes.new) }
+fn memory_for_notes<U: Drop>(work: &Work, notes: &mut Vec<Note<U>>) -> Result<(), OutOfMemory>
+    ensures room { (gathered ends : ℕ) → (work.now.gathered < 0xFFFFFFFFFFFFFFFF → gathered ≤ work.now.gathered)
+        → (work.now.ends < 0xFFFFFFFFFFFFFFFF → ends ≤ work.now.ends) → OnOk result (vec_len notes.new + gathered + ends ≤ vec_capacity notes.new) }
     ensures items { notes.new.items ≡ notes.old.items }
 {
     notes.reserve(work.gathered.saturating_add(work.ends))?;
@@ -194,7 +189,7 @@ pub fn memory_for<T: Drop, U: Drop, C: Drop>(
             given: Vec::new(alloc),
         });
     }
-    memory_for_notes(clients, &work, notes)?;
+    memory_for_notes(&work, notes)?;
     let order = order_of(alloc, clients, to_note, true, work.gathered)?;
     let given = Vec::with_capacity(alloc, work.leaving)?;
     Ok(CleanupMemory { order, given })

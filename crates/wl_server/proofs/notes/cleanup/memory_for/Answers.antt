@@ -49,12 +49,6 @@ returns-then-count-eq0-clause-order g c =
     let places = none_of c.count_work-work.result.gathered (count_places true (map times_of c.args.clients.now)) none.0 c.count_work-work.ensures.places in
     none_order true c.args.clients.now c.new.result.items c.new.ensures.items (none_leaving true c.args.clients.now notes) places
 
-pub memory_for_notes-requires-clause-ends : goal.memory_for_notes-requires-clause-ends
-memory_for_notes-requires-clause-ends g c = c.count_work-work.ensures.ends
-
-pub memory_for_notes-requires-clause-gathered : goal.memory_for_notes-requires-clause-gathered
-memory_for_notes-requires-clause-gathered g c = c.count_work-work.ensures.gathered
-
 pub order_of-requires-clause-quiet : goal.order_of-requires-clause-quiet
 order_of-requires-clause-quiet g c = c.count_work-work.ensures.quiet
 
@@ -68,7 +62,7 @@ pub returns-clause-none : goal.returns-clause-none
 returns-clause-none g c = c.in_ok-given.ensures.items
 
 pub returns-clause-notes : goal.returns-clause-notes
-returns-clause-notes g c = c.in_ok-memory_for_notes.ensures.room
+returns-clause-notes g c = c.in_ok-memory_for_notes.ensures.room _ _ c.count_work-work.ensures.gathered c.count_work-work.ensures.ends
 
 pub returns-clause-order : goal.returns-clause-order
 returns-clause-order g c = c.in_ok-order.ensures
