@@ -47,6 +47,7 @@ impl FreeTree {
 
     /// The least free place; `None` if none is free. If it is below `end`, it is not free from then on. The words that the
     /// search reads are added to `reads`.
+    #[inline(always)]
     pub fn take_least(&mut self, end: usize, reads: &mut u32) -> Option<usize>
         requires few { reads.old + height (words_of self.old.levels.items) < 4294967296 }
         requires tree { IsWholeTree (words_of self.old.levels.items) }
@@ -69,6 +70,7 @@ impl FreeTree {
     }
 
     /// Adds the next place, which is not free. It allocates nothing.
+    #[inline(always)]
     pub fn push(&mut self, at: usize)
         requires tree { (flag : ℕ → Bool) × IsTree flag at (words_of self.old.levels.items) }
         requires ready { at % 64 ≡ 0 → is_ready self.old.levels.items ≡ true }
@@ -81,6 +83,7 @@ impl FreeTree {
     }
 
     /// Reserves what `push` needs for this place. Only the first of 64 places begins a word, so others need nothing.
+    #[inline(always)]
     pub fn reserve_for(&mut self, at: usize) -> Result<(), AllocError>
         ensures tree { KeepsFlags (words_of self.old.levels.items) (words_of self.new.levels.items) }
         ensures ok { OnOk result (at % 64 ≡ 0 → is_ready self.new.levels.items ≡ true) }
@@ -94,6 +97,7 @@ impl FreeTree {
     }
 
     /// Reserves the capacity for one more place. The error says that there was no memory.
+    #[inline(never)]
     pub fn reserve(&mut self) -> Result<(), AllocError>
         ensures tree { KeepsFlags (words_of self.old.levels.items) (words_of self.new.levels.items) }
         ensures ok { OnOk result (is_ready self.new.levels.items ≡ true) }
@@ -193,6 +197,7 @@ fn mark(levels: &mut [Vec<u64>], at: usize, is_set: bool)
 
 /// The number of the lowest bit that is set in the only word of a level; `None` if none is set. If it is below `end`, it is
 /// cleared.
+#[inline(always)]
 fn take_lowest(words: &mut Vec<u64>, end: usize, reads: &mut u32) -> Option<usize>
     requires one { length words.old.items ≡ 1 }
     requires few { reads.old + 1 < 4294967296 }
@@ -230,6 +235,7 @@ fn has_one_word_above(levels: &[Vec<u64>]) -> bool
 }
 
 /// The number of the lowest bit that is set on the lowest level; `None` if none is set. If it is below `end`, it is cleared.
+#[inline(always)]
 fn take_least(levels: &mut [Vec<u64>], end: usize, reads: &mut u32) -> Option<usize>
     requires few { reads.old + height (words_of levels.old) < 4294967296 }
     requires tree { IsWholeTree (words_of levels.old) }
@@ -250,6 +256,7 @@ fn take_least(levels: &mut [Vec<u64>], end: usize, reads: &mut u32) -> Option<us
 }
 
 /// The same of a tree of one word.
+#[inline(always)]
 fn take_from_one(levels: &mut [Vec<u64>], end: usize, reads: &mut u32) -> Option<usize>
     requires one { is_one_word (words_of levels.old) ≡ true }
     requires few { reads.old + height (words_of levels.old) < 4294967296 }
@@ -268,6 +275,7 @@ fn take_from_one(levels: &mut [Vec<u64>], end: usize, reads: &mut u32) -> Option
 }
 
 /// The same of a tree of two levels.
+#[inline(always)]
 fn take_from_two(levels: &mut [Vec<u64>], end: usize, reads: &mut u32) -> Option<usize>
     requires two { is_one_word_above (words_of levels.old) ≡ true }
     requires few { reads.old + height (words_of levels.old) < 4294967296 }
@@ -287,6 +295,7 @@ fn take_from_two(levels: &mut [Vec<u64>], end: usize, reads: &mut u32) -> Option
 }
 
 /// The same of the words of the lowest level and the only word above them.
+#[inline(never)]
 fn take_least_of_two(
     words: &mut Vec<u64>,
     tops: &mut Vec<u64>,
@@ -340,6 +349,7 @@ fn mark_in_two(words: &mut Vec<u64>, tops: &mut Vec<u64>, at: usize, is_set: boo
 }
 
 /// The same of a tree of any number of levels.
+#[inline(never)]
 fn take_least_of_many(levels: &mut [Vec<u64>], end: usize, reads: &mut u32) -> Option<usize>
     requires few { reads.old + height (words_of levels.old) < 4294967296 }
     requires tree { IsWholeTree (words_of levels.old) }
@@ -383,6 +393,7 @@ fn push_first(levels: &mut [Vec<u64>], is_set: bool)
 ///
 /// If it begins a word, the level above needs a bit for that word. A level has bits only once the level below has two
 /// words.
+#[inline(never)]
 fn push(levels: &mut [Vec<u64>], count: usize)
     requires tree { (flag : ℕ → Bool) × IsTree flag count (words_of levels.old) }
     requires ready { is_ready levels.old ≡ true }
