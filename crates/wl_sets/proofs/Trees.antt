@@ -172,20 +172,26 @@ same_not false true e = e
 same_not false false e = refl
 
 -- the levels over one of which a word changed, but not whether it is 0
-pub mark_same : (words : List ℕ) (up : List (List ℕ)) (at before new : ℕ) → at < length words → before ≡ get_or words at before
-    → not (beq (nat_eq before 0) (nat_eq new 0)) ≡ false
+mark_kept : (words : List ℕ) (up : List (List ℕ)) (at new : ℕ) → at < length words → is_set (word words at) ≡ is_set new
     → IsTree (λ w. is_set (word words w)) (flags_above (length words)) up
     → IsTree (λ w. is_set (word (set words at new) w)) (flags_above (length (set words at new))) up
-mark_same words up at before new l was e t =
+mark_kept words up at new l e t =
     subst (λ (n : ℕ). IsTree (λ w. is_set (word (set words at new) w)) (flags_above n) up) (sym (length-set words at new))
     (same_flags up _ _ (flags_above (length words)) kept t)
   where
     kept : (w : ℕ) → is_set (word words w) ≡ is_set (word (set words at new) w)
     kept w =
         elim (cases_eq w at) [
-          | inl f ↦ ap (λ (k : ℕ). is_set (word words k)) f ∙ ap is_set (sym (was ∙ get_or_default_zero words at before l)) ∙ same_not _ _ e ∙ ap is_set (sym (get_or-set_at words at w new 0 f l))
+          | inl f ↦ ap (λ (k : ℕ). is_set (word words k)) f ∙ e ∙ ap is_set (sym (get_or-set_at words at w new 0 f l))
           | inr f ↦ ap is_set (sym (get_or-set_other words at w new 0 f))
         ]
+
+pub mark_same : (words : List ℕ) (up : List (List ℕ)) (at before new : ℕ) → at < length words → before ≡ get_or words at before
+    → not (beq (nat_eq before 0) (nat_eq new 0)) ≡ false
+    → IsTree (λ w. is_set (word words w)) (flags_above (length words)) up
+    → IsTree (λ w. is_set (word (set words at new) w)) (flags_above (length (set words at new))) up
+mark_same words up at before new l was e t =
+    mark_kept words up at new l (ap is_set (sym (was ∙ get_or_default_zero words at before l)) ∙ same_not _ _ e) t
 
 -- else they have no flags
 pub mark_top : (words : List ℕ) (up : List (List ℕ)) (at new : ℕ) → length words ≤ 1
@@ -468,14 +474,58 @@ marked_two flag count words tops at before new top new_top on inside one small w
       ),
     )
 
-pub row_within : (flag : ℕ → Bool) (count : ℕ) (words tops : List ℕ) (at : ℕ) → length tops ≡ 1 → at < count
-    → IsTree flag count (words ∷ tops ∷ []) → (at / 64 < length words) × (at / 64 < 64)
-row_within flag count words tops at one inside tree =
-    let len = tree.0.len in
-    let high = tree.1.0.len in
-    let more = more_of_two words tops [] flag count one tree in
-    let wide = above_more (length words) more in
-    (omega arith, omega arith)
+-- the word that the upper one tells of, and its lowest bit
+pub row_is_set : (flag : ℕ → Bool) (count : ℕ) (words tops : List ℕ) (row found : ℕ) → length tops ≡ 1 → Some row ≡ lowest_bit 0 (word tops 0)
+    → found ≡ word words row → IsTree flag count (words ∷ tops ∷ []) → 0 < found
+row_is_set flag count words tops row found one e is tree =
+    let least = least_above flag count words tops (Some row) one e tree in
+    subst (λ (k : ℕ). 0 < k) (sym is) (not_zero _ least.here)
+
+pub bit_of_row : (flag : ℕ → Bool) (count : ℕ) (words tops : List ℕ) (row found : ℕ) → length tops ≡ 1 → Some row ≡ lowest_bit 0 (word tops 0)
+    → found ≡ word words row → IsTree flag count (words ∷ tops ∷ []) → trailing_zeros w64 found < 64
+bit_of_row flag count words tops row found one e is tree =
+    let low = bit_at-trailing_zeros w64 found (row_is_set flag count words tops row found one e is tree) (subst (λ (k : ℕ). k < 2 ^ 64) (sym is) (tree.0.small row)) in
+    low.0
+
+pub least_of_row : (flag : ℕ → Bool) (count : ℕ) (words tops : List ℕ) (row found : ℕ) → length tops ≡ 1 → Some row ≡ lowest_bit 0 (word tops 0)
+    → found ≡ word words row → IsTree flag count (words ∷ tops ∷ []) → IsLeast flag (64 * row + trailing_zeros w64 found)
+least_of_row flag count words tops row found one e is tree =
+    let least = least_above flag count words tops (Some row) one e tree in
+    subst (λ (k : ℕ). IsLeast flag (64 * row + trailing_zeros w64 k)) (sym is)
+    (least_in flag count words row tree.0 (within_words words row least.here) (not_zero _ least.here) (λ v h. is_zero _ (least.below v h)))
+
+-- a bit of one row is cleared, and the row is not 0 after that
+pub row_left : (flag : ℕ → Bool) (count : ℕ) (words tops : List ℕ) (row bit before new : ℕ) → 64 * row + bit < count → bit < 64 → row < length words
+    → new < 2 ^ 64 → before ≡ word words row → 0 < before → 0 < new → bit_at new bit ≡ 0
+    → ((i : ℕ) → i < 64 → i ≢ bit → bit_at new i ≡ bit_at before i)
+    → IsTree flag count (words ∷ tops ∷ []) → IsTree (changed flag (64 * row + bit) false) count (set words row new ∷ tops ∷ [])
+row_left flag count words tops row bit before new inside low within small was some left here others (level, over) =
+    let at = 64 * row + bit in
+    let r : row ≡ at / 64 = omega arith in
+    let b : bit ≡ at % 64 = omega arith in
+    let was' : before ≡ get_or words (at / 64) before =
+    was ∙ sym (get_or_default_zero words row before within) ∙ ap (λ (k : ℕ). get_or words k before) r in (
+      subst (λ (k : ℕ). IsLevel (changed flag at false) count (set words k new)) (sym r)
+          (marked flag count words at before new false inside small was' (ap (bit_at new) (sym b) ∙ here) (λ i l n. others i l (λ e. n (e ∙ b))) level),
+      mark_kept words (tops ∷ []) row new within
+          (ap is_set (sym was) ∙ ap not (ne_eqb before 0 (λ z. omega arith)) ∙ sym (ap not (ne_eqb new 0 (λ z. omega arith)))) over,
+    )
+
+-- or it is 0, and so its bit in the upper word is cleared too
+pub row_emptied : (flag : ℕ → Bool) (count : ℕ) (words tops : List ℕ) (row bit before new top new_top : ℕ) → 64 * row + bit < count → bit < 64
+    → row < length words → length tops ≡ 1 → new < 2 ^ 64 → before ≡ word words row → new ≡ 0 → bit_at new bit ≡ 0
+    → ((i : ℕ) → i < 64 → i ≢ bit → bit_at new i ≡ bit_at before i)
+    → new_top < 2 ^ 64 → top ≡ get_or tops 0 top → bit_at new_top row ≡ 0 → ((i : ℕ) → i < 64 → i ≢ row → bit_at new_top i ≡ bit_at top i)
+    → IsTree flag count (words ∷ tops ∷ []) → IsTree (changed flag (64 * row + bit) false) count (set words row new ∷ set tops 0 new_top ∷ [])
+row_emptied flag count words tops row bit before new top new_top inside low within one small was empty here others small' was' here' others' tree =
+    let at = 64 * row + bit in
+    let r : row ≡ at / 64 = omega arith in
+    let b : bit ≡ at % 64 = omega arith in
+    let was'' : before ≡ get_or words (at / 64) before =
+    was ∙ sym (get_or_default_zero words row before within) ∙ ap (λ (k : ℕ). get_or words k before) r in
+    subst (λ (k : ℕ). IsTree (changed flag at false) count (set words k new ∷ set tops 0 new_top ∷ [])) (sym r)
+    (marked_two flag count words tops at before new top new_top false inside one small was'' (ap (bit_at new) (sym b) ∙ here) (λ i l n. others i l (λ e. n (e ∙ b)))
+    small' was' (ap (bit_at new_top) (sym r) ∙ here' ∙ sym (ap (λ (k : ℕ). as_bit (is_set k)) empty)) (λ i l n. others' i l (λ e. n (e ∙ r))) tree)
 
 pub has_least : (levels : List (List ℕ)) (at : ℕ) → IsWholeTree levels → IsLeastOf levels (Some at) → HasFlag at levels
 has_least levels at (flag, count, small, past, tree) least = (flag, count, within, tree)

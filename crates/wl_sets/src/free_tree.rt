@@ -311,41 +311,22 @@ fn take_least_of_two(
     ensures lens { (vec_len words.new ≡ vec_len words.old) × (vec_len tops.new ≡ vec_len tops.old) }
     ensures room { (has_capacity words.new ≡ has_capacity words.old) × (has_capacity tops.new ≡ has_capacity tops.old) }
 {
-    let at = least_of_two(words.as_slice(), tops.as_slice(), reads)?;
+    let row = match lowest(tops, 0, reads) {
+        Some(row) => row,
+        None => return None,
+    };
+    // The word above says that this one is not 0.
+    let word = read(words, row, reads);
+    let bit = word.trailing_zeros() as usize;
+    let at = 64 * row + bit;
     if at < end {
-        mark_in_two(words, tops, at, false);
+        let rest = with_bit(word, bit, false);
+        words[row] = rest;
+        if rest == 0 {
+            tops[0] = with_bit(tops[0], row, false);
+        }
     }
     Some(at)
-}
-
-/// The number of the lowest bit that is set on the lowest of two levels; `None` if none is set.
-fn least_of_two(words: &[u64], tops: &[u64], reads: &mut u32) -> Option<usize>
-    requires top { length tops.now ≡ 1 }
-    requires few { reads.old + 2 < 4294967296 }
-    requires tree { IsSomeTree (words.now ∷ tops.now ∷ []) }
-    ensures least { IsLeastOf (words.now ∷ tops.now ∷ []) result }
-    ensures reads { reads.new ≡ reads.old + reads_of result (words.now ∷ tops.now ∷ []) }
-{
-    match lowest(tops, 0, reads) {
-        Some(at) => lowest(words, at, reads),
-        None => None,
-    }
-}
-
-/// Sets or clears a bit of the lowest of two levels, and then the bit of its word above, as `mark` does.
-fn mark_in_two(words: &mut Vec<u64>, tops: &mut Vec<u64>, at: usize, is_set: bool)
-    requires top { length tops.old.items ≡ 1 }
-    requires tree { HasFlag at (words.old.items ∷ tops.old.items ∷ []) }
-    ensures tree { ChangesFlag at is_set (words.old.items ∷ tops.old.items ∷ []) (words.new.items ∷ tops.new.items ∷ []) }
-    ensures lens { (vec_len words.new ≡ vec_len words.old) × (vec_len tops.new ≡ vec_len tops.old) }
-    ensures room { (has_capacity words.new ≡ has_capacity words.old) × (has_capacity tops.new ≡ has_capacity tops.old) }
-{
-    let before = words[at / 64];
-    let word = with_bit(before, at % 64, is_set);
-    words[at / 64] = word;
-    if (before == 0) != (word == 0) {
-        tops[0] = with_bit(tops[0], at / 64, word != 0);
-    }
 }
 
 /// The same of a tree of any number of levels.

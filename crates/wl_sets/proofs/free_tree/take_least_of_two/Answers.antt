@@ -1,26 +1,92 @@
-use Rattle.std.proofs.Common.{[], ◌∷◌, Some, None, subst, sym}
-use Rattle.wl_sets.specs.FreeTree.{IsLeastOf}
-use Rattle.wl_sets.proofs.Trees.{has_least}
+use Rattle.std.proofs.Common.{◌∙◌, ap, arith}
+use Rattle.wl_sets.specs.FreeTree.{word, lowest_bit}
+use Rattle.wl_sets.proofs.Trees.{bit_of_row, least_of_row, none_of_two, row_emptied, row_is_set, row_left, row_of_two}
 use Rattle.wl_sets.proofs.free_tree.take_least_of_two.Goals as goal
 
-pub returns-in_err-at-clause-least : goal.returns-in_err-at-clause-least
-returns-in_err-at-clause-least c =
-    subst (λ o. IsLeastOf (c.args.words.now.items ∷ c.args.tops.now.items ∷ []) o) (sym c.from_residual.ensures)
-    (subst (λ ws. IsLeastOf (ws ∷ c.args.tops.now.items ∷ []) None) c.as_slice.ensures.value
-    (subst (λ ts. IsLeastOf (c.as_slice.result.now ∷ ts ∷ []) None) c.as_slice-2.ensures.value c.in_err-at.ensures.least))
+pub returns-in-None-clause-least : goal.returns-in-None-clause-least
+returns-in-None-clause-least c = λ flag count tree.
+    none_of_two flag count c.args.words.now.items c.args.tops.now.items c.requires.top
+    (c.in-None.ensures.value ∙ ap (λ ws. lowest_bit 0 (word ws 0)) c.deref.ensures.value) tree
 
-pub mark_in_two-requires-clause-tree : goal.mark_in_two-requires-clause-tree
-mark_in_two-requires-clause-tree c =
-    has_least (c.args.words.now.items ∷ c.args.tops.now.items ∷ []) c.in_ok-at.at c.requires.tree
-    (subst (λ ws. IsLeastOf (ws ∷ c.args.tops.now.items ∷ []) (Some c.in_ok-at.at)) c.as_slice.ensures.value
-    (subst (λ ts. IsLeastOf (c.as_slice.result.now ∷ ts ∷ []) (Some c.in_ok-at.at)) c.as_slice-2.ensures.value c.in_ok-at.ensures.least))
+pub read-word-requires-clause-within : goal.read-word-requires-clause-within
+read-word-requires-clause-within c =
+    let (flag, count, small, past, tree) = c.requires.tree in
+    let within = row_of_two flag count c.args.words.now.items c.args.tops.now.items c.in-Some.row c.requires.top
+    (c.in-Some.ensures.value ∙ ap (λ ws. lowest_bit 0 (word ws 0)) c.deref.ensures.value) tree in
+    omega arith
 
-pub returns-then-at-end-clause-least : goal.returns-then-at-end-clause-least
-returns-then-at-end-clause-least c =
-    subst (λ ws. IsLeastOf (ws ∷ c.args.tops.now.items ∷ []) (Some c.in_ok-at.at)) c.as_slice.ensures.value
-    (subst (λ ts. IsLeastOf (c.as_slice.result.now ∷ ts ∷ []) (Some c.in_ok-at.at)) c.as_slice-2.ensures.value c.in_ok-at.ensures.least)
+pub with_bit-rest-requires : goal.with_bit-rest-requires
+with_bit-rest-requires c =
+    let words = c.args.words.now.items in
+    let tops = c.args.tops.now.items in
+    let row = c.in-Some.row in
+    let told = c.in-Some.ensures.value ∙ ap (λ ws. lowest_bit 0 (word ws 0)) c.deref.ensures.value in
+    let is = c.read-word.ensures.value ∙ ap (λ ws. word ws c.in-Some.row) c.deref-2.ensures.value in
+    let (flag, count, small, past, tree) = c.requires.tree in
+    bit_of_row flag count words tops row c.read-word.result c.requires.top told is tree
+
+pub index_mut-requires : goal.index_mut-requires
+index_mut-requires c =
+    let (flag, count, small, past, tree) = c.requires.tree in
+    let within = row_of_two flag count c.args.words.now.items c.args.tops.now.items c.in-Some.row c.requires.top
+    (c.in-Some.ensures.value ∙ ap (λ ws. lowest_bit 0 (word ws 0)) c.deref.ensures.value) tree in
+    omega arith
+
+pub returns-then-rest-eq0-clause-least : goal.returns-then-rest-eq0-clause-least
+returns-then-rest-eq0-clause-least c = λ flag count tree.
+    let words = c.args.words.now.items in
+    let tops = c.args.tops.now.items in
+    let row = c.in-Some.row in
+    let told = c.in-Some.ensures.value ∙ ap (λ ws. lowest_bit 0 (word ws 0)) c.deref.ensures.value in
+    let is = c.read-word.ensures.value ∙ ap (λ ws. word ws c.in-Some.row) c.deref-2.ensures.value in
+    least_of_row flag count words tops row c.read-word.result c.requires.top told is tree
+
+pub returns-else-rest-eq0-clause-least : goal.returns-else-rest-eq0-clause-least
+returns-else-rest-eq0-clause-least c = λ flag count tree.
+    let words = c.args.words.now.items in
+    let tops = c.args.tops.now.items in
+    let row = c.in-Some.row in
+    let told = c.in-Some.ensures.value ∙ ap (λ ws. lowest_bit 0 (word ws 0)) c.deref.ensures.value in
+    let is = c.read-word.ensures.value ∙ ap (λ ws. word ws c.in-Some.row) c.deref-2.ensures.value in
+    least_of_row flag count words tops row c.read-word.result c.requires.top told is tree
 
 pub returns-else-at-end-clause-least : goal.returns-else-at-end-clause-least
-returns-else-at-end-clause-least c =
-    subst (λ ws. IsLeastOf (ws ∷ c.args.tops.now.items ∷ []) (Some c.in_ok-at.at)) c.as_slice.ensures.value
-    (subst (λ ts. IsLeastOf (c.as_slice.result.now ∷ ts ∷ []) (Some c.in_ok-at.at)) c.as_slice-2.ensures.value c.in_ok-at.ensures.least)
+returns-else-at-end-clause-least c = λ flag count tree.
+    let words = c.args.words.now.items in
+    let tops = c.args.tops.now.items in
+    let row = c.in-Some.row in
+    let told = c.in-Some.ensures.value ∙ ap (λ ws. lowest_bit 0 (word ws 0)) c.deref.ensures.value in
+    let is = c.read-word.ensures.value ∙ ap (λ ws. word ws c.in-Some.row) c.deref-2.ensures.value in
+    least_of_row flag count words tops row c.read-word.result c.requires.top told is tree
+
+pub returns-then-rest-eq0-clause-taken : goal.returns-then-rest-eq0-clause-taken
+returns-then-rest-eq0-clause-taken c =
+    let words = c.args.words.now.items in
+    let tops = c.args.tops.now.items in
+    let row = c.in-Some.row in
+    let told = c.in-Some.ensures.value ∙ ap (λ ws. lowest_bit 0 (word ws 0)) c.deref.ensures.value in
+    let is = c.read-word.ensures.value ∙ ap (λ ws. word ws c.in-Some.row) c.deref-2.ensures.value in
+    (
+      λ l. λ flag count inside tree.
+          row_emptied flag count words tops row _ c.read-word.result c.with_bit-rest.result c.index.result.now c.with_bit.result inside
+              (bit_of_row flag count words tops row c.read-word.result c.requires.top told is tree) (row_of_two flag count words tops row c.requires.top told tree)
+              c.requires.top (omega arith) is (omega arith) c.with_bit-rest.ensures.here c.with_bit-rest.ensures.others (omega arith) c.index.ensures
+              c.with_bit.ensures.here c.with_bit.ensures.others tree,
+      λ l. absurd (omega arith),
+    )
+
+pub returns-else-rest-eq0-clause-taken : goal.returns-else-rest-eq0-clause-taken
+returns-else-rest-eq0-clause-taken c =
+    let words = c.args.words.now.items in
+    let tops = c.args.tops.now.items in
+    let row = c.in-Some.row in
+    let told = c.in-Some.ensures.value ∙ ap (λ ws. lowest_bit 0 (word ws 0)) c.deref.ensures.value in
+    let is = c.read-word.ensures.value ∙ ap (λ ws. word ws c.in-Some.row) c.deref-2.ensures.value in
+    (
+      λ l. λ flag count inside tree.
+          row_left flag count words tops row _ c.read-word.result c.with_bit-rest.result inside
+              (bit_of_row flag count words tops row c.read-word.result c.requires.top told is tree) (row_of_two flag count words tops row c.requires.top told tree)
+              (omega arith) is (row_is_set flag count words tops row c.read-word.result c.requires.top told is tree) (omega arith)
+              c.with_bit-rest.ensures.here c.with_bit-rest.ensures.others tree,
+      λ l. absurd (omega arith),
+    )
