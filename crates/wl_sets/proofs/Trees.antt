@@ -474,7 +474,18 @@ marked_two flag count words tops at before new top new_top on inside one small w
       ),
     )
 
--- the word that the upper one tells of, and its lowest bit
+-- what the upper word tells
+pub tells_none : (tops : List ℕ) (top : ℕ) → top ≡ word tops 0 → top ≡ 0 → None ≡ lowest_bit 0 (word tops 0)
+tells_none tops top is e =
+    subst (λ (k : ℕ). None ≡ lowest_bit 0 k) is (sym (ap (λ (b : Bool). cond b None (Some (64 * 0 + trailing_zeros w64 top))) (eq-eqb top 0 e)))
+
+pub tells_row : (tops : List ℕ) (top : ℕ) → top ≡ word tops 0 → top ≢ 0 → Some (trailing_zeros w64 top) ≡ lowest_bit 0 (word tops 0)
+tells_row tops top is some =
+    let same : trailing_zeros w64 top ≡ 64 * 0 + trailing_zeros w64 top = omega arith in
+    subst (λ (k : ℕ). Some (trailing_zeros w64 top) ≡ lowest_bit 0 k) is
+    (ap Some same ∙ sym (ap (λ (b : Bool). cond b None (Some (64 * 0 + trailing_zeros w64 top))) (ne_eqb top 0 some)))
+
+-- the word that it tells of, and its lowest bit
 pub row_is_set : (flag : ℕ → Bool) (count : ℕ) (words tops : List ℕ) (row found : ℕ) → length tops ≡ 1 → Some row ≡ lowest_bit 0 (word tops 0)
     → found ≡ word words row → IsTree flag count (words ∷ tops ∷ []) → 0 < found
 row_is_set flag count words tops row found one e is tree =
@@ -515,7 +526,7 @@ row_left flag count words tops row bit before new inside low within small was so
 pub row_emptied : (flag : ℕ → Bool) (count : ℕ) (words tops : List ℕ) (row bit before new top new_top : ℕ) → 64 * row + bit < count → bit < 64
     → row < length words → length tops ≡ 1 → new < 2 ^ 64 → before ≡ word words row → new ≡ 0 → bit_at new bit ≡ 0
     → ((i : ℕ) → i < 64 → i ≢ bit → bit_at new i ≡ bit_at before i)
-    → new_top < 2 ^ 64 → top ≡ get_or tops 0 top → bit_at new_top row ≡ 0 → ((i : ℕ) → i < 64 → i ≢ row → bit_at new_top i ≡ bit_at top i)
+    → new_top < 2 ^ 64 → top ≡ word tops 0 → bit_at new_top row ≡ 0 → ((i : ℕ) → i < 64 → i ≢ row → bit_at new_top i ≡ bit_at top i)
     → IsTree flag count (words ∷ tops ∷ []) → IsTree (changed flag (64 * row + bit) false) count (set words row new ∷ set tops 0 new_top ∷ [])
 row_emptied flag count words tops row bit before new top new_top inside low within one small was empty here others small' was' here' others' tree =
     let at = 64 * row + bit in
@@ -525,7 +536,7 @@ row_emptied flag count words tops row bit before new top new_top inside low with
     was ∙ sym (get_or_default_zero words row before within) ∙ ap (λ (k : ℕ). get_or words k before) r in
     subst (λ (k : ℕ). IsTree (changed flag at false) count (set words k new ∷ set tops 0 new_top ∷ [])) (sym r)
     (marked_two flag count words tops at before new top new_top false inside one small was'' (ap (bit_at new) (sym b) ∙ here) (λ i l n. others i l (λ e. n (e ∙ b)))
-    small' was' (ap (bit_at new_top) (sym r) ∙ here' ∙ sym (ap (λ (k : ℕ). as_bit (is_set k)) empty)) (λ i l n. others' i l (λ e. n (e ∙ r))) tree)
+    small' (was' ∙ sym (get_or_default_zero tops 0 top (omega arith))) (ap (bit_at new_top) (sym r) ∙ here' ∙ sym (ap (λ (k : ℕ). as_bit (is_set k)) empty)) (λ i l n. others' i l (λ e. n (e ∙ r))) tree)
 
 pub has_least : (levels : List (List ℕ)) (at : ℕ) → IsWholeTree levels → IsLeastOf levels (Some at) → HasFlag at levels
 has_least levels at (flag, count, small, past, tree) least = (flag, count, within, tree)

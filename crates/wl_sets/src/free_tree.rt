@@ -311,10 +311,11 @@ fn take_least_of_two(
     ensures lens { (vec_len words.new ≡ vec_len words.old) × (vec_len tops.new ≡ vec_len tops.old) }
     ensures room { (has_capacity words.new ≡ has_capacity words.old) × (has_capacity tops.new ≡ has_capacity tops.old) }
 {
-    let row = match lowest(tops, 0, reads) {
-        Some(row) => row,
-        None => return None,
-    };
+    let top = read(tops, 0, reads);
+    if top == 0 {
+        return None;
+    }
+    let row = top.trailing_zeros() as usize;
     // The word above says that this one is not 0.
     let word = read(words, row, reads);
     let bit = word.trailing_zeros() as usize;
@@ -323,7 +324,7 @@ fn take_least_of_two(
         let rest = with_bit(word, bit, false);
         words[row] = rest;
         if rest == 0 {
-            tops[0] = with_bit(tops[0], row, false);
+            tops[0] = with_bit(top, row, false);
         }
     }
     Some(at)
