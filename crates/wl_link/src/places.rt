@@ -5,6 +5,7 @@
 ghost use Rattle.std.specs.Prelude.{◌≡◌, ◌+◌, ◌<◌, ◌≤◌, [], length, true, false, None, Some, Err, OnOk, OnErr, IsSome, option_copied};
 ghost use Rattle.std.specs.Fn.{FnOnceReturnsAtMut};
 ghost use Rattle.wl_link.specs.Inside.PlaceList.{place, free_flag, put_len, has_place_capacity, IsKnown, SetsPlace, PutsAt, PutsNew, LendsAt, IsFirstFree, ShowsFree, WordsReadIn, ReadsFew, entries_from};
+ghost use Rattle.wl_sets.specs.FreeTree.{has_capacity};
 ghost use Rattle.wl_link.specs.declared.object_map.InsertError.TheVariants as insert;
 ghost use Rattle.wl_link.specs.declared.object_map.NewError.TheVariants as new;
 
@@ -12,7 +13,7 @@ use crate::all_objects::RangeObjects;
 use crate::into_objects::RangeIntoObjects;
 use crate::object::Object;
 use crate::object_map::{InsertError, NewError};
-use std::alloc::Global;
+use std::alloc::{AllocError, Global};
 use wl_sets::free_tree::FreeTree;
 use wl_wire::OutOfMemory;
 
@@ -132,6 +133,7 @@ impl<Data: Drop> Places<Data> {
     {
         self.is_ready = false;
         self.free.reserve_for(at)?;
+        reserve_slot(&mut self.slots)?;
         self.slots.push(Some(object))?;
         self.free.push(at);
         Ok(())
@@ -254,7 +256,7 @@ impl<Data: Drop> Places<Data> {
         ensures err { OnErr result (has_place_capacity self.old.slots self.old.free.levels ≡ false) }
     {
         self.free.reserve()?;
-        self.slots.reserve(1)?;
+        reserve_slot(&mut self.slots)?;
         self.is_ready = true;
         Ok(())
     }
@@ -280,4 +282,19 @@ impl<Data: Drop> Places<Data> {
             number: first as u64,
         }
     }
+}
+
+/// Reserves the capacity for one more slot. The error says that there was no memory.
+///
+/// A list has four slots, then sixteen, and then twice as many each time: one that outgrows four seldom ends at eight.
+fn reserve_slot<Slot>(slots: &mut Vec<Slot>) -> Result<(), AllocError>
+    ensures items { slots.new.items ≡ slots.old.items }
+    ensures ok { OnOk result (has_capacity slots.new ≡ true) }
+    ensures err { OnErr result (has_capacity slots.old ≡ false) }
+{
+    let len = slots.len();
+    if len < slots.capacity() {
+        return Ok(());
+    }
+    slots.reserve(if len == 4 { 12 } else { 1 })
 }

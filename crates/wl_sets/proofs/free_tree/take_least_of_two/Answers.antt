@@ -68,13 +68,12 @@ returns-then-rest-eq0-clause-taken c =
     let tops = c.args.tops.now.items in
     let top_is = c.read-top.ensures.value ∙ ap (λ ws. word ws 0) c.deref.ensures.value in
     let told = tells_row c.args.tops.now.items c.read-top.result top_is (omega arith) in
-    let is = c.read-word.ensures.value ∙ ap (λ ws. word ws (trailing_zeros w64 c.read-top.result)) c.deref-2.ensures.value in
-    (
+    let is = c.read-word.ensures.value ∙ ap (λ ws. word ws (trailing_zeros w64 c.read-top.result)) c.deref-2.ensures.value in (
       λ l. λ flag count inside tree.
           row_emptied flag count words tops (trailing_zeros w64 c.read-top.result) _ c.read-word.result c.with_bit-rest.result c.read-top.result c.with_bit.result inside
-              (bit_of_row flag count words tops (trailing_zeros w64 c.read-top.result) c.read-word.result c.requires.top told is tree) (row_of_two flag count words tops (trailing_zeros w64 c.read-top.result) c.requires.top told tree)
-              c.requires.top (omega arith) is (omega arith) c.with_bit-rest.ensures.here c.with_bit-rest.ensures.others (omega arith) top_is
-              c.with_bit.ensures.here c.with_bit.ensures.others tree,
+          (bit_of_row flag count words tops (trailing_zeros w64 c.read-top.result) c.read-word.result c.requires.top told is tree) (row_of_two flag count words tops (trailing_zeros w64 c.read-top.result) c.requires.top told tree)
+          c.requires.top (omega arith) is (omega arith) c.with_bit-rest.ensures.here c.with_bit-rest.ensures.others (omega arith) top_is
+          c.with_bit.ensures.here c.with_bit.ensures.others tree,
       λ l. absurd (omega arith),
     )
 
@@ -84,12 +83,11 @@ returns-else-rest-eq0-clause-taken c =
     let tops = c.args.tops.now.items in
     let top_is = c.read-top.ensures.value ∙ ap (λ ws. word ws 0) c.deref.ensures.value in
     let told = tells_row c.args.tops.now.items c.read-top.result top_is (omega arith) in
-    let is = c.read-word.ensures.value ∙ ap (λ ws. word ws (trailing_zeros w64 c.read-top.result)) c.deref-2.ensures.value in
-    (
+    let is = c.read-word.ensures.value ∙ ap (λ ws. word ws (trailing_zeros w64 c.read-top.result)) c.deref-2.ensures.value in (
       λ l. λ flag count inside tree.
           row_left flag count words tops (trailing_zeros w64 c.read-top.result) _ c.read-word.result c.with_bit-rest.result inside
-              (bit_of_row flag count words tops (trailing_zeros w64 c.read-top.result) c.read-word.result c.requires.top told is tree) (row_of_two flag count words tops (trailing_zeros w64 c.read-top.result) c.requires.top told tree)
-              (omega arith) is (row_is_set flag count words tops (trailing_zeros w64 c.read-top.result) c.read-word.result c.requires.top told is tree) (omega arith)
-              c.with_bit-rest.ensures.here c.with_bit-rest.ensures.others tree,
+          (bit_of_row flag count words tops (trailing_zeros w64 c.read-top.result) c.read-word.result c.requires.top told is tree) (row_of_two flag count words tops (trailing_zeros w64 c.read-top.result) c.requires.top told tree)
+          (omega arith) is (row_is_set flag count words tops (trailing_zeros w64 c.read-top.result) c.read-word.result c.requires.top told is tree) (omega arith)
+          c.with_bit-rest.ensures.here c.with_bit-rest.ensures.others tree,
       λ l. absurd (omega arith),
     )

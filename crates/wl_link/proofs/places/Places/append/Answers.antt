@@ -22,4 +22,4 @@ returns-clause-free g c =
     subst (λ n. IsTree (free_flag places) (n + 1) (words_of levels)) (sym last)
     (c.push-2.ensures.tree (free_flag places) (λ j past. free_past places j (omega arith))
     (subst (λ n. IsTree (free_flag places) n (words_of c.reserve_for.new.self.levels.items)) last reserved)) in
-    rw (c.in_ok-push.ensures.items) (marks_pushed places c.args.object levels c.requires.fits pushed)
+    rw (c.in_ok-push.ensures.items) (rw (c.in_ok-reserve_slot.ensures.items) (marks_pushed places c.args.object levels c.requires.fits pushed))
