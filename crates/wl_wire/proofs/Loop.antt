@@ -6,7 +6,7 @@ use Rattle.wl_wire.specs.declared.argument.Token.{Token}
 use Rattle.wl_wire.specs.declared.error.MessageParseError.{MessageParseError}
 use Rattle.wl_wire.specs.declared.error.MessageParseError.TheVariants as errors
 use Rattle.wl_wire.specs.Argument.{WireArgument}
-use Rattle.wl_wire.specs.Inside.Cursor.{◌>>=◌, Fails, argument_at, arguments_at, rests, with_front}
+use Rattle.wl_wire.specs.Inside.Cursor.{◌>>=◌, Fails, argument_at, arguments_at, rests, with_front, with_one}
 
 -- where the next argument is read, the others are read behind it
 module _ (signature : List ArgumentType) (i : ℕ) (rest : List ℕ) (left : List Token) (d : ArgumentType) (lt : i < length signature) where
@@ -22,15 +22,24 @@ regroup before a None = refl
 
 -- ---- filling the arguments
 
-pub goes_on : (before : List WireArgument) (signature : List ArgumentType) (i : ℕ) (rest : List ℕ) (left : List Token) (d : ArgumentType)
-    (a : WireArgument) (after : List ℕ) (others : List Token) (total : Option (List WireArgument × List Token))
-    → i < length signature → argument_at (get_or signature i d) rest left ≡ Some (a, after, others)
+pub goes_on : (before now : List WireArgument) (signature : List ArgumentType) (i : ℕ) (rest : List ℕ) (left : List Token) (d : ArgumentType)
+    (after : List ℕ) (others : List Token) (total : Option (List WireArgument × List Token))
+    → i < length signature → with_one before (argument_at (get_or signature i d) rest left) ≡ Some (now, after, others)
     → with_front before (arguments_at (drop i signature) rest left) ≡ total
-    → with_front (before ++ a ∷ []) (arguments_at (drop (i + 1) signature) after others) ≡ total
-goes_on before signature i rest left d a after others total lt found so_far =
-    let one : with_front before (arguments_at (drop i signature) rest left) ≡ with_front (before ++ a ∷ []) (arguments_at (drop (i + 1) signature) after others)
-    = rw (step signature i rest left d lt, found) (regroup before a (arguments_at (drop (i + 1) signature) after others)) in
-    sym one ∙ so_far
+    → with_front now (arguments_at (drop (i + 1) signature) after others) ≡ total
+goes_on before now signature i rest left d after others total lt found so_far =
+    one_more (argument_at (get_or signature i d) rest left) found (sym (ap (with_front before) (step signature i rest left d lt)) ∙ so_far)
+  where
+    one_more : (first : Option (WireArgument × List ℕ × List Token)) → with_one before first ≡ Some (now, after, others)
+        → with_front before (first >>= λ x. arguments_at (drop (i + 1) signature) x.1 x.2 >>= λ y. Some (x.0 ∷ y.0, y.1)) ≡ total
+        → with_front now (arguments_at (drop (i + 1) signature) after others) ≡ total
+    one_more (Some x) e all =
+        let same : (before ++ x.0 ∷ [], x.1, x.2) ≡ (now, after, others) = cc in
+        let now-is : before ++ x.0 ∷ [] ≡ now = ap (λ (y : List WireArgument × List ℕ × List Token). y.0) same in
+        let after-is : x.1 ≡ after = ap (λ (y : List WireArgument × List ℕ × List Token). y.1) same in
+        let others-is : x.2 ≡ others = ap (λ (y : List WireArgument × List ℕ × List Token). y.2) same in
+        rw (sym now-is, sym after-is, sym others-is) (sym (regroup before x.0 (arguments_at (drop (i + 1) signature) x.1 x.2)) ∙ all)
+    one_more None e all = absurd cc
 
 pub ends : (e : MessageParseError) (before : List WireArgument) (signature : List ArgumentType) (i : ℕ) (rest : List ℕ) (left : List Token) (d : ArgumentType)
     (total : Option (List WireArgument × List Token))
@@ -50,6 +59,14 @@ is_done before signature i rest left total le so_far =
     let none : drop i signature ≡ [] = drop_all i signature le in
     let one : with_front before (arguments_at (drop i signature) rest left) ≡ Some (before, left) = rw none (ap (λ (args : List WireArgument). Some (args, left)) (append-nil before)) in
     sym so_far ∙ one
+
+-- what fails with one more fails without
+pub fails_alone : (e : MessageParseError) (before : List WireArgument) (first : Option (WireArgument × List ℕ × List Token)) → Fails e (with_one before first) → Fails e first
+fails_alone errors.Malformed before (Some x) fails = absurd cc
+fails_alone errors.Malformed before None fails = refl
+fails_alone errors.OutOfMemory before first fails = tt
+fails_alone errors.MissingData before first fails = fails
+fails_alone errors.MissingFD before first fails = fails
 
 -- ---- looking whether they read
 

@@ -1,6 +1,7 @@
 -- How long the pieces of arguments are, and how one is written behind another.
 use Rattle.std.proofs.Common.{◌≡◌, ℕ, zero, suc, ◌+◌, ◌*◌, ◌-◌, ◌≤◌, ◌<◌, List, [], ◌∷◌, ◌++◌, length, get_or, map, take, drop, replicate, Some, None, refl, sym, ap, subst, ◌∙◌, append_assoc, arith, length-append, add-zero, zero-add, true≢false}
 use Rattle.std.proofs.lemmas.List.{nil_from_length, length-map, get_or-map, append-nil, length-replicate, replicate-append-replicate, take_more, length-take-le, length-drop, take_at, drop_at, drop-drop, take-append-drop, take-append-le, take-take, drop-append-le, drop-replicate, take-map}
+use Rattle.std.proofs.Math.Seq.{take-append-add}
 use Rattle.std.proofs.lemmas.Grind.{flat_map-append}
 use Rattle.std.proofs.lemmas.List.Folds.{length-flat_map-take}
 use Rattle.std.proofs.lemmas.List.Sums.{sum_by-cons, sum_by_push}
@@ -247,6 +248,31 @@ overwritten-over old at before xs under k starts ends within le =
     = ap (λ (n : ℕ). drop n old) (omega (arith, length-append xs (drop k under), length-drop k under)) in
     rw (front-is, back-is)
     (ap (λ (p : List ℕ). (take at old ++ xs) ++ (drop k under ++ p)) tail-is ∙ simp append_assoc)
+
+-- the first bytes, and then the last ones, which begin in them or right behind them
+pub overwritten-ends : (old bytes : List ℕ) (at last n : ℕ) → last + n ≡ length bytes → last ≤ n → at + length bytes ≤ length old
+    → overwritten (overwritten old at (take n bytes)) (at + last) (drop last bytes) ≡ overwritten old at bytes
+unfolding overwritten
+overwritten-ends old bytes at last n ends meet le =
+    let tail : List ℕ = drop (at + length (take n bytes)) old in
+    let front : List ℕ = take at old ++ take n bytes in
+    let n-len : length (take n bytes) ≡ n = length-take-le n bytes (omega arith) in
+    let at-len : length (take at old) ≡ at = length-take-le at old (omega arith) in
+    let front-len : length front ≡ at + n = omega (arith, length-append (take at old) (take n bytes)) in
+    let back-len : length (drop last bytes) ≡ n = omega (arith, length-drop last bytes) in
+    let front-is : take (at + last) (front ++ tail) ≡ take at old ++ take last bytes
+    = take-append-le (at + last) front tail (omega arith)
+    ∙ ap (λ (k : ℕ). take (k + last) front) (sym at-len)
+    ∙ take-append-add (take at old) (take n bytes) last
+    ∙ ap (λ (p : List ℕ). take at old ++ p) (take-take last n bytes meet) in
+    let back-is : drop (at + last + length (drop last bytes)) (front ++ tail) ≡ drop (at + length bytes) old
+    = ap (λ (k : ℕ). drop k (front ++ tail)) (omega (arith, back-len))
+    ∙ sym (drop-drop last (at + n) (front ++ tail))
+    ∙ ap (drop last) (drop_at front tail (at + n) front-len)
+    ∙ drop-drop last (at + length (take n bytes)) old
+    ∙ ap (λ (k : ℕ). drop k old) (omega arith) in
+    rw (front-is, back-is) (ap (λ (p : List ℕ). p ++ drop (at + length bytes) old)
+    (append_assoc (take at old) (take last bytes) (drop last bytes) ∙ ap (λ (p : List ℕ). take at old ++ p) (take-append-drop last bytes)))
 
 -- a last word of zeros, a count and the counted bytes: what is left of the zeros ends the bytes and pads them
 pub overwritten-counted : (old : List ℕ) (at : ℕ) (bytes : List ℕ) (ending n : ℕ) → n ≡ length bytes + ending → ending ≤ 1 → at + counted_len n ≤ length old

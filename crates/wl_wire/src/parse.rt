@@ -4,7 +4,7 @@
 //! *Counted* bytes are a word that tells how many bytes follow, these bytes, and the padding that fills them up to a
 //! multiple of four.
 
-ghost use Rattle.std.specs.Prelude.{None, ℕ, List, MatchOption, MatchResult, ◌≡◌, ◌≢◌, ◌↔◌, ◌<◌, ◌≤◌, ◌++◌, length, drop, IsOk, IsSome, IsTrue, IfSome, is_some, All, IfOk, IfErr, OnOk, OnErr, option_map, slice_index_or};
+ghost use Rattle.std.specs.Prelude.{None, ℕ, List, MatchOption, MatchResult, ◌≡◌, ◌≢◌, ◌↔◌, ◌+◌, ◌<◌, ◌≤◌, ◌++◌, length, drop, IsOk, IsSome, IsTrue, IfSome, is_some, All, IfOk, IfErr, OnOk, OnErr, option_map, slice_index_or};
 ghost use Rattle.std.specs.VecDeque.{deque_capacity, deque_len};
 ghost use Rattle.wl_wire.specs.declared.error.MessageParseError.TheVariants.{OutOfMemory};
 ghost use Rattle.smallvec.specs.SmallVec.{HasRoomFor};
@@ -13,7 +13,7 @@ ghost use Rattle.wl_wire.specs.Argument.{Matches};
 ghost use Rattle.wl_wire.specs.Message.{WireMessage, IsMessage, content, pad_len, spelling, tokens};
 ghost use Rattle.wl_wire.specs.Parse.{fd_count, IsInline, IsSmall, length_of, sender_of, opcode_of, ReadsMessage, RefusesMessage, IsWhole};
 ghost use Rattle.wl_wire.specs.Text.{HasNoZero};
-ghost use Rattle.wl_wire.specs.Inside.Cursor.{IsNumber, text_at, word_at, counted_at, text_of, argument_at, arguments_at, rests, with_front, ReadsAs, RefusesArguments, RefusesHeader};
+ghost use Rattle.wl_wire.specs.Inside.Cursor.{IsNumber, text_at, word_at, counted_at, text_of, argument_at, arguments_at, rests, with_front, with_one, ReadsAs, RefusesArguments, RefusesHeader};
 
 use crate::argument::{Argument, ArgumentType, Token};
 use crate::byte_array::ByteArray;
@@ -132,21 +132,24 @@ fn read_array(alloc: Global, payload: &[u8]) -> Result<(ByteArray, &[u8]), Messa
     Ok((bytes, rest))
 }
 
-/// An argument that was read, the bytes after it, and how many tokens were used so far.
-type Read<'b> = (Argument<u32, Token>, &'b [u8], usize);
-
-/// The argument of that type. It is read from the front of the bytes, or it is the next token, if `used` tokens were used
-/// before.
+/// Reads the argument of that type, and appends it to `args`. It is read from the front of the bytes, or it is the next token,
+/// if `used` tokens were used before. Returns the bytes after it, and how many tokens were used so far.
+///
+/// Each kind is appended where it is read, so a number is not copied with the fields of a string or an array.
 #[tactic(auto, unfolding(crate::specs::Inside::Cursor::argument_at))]
-fn read_argument<'b>(
+fn read_next<'b>(
     alloc: Global,
     kind: ArgumentType,
     payload: &'b [u8],
     fds: &VecDeque<Token>,
     used: usize,
-) -> Result<Read<'b>, MessageParseError>
-    ensures found { ReadsAs (λ x. (x.0, x.1.now, drop x.2 fds.now.items)) result (argument_at kind payload.now (drop used fds.now.items)) }
+    args: &mut Args<u32>,
+) -> Result<(&'b [u8], usize), MessageParseError>
+    requires { HasRoomFor args.old 1 }
+    ensures found { ReadsAs (λ x. (args.new.items, x.0.now, drop x.1 fds.now.items)) result (with_one args.old.items (argument_at kind payload.now (drop used fds.now.items))) }
+    ensures one { OnOk result (length args.new.items ≡ length args.old.items + 1) }
     ensures small { IsSmall kind → IfErr result (λ e. e ≢ OutOfMemory) }
+    ensures capacity { args.new.capacity ≡ args.old.capacity }
 {
     match kind {
         ArgumentType::Int
@@ -155,19 +158,23 @@ fn read_argument<'b>(
         | ArgumentType::Object(_)
         | ArgumentType::NewId => {
             let (arg, rest) = read_number(kind, payload).ok_or(MessageParseError::Malformed)?;
-            Ok((arg, rest, used))
+            args.push_reserved(arg);
+            Ok((rest, used))
         }
         ArgumentType::Str(_) => {
             let (text, rest) = read_text(alloc, payload)?;
-            Ok((Argument::Str(text), rest, used))
+            args.push_reserved(Argument::Str(text));
+            Ok((rest, used))
         }
         ArgumentType::Array => {
             let (bytes, rest) = read_array(alloc, payload)?;
-            Ok((Argument::Array(bytes), rest, used))
+            args.push_reserved(Argument::Array(bytes));
+            Ok((rest, used))
         }
         ArgumentType::Fd => {
             let fd = token_at(fds, used).ok_or(MessageParseError::Malformed)?;
-            Ok((Argument::Fd(fd), payload, used + 1))
+            args.push_reserved(Argument::Fd(fd));
+            Ok((payload, used + 1))
         }
     }
 }
@@ -203,8 +210,7 @@ fn read_arguments(
     let mut rest = payload;
     let mut used = 0;
     for kind in signature {
-        let (arg, after, so_far) = read_argument(alloc, *kind, rest, fds, used)?;
-        args.push_reserved(arg);
+        let (after, so_far) = read_next(alloc, *kind, rest, fds, used, args)?;
         rest = after;
         used = so_far;
     }

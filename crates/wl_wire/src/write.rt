@@ -121,6 +121,38 @@ fn put_bytes(payload: &mut [u8], at: usize, bytes: &[u8])
     payload[at..at + bytes.len()].copy_from_slice(bytes);
 }
 
+/// Writes the bytes from the place `at` on, which are between `N` and twice as many: the first `N` and then the last `N`,
+/// which may overlap them. So each copy has a fixed length.
+fn put_ends<const N: usize>(payload: &mut [u8], at: usize, bytes: &[u8])
+    requires room { at + length bytes.now ≤ length payload.old }
+    requires least { N ≤ length bytes.now }
+    requires most { length bytes.now ≤ N + N }
+    ensures { payload.new ≡ overwritten payload.old at bytes.now }
+{
+    let mut front = [0; N];
+    front.copy_from_slice(&bytes[..N]);
+    let last = bytes.len() - N;
+    let mut back = [0; N];
+    back.copy_from_slice(&bytes[last..]);
+    put_bytes(payload, at, &front);
+    put_bytes(payload, at + last, &back);
+}
+
+/// Writes the bytes of a string or an array from the place `at` on. Most of them are short, and are written without a call.
+fn put_block(payload: &mut [u8], at: usize, bytes: &[u8])
+    requires { at + length bytes.now ≤ length payload.old }
+    ensures { payload.new ≡ overwritten payload.old at bytes.now }
+{
+    let len = bytes.len();
+    if len < 4 || 16 < len {
+        put_bytes(payload, at, bytes);
+    } else if len < 8 {
+        put_ends::<4>(payload, at, bytes);
+    } else {
+        put_ends::<8>(payload, at, bytes);
+    }
+}
+
 /// Writes the word at the place `at`, and returns the place after it.
 #[tactic(auto, unfolding(crate::specs::Message::word))]
 fn put_word(payload: &mut [u8], at: usize, n: u32) -> usize
@@ -151,7 +183,7 @@ fn put_counted(payload: &mut [u8], at: usize, bytes: &[u8], ending: usize) -> us
     let last = at + len + padding(len);
     put_word(payload, last, 0);
     let start = put_word(payload, at, len as u32);
-    put_bytes(payload, start, bytes);
+    put_block(payload, start, bytes);
     last + 4
 }
 

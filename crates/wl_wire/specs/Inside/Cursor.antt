@@ -97,6 +97,10 @@ arguments_at (k ∷ signature) payload fds = do
 abbrev pub with_front : List WireArgument → Option (List WireArgument × List Token) → Option (List WireArgument × List Token)
 with_front before read = read >>= λ x. Some (before ++ x.0, x.1)
 
+-- what was read before, and the argument that is read next
+abbrev pub with_one : List WireArgument → Option (WireArgument × List ℕ × List Token) → Option (List WireArgument × List ℕ × List Token)
+with_one before read = read >>= λ x. Some (before ++ x.0 ∷ [], x.1, x.2)
+
 -- an error comes if memory was refused, or if nothing is read
 abbrev pub Fails : {Y : Type 0} → MessageParseError → Option Y → Type 0
 Fails errors.Malformed read = read ≡ None
