@@ -38,8 +38,8 @@ mod message_place;
 mod number_message;
 mod object;
 mod object_map;
+mod object_range;
 mod parcel;
-mod places;
 mod token_queue;
 mod transport;
 

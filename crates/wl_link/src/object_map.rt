@@ -13,7 +13,7 @@ ghost use Rattle.wl_link.specs.declared.object_map.NewError.TheVariants as new;
 use crate::all_objects::AllObjects;
 use crate::into_objects::IntoObjects;
 use crate::object::Object;
-use crate::places::Places;
+use crate::object_range::ObjectRange;
 use std::alloc::Global;
 use std::fmt;
 use std::marker::Model;
@@ -59,8 +59,8 @@ pub enum NewError {
 /// `docs/SPEED.md` counts its instructions.
 #[derive(Drop)]
 pub struct ObjectMap<Data> {
-    clients: Places<Data>,
-    servers: Places<Data>,
+    clients: ObjectRange<Data>,
+    servers: ObjectRange<Data>,
     words_read: u32,
 }
 
@@ -132,8 +132,8 @@ impl<Data: Drop> ObjectMap<Data> {
         ensures limit { (SERVER_ID_LIMIT ≡ client_range.end) × (SERVER_ID_LIMIT ≡ server_range.first) }
     {
         ObjectMap {
-            clients: Places::new(alloc),
-            servers: Places::new(alloc),
+            clients: ObjectRange::new(alloc),
+            servers: ObjectRange::new(alloc),
             words_read: 0,
         }
     }

@@ -1,7 +1,7 @@
 use Rattle.std.proofs.Common.{◌<◌, arith, length, Some}
 use Rattle.wl_link.specs.Inside.PlaceList.{free_flag}
 use Rattle.wl_link.proofs.FreePlaces.{marks_set}
-use Rattle.wl_link.proofs.places.Places.put.Goals as goal
+use Rattle.wl_link.proofs.object_range.ObjectRange.put.Goals as goal
 
 pub returns-then-at-len-clause-free : goal.returns-then-at-len-clause-free
 returns-then-at-len-clause-free g c =

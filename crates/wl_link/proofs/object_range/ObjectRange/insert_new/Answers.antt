@@ -3,7 +3,7 @@ use Rattle.std.proofs.lemmas.Grind.{common_steps}
 use Rattle.wl_sets.specs.FreeTree.{words_of}
 use Rattle.wl_link.specs.Inside.PlaceList.{free_flag}
 use Rattle.wl_sets.proofs.Trees.{height_within, few_reads}
-use Rattle.wl_link.proofs.places.Places.insert_new.Goals as goal
+use Rattle.wl_link.proofs.object_range.ObjectRange.insert_new.Goals as goal
 
 pub take_least-requires-clause-few : goal.take_least-requires-clause-few
 take_least-requires-clause-few g c =

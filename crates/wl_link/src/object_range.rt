@@ -17,23 +17,26 @@ use std::alloc::{AllocError, Global};
 use wl_sets::free_tree::FreeTree;
 use wl_wire::OutOfMemory;
 
-/// A place for each number of a range that was ever in use, from the first number of the range on.
+/// The objects of a range, each at its place. There is a place for each number that was ever in use, from the first number of the
+/// range on.
 #[derive(Drop)]
-pub(crate) struct Places<Data> {
+pub(crate) struct ObjectRange<Data> {
+    // What each place has.
     slots: Vec<Option<Object<Data>>>,
+    // The places without an object.
     free: FreeTree,
     // Whether there is known to be capacity for one place more.
     is_ready: bool,
 }
 
-impl<Data: Drop> Places<Data> {
-    /// No places. It allocates nothing.
+impl<Data: Drop> ObjectRange<Data> {
+    /// A range without places. It allocates nothing.
     pub(crate) fn new(alloc: Global) -> Self
         ensures slots { result.slots.items ≡ [] }
         ensures free { ShowsFree result.slots.items result.free.levels.items }
         ensures ready { result.is_ready ≡ false }
     {
-        Places {
+        ObjectRange {
             slots: Vec::new(alloc),
             free: FreeTree::new(alloc),
             is_ready: false,

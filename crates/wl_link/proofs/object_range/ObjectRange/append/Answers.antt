@@ -2,7 +2,7 @@ use Rattle.std.proofs.Common.{◌≡◌, ◌+◌, arith, length, subst, sym}
 use Rattle.wl_sets.specs.FreeTree.{IsTree, words_of}
 use Rattle.wl_link.specs.Inside.PlaceList.{free_flag}
 use Rattle.wl_link.proofs.FreePlaces.{marks_pushed, free_past}
-use Rattle.wl_link.proofs.places.Places.append.Goals as goal
+use Rattle.wl_link.proofs.object_range.ObjectRange.append.Goals as goal
 
 pub push-requires-2-clause-tree : goal.push-requires-2-clause-tree
 push-requires-2-clause-tree g c =

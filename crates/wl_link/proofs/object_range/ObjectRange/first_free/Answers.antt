@@ -3,7 +3,7 @@ use Rattle.wl_sets.specs.FreeTree.{words_of}
 use Rattle.wl_link.specs.Inside.PlaceList.{free_flag}
 use Rattle.wl_sets.proofs.Trees.{height_within, few_reads}
 use Rattle.wl_link.proofs.FreePlaces.{first_is, none_is, reads_places}
-use Rattle.wl_link.proofs.places.Places.first_free.Goals as goal
+use Rattle.wl_link.proofs.object_range.ObjectRange.first_free.Goals as goal
 
 pub least-requires-clause-few : goal.least-requires-clause-few
 least-requires-clause-few g c =

@@ -2,7 +2,7 @@ use Rattle.std.proofs.Common.{◌<◌, length, not, is_some, sym, subst, arith}
 use Rattle.wl_sets.specs.FreeTree.{IsTree, changed, words_of}
 use Rattle.wl_link.specs.Inside.PlaceList.{free_flag}
 use Rattle.wl_link.proofs.FreePlaces.{marks_set}
-use Rattle.wl_link.proofs.places.Places.remove.Goals as goal
+use Rattle.wl_link.proofs.object_range.ObjectRange.remove.Goals as goal
 
 pub returns-then-at-len-clause-free : goal.returns-then-at-len-clause-free
 returns-then-at-len-clause-free g c =
