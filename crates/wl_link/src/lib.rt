@@ -26,21 +26,37 @@
 //! | of object ids | `laws::ids` | `Identity`, `Named` |
 #![tactic(auto)]
 
+/// The walk over the objects of a map.
 mod all_objects;
+/// A buffer of bytes that wait to be read or sent.
 mod buffer;
+/// The link: a transport with buffers, over which messages are read and written.
 mod buffered_socket;
+/// The objects of a map, moved out of it.
 mod into_objects;
+/// Laws that follow from the definitions alone: of calls, readers, runs and object ids.
 pub mod laws;
+/// How far the buffers of a link may grow.
 mod limit;
+/// The transport into which a program puts what it received, and from which it takes what is to be sent.
 mod mailbox;
+/// The transport by script, whose answers are given beforehand.
 mod memory;
+/// The place that messages are read into.
 mod message_place;
+/// A message of one number.
 mod number_message;
+/// An object: its interface, its version, and what a session keeps of it.
 mod object;
+/// The objects of a session by number, in two ranges.
 mod object_map;
+/// The objects of one range of numbers, and which numbers are free.
 mod object_range;
+/// Bytes with tokens, as they wait in a transport.
 mod parcel;
+/// The tokens that wait to be sent.
 mod token_queue;
+/// What carries bytes and tokens to the peer: the trait of transports.
 mod transport;
 
 pub use all_objects::AllObjects;
