@@ -10,5 +10,5 @@ pub mod Handling
 pub mod NewIds
 pub mod Readings
 mod Flushing
-mod InPlace
+mod EventInPlace
 mod Rows

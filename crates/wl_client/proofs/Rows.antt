@@ -15,7 +15,7 @@ use Rattle.wl_link.specs.declared.object.Object.{Object}
 use Rattle.wl_client.specs.declared.error.RequestError.{RequestError}
 use Rattle.wl_client.specs.declared.error.RequestError.TheVariants as refused
 use Rattle.wl_client.specs.declared.request.Granted.{Granted}
-use Rattle.wl_client.specs.declared.protocol_error.EventFault.TheVariants as wrong
+use Rattle.wl_client.specs.declared.event_fault.EventFault.TheVariants as wrong
 use Rattle.wl_client.specs.declared.objects.Kept.{Kept}
 use Rattle.wl_client.specs.ObjectId.{IdParts}
 use Rattle.wl_client.specs.Events.{Wrong, after_delete, convert, object_argument, object_argument_of, start, fault_text, Fails, Deletes, Unreadable, display_event}

@@ -16,8 +16,8 @@ use Rattle.wl_link.specs.declared.object.Object.{Object}
 use Rattle.wl_link.specs.Identity.{Objects}
 use Rattle.wl_link.specs.Store.{Store, held, is_free, is_server_number, removed, stored}
 use Rattle.wl_wire.specs.MessageRows.{fits, next_interface, rest_of}
-use Rattle.wl_client.specs.declared.protocol_error.EventFault.{EventFault}
-use Rattle.wl_client.specs.declared.protocol_error.EventFault.TheVariants as wrong
+use Rattle.wl_client.specs.declared.event_fault.EventFault.{EventFault}
+use Rattle.wl_client.specs.declared.event_fault.EventFault.TheVariants as wrong
 use Rattle.wl_client.specs.declared.objects.Kept.{Kept}
 use Rattle.wl_client.specs.ObjectId.{IdParts}
 use Rattle.wl_client.specs.Session.{null_parts, id_at, last_possible_serial, flagged, fresh_object}

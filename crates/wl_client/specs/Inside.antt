@@ -2,4 +2,4 @@
 pub mod Sending
 pub mod Conversion
 pub mod ReadingLoop
-pub mod InPlace
+pub mod EventInPlace

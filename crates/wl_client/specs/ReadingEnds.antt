@@ -25,8 +25,8 @@ use Rattle.wl_client.specs.declared.error.EventError.TheVariants as no_event
 use Rattle.wl_client.specs.declared.error.WaylandError.{WaylandError}
 use Rattle.wl_client.specs.declared.error.WaylandError.TheVariants.{Io, Protocol}
 use Rattle.wl_client.specs.declared.objects.Kept.{Kept}
-use Rattle.wl_client.specs.declared.protocol_error.EventFault.{EventFault}
-use Rattle.wl_client.specs.declared.protocol_error.EventFault.TheVariants as wrong
+use Rattle.wl_client.specs.declared.event_fault.EventFault.{EventFault}
+use Rattle.wl_client.specs.declared.event_fault.EventFault.TheVariants as wrong
 use Rattle.wl_client.specs.Events.{error_of, is_valid_new, told_error}
 use Rattle.wl_client.specs.ObjectId.{IdParts}
 use Rattle.wl_client.specs.Plain.{CanRead, EventIsOpen}

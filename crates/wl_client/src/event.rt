@@ -12,10 +12,10 @@ ghost use Rattle.wl_client.specs.Inside.Conversion.{objects_in};
 ghost use Rattle.wl_client.specs.Requests.{session_content};
 ghost use Rattle.wl_client.specs.Inside.ReadingLoop.{HandledAs};
 
-use crate::arguments::{Progress, Receiver, convert};
+use crate::event_arguments::{Progress, Receiver, convert};
+use crate::event_fault::EventFault;
 use crate::object_id::ObjectId;
 use crate::objects::{Kept, id_at};
-use crate::protocol_error::EventFault;
 use wl_link::ObjectMap;
 use wl_wire::{Message, MessageDesc, Token};
 

@@ -15,7 +15,7 @@
 //! |---|---|---|
 //! | `connect`, `take_notes`, the limit, `transport_mut`, .. | `backend`: read it first | `Session`, `Lending`, `Plain/Calls` |
 //! | `send_request`, `send_request_lent`, `flush` | `request`, `send_request`, `flush` | `Requests`, `Steps`, `Finish`, `Plain/Calls` |
-//! | `next_event`, `next_event_into` | `next_event`, `message`, `in_place`, `event`, `arguments`, `display` | `Reading`, `ReadingEnds`, `Handling`, `Events`, `Cutting` |
+//! | `next_event`, `next_event_into` | `next_event`, `message`, `event_in_place`, `event`, `event_arguments`, `display_event` | `Reading`, `ReadingEnds`, `Handling`, `Events`, `Cutting` |
 //! | `finish_event`, `open_event` | `finish_event` | `Finish`, `Steps`, `Cutting` |
 //! | `info`, `get_data`, `set_data`, `with_data`, `destroy_object` | `objects` | `Objects`, `Plain/Calls` |
 //! | `replay` | `step`, `replay` | `Steps`, `Handed`, `Named`, `Noted`, `Replies`, `Stretches` |
@@ -29,21 +29,20 @@
 //! `ReadingEnds` (why a reading ends), `Scripted` (calls of `Memory` as steps).
 #![tactic(auto)]
 
-mod arguments;
 mod backend;
-mod display;
+mod display_event;
 mod error;
-mod error_texts;
 mod event;
+mod event_arguments;
+mod event_fault;
+mod event_in_place;
 mod finish_event;
 mod flush;
-mod in_place;
 pub mod laws;
 mod message;
 mod next_event;
 mod object_id;
 mod objects;
-mod protocol_error;
 mod replay;
 mod request;
 mod send_request;

@@ -23,14 +23,13 @@ ghost use Rattle.wl_client.specs.ObjectId.{IdParts};
 ghost use Rattle.wl_client.specs.Inside.ReadingLoop.{Carries, IsHeader, NotTaken, NotTakenTo, Stores, TakenTo, TookWith, HandlesMessage, message_result};
 
 use crate::backend::Backend;
-use crate::display::{DisplayMessage, delete_id, display_event};
+use crate::display_event::{DisplayMessage, delete_id, display_event, told_error};
 use crate::error::{EventError, WaylandError};
-use crate::error_texts::{fault_text, told_error};
 use crate::event::{OpenEvent, handle_event};
-use crate::in_place::InPlace;
+use crate::event_fault::{EventFault, fault_text};
+use crate::event_in_place::InPlace;
 use crate::object_id::ObjectId;
 use crate::objects::Kept;
-use crate::protocol_error::EventFault;
 use std::alloc::Global;
 use wl_link::{BufferedSocket, Object, ObjectMap, Transport, clear_message};
 use wl_wire::{

@@ -1,4 +1,4 @@
-//! The objects of a session: how they are looked up, and the calls that are about one object.
+//! The objects of a session: what is kept of each, how they are looked up and changed, and the calls that are about one object.
 
 ghost use Rattle.std.specs.Prelude.{◌≡◌, false, None, Some, IsSome, Ok, Err, MatchOption, MatchResult, option_copied};
 ghost use Rattle.wl_link.specs.Store.{held};

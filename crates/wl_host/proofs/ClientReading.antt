@@ -12,7 +12,7 @@ use Rattle.wl_client.specs.declared.error.EventError.{EventError}
 use Rattle.wl_client.specs.declared.error.EventError.TheVariants as no_event
 use Rattle.wl_client.specs.declared.error.WaylandError.{WaylandError}
 use Rattle.wl_client.specs.declared.event.OpenEvent.{OpenEvent}
-use Rattle.wl_client.specs.declared.protocol_error.EventFault.TheVariants as wrong
+use Rattle.wl_client.specs.declared.event_fault.EventFault.TheVariants as wrong
 use Rattle.wl_client.specs.Events.{error_of}
 use Rattle.wl_client.specs.Handling.{Handling, Swallows, HandsOut, Breaks}
 use Rattle.wl_client.specs.Reading.{NextEvent, ReadsTo, client, core_after, faulted, objects_in, starved_to, verdict}

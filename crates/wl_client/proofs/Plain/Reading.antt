@@ -14,7 +14,7 @@ use Rattle.wl_client.specs.declared.error.EventError.{EventError}
 use Rattle.wl_client.specs.declared.error.WaylandError.{WaylandError}
 use Rattle.wl_client.specs.declared.event.OpenEvent.{OpenEvent}
 use Rattle.wl_client.specs.declared.objects.Kept.{Kept}
-use Rattle.wl_client.specs.declared.protocol_error.EventFault.TheVariants as wrong
+use Rattle.wl_client.specs.declared.event_fault.EventFault.TheVariants as wrong
 use Rattle.wl_client.specs.Events.{error_of}
 use Rattle.wl_client.specs.Handling.{Breaks, Handling, HandsOut, Swallows, handed, handling}
 use Rattle.wl_client.specs.Plain.{CanRead, EventIsOpen, HasFailed, IdsStay, IsMade, KeepsRest, ReadsEvent, new_id_in}

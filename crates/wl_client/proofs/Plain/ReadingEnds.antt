@@ -31,8 +31,8 @@ use Rattle.wl_client.specs.declared.error.WaylandError.{WaylandError}
 use Rattle.wl_client.specs.declared.error.WaylandError.TheVariants.{Io, Protocol}
 use Rattle.wl_client.specs.declared.event.OpenEvent.{OpenEvent}
 use Rattle.wl_client.specs.declared.objects.Kept.{Kept}
-use Rattle.wl_client.specs.declared.protocol_error.EventFault.{EventFault}
-use Rattle.wl_client.specs.declared.protocol_error.EventFault.TheVariants as wrong
+use Rattle.wl_client.specs.declared.event_fault.EventFault.{EventFault}
+use Rattle.wl_client.specs.declared.event_fault.EventFault.TheVariants as wrong
 use Rattle.wl_client.specs.Events.{Converted, Converting, DisplayEvent, Outcome, Whole, Wrong, convert, convert_one, delete_event, display_event, error_event, error_of, going_on, is_valid_new, made_object, object_argument_of, start, vacated, with_new_argument, with_new_at, with_object_argument}
 use Rattle.wl_client.specs.Handling.{Breaks, Handling, HandsOut, Swallows, event_of, handed, handling, of_converted, of_display, of_event, opened_of, row_in, signature_in}
 use Rattle.wl_client.specs.ObjectId.{IdParts}

@@ -17,8 +17,8 @@ use Rattle.wl_link.specs.declared.object.Object.{Object}
 use Rattle.wl_link.specs.Identity.{Objects, named_in}
 use Rattle.wl_link.specs.Store.{Store, held, removed, stored}
 use Rattle.wl_client.specs.declared.objects.Kept.{Kept}
-use Rattle.wl_client.specs.declared.protocol_error.EventFault.{EventFault}
-use Rattle.wl_client.specs.declared.protocol_error.EventFault.TheVariants as wrong
+use Rattle.wl_client.specs.declared.event_fault.EventFault.{EventFault}
+use Rattle.wl_client.specs.declared.event_fault.EventFault.TheVariants as wrong
 use Rattle.wl_client.specs.Events.{Converted, Converting, Deletes, DisplayEvent, Fails, Outcome, Unreadable, Whole, Wrong, after_delete, convert, convert_one, deleted, display_event, going_on, is_valid_new, made_object, object_argument, start, vacated, with_made_object, with_new_argument, with_new_at, with_object_argument}
 use Rattle.wl_client.specs.Handling.{Breaks, Handling, HandsOut, Swallows, event_of, handling, of_converted, of_display, of_event, opened_of, row_in}
 use Rattle.wl_client.specs.ObjectId.{IdParts}

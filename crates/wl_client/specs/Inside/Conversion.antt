@@ -9,10 +9,10 @@ use Rattle.wl_wire.specs.Table.{is_new_id}
 use Rattle.wl_link.specs.declared.object.Object.{Object}
 use Rattle.wl_link.specs.Identity.{Objects}
 use Rattle.wl_link.specs.ObjectMap.{MapState}
-use Rattle.wl_client.specs.declared.arguments.Progress.{Progress}
+use Rattle.wl_client.specs.declared.event_arguments.Progress.{Progress}
 use Rattle.wl_client.specs.declared.objects.Kept.{Kept}
 use Rattle.wl_client.specs.ObjectId.{IdParts}
-use Rattle.wl_client.specs.declared.protocol_error.EventFault.{EventFault}
+use Rattle.wl_client.specs.declared.event_fault.EventFault.{EventFault}
 use Rattle.wl_client.specs.Session.{id_at}
 use Rattle.wl_client.specs.Events.{Converting, Outcome, Whole, Wrong, convert_one, is_valid_new, made_object, with_made_object}
 

@@ -19,15 +19,15 @@ use Rattle.wl_link.specs.Link.{LinkState, ReadOne}
 use Rattle.wl_link.specs.Puts.{lacks_memory}
 use Rattle.wl_link.specs.Inside.ReaderLoops.{EndsSo, LeadsOn, ReceivedTo as PartReceived}
 use Rattle.wl_link.specs.Store.{Store, held}
-use Rattle.wl_client.specs.declared.display.DisplayMessage.{DisplayMessage}
-use Rattle.wl_client.specs.declared.display.DisplayMessage.TheVariants as told
+use Rattle.wl_client.specs.declared.display_event.DisplayMessage.{DisplayMessage}
+use Rattle.wl_client.specs.declared.display_event.DisplayMessage.TheVariants as told
 use Rattle.wl_client.specs.declared.error.EventError.{EventError}
 use Rattle.wl_client.specs.declared.error.EventError.TheVariants as no_event
 use Rattle.wl_client.specs.declared.error.WaylandError.{WaylandError}
 use Rattle.wl_client.specs.declared.error.WaylandError.TheVariants.{Io, Protocol}
-use Rattle.wl_client.specs.declared.protocol_error.EventFault.TheVariants as wrong
+use Rattle.wl_client.specs.declared.event_fault.EventFault.TheVariants as wrong
 use Rattle.wl_client.specs.declared.objects.Kept.{Kept}
-use Rattle.wl_client.specs.declared.protocol_error.EventFault.{EventFault}
+use Rattle.wl_client.specs.declared.event_fault.EventFault.{EventFault}
 use Rattle.wl_client.specs.declared.event.OpenEvent.{OpenEvent}
 use Rattle.wl_client.specs.declared.message.NoEvent.{NoEvent}
 use Rattle.wl_client.specs.declared.message.MessageEnd.{MessageEnd}

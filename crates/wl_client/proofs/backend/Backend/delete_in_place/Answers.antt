@@ -1,5 +1,5 @@
 use Rattle.std.proofs.Common.{◌∙◌, sym}
-use Rattle.wl_client.proofs.InPlace.{deleted_in_place}
+use Rattle.wl_client.proofs.EventInPlace.{deleted_in_place}
 use Rattle.wl_client.proofs.backend.Backend.delete_in_place.Goals as goal
 
 pub returns : goal.returns

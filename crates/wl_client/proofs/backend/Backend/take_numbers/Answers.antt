@@ -1,5 +1,5 @@
 use Rattle.std.proofs.Common.{◌∙◌, refl}
-use Rattle.wl_client.proofs.InPlace.{numbers_handled}
+use Rattle.wl_client.proofs.EventInPlace.{numbers_handled}
 use Rattle.wl_client.proofs.backend.Backend.take_numbers.Goals as goal
 
 pub returns-clause-handles : goal.returns-clause-handles

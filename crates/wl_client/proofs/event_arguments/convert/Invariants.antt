@@ -2,7 +2,7 @@ use Rattle.std.proofs.Common.{◌≡◌, length, reverse}
 use Rattle.smallvec.specs.SmallVec.{HasRoomFor}
 use Rattle.wl_client.specs.Events.{convert}
 use Rattle.wl_client.specs.Inside.Conversion.{CanMake, state}
-use Rattle.wl_client.proofs.arguments.convert.Given as goal
+use Rattle.wl_client.proofs.event_arguments.convert.Given as goal
 
 -- the arguments that are left come to what all come to
 abbrev pub invariant-loop-arg : goal.invariant-loop-arg

@@ -10,11 +10,11 @@ ghost use Rattle.wl_wire.specs.Parse.{IsWhole, payload_of};
 ghost use Rattle.wl_wire.specs.Reading.{IsWord};
 ghost use Rattle.wl_client.specs.ObjectId.{IdParts};
 ghost use Rattle.wl_client.specs.Requests.{session_content};
-ghost use Rattle.wl_client.specs.Inside.InPlace.{DeleteWaits, HandledInPlace, IsNumber, NumbersAre, NumbersWait, number_argument};
+ghost use Rattle.wl_client.specs.Inside.EventInPlace.{DeleteWaits, HandledInPlace, IsNumber, NumbersAre, NumbersWait, number_argument};
 ghost use Rattle.wl_client.specs.Inside.ReadingLoop.{GaveEvent, HandlesMessage, IsHeader, WentOn};
 
 use crate::backend::Backend;
-use crate::display::delete_id;
+use crate::display_event::delete_id;
 use crate::event::OpenEvent;
 use crate::message::{desc_of, event_desc};
 use crate::object_id::ObjectId;

@@ -1,15 +1,27 @@
-//! The errors that a reading stores, and their texts.
+//! What is wrong with an event, and the text that says so.
 
 ghost use Rattle.std.specs.Prelude.{◌≡◌, IfOk};
 ghost use Rattle.std.specs.String.{string_bytes};
-ghost use Rattle.wl_client.specs.declared.protocol_error.EventFault.TheVariants as wrong;
-ghost use Rattle.wl_client.specs.Events.{fault_text as text_of_fault, told_error as error_told};
+ghost use Rattle.wl_client.specs.declared.event_fault.EventFault.TheVariants as wrong;
+ghost use Rattle.wl_client.specs.Events.{fault_text as text_of_fault};
 
-use crate::objects::Kept;
-use crate::protocol_error::EventFault;
 use std::alloc::Global;
-use wl_link::ObjectMap;
-use wl_wire::{CString, InterfaceId, OutOfMemory, Protocol, ProtocolError, Text};
+use wl_wire::{InterfaceId, OutOfMemory, Protocol};
+
+/// What is wrong with an event. It ends the session.
+#[derive(Clone, Copy)]
+pub enum EventFault {
+    /// The bytes are not an event of their sender.
+    Malformed,
+    /// There is no object with this number, which is an object argument.
+    UnknownObject(u32),
+    /// An object argument is of a wrong interface. The variant has the number of the object, the interface that the table
+    /// asks for, and the object's interface.
+    WrongInterface(u32, InterfaceId, InterfaceId),
+    /// The server may not make an object with the number of the new id. The variant has the number, and the interface of
+    /// the new object.
+    InvalidNewId(u32, InterfaceId),
+}
 
 /// The text for an object of a wrong interface.
 fn wrong_interface_text(
@@ -51,30 +63,4 @@ pub fn fault_text(
             )?)
         }
     }
-}
-
-/// The error to be stored for a `wl_display.error`. It has the name of the interface of the object that the error is about,
-/// or `<unknown>` if there is no such object.
-#[cold]
-#[inline(never)]
-pub fn told_error<U: Drop>(
-    alloc: Global,
-    protocol: &Protocol,
-    objects: &ObjectMap<Kept<U>>,
-    code: u32,
-    number: u32,
-    text: &CString,
-) -> Result<ProtocolError, OutOfMemory>
-    ensures { IfOk result (λ e. e ≡ error_told protocol.now objects.now.store code number text.now) }
-{
-    let name = match objects.find(number) {
-        Some(object) => protocol.name(object.interface),
-        None => "<unknown>",
-    };
-    Ok(ProtocolError {
-        code,
-        object_id: number,
-        object_interface: Text::new(String::from_str(alloc, name)?),
-        message: Text::new(text.to_string_lossy(alloc)?),
-    })
 }

@@ -1,13 +1,14 @@
-//! The events of the display, `wl_display`.
+//! What the events of the display, `wl_display`, say, and the error that the session stores for one of them.
 
-ghost use Rattle.std.specs.Prelude.{◌≡◌};
-ghost use Rattle.wl_client.specs.Events.{deleted, display_event};
+ghost use Rattle.std.specs.Prelude.{◌≡◌, IfOk};
+ghost use Rattle.wl_client.specs.Events.{deleted, display_event, told_error as error_told};
 ghost use Rattle.wl_client.specs.Inside.ReadingLoop.{told_by};
 
 use crate::objects::Kept;
+use std::alloc::Global;
 use wl_link::ObjectMap;
 use wl_wire::opcodes::{DELETE_ID, ERROR};
-use wl_wire::{Argument, CString, Message, Token};
+use wl_wire::{Argument, CString, Message, OutOfMemory, Protocol, ProtocolError, Text, Token};
 
 /// What an event of the display says.
 #[derive(Clone, Copy)]
@@ -37,6 +38,32 @@ pub fn display_event(message: &Message<u32, Token>) -> DisplayMessage<'_>
         (DELETE_ID, [Argument::Uint(number)]) => DisplayMessage::Deletes(*number),
         _ => DisplayMessage::Unreadable,
     }
+}
+
+/// The error to be stored for a `wl_display.error`. It has the name of the interface of the object that the error is about,
+/// or `<unknown>` if there is no such object.
+#[cold]
+#[inline(never)]
+pub fn told_error<U: Drop>(
+    alloc: Global,
+    protocol: &Protocol,
+    objects: &ObjectMap<Kept<U>>,
+    code: u32,
+    number: u32,
+    text: &CString,
+) -> Result<ProtocolError, OutOfMemory>
+    ensures { IfOk result (λ e. e ≡ error_told protocol.now objects.now.store code number text.now) }
+{
+    let name = match objects.find(number) {
+        Some(object) => protocol.name(object.interface),
+        None => "<unknown>",
+    };
+    Ok(ProtocolError {
+        code,
+        object_id: number,
+        object_interface: Text::new(String::from_str(alloc, name)?),
+        message: Text::new(text.to_string_lossy(alloc)?),
+    })
 }
 
 /// Handles that the server has given up the number. If the client has destroyed the object, it leaves the map. Otherwise

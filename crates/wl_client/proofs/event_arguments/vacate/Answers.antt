@@ -1,7 +1,7 @@
 use Rattle.std.proofs.Common.{◌∙◌, ap, sym, true≢false, refl}
 use Rattle.wl_link.specs.Store.{is_free}
 use Rattle.wl_client.proofs.Vacating.{free_again}
-use Rattle.wl_client.proofs.arguments.vacate.Goals as goal
+use Rattle.wl_client.proofs.event_arguments.vacate.Goals as goal
 
 pub returns-clause-kept : goal.returns-clause-kept
 returns-clause-kept g c taken =

@@ -9,9 +9,9 @@ ghost use Rattle.wl_wire.specs.MessageRows.{next_interface, rest_of};
 ghost use Rattle.wl_client.specs.Events.{Wrong, convert, object_argument, vacated};
 ghost use Rattle.wl_client.specs.Inside.Conversion.{CanMake, Converts, EndsWhole, MakesObject, objects_in, state};
 
+use crate::event_fault::EventFault;
 use crate::object_id::ObjectId;
 use crate::objects::{Kept, id_at};
-use crate::protocol_error::EventFault;
 use wl_link::{InsertError, Object, ObjectMap, SERVER_ID_LIMIT};
 use wl_wire::{
     ANONYMOUS_INTERFACE, Args, Argument, InterfaceId, Token, same_interface_or_anonymous,

@@ -1,7 +1,7 @@
 use Rattle.std.proofs.Common.{◌≤◌, ◌*◌, ◌∙◌, [], ◌∷◌, ◌++◌, append-nil, append_assoc, ap, arith, length, subst, sym}
-use Rattle.wl_client.specs.Inside.InPlace.{NumbersAre}
-use Rattle.wl_client.proofs.InPlace.{no_numbers, numbers_more}
-use Rattle.wl_client.proofs.in_place.+push_numbers.Goals as goal
+use Rattle.wl_client.specs.Inside.EventInPlace.{NumbersAre}
+use Rattle.wl_client.proofs.EventInPlace.{no_numbers, numbers_more}
+use Rattle.wl_client.proofs.event_in_place.+push_numbers.Goals as goal
 
 pub returns-in-Some-clause-pushed : goal.returns-in-Some-clause-pushed
 returns-in-Some-clause-pushed t c =

@@ -1,5 +1,5 @@
 use Rattle.std.proofs.Common.{length}
-use Rattle.wl_client.proofs.in_place.+push_numbers.Given as goal
+use Rattle.wl_client.proofs.event_in_place.+push_numbers.Given as goal
 
 abbrev pub decreases-push_numbers : goal.decreases-push_numbers
 decreases-push_numbers l = length l.signature.now

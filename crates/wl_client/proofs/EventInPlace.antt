@@ -27,7 +27,7 @@ use Rattle.wl_client.specs.ObjectId.{IdParts}
 use Rattle.wl_client.specs.Reading.{with_link}
 use Rattle.wl_client.specs.Requests.{SessionMessage, session_content}
 use Rattle.wl_client.specs.Session.{SessionState, id_at, objects_of}
-use Rattle.wl_client.specs.Inside.InPlace.{DeleteWaits, NumbersAre, NumbersWait, number_argument}
+use Rattle.wl_client.specs.Inside.EventInPlace.{DeleteWaits, NumbersAre, NumbersWait, number_argument}
 use Rattle.wl_client.specs.Inside.ReadingLoop.{GaveEvent, HandledTo, HandlesMessage, ReadsIn, WentOn}
 
 abbrev one_uint : List ArgumentType

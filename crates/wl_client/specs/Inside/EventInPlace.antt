@@ -14,8 +14,8 @@ use Rattle.wl_link.specs.declared.object.Object.{Object}
 use Rattle.wl_link.specs.Link.{LinkState}
 use Rattle.wl_link.specs.Store.{Store, held}
 use Rattle.wl_client.specs.declared.event.OpenEvent.{OpenEvent}
-use Rattle.wl_client.specs.declared.in_place.InPlace.{InPlace}
-use Rattle.wl_client.specs.declared.in_place.InPlace.TheVariants as place
+use Rattle.wl_client.specs.declared.event_in_place.InPlace.{InPlace}
+use Rattle.wl_client.specs.declared.event_in_place.InPlace.TheVariants as place
 use Rattle.wl_client.specs.declared.objects.Kept.{Kept}
 use Rattle.wl_client.specs.ObjectId.{IdParts}
 use Rattle.wl_client.specs.Handling.{row_in, signature_in}
