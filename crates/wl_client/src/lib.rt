@@ -29,23 +29,41 @@
 //! `ReadingEnds` (why a reading ends), `Scripted` (calls of `Memory` as steps).
 #![tactic(auto)]
 
+/// The session: its fields, how it is made, its limits and its notes.
 mod backend;
+/// What the events of the display say: an error, or that a number is given up.
 mod display_event;
+/// The errors of calls, and the error that ends a session.
 mod error;
+/// An event of any other object, and what is kept of it while it is open.
 mod event;
+/// The arguments of an event: numbers become ids, and a new id makes an object.
 mod event_arguments;
+/// What is wrong with an event, and its text.
 mod event_fault;
+/// Events that are handled where they stand in the buffer, without being read first.
 mod event_in_place;
+/// `finish_event`: the end of an event that was handed out.
 mod finish_event;
+/// `flush`: sends what waits to be sent.
 mod flush;
+/// Laws that follow from the definitions alone: of runs of calls, and of one reading.
 pub mod laws;
+/// One message: it is taken off what was received, and handled.
 mod message;
+/// `next_event`: a reading, which handles messages and receives more.
 mod next_event;
+/// The ids of objects.
 mod object_id;
+/// The objects: what is kept of each, and the calls about one object.
 mod objects;
+/// `replay`: runs of steps over the transport by script.
 mod replay;
+/// Whether a request is refused, and why; and the numbers of its ids.
 mod request;
+/// `send_request`: writes a request, puts its new object, and ends its sender.
 mod send_request;
+/// The calls and their answers as values.
 mod step;
 
 pub use backend::Backend;
