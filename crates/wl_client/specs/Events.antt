@@ -73,7 +73,7 @@ module _ {U : Type 0} where
   is_destroyed None = false
   is_destroyed (Some x) = x.value.client_destroyed
 
-  -- the store without the object of a number, if the client destroyed it
+  -- The store without the object of a number, if the client destroyed it: the server gave up the number, or makes an object there.
   abbrev pub vacated : Store (Kept U) → ℕ → Store (Kept U)
   vacated store n = if is_destroyed (held store n) then removed store n else store
 
@@ -175,12 +175,3 @@ told_error table store code n text = record {
   object_interface = interface_name table (held store n);
   message = utf8_lossy text;
 }
-
-module _ {U : Type 0} where
-  abbrev pub after_delete : Store (Kept U) → ℕ → Option (Object (Kept U)) → Store (Kept U)
-  after_delete store n None = store
-  after_delete store n (Some x) = if x.value.client_destroyed then removed store n else store
-
-  -- What is left after the server gave up a number: an object that the client destroyed leaves the store; another stays.
-  abbrev pub deleted : Store (Kept U) → ℕ → Store (Kept U)
-  deleted store n = after_delete store n (held store n)

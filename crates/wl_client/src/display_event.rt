@@ -1,7 +1,7 @@
 //! What the events of the display, `wl_display`, say, and the error that the session stores for one of them.
 
 ghost use Rattle.std.specs.Prelude.{◌≡◌, IfOk};
-ghost use Rattle.wl_client.specs.Events.{deleted, display_event, told_error as error_told};
+ghost use Rattle.wl_client.specs.Events.{display_event, told_error as error_told};
 ghost use Rattle.wl_client.specs.Inside.ReadingLoop.{told_by};
 
 use crate::objects::Kept;
@@ -64,17 +64,4 @@ pub fn told_error<U: Drop>(
         object_interface: Text::new(String::from_str(alloc, name)?),
         message: Text::new(text.to_string_lossy(alloc)?),
     })
-}
-
-/// Handles that the server has given up the number. If the client has destroyed the object, it leaves the map. Otherwise
-/// nothing is changed.
-pub fn delete_id<U: Drop>(objects: &mut ObjectMap<Kept<U>>, number: u32)
-    ensures { objects.new.store ≡ deleted objects.old.store number }
-{
-    let Some(object) = objects.find(number) else {
-        return;
-    };
-    if object.value.client_destroyed {
-        objects.remove(number);
-    }
 }

@@ -2,16 +2,15 @@
 //!
 //! An event has numbers in place of objects. They are *converted* to object ids. A new id makes an object.
 
-ghost use Rattle.std.specs.Prelude.{◌≡◌, ◌≢◌, ◌+◌, ◌<◌, [], ◌∷◌, false, true, None, Ok, Err, IfOk, MatchResult, length, reverse};
+ghost use Rattle.std.specs.Prelude.{◌≡◌, ◌≢◌, ◌+◌, [], ◌∷◌, true, None, Ok, Err, IfOk, MatchResult, length, reverse};
 ghost use Rattle.smallvec.specs.SmallVec.{HasRoomFor};
-ghost use Rattle.wl_link.specs.Store.{is_free};
 ghost use Rattle.wl_wire.specs.MessageRows.{next_interface, rest_of};
-ghost use Rattle.wl_client.specs.Events.{Wrong, convert, object_argument, vacated};
+ghost use Rattle.wl_client.specs.Events.{Wrong, convert, object_argument};
 ghost use Rattle.wl_client.specs.Inside.Conversion.{CanMake, Converts, EndsWhole, MakesObject, objects_in, state};
 
 use crate::event_fault::EventFault;
 use crate::object_id::ObjectId;
-use crate::objects::{Kept, id_at};
+use crate::objects::{Kept, id_at, vacate};
 use wl_link::{InsertError, Object, ObjectMap, SERVER_ID_LIMIT};
 use wl_wire::{
     ANONYMOUS_INTERFACE, Args, Argument, InterfaceId, Token, same_interface_or_anonymous,
@@ -57,22 +56,6 @@ fn object_argument<U: Drop>(
         return Err(EventFault::WrongInterface(number, asked, object.interface));
     }
     Ok(id_at(number, object))
-}
-
-/// Takes the object with this number out of the map, if the client has destroyed it.
-fn vacate<U: Drop>(objects: &mut ObjectMap<Kept<U>>, number: u32)
-    requires { 0 < number }
-    ensures store { objects.new.store ≡ vacated objects.old.store number }
-    ensures kept { is_free objects.new.store number ≡ false → objects.new.store ≡ objects.old.store }
-    ensures reserved { objects.new.reserved ≡ objects.old.reserved }
-{
-    let Some(object) = objects.find(number) else {
-        return;
-    };
-    if !object.value.client_destroyed {
-        return;
-    }
-    objects.remove(number);
 }
 
 /// Makes the object of a new id, and returns its id.

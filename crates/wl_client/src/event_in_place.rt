@@ -14,11 +14,10 @@ ghost use Rattle.wl_client.specs.Inside.EventInPlace.{DeleteWaits, HandledInPlac
 ghost use Rattle.wl_client.specs.Inside.ReadingLoop.{GaveEvent, HandlesMessage, IsHeader, WentOn};
 
 use crate::backend::Backend;
-use crate::display_event::delete_id;
 use crate::event::OpenEvent;
 use crate::message::{desc_of, event_desc};
 use crate::object_id::ObjectId;
-use crate::objects::{Kept, id_at};
+use crate::objects::{Kept, id_at, vacate};
 use wl_link::{BufferedSocket, ObjectMap, Transport};
 use wl_wire::opcodes::DELETE_ID;
 use wl_wire::{Args, Argument, ArgumentType, DISPLAY, INLINE_ARGS, Message, Protocol, Token};
@@ -190,7 +189,7 @@ impl<T: Transport + Drop, U: Drop> Backend<T, U> {
             return false;
         };
         self.socket.skip_message();
-        delete_id(&mut self.objects, number);
+        vacate(&mut self.objects, number);
         true
     }
 

@@ -23,13 +23,13 @@ ghost use Rattle.wl_client.specs.ObjectId.{IdParts};
 ghost use Rattle.wl_client.specs.Inside.ReadingLoop.{Carries, IsHeader, NotTaken, NotTakenTo, Stores, TakenTo, TookWith, HandlesMessage, message_result};
 
 use crate::backend::Backend;
-use crate::display_event::{DisplayMessage, delete_id, display_event, told_error};
+use crate::display_event::{DisplayMessage, display_event, told_error};
 use crate::error::{EventError, WaylandError};
 use crate::event::{OpenEvent, handle_event};
 use crate::event_fault::{EventFault, fault_text};
 use crate::event_in_place::InPlace;
 use crate::object_id::ObjectId;
-use crate::objects::Kept;
+use crate::objects::{Kept, vacate};
 use std::alloc::Global;
 use wl_link::{BufferedSocket, Object, ObjectMap, Transport, clear_message};
 use wl_wire::{
@@ -218,7 +218,7 @@ fn handle_display<U: Drop>(
     let alloc = *message.args.allocator();
     match display_event(message) {
         DisplayMessage::Deletes(number) => {
-            delete_id(objects, number);
+            vacate(objects, number);
             MessageEnd::Continues
         }
         DisplayMessage::Fails(code, number, text) => {

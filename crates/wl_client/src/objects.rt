@@ -1,7 +1,8 @@
 //! The objects of a session: what is kept of each, how they are looked up and changed, and the calls that are about one object.
 
 ghost use Rattle.std.specs.Prelude.{◌≡◌, false, None, Some, IsSome, Ok, Err, MatchOption, MatchResult, option_copied};
-ghost use Rattle.wl_link.specs.Store.{held};
+ghost use Rattle.wl_link.specs.Store.{held, is_free};
+ghost use Rattle.wl_client.specs.Events.{vacated};
 ghost use Rattle.wl_client.specs.Session.{named, noted, alive, fresh_object as the_object, id_at as the_id};
 ghost use Rattle.std.specs.Fn.{FnOnceReturnsAtMut};
 ghost use Rattle.wl_client.specs.Objects.{info_of, user_data_of, DataSet, DestroyedBy, LendsData, LendsDataIn, LendsDataOf};
@@ -169,6 +170,20 @@ pub fn give_up<U: Drop>(objects: &mut ObjectMap<Kept<U>>, number: u32)
     objects.with(number, |object| {
         object.value.client_destroyed = true;
     });
+}
+
+/// Takes the object with this number out of the map, if the client has destroyed it. Otherwise nothing is changed.
+pub fn vacate<U: Drop>(objects: &mut ObjectMap<Kept<U>>, number: u32)
+    ensures store { objects.new.store ≡ vacated objects.old.store number }
+    ensures kept { is_free objects.new.store number ≡ false → objects.new.store ≡ objects.old.store }
+    ensures reserved { objects.new.reserved ≡ objects.old.reserved }
+{
+    let Some(object) = objects.find(number) else {
+        return;
+    };
+    if object.value.client_destroyed {
+        objects.remove(number);
+    }
 }
 
 impl<T: Drop, U: Drop> Backend<T, U> {

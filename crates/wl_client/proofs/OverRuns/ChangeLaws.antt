@@ -43,7 +43,7 @@ use Rattle.wl_client.specs.declared.step.Reply.{Reply}
 use Rattle.wl_client.specs.declared.step.Step.{Step}
 use Rattle.wl_client.specs.declared.step.Step.TheVariants as step
 use Rattle.wl_client.specs.ObjectId.{IdParts}
-use Rattle.wl_client.specs.Events.{Converting, Converted, Outcome, Whole, Wrong, object_argument_of, is_destroyed, vacated, is_valid_new, made_object, with_object_argument, with_new_at, with_new_argument, convert_one, going_on, convert, start, DisplayEvent, Fails, Deletes, Unreadable, display_event, after_delete}
+use Rattle.wl_client.specs.Events.{Converting, Converted, Outcome, Whole, Wrong, object_argument_of, is_destroyed, vacated, is_valid_new, made_object, with_object_argument, with_new_at, with_new_argument, convert_one, going_on, convert, start, DisplayEvent, Fails, Deletes, Unreadable, display_event}
 use Rattle.wl_client.specs.Finish.{FinishesEvent, Finishes, FlushEnds, SessionFlushed, after_destructor, data_given, refusal, with_data_for, with_dead}
 use Rattle.wl_client.specs.Handed.{IsHandedIn, ended_notes, event_ids, ids_by, ids_in, is_over, note_ids, notes_by, notes_in, request_ids}
 use Rattle.wl_client.specs.Histories.{Called, Changed, Deed, Does, Grown}
@@ -415,17 +415,7 @@ module _ {U : Type 0} where
 
   display_moves : (notes : List Note) (table : List InterfaceRow) (o : Objects (Kept U)) (e : DisplayEvent) → HandlingMoves notes o (of_display table o e)
   display_moves notes table o (Fails code n text) = still (at 0 false notes o)
-  display_moves notes table o (Deletes n) = deletes (held o.store n) refl
-    where
-      deletes : (x : Option (Object (Kept U))) → held o.store n ≡ x
-          → Moved (at 0 false notes o) [] (at 0 false notes (record o { store = after_delete o.store n x }))
-      deletes None e = still (at 0 false notes o)
-      deletes (Some x) e = go x.value.client_destroyed refl
-        where
-          go : (b : Bool) → x.value.client_destroyed ≡ b
-              → Moved (at 0 false notes o) [] (at 0 false notes (record o { store = cond b (removed o.store n) o.store }))
-          go true is = gone (at 0 false notes o) n (λ y h. ap (λ (a : Object (Kept U)). is_over a.value) (sym (same_Some x y (sym e ∙ h))) ∙ is)
-          go false is = still (at 0 false notes o)
+  display_moves notes table o (Deletes n) = vacates 0 false notes o n (held o.store n) refl
   display_moves notes table o Unreadable = still (at 0 false notes o)
 
   converted_moves : (notes : List Note) (table : List InterfaceRow) (o : Objects (Kept U)) (m : WireMessage) (receiver : Object (Kept U)) (row : MessageRow) (outcome : Outcome U)

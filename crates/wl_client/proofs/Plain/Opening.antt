@@ -30,7 +30,7 @@ use Rattle.wl_client.specs.declared.event.OpenEvent.{OpenEvent}
 use Rattle.wl_client.specs.declared.objects.Kept.{Kept}
 use Rattle.wl_client.specs.declared.event_fault.EventFault.{EventFault}
 use Rattle.wl_client.specs.declared.event_fault.EventFault.TheVariants as wrong
-use Rattle.wl_client.specs.Events.{Converted, Converting, DisplayEvent, Deletes, Fails, Outcome, Unreadable, Whole, Wrong, after_delete, convert, convert_one, deleted, display_event, going_on, is_destroyed, is_valid_new, made_object, object_argument, start, vacated, with_new_argument, with_new_at, with_object_argument}
+use Rattle.wl_client.specs.Events.{Converted, Converting, DisplayEvent, Deletes, Fails, Outcome, Unreadable, Whole, Wrong, convert, convert_one, display_event, going_on, is_destroyed, is_valid_new, made_object, object_argument, start, vacated, with_new_argument, with_new_at, with_object_argument}
 use Rattle.wl_client.specs.Handling.{Breaks, Handling, HandsOut, Swallows, event_of, handling, of_converted, of_display, of_event, opened_of, row_in, signature_in}
 use Rattle.wl_client.specs.ObjectId.{IdParts}
 use Rattle.wl_client.specs.Plain.{IsMade, new_id_in}
@@ -189,10 +189,10 @@ module _ {U : Type 0} where
       subst (λ (o : Option (Object (Kept U))). IsSome (alive o))
       (sym (stored_other (vacated objects.store n) n y k apart ∙ vacated_elsewhere objects.store k n apart)) is
 
-  stay_by_deletion : (store : Store (Kept U)) (n : ℕ) → Stay store (deleted store n)
+  stay_by_deletion : (store : Store (Kept U)) (n : ℕ) → Stay store (vacated store n)
   stay_by_deletion store n = at (held store n) refl
     where
-      at : (o : Option (Object (Kept U))) → held store n ≡ o → Stay store (after_delete store n o)
+      at : (o : Option (Object (Kept U))) → held store n ≡ o → Stay store (cond (is_destroyed o) (removed store n) store)
       at None e k is = is
       at (Some y) e k is = go y.value.client_destroyed refl k is
         where

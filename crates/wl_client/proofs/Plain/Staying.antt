@@ -19,7 +19,7 @@ use Rattle.wl_link.specs.Store.{Store, held, removed, stored}
 use Rattle.wl_client.specs.declared.objects.Kept.{Kept}
 use Rattle.wl_client.specs.declared.event_fault.EventFault.{EventFault}
 use Rattle.wl_client.specs.declared.event_fault.EventFault.TheVariants as wrong
-use Rattle.wl_client.specs.Events.{Converted, Converting, Deletes, DisplayEvent, Fails, Outcome, Unreadable, Whole, Wrong, after_delete, convert, convert_one, deleted, display_event, going_on, is_valid_new, made_object, object_argument, start, vacated, with_made_object, with_new_argument, with_new_at, with_object_argument}
+use Rattle.wl_client.specs.Events.{Converted, Converting, Deletes, DisplayEvent, Fails, Outcome, Unreadable, Whole, Wrong, convert, convert_one, display_event, going_on, is_destroyed, is_valid_new, made_object, object_argument, start, vacated, with_made_object, with_new_argument, with_new_at, with_object_argument}
 use Rattle.wl_client.specs.Handling.{Breaks, Handling, HandsOut, Swallows, event_of, handling, of_converted, of_display, of_event, opened_of, row_in}
 use Rattle.wl_client.specs.ObjectId.{IdParts}
 use Rattle.wl_client.specs.Plain.{IdsStay, IsOld, StaysAs}
@@ -107,10 +107,10 @@ module _ {U : Type 0} where
   gone_from y over false true = at_true _ y.value.client_destroyed over (inr refl)
   gone_from y over false false = refl
 
-  ids_by_deletion : (a : Objects (Kept U)) (n : ℕ) → IdsStay a (record a { store = deleted a.store n })
+  ids_by_deletion : (a : Objects (Kept U)) (n : ℕ) → IdsStay a (record a { store = vacated a.store n })
   ids_by_deletion a n = record { serials = omega arith; ids = λ id old. at (held a.store n) refl id }
     where
-      at : (o : Option (Object (Kept U))) → held a.store n ≡ o → (id : IdParts) → StaysAs (named a.store id) (named (after_delete a.store n o) id)
+      at : (o : Option (Object (Kept U))) → held a.store n ≡ o → (id : IdParts) → StaysAs (named a.store id) (named (cond (is_destroyed o) (removed a.store n) a.store) id)
       at None none id = stays_same (named a.store id)
       at (Some y) there id = go y.value.client_destroyed refl
         where
