@@ -22,3 +22,4 @@ pub mod Globals
 pub mod Events
 pub mod Errors
 pub mod Dispatch
+pub mod Transport

@@ -9,6 +9,7 @@ pub mod Globals
 pub mod Calls
 pub mod DataInPlace
 pub mod Dispatch
+pub mod Transport
 use Rattle.std.specs.Prelude.{◌≡◌, ◌⊎◌, ℕ, List, [], ◌∷◌, ◌++◌, Bool, true, false, ◌&&◌, if◌then◌else◌, Option, None, Some, IsSome, is_some, Result, Ok, Err, MatchOption, MatchResult, Vec, option_map}
 use Rattle.std.specs.Global.{Global}
 use Rattle.wl_wire.specs.declared.error.IoFault.{IoFault}
@@ -120,6 +121,10 @@ module _ {T U G C : Type 0} where
   -- each id names what it named before
   abbrev pub ObjectsStay : BackendState T U G C → BackendState T U G C → Type 0
   ObjectsStay before after = (id : IdParts) → object_in after id ≡ object_in before id
+
+  -- the globals, the table of interfaces and the limit of new clients are as before
+  abbrev pub GlobalsStay : BackendState T U G C → BackendState T U G C → Type 0
+  GlobalsStay before after = after.server.offer ≡ before.server.offer
 
   -- ---- the calls on objects
 

@@ -17,7 +17,7 @@
 //! | Calls | Code | Relations, in `specs/` |
 //! |---|---|---|
 //! | `insert_client`, `next_client_id`, `kill_client`, `flush`, the limits | `client::insert`, `client::kill`, `client::flush`, `client::limits` | `PartStep`, `Felt`, `Telling`, `Next` |
-//! | `transport_mut` | `client::transport` | `Backend`, `Lending` |
+//! | `transport_mut` | `client::transport` | `Backend`, `Lending`, `Plain/Transport` |
 //! | `create_object`, `destroy_object`, `set_object_data`, `with_object_data` | `objects` | `Objects`, `Plain/DataInPlace` |
 //! | `send_event`, `send_event_lent`, `post_error` | `events` | `Events`, `Errors`, `Posted` |
 //! | `next_action`, `next_action_within`, and both `_into` | `reading::next_action` | `Reading`, `Requests`, `Cutting`, `Room`, `Plain/Reading`, `ReadingEnds` |

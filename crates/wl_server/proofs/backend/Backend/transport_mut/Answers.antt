@@ -8,11 +8,12 @@ use Rattle.wl_server.specs.Backend.{BackendState, IsChange}
 use Rattle.wl_server.specs.Ids.{ClientParts}
 use Rattle.wl_server.specs.Lending.{over_transport, server_over, state_over}
 use Rattle.wl_server.specs.NoteOrder.{AllNumbered}
-use Rattle.wl_server.specs.PartStep.{World}
+use Rattle.wl_server.specs.PartStep.{World, over}
 use Rattle.wl_server.specs.Server.{ServerState, Stored, client_at}
 use Rattle.wl_server.proofs.CallSteps.Changing.{changed}
 use Rattle.wl_server.proofs.CallSteps.Slots.{slot_of_client}
 use Rattle.wl_server.proofs.CleanupSteps.Taken.{slots_set}
+use Rattle.wl_server.proofs.Plain.Transport.{leaves_transport}
 use Rattle.wl_server.proofs.Touched.Moved.{moved_touched}
 use Rattle.wl_server.proofs.backend.Backend.transport_mut.Goals as goal
 
@@ -39,7 +40,7 @@ lent_step w before id s t is all =
 pub returns-in_default : goal.returns-in_default
 returns-in_default g c = (
   ap inr c.self.view_is,
-  record { call = tt; lends = tt; value = rw (← c.self.view_is) (ap transport_in (sym c.in_default.ensures.value)) },
+  record { call = tt; plain = tt; lends = tt; value = rw (← c.self.view_is) (ap transport_in (sym c.in_default.ensures.value)) },
 )
 
 pub returns : goal.returns
@@ -47,6 +48,11 @@ returns g c = (
   ap (λ f. inl (c.transport_mut.result.ghost_name, f)) (fun_ext (λ w. rw (← c.self.view_is) (lent_over _ c.args.id.now c.in-Some.client.now w c.in-Some.ensures.value))),
   record {
     call = λ t. rw (← c.self.view_is) (lent_step _ _ c.args.id.now c.in-Some.client.now t c.in-Some.ensures.value c.self.invariant.2);
+    plain = λ t.
+        rw (← c.self.view_is)
+        (leaves_transport (over g.T.Transport.sends g.T.Transport.receives g.G.GlobalHandler.views) _ c.args.id.now t
+        (lent_step _ _ c.args.id.now c.in-Some.client.now t c.in-Some.ensures.value c.self.invariant.2)
+        c.in-Some.client.now c.in-Some.ensures.value);
     lends = tt;
     value = rw (← c.self.view_is) (ap transport_in (sym c.in-Some.ensures.value) ∙ ap Some (sym c.transport_mut.ensures.value));
   },

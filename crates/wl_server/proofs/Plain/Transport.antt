@@ -1,0 +1,86 @@
+-- A transport that the program changed.
+use Rattle.std.proofs.Common.{◌≡◌, ◌∙◌, ◌+◌, ℕ, zero, suc, Bool, List, [], ◌∷◌, ◌++◌, Option, None, Some, option_map, refl, sym, ap, subst}
+use mathlib.Core.Logic.{inl, inr}
+use Rattle.std.specs.FinMap as finmap
+use Rattle.std.specs.Prelude.{map, slice_set}
+use Rattle.wl_link.proofs.Calls.Branches.{either_option}
+use Rattle.wl_link.specs.Link.{LinkState, with_transport}
+use Rattle.wl_link.specs.Store.{held}
+use Rattle.wl_server.specs.Backend.{BackendState, IsChange}
+use Rattle.wl_server.specs.Deeds.{Deed, notes_in}
+use Rattle.wl_server.specs.Globals.{global_of}
+use Rattle.wl_server.specs.Ids.{ClientParts, same_client}
+use Rattle.wl_server.specs.Lending.{over_transport, server_over, state_over}
+use Rattle.wl_server.specs.Lookups.{and_then, id_if, id_if_stored, live_from, name_if}
+use Rattle.wl_server.specs.Part.{Part, id_at, named, with_link}
+use Rattle.wl_server.specs.PartStep.{Call, OfClient, PartCall, Quietly, WithTransport, World}
+use Rattle.wl_server.specs.Plain.Transport.{LeavesTransport}
+use Rattle.wl_server.specs.Server.{Seen, Stored, client_at, seen, stored_at}
+use Rattle.wl_server.proofs.Plain.Base.{keeps, none_and_some, notes_stay, one_value, other_stays, own}
+
+module _ {T U C : Type 0} (t : T) where
+  abbrev changed_to : Part T U C → Part T U C
+  changed_to p = with_link p (with_transport p.link t)
+
+  -- the ids of the live clients do not speak of transports
+  live_over : (slot k : ℕ) (clients : List (Option (Stored T U C)))
+      → live_from slot (slice_set clients k (option_map (λ c. over_transport c t) (stored_at k clients))) ≡ live_from slot clients
+  live_over slot k [] = refl
+  live_over slot zero (None ∷ clients) = refl
+  live_over slot zero (Some c ∷ clients) = refl
+  live_over slot (suc k) (c ∷ clients) = ap (λ (ids : List ClientParts). id_if_stored slot c ++ ids) (live_over (slot + 1) k clients)
+
+module _ {T U G C : Type 0} (w : World T G C) (before : BackendState T U G C) (id : ClientParts) (t : T) (change : IsChange w before.server id t (server_over before.server id t)) where
+  -- what the change is of each client
+  of_change : (other : ClientParts)
+      → (lacked : Bool) × (did : List (Deed U))
+      × OfClient (same_client id other) (seen other before.server) (λ p q. Quietly lacked did (WithTransport (λ _ t'. t' ≡ t) p q)) (Unit {0}) lacked did
+      (seen other (server_over before.server id t))
+  of_change other =
+      let (e, is, refused, by) = change.step in (
+        e.lacks other,
+        e.did other,
+        subst (λ (c : Call T U G C). PartCall w other before.server.offer c (seen other before.server) (e.lacks other) (e.did other) (seen other (server_over before.server id t)))
+            is (by.each other),
+      )
+
+  -- what no transport changes is as before
+  keeps_all : {A : Type 0} (f : Option (Part T U C) → A) → ((p : Part T U C) (link : LinkState T) → f (Some (with_link p link)) ≡ f (Some p)) → (other : ClientParts)
+      → f (seen other (server_over before.server id t)).part ≡ f (seen other before.server).part
+  keeps_all f stays other =
+      let (lacked, did, h) = of_change other in
+      keeps (same_client id other) _ _ _ lacked did _ f (λ about p q (calm, none, (t', is_t, is)). ap (λ (x : Part T U C). f (Some x)) is ∙ stays p (with_transport p.link t')) h
+
+  changed_part : (p : Part T U C) → (seen id before.server).part ≡ Some p → (seen id (server_over before.server id t)).part ≡ Some (changed_to t p)
+  changed_part p there =
+      let (lacked, did, h) = of_change id in
+      elim (either_option (seen id before.server).part (own id _ _ _ lacked did _ h)) [
+        | inl (none, rest) ↦ absurd (none_and_some (seen id before.server).part none there)
+        | inr (r, here, (q, (calm, nothing, (t', is_t, is)), same)) ↦
+            ap (λ (x : Seen T U C). x.part) same ∙ ap Some is ∙ ap (λ (x : T). Some (changed_to x r)) is_t
+            ∙ ap (λ (x : Part T U C). Some (changed_to t x)) (one_value (seen id before.server).part here there)
+      ]
+
+  pub leaves_transport : (s : Stored T U C) → Some s ≡ client_at id before.server.clients → LeavesTransport before id t (state_over before id t)
+  leaves_transport s is = record {
+    transport = ap (option_map (λ p. p.link.transport)) (changed_part s.part stored);
+    client = changed_part s.part stored ∙ ap (option_map (changed_to t)) (sym stored);
+    clients = λ other differ. let (lacked, did, h) = of_change other in other_stays (same_client id other) _ _ _ lacked did _ differ h;
+    objects = λ o. keeps_all (λ x. and_then x (λ p. named p.store o)) (λ p link. refl) o.client;
+    notes = λ other.
+        let (lacked, did, h) = of_change other in notes_stay (same_client id other) _ _ _ lacked did _ (λ p q (calm, none, is). ap notes_in none) h;
+    globals = refl;
+    lookups = record {
+      client = λ o. keeps_all (option_map (λ p. o.client)) (λ p link. refl) o.client;
+      client_data = λ other. keeps_all (option_map (λ p. p.client_data)) (λ p link. refl) other;
+      for_number = λ other i n. keeps_all (λ x. and_then x (λ p. and_then (held p.store n) (id_if other i n))) (λ p link. refl) other;
+      clients = live_over t 0 id.slot before.server.clients;
+      objects = λ other. keeps_all (option_map (λ p. map (λ e. id_at other e.0 e.1) (finmap.entries p.store.objects))) (λ p link. refl) other;
+      name = λ views g other.
+          keeps_all (λ x. and_then x (λ p. and_then (global_of before.server.offer.globals g) (name_if views other p.client_data g.name))) (λ p link. refl) other;
+    };
+    memory = refl;
+  }
+    where
+      stored : (seen id before.server).part ≡ Some s.part
+      stored = ap (option_map (λ (x : Stored T U C). x.part)) (sym is)
