@@ -138,6 +138,7 @@ module _ {T U G C : Type 0} where
     pub rest : option_map without_objects (client_in after id.client) ≡ option_map without_objects (client_in before id.client)
     pub clients : OtherClientsStay before id.client after
     pub notes : (client : ClientParts) → notes_made_in after client ≡ notes_made_in before client
+    pub globals : GlobalsStay before after
     pub memory : after.refused ≡ false
 
   -- The object is gone, and if it had data, its note waits for the next cleanup. Or there is no such object, or it is the
@@ -156,6 +157,7 @@ module _ {T U G C : Type 0} where
     pub objects : OtherObjectsStay before id after
     pub clients : OtherClientsStay before id.client after
     pub stored : (client : ClientParts) → is_some (client_in after client) ≡ is_some (client_in before client)
+    pub globals : GlobalsStay before after
 
   -- The answer is the id of a new object of that interface and version, with the data. Or nothing has changed.
   abbrev pub CreatedAs : BackendState T U G C → ClientParts → InterfaceId → ℕ → U → Result IdParts CreateError → BackendState T U G C → Type 0
@@ -169,6 +171,7 @@ module _ {T U G C : Type 0} where
     pub object : CreatedAs before client i version u answer after
     pub clients : OtherClientsStay before client after
     pub notes : (other : ClientParts) → notes_made_in after other ≡ notes_made_in before other
+    pub globals : GlobalsStay before after
 
   -- ---- the ends of actions
 
@@ -193,6 +196,7 @@ module _ {T U G C : Type 0} where
     pub bind : BindEndedAs before client u answer after
     pub clients : OtherClientsStay before client after
     pub notes : (other : ClientParts) → notes_made_in after other ≡ notes_made_in before other
+    pub globals : GlobalsStay before after
     pub memory : after.refused ≡ false
 
   -- whether the client is killed, if it is stored
@@ -268,6 +272,7 @@ module _ {T U G C : Type 0} where
     pub request : RequestEndedAs before client u answer after
     pub clients : OtherClientsStay before client after
     pub stored : (other : ClientParts) → is_some (client_in after other) ≡ is_some (client_in before other)
+    pub globals : GlobalsStay before after
 
   -- ---- the data of an action
 
@@ -297,6 +302,7 @@ module _ {T U G C : Type 0} where
     pub noted : notes_made_in after id ≡ notes_made_in before id ++ end_note_of (client_in before id) reason
     pub objects : ObjectsStay before after
     pub clients : OtherClientsStay before id after
+    pub globals : GlobalsStay before after
     pub memory : after.refused ≡ false
 
   -- the answer of a flush: always `Ok` for all clients, and for one that is not stored
@@ -317,6 +323,7 @@ module _ {T U G C : Type 0} where
     pub cores : (id : ClientParts) → option_map core_of (client_in after id) ≡ option_map core_of (client_in before id)
     pub notes : (id : ClientParts) → notes_made_in after id ≡ notes_made_in before id
     pub objects : ObjectsStay before after
+    pub globals : GlobalsStay before after
 
   -- ---- a cleanup
 
@@ -328,6 +335,7 @@ module _ {T U G C : Type 0} where
         → (share_of id out ≡ []) × (client_in after id ≡ Some (record p { waiting = [] })) × (notes_made_in after id ≡ notes_made_in before id ++ p.waiting)
     pub unknown : (id : ClientParts) → client_in before id ≡ None → (share_of id out ≡ []) × (seen id after.server ≡ seen id before.server)
     pub by_slot : RiseBySlot out
+    pub globals : GlobalsStay before after
 
   abbrev pub CleansUpClients : (T → Queue → Result ℕ IoFault → T → Type 0) → BackendState T U G C → Result (Vec (ClientParts × T) Global) OutOfMemory → BackendState T U G C
       → Type 0
@@ -342,6 +350,7 @@ module _ {T U G C : Type 0} where
     pub left : (id : ClientParts) → notes_made_in after id ≡ []
     pub clients : (id : ClientParts) → client_in after id ≡ client_in before id
     pub objects : ObjectsStay before after
+    pub globals : GlobalsStay before after
     pub memory : after.refused ≡ false
 
   abbrev pub TakesNotes : BackendState T U G C → Result (Vec (Note U) Global) OutOfMemory → BackendState T U G C → Type 0

@@ -43,6 +43,10 @@ module _ {T U G C : Type 0} {w : World T G C} {before after : BackendState T U G
   each_in id e is by =
       subst (λ (c : Call T U G C). PartCall w id before.server.offer c (seen id before.server) (e.lacks id) (e.did id) (seen id after.server)) is (by.each id)
 
+  -- what all clients share after the call
+  pub offer_of : after.server.offer ≡ offer_after before.server.offer (Asked s answer)
+  offer_of = let (e, is, refused, by) = call.step in subst (λ (c : Call T U G C). after.server.offer ≡ offer_after before.server.offer c) is by.offer
+
   -- what the call is of one client
   pub of_each : (id : ClientParts) → Each id
   of_each id = let (e, is, refused, by) = call.step in (e.lacks id, e.did id, each_in id e is by)
@@ -55,7 +59,7 @@ module _ {T U G C : Type 0} {w : World T G C} {before after : BackendState T U G
       let last : after.server.last_client ≡ before.server.last_client + inserted_by (Asked s answer) =
       subst (λ (c : Call T U G C). after.server.last_client ≡ before.server.last_client + inserted_by c) is by.last in
       record {
-        offer = subst (λ (c : Call T U G C). after.server.offer ≡ offer_after before.server.offer c) is by.offer ∙ offer;
+        offer = offer_of ∙ offer;
         last = omega (arith, last, none);
         each = each;
       }

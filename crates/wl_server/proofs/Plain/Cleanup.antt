@@ -21,7 +21,7 @@ use Rattle.wl_server.specs.PartStep.{Call, CleanedAs, NotesTaken, World, share_o
 use Rattle.wl_server.specs.Plain.{CleansUpClients, HandsOut, TakesNotes}
 use Rattle.wl_server.specs.Server.{Seen, seen}
 use Rattle.wl_server.specs.Steps.{RiseBySlot, RisesBySlot}
-use Rattle.wl_server.proofs.Plain.Base.{calm, none_and_some, of_each, one_value, refused_growth, unchanged, when_false, when_true}
+use Rattle.wl_server.proofs.Plain.Base.{calm, none_and_some, of_each, offer_of, one_value, refused_growth, unchanged, when_false, when_true}
 
 all_noted : {U : Type 0} (notes : List (Happening U)) → notes_in (map Noted notes) ≡ notes
 all_noted [] = refl
@@ -86,6 +86,7 @@ module _ {T U G C : Type 0} {w : World T G C} {before after : BackendState T U G
     live = λ id p there live. let (lacked, did, h) = cleanup_each (Ok out) call id in cleaned_live w id before.server.offer out _ _ lacked did p there live h;
     unknown = λ id none. let (lacked, did, h) = cleanup_each (Ok out) call id in cleaned_none w id before.server.offer out _ _ lacked did none h;
     by_slot = rises out call;
+    globals = offer_of call;
   }
   cleans_up (Err e) call = (
     unchanged call refl refl (λ id. let (lacked, did, (memory, none, same)) = cleanup_each (Err e) call id in same),
@@ -113,6 +114,7 @@ module _ {T U G C : Type 0} {w : World T G C} {before after : BackendState T U G
     clients = λ id. let (lacked, did, (all, memory, did_so, same)) = notes_each (Ok out) call id in ap (λ (x : Seen T U C). x.part) same;
     objects = λ o.
         let (lacked, did, (all, memory, did_so, same)) = notes_each (Ok out) call o.client in ap (λ (x : Seen T U C). and_then x.part (λ p. named p.store o)) same;
+    globals = offer_of call;
     memory = calm call refl (λ id lacked did is. took_calm out id lacked did is);
   }
     where

@@ -26,7 +26,7 @@ use Rattle.wl_server.specs.Part.{Part, fresh_object, id_at, id_of, last_possible
 use Rattle.wl_server.specs.PartStep.{OfClient, World, lacks_create}
 use Rattle.wl_server.specs.Plain.{CreatedAs, CreatesObject}
 use Rattle.wl_server.specs.Server.{Seen, seen}
-use Rattle.wl_server.proofs.Plain.Base.{ids_differ, keeps, notes_stay, nothing_new, of_each, other_stays, own, unchanged}
+use Rattle.wl_server.proofs.Plain.Base.{ids_differ, keeps, notes_stay, nothing_new, of_each, offer_of, other_stays, own, unchanged}
 use Rattle.wl_server.proofs.Plain.Naming.{both_none, named_here, nothing_has, other_named}
 
 -- the object was put at a number that held none
@@ -180,4 +180,5 @@ module _ {T U G C : Type 0} {w : World T G C} {before after : BackendState T U G
     notes = λ other.
         let (lacked, did, h) = create_each answer call other in
         notes_stay (same_client target other) _ _ _ lacked did _ (λ p q (memory, none, makes). ap notes_in none) h;
+    globals = offer_of call;
   }

@@ -19,7 +19,7 @@ use Rattle.wl_server.specs.PartStep.{OfClient, Quietly, World}
 use Rattle.wl_server.specs.Plain.{IsUnchanged, SetsObjectData, without_objects}
 use Rattle.wl_server.specs.Plain.DataInPlace.{LendsObjectData, SetsWhatIsLeft}
 use Rattle.wl_server.specs.Server.{Seen, seen}
-use Rattle.wl_server.proofs.Plain.Base.{calm, ids_differ, keeps, never, notes_stay, nothing_new, of_each, other_stays, own, unchanged}
+use Rattle.wl_server.proofs.Plain.Base.{calm, ids_differ, keeps, never, notes_stay, nothing_new, of_each, offer_of, other_stays, own, unchanged}
 use Rattle.wl_server.proofs.Plain.Naming.{names_so, rewritten_named, rewritten_others}
 
 abbrev Refused : Result (Unit {0}) InvalidId → Type 0
@@ -120,6 +120,7 @@ module _ {T U G C : Type 0} {w : World T G C} {before after : BackendState T U G
     notes = λ client.
         let (lacked, did, h) = set_each o u answer call client in
         notes_stay (same_client o.client client) _ _ _ lacked did _ (λ p q r. ap notes_in r.1) h;
+    globals = offer_of call;
     memory = calm call refl (λ id lacked did (r, is, h). never (same_client o.client id) _ _ _ lacked did _ (λ p q set. set.0) h);
   }
     where

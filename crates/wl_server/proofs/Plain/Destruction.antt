@@ -24,7 +24,7 @@ use Rattle.wl_server.specs.PartStep.{OfClient, World}
 use Rattle.wl_server.specs.Plain.{DestroyedAs, DestroysObject}
 use Rattle.wl_server.specs.Server.{Seen, seen}
 use Rattle.wl_server.specs.Telling.{Tells, core_of}
-use Rattle.wl_server.proofs.Plain.Base.{calm, ids_differ, keeps, never, nothing_new, of_each, other_stays, own, refused_to, unchanged}
+use Rattle.wl_server.proofs.Plain.Base.{calm, ids_differ, keeps, never, nothing_new, of_each, offer_of, other_stays, own, refused_to, unchanged}
 use Rattle.wl_server.proofs.Plain.Naming.{names_so, removed_named, removed_others}
 use Rattle.wl_server.proofs.Plain.Verdicts.{told}
 
@@ -238,4 +238,5 @@ module _ {T U G C : Type 0} {w : World T G C} {before after : BackendState T U G
     clients = λ other differ. let (lacked, did, h) = destroy_each answer call other in other_stays (same_client o.client other) _ _ _ lacked did _ differ h;
     stored = λ client.
         let (lacked, did, h) = destroy_each answer call client in keeps (same_client o.client client) _ _ _ lacked did _ (λ x. is_some x) (λ about p q r. refl) h;
+    globals = offer_of call;
   }

@@ -17,7 +17,7 @@ use Rattle.wl_server.specs.PartStep.{OfClient, World}
 use Rattle.wl_server.specs.Plain.{KillsClient, as_killed, end_note_of}
 use Rattle.wl_server.specs.Server.{Seen}
 use Rattle.wl_server.specs.Telling.{Kills, end_deeds}
-use Rattle.wl_server.proofs.Plain.Base.{calm, keeps, never, of_each, other_stays, own}
+use Rattle.wl_server.proofs.Plain.Base.{calm, keeps, never, of_each, offer_of, other_stays, own}
 
 module _ {T U C : Type 0} (id : ClientParts) (reason : DisconnectReason) (s t : Seen T U C) (lacked : Bool) (did : List (Deed U)) where
   abbrev Ending : Part T U C → Part T U C → Type 0
@@ -54,5 +54,6 @@ module _ {T U G C : Type 0} {w : World T G C} {before after : BackendState T U G
         let (lacked, did, (is, h)) = of_each call o.client in
         keeps (same_client id o.client) _ _ _ lacked did _ (λ x. and_then x (λ p. named p.store o)) (λ about p q r. ap (λ (x : Part T U C). named x.store o) r.1.1) h;
     clients = λ other differ. let (lacked, did, (is, h)) = of_each call other in other_stays (same_client id other) _ _ _ lacked did _ differ h;
+    globals = offer_of call;
     memory = calm call refl (λ other lacked did (is, h). never (same_client id other) _ _ _ lacked did _ (λ p q r. r.0) h);
   }

@@ -26,7 +26,7 @@ use Rattle.wl_server.specs.Plain.{IsUnchanged, as_killed, end_note_of}
 use Rattle.wl_server.specs.Plain.Events.{ErrorPostedAs, IsReasonOfError, KillsForError}
 use Rattle.wl_server.specs.Server.{Seen}
 use Rattle.wl_server.specs.Telling.{Core, Tells, Told, closed_down, core_of, deeds_of, end_deeds, part_of, speaker}
-use Rattle.wl_server.proofs.Plain.Base.{keeps, nothing_new, of_each, other_stays, own, unchanged, when_false, when_true}
+use Rattle.wl_server.proofs.Plain.Base.{keeps, nothing_new, of_each, offer_of, other_stays, own, unchanged, when_false, when_true}
 use Rattle.wl_server.proofs.Readings.Notes.{notes_told}
 
 by_choice : {P Q : Type 0} (b : Bool) → MatchBool b P Q → ((b ≡ true) × P) ⊎ ((b ≡ false) × Q)
@@ -144,6 +144,7 @@ module _ {T U G C : Type 0} {w : World T G C} {before after : BackendState T U G
         keeps (same_client id.client o.client) _ _ _ lacked did _ (λ x. and_then x (λ p. named p.store o))
         (λ about p q r. ap (λ st. named st o) (stores_stay w.sends before.server.offer.table id code text lacked did p q r)) h;
     clients = λ other differ. let (lacked, did, (is, h)) = of_each call other in other_stays (same_client id.client other) _ _ _ lacked did _ differ h;
+    globals = offer_of call;
   }
     where
       by_number : (b : Bool) → (id.number == 0) ≡ b → MatchBool b (IsUnchanged before after) (ErrorPostedAs before id code text after)

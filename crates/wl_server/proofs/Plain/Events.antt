@@ -46,7 +46,7 @@ use Rattle.wl_server.specs.Plain.Events.{ChecksTo, EmitsEvent, EventIsPut, Event
 use Rattle.wl_server.specs.Server.{Seen, seen}
 use Rattle.wl_server.specs.Telling.{Core, Did, Tells, Told, core_of, end_deeds}
 use Rattle.wl_server.proofs.OverRuns.Moves.MovesOfCalls.{granted_named}
-use Rattle.wl_server.proofs.Plain.Base.{ids_differ, keeps, nothing_new, of_each, one_value, other_stays, own, refused_to, same_is, unchanged}
+use Rattle.wl_server.proofs.Plain.Base.{ids_differ, keeps, nothing_new, of_each, offer_of, one_value, other_stays, own, refused_to, same_is, unchanged}
 use Rattle.wl_server.proofs.Plain.Naming.{names_so, removed_named, removed_others}
 use Rattle.wl_server.proofs.Plain.Verdicts.{IsStarved, IsTold, told_ended, told_nothing, told_starved}
 
@@ -662,4 +662,5 @@ module _ {T U G C : Type 0} (w : World T G C) (before after : BackendState T U G
       clients = λ other differ. let (lacked, did, h) = event_each other in other_stays (same_client client other) _ _ _ lacked did _ differ h;
       stored = λ id.
           let (lacked, did, h) = event_each id in keeps (same_client client id) _ _ _ lacked did _ (λ x. is_some x) (λ about p q r. refl) h;
+      globals = offer_of call;
     }

@@ -22,7 +22,7 @@ use Rattle.wl_server.specs.Part.{Part, id_of, named, same_id, with_user_data}
 use Rattle.wl_server.specs.PartStep.{OfClient, World}
 use Rattle.wl_server.specs.Plain.{BindEndedAs, EndsBind}
 use Rattle.wl_server.specs.Server.{Seen, seen}
-use Rattle.wl_server.proofs.Plain.Base.{calm, never, notes_stay, nothing_new, of_each, other_stays, own, unchanged}
+use Rattle.wl_server.proofs.Plain.Base.{calm, never, notes_stay, nothing_new, of_each, offer_of, other_stays, own, unchanged}
 use Rattle.wl_server.proofs.Plain.Naming.{names_so, rewritten_named, rewritten_others}
 
 -- ---- data are given to the object that an id names
@@ -159,5 +159,6 @@ module _ {T U G C : Type 0} {w : World T G C} {before after : BackendState T U G
     notes = λ other.
         let (lacked, did, h) = bind_each answer call other in
         notes_stay (same_client target other) _ _ _ lacked did _ (λ p q r. ap notes_in (bound_quietly u lacked did p q answer r).1) h;
+    globals = offer_of call;
     memory = calm call refl (λ id lacked did (r, is, h). never (same_client target id) _ _ _ lacked did _ (λ p q b. (bound_quietly u lacked did p q r b).0) h);
   }

@@ -39,8 +39,7 @@ use Rattle.wl_server.specs.Server.{Seen, seen}
 use Rattle.wl_server.specs.Steps.{AnswersShared}
 use Rattle.wl_server.specs.Telling.{Core, core_of, end_deeds, part_of, tells}
 use Rattle.wl_server.proofs.OverRuns.Ids.GivenLaws.{Changes, created_elsewhere, disabled_changes, freed_changes}
-use Rattle.wl_server.proofs.Plain.Base.{keeps, of_each}
-use Rattle.wl_server.proofs.Plain.Insertion.{offer_of}
+use Rattle.wl_server.proofs.Plain.Base.{keeps, of_each, offer_of}
 use Rattle.wl_server.proofs.Plain.Verdicts.{told, told_ended, told_starved}
 
 -- ---- a client that is told

@@ -8,7 +8,6 @@ use Rattle.wl_link.specs.Link.{LimitSet, LinkState}
 use Rattle.wl_server.specs.declared.error.InsertClientError.{InsertClientError}
 use Rattle.wl_server.specs.declared.runs.step.Reply.{Reply}
 use Rattle.wl_server.specs.declared.runs.step.Reply.TheVariants as reply
-use Rattle.wl_server.specs.declared.runs.step.Step.{Step}
 use Rattle.wl_server.specs.declared.runs.step.Step.TheVariants as step
 use Rattle.wl_server.specs.Backend.{BackendState, Calls, IsGrowth}
 use Rattle.wl_server.specs.Deeds.{Deed, notes_in}
@@ -16,17 +15,12 @@ use Rattle.wl_server.specs.Globals.{with_table}
 use Rattle.wl_server.specs.Ids.{ClientParts, same_client}
 use Rattle.wl_server.specs.Lookups.{and_then}
 use Rattle.wl_server.specs.Part.{Part, named, with_link}
-use Rattle.wl_server.specs.PartStep.{Asked, Call, Grown, InsertedAs, OfClient, PartCall, Quietly, Unfelt, World}
+use Rattle.wl_server.specs.PartStep.{Call, Grown, InsertedAs, OfClient, PartCall, Quietly, Unfelt, World}
 use Rattle.wl_server.specs.Plain.Calls.{AddsInterfaces, InsertsClient, NewClientAs, SetsDefaultLimit, SetsLimit}
 use Rattle.wl_server.specs.Server.{Seen, seen}
-use Rattle.wl_server.specs.Steps.{AnswersShared, Entry, OneStep, lacks_growth, offer_after}
+use Rattle.wl_server.specs.Steps.{AnswersShared, Entry, OneStep, lacks_growth}
 use Rattle.wl_server.proofs.CallSteps.Slots.{same_self}
-use Rattle.wl_server.proofs.Plain.Base.{calm, keeps, never, notes_stay, of_each, other_stays, own, when_false, when_true}
-
-module _ {T U G C : Type 0} {w : World T G C} {before after : BackendState T U G C} {s : Step T U G C} {answer : Reply T U} (call : Calls w before s answer after) where
-  -- what all clients share after the call
-  pub offer_of : after.server.offer ≡ offer_after before.server.offer (Asked s answer)
-  offer_of = let (e, is, refused, by) = call.step in subst (λ (c : Call T U G C). after.server.offer ≡ offer_after before.server.offer c) is by.offer
+use Rattle.wl_server.proofs.Plain.Base.{calm, keeps, never, notes_stay, of_each, offer_of, other_stays, own, when_false, when_true}
 
 module _ {T U G C : Type 0} {w : World T G C} {before after : BackendState T U G C} (transport : T) (client_data : C) where
   insert_each : (answer : Result ClientParts InsertClientError) → Calls w before (step.InsertClient transport client_data) (reply.InsertClient answer) after → (id : ClientParts)

@@ -32,7 +32,7 @@ use Rattle.wl_server.specs.Reading.{Around, NextAction, action_content, answered
 use Rattle.wl_server.specs.ReadingEnds.{ComesOfLast, ReadingEnds}
 use Rattle.wl_server.specs.Server.{Seen, seen}
 use Rattle.wl_server.specs.Telling.{Core, end_deeds, part_of, reader_part}
-use Rattle.wl_server.proofs.Plain.Base.{keeps, nothing_new, of_each, other_stays, own}
+use Rattle.wl_server.proofs.Plain.Base.{keeps, nothing_new, of_each, offer_of, other_stays, own}
 use Rattle.wl_server.proofs.Plain.ReadingEnds.{reading_ends}
 use Rattle.wl_server.proofs.Plain.ReadingNotes.{notes_of_reading}
 use Rattle.wl_server.proofs.Plain.Staying.{reads_keep}
@@ -182,8 +182,8 @@ module _ {T U G C : Type 0} (w : World T G C) (before after : BackendState T U G
       (other : ClientParts) → (lacked : Bool) × (did : List (Deed U)) × (r' : Reading)
       × ReadsFor w other before.server.offer id r (action_content answer) r' (seen other before.server) lacked did (seen other after.server)
 
-  reads_all : (r : Reading) (answer : Result Action ActionError) → Each r answer → ReadsClient before id answer after
-  reads_all r answer each = record {
+  reads_all : (r : Reading) (answer : Result Action ActionError) → after.server.offer ≡ before.server.offer → Each r answer → ReadsClient before id answer after
+  reads_all r answer offer each = record {
     client = (let (lacked, did, r', h) = each id in reads_as w id before.server.offer r r' (action_content answer) _ _ lacked did h);
     objects = λ other old.
         let (lacked, did, r', h) = each other.client in
@@ -192,11 +192,12 @@ module _ {T U G C : Type 0} (w : World T G C) (before after : BackendState T U G
     stored = λ other.
         let (lacked, did, r', h) = each other in
         keeps (same_client id other) _ _ _ lacked did _ (λ x. is_some x) (λ about p q next. refl) h;
+    globals = offer;
   }
 
   pub next_action_reads : (answer : Result Action ActionError) → Calls w before (step.NextAction id) (reply.NextAction answer) after → ReadsClient before id answer after
   next_action_reads answer call =
-      reads_all new_reading answer
+      reads_all new_reading answer (offer_of call)
       (λ other.
       let (lacked, did, (r, left, is, h)) = of_each call other in (
         lacked,
@@ -212,7 +213,7 @@ module _ {T U G C : Type 0} (w : World T G C) (before after : BackendState T U G
   pub next_action_within_reads : (reading left : Reading) (answer : Result Action ActionError)
       → Calls w before (step.NextActionWithin id reading) (reply.NextActionWithin answer left) after → ReadsClient before id answer after
   next_action_within_reads reading left answer call =
-      reads_all reading answer
+      reads_all reading answer (offer_of call)
       (λ other.
       let (lacked, did, (r, l, is, h)) = of_each call other in (
         lacked,

@@ -33,7 +33,7 @@ use Rattle.wl_server.specs.PartStep.{OfClient, World}
 use Rattle.wl_server.specs.Plain.{DataFit, EndsOpenRequest, IsRefusedWhole, RequestEndedAs, RequestIsEnded, RequestRefusedAs, is_ended, is_made, with_given, EndIsTold, end_note_of, notes_if_kept, sender_notes}
 use Rattle.wl_server.specs.Server.{Seen, seen}
 use Rattle.wl_server.specs.Telling.{Tells, Told, core_of, Core, Did, closed_down, end_deeds}
-use Rattle.wl_server.proofs.Plain.Base.{calm, keeps, never, nothing_new, of_each, other_stays, own, refused_to, unchanged}
+use Rattle.wl_server.proofs.Plain.Base.{calm, keeps, never, nothing_new, of_each, offer_of, other_stays, own, refused_to, unchanged}
 use Rattle.wl_server.proofs.Plain.Finishing.{given_named, given_others}
 use Rattle.wl_server.proofs.Plain.Naming.{names_so, removed_named, removed_others}
 use Rattle.wl_server.proofs.Plain.Verdicts.{told, told_nothing, told_starved, IsTold, told_ended}
@@ -534,4 +534,5 @@ module _ {T U G C : Type 0} (w : World T G C) (before after : BackendState T U G
     clients = λ other differ. let (lacked, did, h) = request_each answer call other in other_stays (same_client target other) _ _ _ lacked did _ differ h;
     stored = λ other.
         let (lacked, did, h) = request_each answer call other in keeps (same_client target other) _ _ _ lacked did _ (λ x. is_some x) (λ about p q r. refl) h;
+    globals = offer_of call;
   }

@@ -20,7 +20,7 @@ use Rattle.wl_server.specs.PartStep.{FlushedFor, World}
 use Rattle.wl_server.specs.Plain.{FlushedAs, FlushesClients, IsUnchanged}
 use Rattle.wl_server.specs.Server.{Seen, seen}
 use Rattle.wl_server.specs.Telling.{core_of}
-use Rattle.wl_server.proofs.Plain.Base.{keeps, missing_stays, none_and_some, notes_stay, nothing_new, of_each, one_value, other_stays, own, same_is, unchanged, when_true}
+use Rattle.wl_server.proofs.Plain.Base.{keeps, missing_stays, none_and_some, notes_stay, nothing_new, of_each, offer_of, one_value, other_stays, own, same_is, unchanged, when_true}
 
 silent : {U : Type 0} (es : List Sending) → notes_in {U = U} (map Sent es) ≡ []
 silent [] = refl
@@ -131,4 +131,5 @@ module _ {T U G C : Type 0} {w : World T G C} {before after : BackendState T U G
     objects = λ o.
         let (lacked, did, h) = flush_each target answer call o.client in
         flush_keeps w o.client before.server.offer _ _ lacked did (λ x. and_then x (λ p. named p.store o)) (λ p link. refl) target answer h;
+    globals = offer_of call;
   }

@@ -13,7 +13,7 @@ use Rattle.wl_server.specs.Backend.{BackendState}
 use Rattle.wl_server.specs.Globals.{with_table}
 use Rattle.wl_server.specs.Ids.{ClientParts}
 use Rattle.wl_server.specs.Part.{fresh_part, with_link}
-use Rattle.wl_server.specs.Plain.{ObjectsStay, OtherClientsStay, client_in, notes_made_in}
+use Rattle.wl_server.specs.Plain.{GlobalsStay, ObjectsStay, OtherClientsStay, client_in, notes_made_in}
 use Rattle.wl_server.specs.Server.{seen}
 
 module _ {T U G C : Type 0} where
@@ -34,7 +34,7 @@ module _ {T U G C : Type 0} where
   pub record InsertsClient (before : BackendState T U G C) (transport : T) (client_data : C) (answer : Result ClientParts InsertClientError) (after : BackendState T U G C)
       : Type 0 where
     pub client : NewClientAs before transport client_data answer after
-    pub offer : after.server.offer ≡ before.server.offer
+    pub offer : GlobalsStay before after
 
   -- The buffers of the client have the limit, if it is stored. Nothing else of it has changed, and nothing of another client.
   pub record SetsLimit (before : BackendState T U G C) (id : ClientParts) (limit : ℕ) (after : BackendState T U G C) : Type 0 where
@@ -43,7 +43,7 @@ module _ {T U G C : Type 0} where
     pub clients : OtherClientsStay before id after
     pub objects : ObjectsStay before after
     pub notes : (other : ClientParts) → notes_made_in after other ≡ notes_made_in before other
-    pub offer : after.server.offer ≡ before.server.offer
+    pub offer : GlobalsStay before after
     pub memory : after.refused ≡ false
 
   -- New clients get the limit. Nothing of a client that is stored has changed, nor of a global.

@@ -15,7 +15,7 @@ use Rattle.wl_server.specs.Errors.{error_of}
 use Rattle.wl_server.specs.Events.{SessionMessage, event_check}
 use Rattle.wl_server.specs.Ids.{ClientParts, IdParts}
 use Rattle.wl_server.specs.Part.{Part, note_of_end}
-use Rattle.wl_server.specs.Plain.{IsUnchanged, ObjectsStay, OtherClientsStay, OtherObjectsStay, as_killed, client_in, end_note_of, killed_in, notes_made_in, notes_waiting_in, object_in}
+use Rattle.wl_server.specs.Plain.{GlobalsStay, IsUnchanged, ObjectsStay, OtherClientsStay, OtherObjectsStay, as_killed, client_in, end_note_of, killed_in, notes_made_in, notes_waiting_in, object_in}
 use Rattle.wl_server.specs.Telling.{core_of}
 
 -- what a client is killed for if an error is posted on an object of it: the error, or that it could not be told of it
@@ -64,6 +64,7 @@ module _ {T U G C : Type 0} where
     pub objects : OtherObjectsStay before m.sender after
     pub clients : OtherClientsStay before m.sender.client after
     pub stored : (client : ClientParts) → is_some (client_in after client) ≡ is_some (client_in before client)
+    pub globals : GlobalsStay before after
 
   -- ---- an error
 
@@ -80,3 +81,4 @@ module _ {T U G C : Type 0} where
     pub client : MatchBool (id.number == 0) (IsUnchanged before after) (ErrorPostedAs before id code text after)
     pub objects : ObjectsStay before after
     pub clients : OtherClientsStay before id.client after
+    pub globals : GlobalsStay before after

@@ -19,7 +19,7 @@ use Rattle.wl_server.specs.Backend.{BackendState}
 use Rattle.wl_server.specs.Deeds.{Bind, Handed, Request}
 use Rattle.wl_server.specs.Ids.{ClientParts, IdParts}
 use Rattle.wl_server.specs.Part.{Part, fresh_object, id_at, named}
-use Rattle.wl_server.specs.Plain.{OtherClientsStay, client_in, object_in}
+use Rattle.wl_server.specs.Plain.{GlobalsStay, OtherClientsStay, client_in, object_in}
 use Rattle.wl_server.specs.Reading.{action_content}
 use Rattle.wl_server.specs.ReadingEnds.{MakesItsObject, ObjectsFit}
 use Rattle.wl_server.specs.Server.{Seen, seen}
@@ -85,3 +85,4 @@ module _ {T U G C : Type 0} where
     pub objects : (other : IdParts) → IsOld (client_in before other.client) other → object_in after other ≡ object_in before other
     pub clients : OtherClientsStay before id after
     pub stored : (other : ClientParts) → is_some (client_in after other) ≡ is_some (client_in before other)
+    pub globals : GlobalsStay before after
