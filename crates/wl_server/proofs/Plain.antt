@@ -13,13 +13,16 @@ pub mod Sending
 pub mod Cleanup
 pub mod Arguments
 pub mod ReadingEnds
+pub mod ReadingMemory
 pub mod ReadingNotes
 pub mod Staying
 pub mod Reading
 pub mod Reasons
 pub mod Insertion
 pub mod Globals
+pub mod EventMemory
 pub mod Events
 pub mod Errors
+pub mod DispatchGlobals
 pub mod Dispatch
 pub mod Transport

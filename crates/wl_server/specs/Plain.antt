@@ -13,11 +13,13 @@ pub mod Transport
 use Rattle.std.specs.Prelude.{◌≡◌, ◌⊎◌, ℕ, List, [], ◌∷◌, ◌++◌, Bool, true, false, ◌&&◌, if◌then◌else◌, Option, None, Some, IsSome, is_some, Result, Ok, Err, MatchOption, MatchResult, Vec, option_map}
 use Rattle.std.specs.Global.{Global}
 use Rattle.wl_wire.specs.declared.error.IoFault.{IoFault}
+use Rattle.wl_wire.specs.declared.error.IoFault.TheVariants as fault
 use Rattle.wl_wire.specs.declared.error.OutOfMemory.{OutOfMemory}
 use Rattle.wl_wire.specs.declared.interface.InterfaceId.{InterfaceId}
 use Rattle.wl_link.specs.declared.object.Object.{Object}
 use Rattle.wl_link.specs.Exchange.{Queue}
 use Rattle.wl_link.specs.Link.{Flushed, LinkState}
+use Rattle.wl_link.specs.Puts.{lacks_memory}
 use Rattle.wl_link.specs.Store.{empty_store}
 use Rattle.wl_server.specs.declared.error.CreateError.{CreateError}
 use Rattle.wl_server.specs.declared.error.DestroyError.{DestroyError}
@@ -40,7 +42,7 @@ use Rattle.wl_server.specs.Identified.{waiting_of}
 use Rattle.wl_server.specs.Ids.{ClientParts, IdParts, same_client}
 use Rattle.wl_server.specs.Lookups.{and_then, client_of, object_of}
 use Rattle.wl_server.specs.Part.{Part, fresh_object, id_of, named, note_of_end, same_id, with_user_data}
-use Rattle.wl_server.specs.PartStep.{share_of}
+use Rattle.wl_server.specs.PartStep.{lacks_create, share_of}
 use Rattle.wl_server.specs.Server.{notes_of, seen}
 use Rattle.wl_server.specs.Steps.{RiseBySlot}
 use Rattle.wl_server.specs.Telling.{core_of}
@@ -172,6 +174,7 @@ module _ {T U G C : Type 0} where
     pub clients : OtherClientsStay before client after
     pub notes : (other : ClientParts) → notes_made_in after other ≡ notes_made_in before other
     pub globals : GlobalsStay before after
+    pub memory : after.refused ≡ lacks_create answer
 
   -- ---- the ends of actions
 
@@ -316,6 +319,16 @@ module _ {T U G C : Type 0} where
       (λ p. (link : LinkState T) × Flushed sends p.link answer link × (client_in after id ≡ Some (record p { link = link })))
       × OtherClientsStay before id after
 
+  -- Memory was refused in a flush of one client exactly if the answer is `OutOfMemory`. In one of all clients it was only if the
+  -- flush of some live client was answered so.
+  abbrev pub FlushMemory : (T → Queue → Result ℕ IoFault → T → Type 0) → BackendState T U G C → Option ClientParts → Result (Unit {0}) IoFault → BackendState T U G C
+      → Type 0
+  FlushMemory sends before None answer after =
+      after.refused ≡ true →
+      (id : ClientParts) × (p : Part T U C) × (link : LinkState T) × (client_in before id ≡ Some p) × (p.is_killed ≡ false)
+      × Flushed sends p.link (Err fault.OutOfMemory) link × (client_in after id ≡ Some (record p { link = link }))
+  FlushMemory sends before (Some id) answer after = after.refused ≡ lacks_memory answer
+
   -- A flush changes nothing of a client but its link: the transport, and what waits to be sent.
   pub record FlushesClients (sends : T → Queue → Result ℕ IoFault → T → Type 0) (before : BackendState T U G C) (target : Option ClientParts) (answer : Result (Unit {0}) IoFault)
       (after : BackendState T U G C) : Type 0 where
@@ -324,11 +337,12 @@ module _ {T U G C : Type 0} where
     pub notes : (id : ClientParts) → notes_made_in after id ≡ notes_made_in before id
     pub objects : ObjectsStay before after
     pub globals : GlobalsStay before after
+    pub memory : FlushMemory sends before target answer after
 
   -- ---- a cleanup
 
   -- Each killed client is handed out. A live one stays, and its notes that waited are made. Of other ids nothing is handed
-  -- out.
+  -- out. Memory was refused only if the last flush of some killed client was answered so.
   pub record CleansTo (sends : T → Queue → Result ℕ IoFault → T → Type 0) (before : BackendState T U G C) (out : List (ClientParts × T)) (after : BackendState T U G C) : Type 0 where
     pub killed : (id : ClientParts) (p : Part T U C) → client_in before id ≡ Some p → p.is_killed ≡ true → HandsOut sends p (share_of id out) (client_in after id)
     pub live : (id : ClientParts) (p : Part T U C) → client_in before id ≡ Some p → p.is_killed ≡ false
@@ -336,6 +350,9 @@ module _ {T U G C : Type 0} where
     pub unknown : (id : ClientParts) → client_in before id ≡ None → (share_of id out ≡ []) × (seen id after.server ≡ seen id before.server)
     pub by_slot : RiseBySlot out
     pub globals : GlobalsStay before after
+    pub memory : after.refused ≡ true →
+        (id : ClientParts) × (p : Part T U C) × (link : LinkState T) × (client_in before id ≡ Some p) × (p.is_killed ≡ true)
+        × Flushed sends p.link (Err fault.OutOfMemory) link × (share_of id out ≡ link.transport ∷ [])
 
   abbrev pub CleansUpClients : (T → Queue → Result ℕ IoFault → T → Type 0) → BackendState T U G C → Result (Vec (ClientParts × T) Global) OutOfMemory → BackendState T U G C
       → Type 0

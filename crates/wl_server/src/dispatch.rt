@@ -76,7 +76,7 @@ impl<T: Transport + Drop, U: Drop, G: GlobalHandler<C> + Drop, C: Drop> Backend<
         client: &ClientId,
     ) -> Result<usize, IoFault>
         ensures call { DispatchesClient (over T.sends T.receives G.views) (answering H.requests H.binds) client.now handler.old self.old.server result handler.new self.new }
-        ensures plain { DispatchOfOneLeaves self.old.server client.now result self.new }
+        ensures plain { DispatchOfOneLeaves (answering H.requests H.binds) self.old.server client.now result self.new }
     {
         self.begin_dispatch();
         let answer = self.serve(handler, client);
@@ -98,7 +98,7 @@ impl<T: Transport + Drop, U: Drop, G: GlobalHandler<C> + Drop, C: Drop> Backend<
         clients: &[ClientId],
     ) -> Result<usize, IoFault>
         ensures call { DispatchesAll (over T.sends T.receives G.views) (answering H.requests H.binds) clients.now handler.old self.old.server result handler.new self.new }
-        ensures plain { DispatchOfSeveralLeaves result self.new }
+        ensures plain { DispatchOfSeveralLeaves (answering H.requests H.binds) self.old.server result self.new }
     {
         self.begin_dispatch();
         let mut total = 0;

@@ -13,7 +13,7 @@ use Rattle.wl_server.specs.Part.{Part}
 use Rattle.wl_server.specs.PartStep.{Asked, Call, OfClient, OnPart, PartCall, PartStep, World}
 use Rattle.wl_server.specs.Plain.{IsUnchanged}
 use Rattle.wl_server.specs.Server.{Seen, seen}
-use Rattle.wl_server.specs.Steps.{Entry, OneStep, inserted_by, lacks_growth, offer_after}
+use Rattle.wl_server.specs.Steps.{Entry, IsRefused, OneStep, inserted_by, lacks_growth, offer_after}
 use Rattle.wl_server.proofs.CallSteps.Slots.{Are, Serials, Slots, compare, same_parts, same_self, same_serials, same_slots}
 
 -- ---- a choice that is known
@@ -26,13 +26,48 @@ pub when_false : {Q : Type 0} (P : Type 0) (b : Bool) → b ≡ false → MatchB
 when_false P true is h = absurd (true≢false is)
 when_false P false is h = h
 
+pub split_bool : {P Q : Type 0} (b : Bool) → MatchBool b P Q → ((b ≡ true) × P) ⊎ ((b ≡ false) × Q)
+split_bool true p = inl (refl, p)
+split_bool false q = inr (refl, q)
+
 pub one_value : {A : Type 0} {a b : A} (o : Option A) → o ≡ Some a → o ≡ Some b → a ≡ b
 one_value o is other = cc
 
 pub none_and_some : {A : Type 0} {a : A} (o : Option A) → o ≡ None → o ≡ Some a → ⊥
 none_and_some o none is = absurd cc
 
+-- two answers of which each is true if the other is
+as_true : (a b : Bool) → (a ≡ true → b ≡ true) → (b ≡ true → a ≡ true) → a ≡ b
+as_true true b there back = sym (there refl)
+as_true false true there back = back refl
+as_true false false there back = refl
+
+-- two ids that are the same are one
+pub same_is : (a b : ClientParts) → same_client a b ≡ true → a ≡ b
+same_is a b is =
+    elim (compare a b) [
+      | Are slot serial ↦ same_parts a b slot serial
+      | Slots slot ↦ absurd (true≢false (sym is ∙ same_slots a b slot))
+      | Serials slot serial ↦ absurd (true≢false (sym is ∙ same_serials a b slot serial))
+    ]
+
 -- ---- a call
+
+module _ {T U G C : Type 0} (id : ClientParts) (e : Entry T U G C) (by : IsRefused e) (growth : lacks_growth e.call ≡ false)
+    (others : (other : ClientParts) → same_client id other ≡ false → e.lacks other ≡ false) where
+  -- memory was refused in a call about this client exactly if it was refused to the client
+  pub lacks_as : e.refused ≡ e.lacks id
+  lacks_as =
+      as_true e.refused (e.lacks id)
+      (λ known. elim (by.0 known) [
+        | inl grows ↦ absurd (true≢false (sym grows ∙ growth))
+        | inr (other, lacks) ↦ of other lacks (same_client id other) refl
+      ])
+      (λ lacks. by.1 (inr (id, lacks)))
+    where
+      of : (other : ClientParts) → e.lacks other ≡ true → (b : Bool) → same_client id other ≡ b → e.lacks id ≡ true
+      of other lacks true same = ap e.lacks (same_is id other same) ∙ lacks
+      of other lacks false differ = absurd (true≢false (sym lacks ∙ others other differ))
 
 module _ {T U G C : Type 0} {w : World T G C} {before after : BackendState T U G C} {s : Step T U G C} {answer : Reply T U} (call : Calls w before s answer after) where
   abbrev Each : ClientParts → Type 0
@@ -71,20 +106,46 @@ module _ {T U G C : Type 0} {w : World T G C} {before after : BackendState T U G
       (id : ClientParts) (lacked : Bool) (did : List (Deed U))
       → PartStep w id before.server.offer s answer (seen id before.server) lacked did (seen id after.server) → lacked ≡ false
 
-  calm_entry : (e : Entry T U G C) → e.call ≡ Asked s answer → OneStep w before.server e after.server → lacks_growth (Asked s answer) ≡ false → NeverLacks → e.refused ≡ false
-  calm_entry e is by growth never = at e.refused refl
-    where
-      nobody : (lacks_growth e.call ≡ true) ⊎ ((id : ClientParts) × (e.lacks id ≡ true)) → ⊥
-      nobody (inl grows) = true≢false (sym (subst (λ (c : Call T U G C). lacks_growth c ≡ true) is grows) ∙ growth)
-      nobody (inr (id, lacks)) = true≢false (sym lacks ∙ never id (e.lacks id) (e.did id) (each_in id e is by))
-
-      at : (b : Bool) → e.refused ≡ b → b ≡ false
-      at false known = refl
-      at true known = absurd (nobody (by.refused.0 known))
+  -- for what the call makes of its own alone, if it never is to a client
+  pub by_growth : NeverLacks → after.refused ≡ lacks_growth (Asked s answer)
+  by_growth never =
+      let (e, is, refused, by) = call.step in
+      sym refused
+      ∙ as_true e.refused (lacks_growth (Asked s answer))
+      (λ known. elim (by.refused.0 known) [
+        | inl grows ↦ subst (λ (c : Call T U G C). lacks_growth c ≡ true) is grows
+        | inr (id, lacks) ↦ absurd (true≢false (sym lacks ∙ never id (e.lacks id) (e.did id) (each_in id e is by)))
+      ])
+      (λ grows. by.refused.1 (inl (subst (λ (c : Call T U G C). lacks_growth c ≡ true) (sym is) grows)))
 
   -- to nobody
   pub calm : lacks_growth (Asked s answer) ≡ false → NeverLacks → after.refused ≡ false
-  calm growth never = let (e, is, refused, by) = call.step in sym refused ∙ calm_entry e is by growth never
+  calm growth never = by_growth never ∙ growth
+
+  -- in a call about one client: to that client
+  pub of_own : (id : ClientParts) → lacks_growth (Asked s answer) ≡ false
+      → ((other : ClientParts) (lacked : Bool) (did : List (Deed U)) → same_client id other ≡ false
+      → PartStep w other before.server.offer s answer (seen other before.server) lacked did (seen other after.server) → lacked ≡ false)
+      → (did : List (Deed U)) × PartStep w id before.server.offer s answer (seen id before.server) after.refused did (seen id after.server)
+  of_own id growth others =
+      let (e, is, refused, by) = call.step in (
+        e.did id,
+        subst (λ (b : Bool). PartStep w id before.server.offer s answer (seen id before.server) b (e.did id) (seen id after.server))
+            (sym
+            (lacks_as id e by.refused (ap lacks_growth is ∙ growth) (λ other differ. others other (e.lacks other) (e.did other) differ (each_in other e is by))) ∙ refused)
+            (each_in id e is by),
+      )
+
+  -- to some client, if not for what the call makes of its own
+  pub some_lacks : lacks_growth (Asked s answer) ≡ false → after.refused ≡ true
+      → (id : ClientParts) × (did : List (Deed U)) × PartStep w id before.server.offer s answer (seen id before.server) true did (seen id after.server)
+  some_lacks growth known =
+      let (e, is, refused, by) = call.step in
+      elim (by.refused.0 (refused ∙ known)) [
+        | inl grows ↦ absurd (true≢false (sym (subst (λ (c : Call T U G C). lacks_growth c ≡ true) is grows) ∙ growth))
+        | inr (id, lacks) ↦
+            (id, e.did id, subst (λ (b : Bool). PartStep w id before.server.offer s answer (seen id before.server) b (e.did id) (seen id after.server)) lacks (each_in id e is by))
+      ]
 
   -- to this client
   pub refused_to : (id : ClientParts)
@@ -184,15 +245,6 @@ module _ {T U C : Type 0} (b : Bool) (s : Seen T U C) (R : Part T U C → Part T
             | inl (none, (m, (calm, nothing, same))) ↦ same
             | inr (p, there, (q, r, same)) ↦ absurd (none_and_some s.part (absent refl) there)
           ]
-
--- two ids that are the same are one
-pub same_is : (a b : ClientParts) → same_client a b ≡ true → a ≡ b
-same_is a b is =
-    elim (compare a b) [
-      | Are slot serial ↦ same_parts a b slot serial
-      | Slots slot ↦ absurd (true≢false (sym is ∙ same_slots a b slot))
-      | Serials slot serial ↦ absurd (true≢false (sym is ∙ same_serials a b slot serial))
-    ]
 
 -- a step about this very client
 pub own : {T U C : Type 0} (id : ClientParts) (s : Seen T U C) (R : Part T U C → Part T U C → Type 0) (missing : Type 0) (lacked : Bool) (did : List (Deed U)) (t : Seen T U C)

@@ -1,10 +1,13 @@
 -- Killed clients leave, and notes are handed out.
-use Rattle.std.proofs.Common.{◌≡◌, Bool, true, false, List, [], ◌∷◌, ◌++◌, map, Option, None, Some, Result, Ok, Err, refl, sym, ap, subst, ◌∙◌}
+use Rattle.std.proofs.Common.{◌≡◌, Bool, true, false, List, [], ◌∷◌, ◌++◌, map, Option, None, Some, Result, Ok, Err, refl, sym, ap, subst, ◌∙◌, true≢false}
 use mathlib.Core.Logic.{inl, inr}
 use Rattle.std.specs.Prelude.{Vec}
 use Rattle.std.specs.Global.{Global}
+use Rattle.wl_wire.specs.declared.error.IoFault.{IoFault}
+use Rattle.wl_wire.specs.declared.error.IoFault.TheVariants as fault
 use Rattle.wl_wire.specs.declared.error.OutOfMemory.{OutOfMemory}
 use Rattle.wl_link.proofs.Calls.Branches.{either_option}
+use Rattle.wl_link.specs.Link.{Flushed, FlushedBy, LinkState}
 use Rattle.wl_server.specs.declared.notes.Happening.{Happening}
 use Rattle.wl_server.specs.declared.notes.Note.{Note}
 use Rattle.wl_server.specs.declared.runs.step.Reply.{Reply}
@@ -21,7 +24,8 @@ use Rattle.wl_server.specs.PartStep.{Call, CleanedAs, NotesTaken, World, share_o
 use Rattle.wl_server.specs.Plain.{CleansUpClients, HandsOut, TakesNotes}
 use Rattle.wl_server.specs.Server.{Seen, seen}
 use Rattle.wl_server.specs.Steps.{RiseBySlot, RisesBySlot}
-use Rattle.wl_server.proofs.Plain.Base.{calm, none_and_some, of_each, offer_of, one_value, refused_growth, unchanged, when_false, when_true}
+use Rattle.wl_server.proofs.Plain.Base.{calm, none_and_some, of_each, offer_of, one_value, refused_growth, some_lacks, split_bool, unchanged, when_false, when_true}
+use Rattle.wl_server.proofs.Plain.Verdicts.{lacking}
 
 all_noted : {U : Type 0} (notes : List (Happening U)) → notes_in (map Noted notes) ≡ notes
 all_noted [] = refl
@@ -80,6 +84,27 @@ module _ {T U G C : Type 0} {w : World T G C} {before after : BackendState T U G
   rises : (out : Vec (ClientParts × T) Global) → Calls w before step.Cleanup (reply.Cleanup (Ok out)) after → RiseBySlot out.items
   rises out call = let (e, is, refused, by) = call.step in subst (λ (c : Call T U G C). RisesBySlot c) is by.order
 
+  -- the last flush of a killed client lacked memory
+  cleanup_memory : (out : Vec (ClientParts × T) Global) → Calls w before step.Cleanup (reply.Cleanup (Ok out)) after → after.refused ≡ true
+      → (id : ClientParts) × (p : Part T U C) × (link : LinkState T) × ((seen id before.server).part ≡ Some p) × (p.is_killed ≡ true)
+      × Flushed w.sends p.link (Err fault.OutOfMemory) link × (share_of id out.items ≡ link.transport ∷ [])
+  cleanup_memory out call known =
+      let (id, did, (r, is, h)) = some_lacks call refl known in
+      elim (either_option (seen id before.server).part
+      (subst (λ (a : Result (Vec (ClientParts × T) Global) OutOfMemory). CleanedAs w id before.server.offer a (seen id before.server) true did (seen id after.server)) (inside r is) h)) [
+        | inl (none, (nobody, (calm, nothing, stays))) ↦ absurd (true≢false calm)
+        | inr (p, there, (q, cleans, same)) ↦
+            elim (split_bool p.is_killed cleans) [
+              | inl (dead, (flushed, answer, end, (es, link, by, memory, did_so, ends), did_all, handed, gone)) ↦
+                  (id, p, link, there, dead, (es, subst (λ (x : Result (Unit {0}) IoFault). FlushedBy w.sends p.link es x link) (lacking answer (sym memory)) by), handed ∙ ap (λ (x : Part T U C). x.link.transport ∷ []) ends)
+              | inr (live, (calm, did_so, handed, stays)) ↦ absurd (true≢false calm)
+            ]
+      ]
+    where
+      inside : (r : Result (Vec (ClientParts × T) Global) OutOfMemory) → ◌≡◌ {A = Reply T U} (reply.Cleanup (Ok out)) (reply.Cleanup r)
+          → ◌≡◌ {A = Result (Vec (ClientParts × T) Global) OutOfMemory} r (Ok out)
+      inside r is = cc
+
   pub cleans_up : (answer : Result (Vec (ClientParts × T) Global) OutOfMemory) → Calls w before step.Cleanup (reply.Cleanup answer) after → CleansUpClients w.sends before answer after
   cleans_up (Ok out) call = record {
     killed = λ id p there killed. let (lacked, did, h) = cleanup_each (Ok out) call id in cleaned_killed w id before.server.offer out _ _ lacked did p there killed h;
@@ -87,6 +112,7 @@ module _ {T U G C : Type 0} {w : World T G C} {before after : BackendState T U G
     unknown = λ id none. let (lacked, did, h) = cleanup_each (Ok out) call id in cleaned_none w id before.server.offer out _ _ lacked did none h;
     by_slot = rises out call;
     globals = offer_of call;
+    memory = λ known. cleanup_memory out call known;
   }
   cleans_up (Err e) call = (
     unchanged call refl refl (λ id. let (lacked, did, (memory, none, same)) = cleanup_each (Err e) call id in same),

@@ -26,7 +26,7 @@ use Rattle.wl_server.specs.Part.{Part, fresh_object, id_at, id_of, last_possible
 use Rattle.wl_server.specs.PartStep.{OfClient, World, lacks_create}
 use Rattle.wl_server.specs.Plain.{CreatedAs, CreatesObject}
 use Rattle.wl_server.specs.Server.{Seen, seen}
-use Rattle.wl_server.proofs.Plain.Base.{ids_differ, keeps, notes_stay, nothing_new, of_each, offer_of, other_stays, own, unchanged}
+use Rattle.wl_server.proofs.Plain.Base.{ids_differ, keeps, notes_stay, nothing_new, of_each, of_own, offer_of, other_stays, own, unchanged, when_false}
 use Rattle.wl_server.proofs.Plain.Naming.{both_none, named_here, nothing_has, other_named}
 
 -- the object was put at a number that held none
@@ -181,4 +181,19 @@ module _ {T U G C : Type 0} {w : World T G C} {before after : BackendState T U G
         let (lacked, did, h) = create_each answer call other in
         notes_stay (same_client target other) _ _ _ lacked did _ (λ p q (memory, none, makes). ap notes_in none) h;
     globals = offer_of call;
+    memory = (
+        let (did, (r, is, h)) = of_own call target refl (λ other lacked did differ (r, is, h). (when_false _ (same_client target other) differ h).0) in
+        of_answer r after.refused did (inside r is) h
+        );
   }
+    where
+      inside : (r : Result IdParts CreateError) → ◌≡◌ {A = Reply T U} (reply.CreateObject answer) (reply.CreateObject r) → r ≡ answer
+      inside r is = cc
+
+      of_answer : (r : Result IdParts CreateError) (lacked : Bool) (did : List (Deed U)) → r ≡ answer
+          → Of before.server.offer.table target target i version u r (seen target before.server) lacked did (seen target after.server) → lacked ≡ lacks_create answer
+      of_answer r lacked did same h =
+          elim (either_option (seen target before.server).part (own target _ _ _ lacked did _ h)) [
+            | inl (none, (is, (calm, nothing, stays))) ↦ calm ∙ ap lacks_create (sym is ∙ same)
+            | inr (p, there, (q, (memory, none, makes), stays)) ↦ memory ∙ ap lacks_create same
+          ]

@@ -37,7 +37,7 @@ use Rattle.wl_server.specs.Ids.{ClientParts}
 use Rattle.wl_server.specs.Objects.{unless_refused}
 use Rattle.wl_server.specs.Part.{Part}
 use Rattle.wl_server.specs.PartStep.{Asked, Call, CleanedAs, OnPart, PartCall, ReadsFor, World, around}
-use Rattle.wl_server.specs.Plain.Dispatch.{AllLive, DispatchOfOneLeaves, DispatchOfSeveralLeaves, IsBusy, IsIdle, LeftBy}
+use Rattle.wl_server.specs.Plain.Dispatch.{AllLive, DispatchOfOneLeaves, DispatchOfSeveralLeaves, IsBusy, IsIdle, KeepsGlobals, LeftBy}
 use Rattle.wl_server.specs.Plain.Reading.{FaultLeaves, IsHandedOut, IsKilledOnce, ReadAs}
 use Rattle.wl_server.specs.Reading.{Around, NextAction, action_content, server}
 use Rattle.wl_server.specs.ReadingEnds.{LastReceiveFailed, ReadingEnds, StopsItself}
@@ -45,9 +45,10 @@ use Rattle.wl_server.specs.Server.{Seen, ServerState, seen}
 use Rattle.wl_server.specs.Steps.{Entry, OneStep, lacks_growth}
 use Rattle.wl_server.specs.Telling.{Core, Told, reader_part}
 use Rattle.wl_server.proofs.Dispatches.Standing.{Stands, born_still, run_stands}
-use Rattle.wl_server.proofs.Plain.Base.{none_and_some, one_value, own}
+use Rattle.wl_server.proofs.Plain.Base.{none_and_some, one_value, own, split_bool}
 use Rattle.wl_server.proofs.Plain.Cleanup.{cleaned_killed, cleaned_live, cleaned_none}
-use Rattle.wl_server.proofs.Plain.Reading.{reads_as, split_bool}
+use Rattle.wl_server.proofs.Plain.DispatchGlobals.{dispatch_keeps, dispatches_keep}
+use Rattle.wl_server.proofs.Plain.Reading.{reads_as}
 use Rattle.wl_server.proofs.Plain.ReadingEnds.{reading_ends, split_result}
 use Rattle.wl_server.proofs.Plain.Requests.{own_lacks}
 
@@ -545,7 +546,7 @@ module _ {H T U G C : Type 0} (w : World T G C) (answers : Answering H T U G C) 
   swept before offer out s t lacked did h (fault.Other n) read gone shut = gone_then w id offer out s t lacked did h gone
 
   pub dispatch_leaves : (h h' : H) (before : ServerState T U G C) (result : Result ℕ IoFault) (after : BackendState T U G C) → DispatchesClient w answers id h before result h' after
-      → DispatchOfOneLeaves before id result after
+      → DispatchOfOneLeaves answers before id result after
   dispatch_leaves h h' before result after (calls, lacked, answer, mid, rounds, ends) =
       let c = of_client w mid after ends.cleanup ends.out ends.cleans ends.cleanup_is id in
       let was : EndedBy rounds.fault (seen id mid).part = last_leaves rounds.rounds_end.end in
@@ -579,11 +580,11 @@ module _ {H T U G C : Type 0} (w : World T G C) (answers : Answering H T U G C) 
 
       at : (r : Result (Vec (ClientParts × T) Global) OutOfMemory) → ends.out ≡ reply.Cleanup r
           → CleanedAs w id mid.offer r (seen id mid) (ends.cleanup.lacks id) (ends.cleanup.did id) (seen id after.server) → EndedBy rounds.fault (seen id mid).part
-          → DispatchOfOneLeaves before id result after
-      at (Ok out) is h was = record {
+          → DispatchOfOneLeaves answers before id result after
+      at (Ok out) is cleans was = record {
         client = subst (λ (a : Result ℕ IoFault). LeftBy before id (seen id after.server).part a) (sym (result_as (Ok out) is))
-            (swept before mid.offer out (seen id mid) (seen id after.server) (ends.cleanup.lacks id) (ends.cleanup.did id) h rounds.fault rounds.left.read was
-            (λ so. refused out h so (cases_lt before.last_client id.serial)));
+            (swept before mid.offer out (seen id mid) (seen id after.server) (ends.cleanup.lacks id) (ends.cleanup.did id) cleans rounds.fault rounds.left.read was
+            (λ so. refused out cleans so (cases_lt before.last_client id.serial)));
         all = λ fine. all_live w mid after ends.cleanup ends.out ends.cleans ends.cleanup_is out is;
         memory = λ lacks.
             ends.refused
@@ -591,32 +592,38 @@ module _ {H T U G C : Type 0} (w : World T G C) (answers : Answering H T U G C) 
             (rounds.rounds_end.lacked_is
             ∙ or_then rounds.rounds_end.first_lacked rounds.rounds_end.last_lacked
             (last_starved rounds.rounds_end.end (of_fault rounds.fault rounds.left.read (sym (result_as (Ok out) is) ∙ lacks))));
+        globals = λ keeps. dispatch_keeps w answers keeps id h h' before mid after calls lacked answer result rounds ends;
       }
-      at (Err l) is h was = record {
+      at (Err l) is cleans was = record {
         client = subst (λ (a : Result ℕ IoFault). LeftBy before id (seen id after.server).part a) (sym (result_as (Err l) is)) tt;
         all = λ fine. absurd (fine (result_as (Err l) is));
         memory = λ lacks.
             ends.refused ∙ or_then lacked ends.cleanup.refused (refused_as w mid after ends.cleanup ends.out ends.cleans ends.cleanup_is l is);
+        globals = λ keeps. dispatch_keeps w answers keeps id h h' before mid after calls lacked answer result rounds ends;
       }
 
 -- ---- several clients
 
 module _ {H T U G C : Type 0} (w : World T G C) (answers : Answering H T U G C) where
   pub dispatches_leave : (ids : List ClientParts) (h h' : H) (before : ServerState T U G C) (result : Result ℕ IoFault) (after : BackendState T U G C)
-      → DispatchesAll w answers ids h before result h' after → DispatchOfSeveralLeaves result after
+      → DispatchesAll w answers ids h before result h' after → DispatchOfSeveralLeaves answers before result after
   dispatches_leave ids h h' before result after (calls, lacked, total, mid, each, ends) =
       let c = of_client w mid after ends.cleanup ends.out ends.cleans ends.cleanup_is (record { slot = 0; serial = 0 }) in at c.r c.answer_is
     where
       result_as : (r : Result (Vec (ClientParts × T) Global) OutOfMemory) → ends.out ≡ reply.Cleanup r → result ≡ after_cleanup r (Ok total)
       result_as r is = ends.result_is ∙ ap (λ (o : Reply T U). cleaned o (Ok total)) is
 
-      at : (r : Result (Vec (ClientParts × T) Global) OutOfMemory) → ends.out ≡ reply.Cleanup r → DispatchOfSeveralLeaves result after
-      at (Ok out) is = subst (λ (a : Result ℕ IoFault). DispatchOfSeveralLeaves a after) (sym (result_as (Ok out) is))
-          (record { all = all_live w mid after ends.cleanup ends.out ends.cleans ends.cleanup_is out is })
-      at (Err l) is = subst (λ (a : Result ℕ IoFault). DispatchOfSeveralLeaves a after) (sym (result_as (Err l) is))
+      kept : KeepsGlobals answers → after.server.offer ≡ before.offer
+      kept keeps = dispatches_keep w answers keeps ids h h' before mid after calls lacked total result each ends
+
+      at : (r : Result (Vec (ClientParts × T) Global) OutOfMemory) → ends.out ≡ reply.Cleanup r → DispatchOfSeveralLeaves answers before result after
+      at (Ok out) is = subst (λ (a : Result ℕ IoFault). DispatchOfSeveralLeaves answers before a after) (sym (result_as (Ok out) is))
+          (record { all = all_live w mid after ends.cleanup ends.out ends.cleans ends.cleanup_is out is; globals = kept })
+      at (Err l) is = subst (λ (a : Result ℕ IoFault). DispatchOfSeveralLeaves answers before a after) (sym (result_as (Err l) is))
           (record {
             all = (
               refl,
               ends.refused ∙ or_then lacked ends.cleanup.refused (refused_as w mid after ends.cleanup ends.out ends.cleans ends.cleanup_is l is),
             );
+            globals = kept;
           })

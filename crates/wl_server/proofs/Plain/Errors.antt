@@ -1,5 +1,5 @@
 -- An error that the program posts.
-use Rattle.std.proofs.Common.{◌≡◌, ℕ, Bool, true, false, cond, List, [], ◌∷◌, ◌++◌, append-nil, map, Option, None, Some, Result, Ok, Err, refl, sym, ap, subst, ◌∙◌}
+use Rattle.std.proofs.Common.{◌≡◌, ◌≢◌, ℕ, Bool, true, false, cond, List, [], ◌∷◌, ◌++◌, append-nil, map, Option, None, Some, IsSome, is_some, Result, Ok, Err, refl, sym, ap, subst, ◌∙◌, true≢false}
 use mathlib.Core.Logic.{inl, inr}
 use Rattle.std.specs.Prelude.{◌⊎◌, ◌==◌, MatchBool, option_map}
 use Rattle.wl_wire.specs.declared.error.IoFault.{IoFault}
@@ -24,9 +24,9 @@ use Rattle.wl_server.specs.Part.{Part, named}
 use Rattle.wl_server.specs.PartStep.{OfClient, World}
 use Rattle.wl_server.specs.Plain.{IsUnchanged, as_killed, end_note_of}
 use Rattle.wl_server.specs.Plain.Events.{ErrorPostedAs, IsReasonOfError, KillsForError}
-use Rattle.wl_server.specs.Server.{Seen}
+use Rattle.wl_server.specs.Server.{Seen, seen}
 use Rattle.wl_server.specs.Telling.{Core, Tells, Told, closed_down, core_of, deeds_of, end_deeds, part_of, speaker}
-use Rattle.wl_server.proofs.Plain.Base.{keeps, nothing_new, of_each, offer_of, other_stays, own, unchanged, when_false, when_true}
+use Rattle.wl_server.proofs.Plain.Base.{keeps, nothing_new, of_each, of_own, offer_of, other_stays, own, unchanged, when_false, when_true}
 use Rattle.wl_server.proofs.Readings.Notes.{notes_told}
 
 by_choice : {P Q : Type 0} (b : Bool) → MatchBool b P Q → ((b ≡ true) × P) ⊎ ((b ≡ false) × Q)
@@ -145,8 +145,23 @@ module _ {T U G C : Type 0} {w : World T G C} {before after : BackendState T U G
         (λ about p q r. ap (λ st. named st o) (stores_stay w.sends before.server.offer.table id code text lacked did p q r)) h;
     clients = λ other differ. let (lacked, did, (is, h)) = of_each call other in other_stays (same_client id.client other) _ _ _ lacked did _ differ h;
     globals = offer_of call;
+    memory = λ known.
+        let (did, (is, h)) = of_own call id.client refl (λ other lacked did differ (is, h). (when_false _ (same_client id.client other) differ h).0) in
+        asked did known h;
   }
     where
+      asked : (did : List (Deed U)) → after.refused ≡ true
+          → OfClient (same_client id.client id.client) (seen id.client before.server) (Does w.sends before.server.offer.table id code text after.refused did) (Unit {0}) after.refused did (seen id.client after.server)
+          → (id.number ≢ 0) × IsSome (seen id.client before.server).part
+      asked did known h =
+          elim (either_option (seen id.client before.server).part (own id.client _ _ _ after.refused did _ h)) [
+            | inl (none, (m, (calm, nothing, stays))) ↦ absurd (true≢false (sym known ∙ calm))
+            | inr (p, there, (q, does, same)) ↦ (
+              λ zero. absurd (true≢false (sym known ∙ (when_true _ (id.number == 0) (ap (λ (n : ℕ). n == 0) zero) does).0)),
+              ap is_some there,
+            )
+          ]
+
       by_number : (b : Bool) → (id.number == 0) ≡ b → MatchBool b (IsUnchanged before after) (ErrorPostedAs before id code text after)
       by_number true null =
           unchanged call refl refl

@@ -42,11 +42,12 @@ use Rattle.wl_server.specs.Lookups.{and_then, client_of}
 use Rattle.wl_server.specs.Part.{Part, id_of, named, note_of_end, same_id}
 use Rattle.wl_server.specs.PartStep.{OfClient, World}
 use Rattle.wl_server.specs.Plain.{IsUnchanged, client_in, killed_in, notes_made_in}
-use Rattle.wl_server.specs.Plain.Events.{ChecksTo, EmitsEvent, EventIsPut, EventSentAs}
+use Rattle.wl_server.specs.Plain.Events.{ChecksTo, EmitsEvent, EventIsPut, EventMemory, EventSentAs}
 use Rattle.wl_server.specs.Server.{Seen, seen}
 use Rattle.wl_server.specs.Telling.{Core, Did, Tells, Told, core_of, end_deeds}
 use Rattle.wl_server.proofs.OverRuns.Moves.MovesOfCalls.{granted_named}
-use Rattle.wl_server.proofs.Plain.Base.{ids_differ, keeps, nothing_new, of_each, offer_of, one_value, other_stays, own, refused_to, same_is, unchanged}
+use Rattle.wl_server.proofs.Plain.Base.{ids_differ, keeps, nothing_new, of_each, of_own, offer_of, one_value, other_stays, own, refused_to, same_is, unchanged, when_false}
+use Rattle.wl_server.proofs.Plain.EventMemory.{MemoryBy, event_memory_of, is_sent, lacking, refusing}
 use Rattle.wl_server.proofs.Plain.Naming.{names_so, removed_named, removed_others}
 use Rattle.wl_server.proofs.Plain.Verdicts.{IsStarved, IsTold, told_ended, told_nothing, told_starved}
 
@@ -652,6 +653,37 @@ module _ {T U G C : Type 0} (w : World T G C) (before after : BackendState T U G
     sent_as (Err refused.ForeignObject) is = was_refused refused.ForeignObject is (λ e. cc)
     sent_as (Err refused.WrongInterface) is = was_refused refused.WrongInterface is (λ e. cc)
 
+    -- whether memory was refused
+    error_memory : (e : EventError) → (e ≡ refused.OutOfMemory → ⊥) → after.refused ≡ false → EventMemory before client (Err e) after
+    error_memory refused.OutOfMemory never calm = absurd (never refl)
+    error_memory refused.InvalidId never calm = calm
+    error_memory refused.UnknownOpcode never calm = calm
+    error_memory refused.BadSignature never calm = calm
+    error_memory refused.NullObject never calm = calm
+    error_memory refused.NullNewId never calm = calm
+    error_memory refused.ForeignObject never calm = calm
+    error_memory refused.WrongInterface never calm = calm
+
+    memory_by : (p q : Part T U C) → killed_in before client ≡ Some p.is_killed → killed_in after client ≡ Some q.is_killed → MemoryBy p q answer after.refused
+        → EventMemory before client answer after
+    memory_by p q was is (lacking says lacks) = subst (λ (a : Result (Unit {0}) EventError). EventMemory before client a after) (sym says) lacks
+    memory_by p q was is (refusing e never says calm) = subst (λ (a : Result (Unit {0}) EventError). EventMemory before client a after) (sym says) (error_memory e never calm)
+    memory_by p q was is (is_sent says so) =
+        subst (λ (a : Result (Unit {0}) EventError). EventMemory before client a after) (sym says) (λ known. let (live, dead) = so known in (was ∙ ap Some live, is ∙ ap Some dead))
+
+    event_memory : EventMemory before client answer after
+    event_memory =
+        let (did, (r, is, h)) = of_own call client refl (λ other lacked did differ (r, is, h). (when_false _ (same_client client other) differ h).0) in
+        elim (either_option (client_of before.server client) (own client _ _ _ after.refused did _ (subst (λ (a : Result (Unit {0}) EventError). Of a client after.refused did) (inside r is) h))) [
+          | inl (none, (says, (calm, nothing, stays))) ↦ subst (λ (a : Result (Unit {0}) EventError). EventMemory before client a after) (sym says) calm
+          | inr (p, there, (q, does, same)) ↦
+              memory_by p q (ap (option_map (λ (y : Part T U C). y.is_killed)) there) (ap (λ (x : Seen T U C). option_map (λ (y : Part T U C). y.is_killed) x.part) same)
+              (event_memory_of w.sends client m p q before.server.offer.table answer after.refused did (never_memory client p.store before.server.offer.table m) does)
+        ]
+      where
+        inside : (r : Result (Unit {0}) EventError) → ◌≡◌ {A = Reply T U} (reply.SendEvent answer) (reply.SendEvent r) → r ≡ answer
+        inside r is = cc
+
     pub emits_event : EmitsEvent before m answer after
     emits_event = record {
       event = sent_as answer refl;
@@ -663,4 +695,5 @@ module _ {T U G C : Type 0} (w : World T G C) (before after : BackendState T U G
       stored = λ id.
           let (lacked, did, h) = event_each id in keeps (same_client client id) _ _ _ lacked did _ (λ x. is_some x) (λ about p q r. refl) h;
       globals = offer_of call;
+      memory = event_memory;
     }

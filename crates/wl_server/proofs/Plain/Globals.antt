@@ -1,5 +1,5 @@
 -- Globals that are created, disabled and removed.
-use Rattle.std.proofs.Common.{◌≡◌, ◌⊎◌, ℕ, Bool, true, false, cond, List, [], ◌∷◌, ◌++◌, append-nil, Option, None, Some, Result, Ok, Err, MatchOption, refl, ap, subst, ◌∙◌, arith}
+use Rattle.std.proofs.Common.{◌≡◌, ◌⊎◌, ℕ, Bool, true, false, cond, List, [], ◌∷◌, ◌++◌, append-nil, Option, None, Some, Result, Ok, Err, MatchOption, refl, sym, ap, subst, ◌∙◌, arith, true≢false}
 use mathlib.Core.Logic.{inl, inr}
 use Rattle.std.specs.Prelude.{◌==◌, MatchBool, nat_le, option_map, slice_get}
 use Rattle.std.proofs.lemmas.Bool.{eq-eqb, ne_eqb}
@@ -34,12 +34,12 @@ use Rattle.wl_server.specs.Lookups.{and_then}
 use Rattle.wl_server.specs.Part.{Part, named, with_link}
 use Rattle.wl_server.specs.PartStep.{Asked, Call, Feels, FeelsGlobal, FeelsLoss, Unfelt, World}
 use Rattle.wl_server.specs.Plain.{as_killed}
-use Rattle.wl_server.specs.Plain.Globals.{DisablesGlobal, GlobalCreatedAs, IsToldOrKilled, MayBeTold, OffersGlobal, RemovesGlobal}
+use Rattle.wl_server.specs.Plain.Globals.{DisablesGlobal, GlobalCreatedAs, GlobalMemory, IsToldOrKilled, KillsSome, MayBeTold, OffersGlobal, RemovesGlobal}
 use Rattle.wl_server.specs.Server.{Seen, seen}
-use Rattle.wl_server.specs.Steps.{AnswersShared}
+use Rattle.wl_server.specs.Steps.{AnswersShared, lacks_growth}
 use Rattle.wl_server.specs.Telling.{Core, core_of, end_deeds, part_of, tells}
 use Rattle.wl_server.proofs.OverRuns.Ids.GivenLaws.{Changes, created_elsewhere, disabled_changes, freed_changes}
-use Rattle.wl_server.proofs.Plain.Base.{keeps, of_each, offer_of}
+use Rattle.wl_server.proofs.Plain.Base.{by_growth, keeps, of_each, offer_of, some_lacks}
 use Rattle.wl_server.proofs.Plain.Verdicts.{told, told_ended, told_starved}
 
 -- ---- a client that is told
@@ -124,6 +124,23 @@ module _ {T U C : Type 0} (sends : T → Queue → Result ℕ IoFault → T → 
           ⊎ ((p.is_killed ≡ false) × (t ≡ record { part = Some (as_killed (with_link p link)); made = s.made ++ Disconnected ConnectionClosed ∷ [] }))))
       at None none (u, (calm, nothing, same)) = same
       at (Some p) there (q, hears, is) = hears_as sends (messages p) lacked did s t p q there hears is
+
+  -- if memory was refused to it, it is killed now
+  felt_lacked : (s t : Seen T U C) → lacked ≡ true → Feels s (λ p q. Hears sends p (messages p) lacked did q) lacked did t
+      → (option_map (λ p. p.is_killed) s.part ≡ Some false) × (option_map (λ p. p.is_killed) t.part ≡ Some true)
+  felt_lacked s t lacks h =
+      elim (either_option s.part h) [
+        | inl (none, (u, (calm, nothing, stays))) ↦ absurd (true≢false (sym lacks ∙ calm))
+        | inr (p, there, (q, hears, is)) ↦
+            elim (split p.is_killed hears) [
+              | inl (dead, (calm, nothing, stays)) ↦ absurd (true≢false (sym lacks ∙ calm))
+              | inr (live, tells') ↦
+                  let u = told_starved sends (tells (core_of p) (messages p)) refl p.link lacked did q lacks tells' in (
+                    ap (option_map (λ (x : Part T U C). x.is_killed)) there ∙ ap Some live,
+                    ap (λ (x : Seen T U C). option_map (λ (p : Part T U C). p.is_killed) x.part) is ∙ ap (λ (x : Part T U C). Some x.is_killed) u.part_is,
+                  )
+            ]
+      ]
 
 module _ {T U C : Type 0} where
   -- a client that feels nothing
@@ -258,6 +275,15 @@ module _ {T U G C : Type 0} (w : World T G C) (before after : BackendState T U G
   by_change change changed target other differ by =
       by other ∙ ap (λ (b : Bool). cond b (change (global_of before.server.offer.globals other)) (global_of before.server.offer.globals other)) differ
 
+  -- a loss is told where the global was enabled, and memory was refused to a client that is killed now
+  loss_lacked : (g : GlobalParts) (id : ClientParts) (did : List (Deed U)) → FeelsLoss w id before.server.offer g (seen id before.server) true did (seen id after.server)
+      → (is_enabled (global_of before.server.offer.globals g) ≡ true) × KillsSome before after
+  loss_lacked g id did h =
+      elim (split (is_enabled (global_of before.server.offer.globals g)) h) [
+        | inl (enabled, feels) ↦ let (live, dead) = felt_lacked w.sends (λ p. removals p g.name) true did _ _ refl feels in (enabled, (id, live, dead))
+        | inr (off, (calm, nothing, stays)) ↦ absurd (true≢false calm)
+      ]
+
 module _ {T U G C : Type 0} {w : World T G C} {before after : BackendState T U G C} where
   pub disables_global : (g : GlobalParts) → Calls w before (step.DisableGlobal g) reply.DisableGlobal after → DisablesGlobal before g after
   disables_global g call = record {
@@ -266,6 +292,7 @@ module _ {T U G C : Type 0} {w : World T G C} {before after : BackendState T U G
         ap (λ (o : Offer G). global_of o.globals other) (offer_of call)
         ∙ by_change w before after (option_map as_disabled) (disabled before.server.offer.globals g) g other differ (disabled_changes before.server.offer.globals g);
     clients = may_be_told w before after (loss_each w before after g (λ id. let (lacked, did, (is, h)) = of_each call id in (lacked, did, h)));
+    memory = λ known. let (id, did, (is, h)) = some_lacks call refl known in loss_lacked w before after g id did h;
   }
 
   pub removes_global : (g : GlobalParts) → Calls w before (step.RemoveGlobal g) reply.RemoveGlobal after → RemovesGlobal before g after
@@ -275,6 +302,7 @@ module _ {T U G C : Type 0} {w : World T G C} {before after : BackendState T U G
         ap (λ (o : Offer G). global_of o.globals other) (offer_of call)
         ∙ by_change w before after (λ o. None) (freed before.server.offer.globals g) g other differ (freed_changes before.server.offer.globals g);
     clients = may_be_told w before after (loss_each w before after g (λ id. let (lacked, did, (is, h)) = of_each call id in (lacked, did, h)));
+    memory = λ known. let (id, did, (is, h)) = some_lacks call refl known in loss_lacked w before after g id did h;
   }
 
   module _ (i : InterfaceId) (version : ℕ) (handler : G) where
@@ -311,9 +339,35 @@ module _ {T U G C : Type 0} {w : World T G C} {before after : BackendState T U G
     )
     created_as (Err e) call = (offer_of call, λ id. let (lacked, did, (calm, none, same)) = create_each (Err e) call id in same)
 
+    -- after an error no client was told of anything
+    never_told : (e : GlobalError) → Calls w before (step.CreateGlobal i version handler) (reply.CreateGlobal (Err e)) after
+        → after.refused ≡ lacks_growth {T = T} {U = U} {G = G} {C = C} (Asked (step.CreateGlobal i version handler) (reply.CreateGlobal (Err e)))
+    never_told e call = by_growth call (λ id lacked did (r, is, h). (subst (λ (a : Result GlobalParts GlobalError). FeelsGlobal w id before.server.offer i version handler a (seen id before.server) lacked did (seen id after.server)) (inside r is) h).0)
+      where
+        inside : (r : Result GlobalParts GlobalError) → ◌≡◌ {A = Reply T U} (reply.CreateGlobal (Err e)) (reply.CreateGlobal r) → ◌≡◌ {A = Result GlobalParts GlobalError} r (Err e)
+        inside r is = cc
+
+    global_memory : (answer : Result GlobalParts GlobalError) → Calls w before (step.CreateGlobal i version handler) (reply.CreateGlobal answer) after
+        → GlobalMemory before answer after
+    global_memory (Ok g) call =
+        λ known.
+        let (id, did, (r, is, h)) = some_lacks call refl known in
+        let (live, dead) =
+        felt_lacked w.sends (λ p. news before.server.offer.table p (w.views handler id p.client_data g) (record { name = g.name; interface = i; version = version })) true did _ _ refl
+        (subst (λ (a : Result GlobalParts GlobalError). FeelsGlobal w id before.server.offer i version handler a (seen id before.server) true did (seen id after.server)) (inside r is) h) in
+        (id, live, dead)
+      where
+        inside : (r : Result GlobalParts GlobalError) → ◌≡◌ {A = Reply T U} (reply.CreateGlobal (Ok g)) (reply.CreateGlobal r) → ◌≡◌ {A = Result GlobalParts GlobalError} r (Ok g)
+        inside r is = cc
+    global_memory (Err refused.OutOfMemory) call = never_told refused.OutOfMemory call
+    global_memory (Err refused.UnknownInterface) call = never_told refused.UnknownInterface call
+    global_memory (Err refused.VersionTooHigh) call = never_told refused.VersionTooHigh call
+    global_memory (Err refused.Full) call = never_told refused.Full call
+
     pub offers_global : (answer : Result GlobalParts GlobalError) → Calls w before (step.CreateGlobal i version handler) (reply.CreateGlobal answer) after
         → OffersGlobal before i version handler answer after
     offers_global answer call = record {
       global = created_as answer call;
       clients = may_be_told w before after (new_each w before after i version handler answer (create_each answer call));
+      memory = global_memory answer call;
     }

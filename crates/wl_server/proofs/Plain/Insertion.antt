@@ -1,11 +1,13 @@
 -- A client that is inserted, limits, and interfaces that are added.
 use Rattle.std.proofs.Common.{◌≡◌, ℕ, Bool, true, false, List, [], ◌++◌, Option, None, Some, Result, Ok, Err, MatchOption, refl, sym, ap, subst, ◌∙◌, true≢false}
 use mathlib.Core.Logic.{inl, inr}
+use Rattle.std.specs.Prelude.{MatchBool}
 use Rattle.wl_wire.specs.declared.protocol.TableError.{TableError}
 use Rattle.wl_wire.specs.declared.protocol.TableError.TheVariants as table_error
 use Rattle.wl_wire.specs.Table.{InterfaceRow, grown, refused_growth}
 use Rattle.wl_link.specs.Link.{LimitSet, LinkState}
 use Rattle.wl_server.specs.declared.error.InsertClientError.{InsertClientError}
+use Rattle.wl_server.specs.declared.error.InsertClientError.TheVariants as insert
 use Rattle.wl_server.specs.declared.runs.step.Reply.{Reply}
 use Rattle.wl_server.specs.declared.runs.step.Reply.TheVariants as reply
 use Rattle.wl_server.specs.declared.runs.step.Step.TheVariants as step
@@ -15,12 +17,12 @@ use Rattle.wl_server.specs.Globals.{with_table}
 use Rattle.wl_server.specs.Ids.{ClientParts, same_client}
 use Rattle.wl_server.specs.Lookups.{and_then}
 use Rattle.wl_server.specs.Part.{Part, named, with_link}
-use Rattle.wl_server.specs.PartStep.{Call, Grown, InsertedAs, OfClient, PartCall, Quietly, Unfelt, World}
-use Rattle.wl_server.specs.Plain.Calls.{AddsInterfaces, InsertsClient, NewClientAs, SetsDefaultLimit, SetsLimit}
+use Rattle.wl_server.specs.PartStep.{Asked, Call, Grown, Inserted, InsertedAs, OfClient, PartCall, Quietly, Unfelt, World}
+use Rattle.wl_server.specs.Plain.Calls.{AddsInterfaces, InsertsClient, NewClientAs, SetsDefaultLimit, SetsLimit, lacks_insertion}
 use Rattle.wl_server.specs.Server.{Seen, seen}
 use Rattle.wl_server.specs.Steps.{AnswersShared, Entry, OneStep, lacks_growth}
 use Rattle.wl_server.proofs.CallSteps.Slots.{same_self}
-use Rattle.wl_server.proofs.Plain.Base.{calm, keeps, never, notes_stay, of_each, offer_of, other_stays, own, when_false, when_true}
+use Rattle.wl_server.proofs.Plain.Base.{by_growth, calm, keeps, never, notes_stay, of_each, offer_of, other_stays, own, when_false, when_true}
 
 module _ {T U G C : Type 0} {w : World T G C} {before after : BackendState T U G C} (transport : T) (client_data : C) where
   insert_each : (answer : Result ClientParts InsertClientError) → Calls w before (step.InsertClient transport client_data) (reply.InsertClient answer) after → (id : ClientParts)
@@ -51,7 +53,26 @@ module _ {T U G C : Type 0} {w : World T G C} {before after : BackendState T U G
 
   pub inserts_client : (answer : Result ClientParts InsertClientError) → Calls w before (step.InsertClient transport client_data) (reply.InsertClient answer) after
       → InsertsClient before transport client_data answer after
-  inserts_client answer call = record { client = inserted_as answer call; offer = offer_of call }
+  inserts_client answer call = record {
+    client = inserted_as answer call;
+    offer = offer_of call;
+    memory = by_growth call (λ id lacked did (r, is, h). never_lacks id r lacked did h) ∙ growth_of answer;
+  }
+    where
+      never_lacks : (id : ClientParts) (r : Result ClientParts InsertClientError) (lacked : Bool) (did : List (Deed U))
+          → InsertedAs w id before.server.offer transport client_data r (seen id before.server) lacked did (seen id after.server) → lacked ≡ false
+      never_lacks id (Ok new) lacked did h = of (same_client new id) h
+        where
+          of : (b : Bool) → MatchBool b (Inserted w id before.server.offer transport client_data (seen id before.server) lacked did (seen id after.server)) (Unfelt (seen id before.server) lacked did (seen id after.server))
+              → lacked ≡ false
+          of true (link, fresh, calm', noted, is) = calm'
+          of false (calm', none, same) = calm'
+      never_lacks id (Err e) lacked did (calm', none, same) = calm'
+
+      growth_of : (r : Result ClientParts InsertClientError) → lacks_growth {T = T} {U = U} {G = G} {C = C} (Asked (step.InsertClient transport client_data) (reply.InsertClient r)) ≡ lacks_insertion r
+      growth_of (Ok id) = refl
+      growth_of (Err insert.Full) = refl
+      growth_of (Err insert.OutOfMemory) = refl
 
 module _ {T U G C : Type 0} {w : World T G C} {before after : BackendState T U G C} where
   pub sets_limit : (id : ClientParts) (limit : ℕ) → Calls w before (step.SetClientMaxBufferSize id limit) reply.SetClientMaxBufferSize after → SetsLimit before id limit after

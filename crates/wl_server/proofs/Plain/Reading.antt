@@ -1,7 +1,7 @@
 -- A reading of one client.
 use Rattle.std.proofs.Common.{◌≡◌, ◌⊎◌, ℕ, Bool, true, false, List, [], ◌++◌, append-nil, Option, None, Some, is_some, Result, Ok, Err, refl, sym, ap, subst, ◌∙◌, true≢false}
 use mathlib.Core.Logic.{inl, inr}
-use Rattle.std.specs.Prelude.{IsSome, MatchBool}
+use Rattle.std.specs.Prelude.{IsSome, option_map}
 use Rattle.wl_wire.specs.declared.interface.InterfaceId.{InterfaceId}
 use Rattle.wl_wire.specs.declared.error.IoFault.{IoFault}
 use Rattle.wl_wire.specs.declared.error.IoFault.TheVariants as fault
@@ -27,19 +27,17 @@ use Rattle.wl_server.specs.Ids.{ClientParts, IdParts, same_client}
 use Rattle.wl_server.specs.Lookups.{and_then}
 use Rattle.wl_server.specs.Part.{Part, fresh_object, id_at, named}
 use Rattle.wl_server.specs.PartStep.{ReadsFor, World, around}
-use Rattle.wl_server.specs.Plain.Reading.{IsHandedOut, IsKilledOnce, IsOld, LivesOn, OpenReadAs, ReadAs, ReadsClient}
+use Rattle.wl_server.specs.Plain.{killed_in}
+use Rattle.wl_server.specs.Plain.Reading.{IsHandedOut, IsKilledOnce, IsOld, LivesOn, OpenReadAs, ReadAs, ReadingMemory, ReadsClient}
 use Rattle.wl_server.specs.Reading.{Around, NextAction, action_content, answered, new_reading}
 use Rattle.wl_server.specs.ReadingEnds.{ComesOfLast, ReadingEnds}
 use Rattle.wl_server.specs.Server.{Seen, seen}
 use Rattle.wl_server.specs.Telling.{Core, end_deeds, part_of, reader_part}
-use Rattle.wl_server.proofs.Plain.Base.{keeps, nothing_new, of_each, offer_of, other_stays, own}
+use Rattle.wl_server.proofs.Plain.Base.{keeps, nothing_new, of_each, of_own, offer_of, other_stays, own, split_bool, when_false}
 use Rattle.wl_server.proofs.Plain.ReadingEnds.{reading_ends}
+use Rattle.wl_server.proofs.Plain.ReadingMemory.{MemoryOf, reads_memory}
 use Rattle.wl_server.proofs.Plain.ReadingNotes.{notes_of_reading}
 use Rattle.wl_server.proofs.Plain.Staying.{reads_keep}
-
-pub split_bool : {P Q : Type 0} (b : Bool) → MatchBool b P Q → ((b ≡ true) × P) ⊎ ((b ≡ false) × Q)
-split_bool true p = inl (refl, p)
-split_bool false q = inr (refl, q)
 
 module _ {T U C : Type 0} where
   abbrev seen_as : Part T U C → List (Happening U) → Seen T U C
@@ -176,14 +174,63 @@ module _ {T U G C : Type 0} (w : World T G C) (id : ClientParts) (offer : Offer 
       ]
 
 module _ {T U G C : Type 0} (w : World T G C) (before after : BackendState T U G C) (id : ClientParts) where
+  -- ---- whether memory was refused
+
+  memory_by : (answer : Result Handed ActionError) → MemoryOf answer after.refused
+      → (answer ≡ Err (Io fault.Pipe) → after.refused ≡ true → (killed_in before id ≡ Some false) × (killed_in after id ≡ Some true)) → ReadingMemory before id answer after
+  memory_by (Err (Io fault.Pipe)) memory pipe = pipe refl
+  memory_by (Err (Io fault.OutOfMemory)) memory pipe = memory
+  memory_by (Err (Io fault.WouldBlock)) memory pipe = memory
+  memory_by (Err (Io fault.TooBig)) memory pipe = memory
+  memory_by (Err (Io fault.Proto)) memory pipe = memory
+  memory_by (Err (Io fault.InvalidInput)) memory pipe = memory
+  memory_by (Err (Io (fault.Other n))) memory pipe = memory
+  memory_by (Err ActionOpen) memory pipe = memory
+  memory_by (Ok h) memory pipe = memory
+
+  memory_as : (r r' : Reading) (answer : Result Handed ActionError) (did : List (Deed U))
+      → ReadsFor w id before.server.offer id r answer r' (seen id before.server) after.refused did (seen id after.server) → ReadingMemory before id answer after
+  memory_as r r' answer did h =
+      elim (either_option (seen id before.server).part (own id _ _ _ after.refused did _ h)) [
+        | inl (none, ((says, same), (calm, nothing, stays))) ↦ as_said (Err (Io fault.InvalidInput)) says calm
+        | inr (p, there, (q, next, is)) ↦
+            elim (either_option p.action next) [
+              | inr (action, is_open, (says, same, calm, none, stays)) ↦ as_said (Err ActionOpen) says calm
+              | inl (idle, g) ↦
+                  elim (split_bool p.is_killed g) [
+                    | inl (dead, (says, same, calm, none, stays)) ↦ as_said (Err (Io fault.Pipe)) says (λ known. absurd (true≢false (sym known ∙ calm)))
+                    | inr (live, (turns, out, end, reads, says, same, calm, did_so, ends)) ↦
+                        let memory = reads_memory w.sends w.receives here r.turns_left (reader_part p) turns out end (record { live = live; idle = idle; fresh = refl }) reads in
+                        memory_by answer
+                        (subst (λ (x : Result Handed ActionError). MemoryOf x after.refused) (sym says) (subst (λ (b : Bool). MemoryOf (answered out.stopped out.gave) b) (sym calm) memory))
+                        (λ pipe known. (
+                          ap (option_map (λ (x : Part T U C). x.is_killed)) there ∙ ap Some live,
+                          ap (λ (x : Seen T U C). option_map (λ (p : Part T U C). p.is_killed) x.part) is ∙ ap (λ (x : Part T U C). Some x.is_killed) ends
+                              ∙ ap Some
+                              (subst (λ (x : Result Handed ActionError). ReadingEnds w.sends w.receives here (reader_part p) turns x out.refused out.left end) (sym says ∙ pipe)
+                              (reading_ends w.sends w.receives here r.turns_left p turns out end live idle reads)).1.0,
+                        ))
+                  ]
+            ]
+      ]
+    where
+      here : Around G C
+      here = around w id before.server.offer
+
+      as_said : (said : Result Handed ActionError) → answer ≡ said → ReadingMemory before id said after → ReadingMemory before id answer after
+      as_said said says memory = subst (λ (x : Result Handed ActionError). ReadingMemory before id x after) (sym says) memory
+
+  -- ---- a reading
+
   -- what is read of each client
   abbrev Each : Reading → Result Action ActionError → Type 0
   Each r answer =
       (other : ClientParts) → (lacked : Bool) × (did : List (Deed U)) × (r' : Reading)
       × ReadsFor w other before.server.offer id r (action_content answer) r' (seen other before.server) lacked did (seen other after.server)
 
-  reads_all : (r : Reading) (answer : Result Action ActionError) → after.server.offer ≡ before.server.offer → Each r answer → ReadsClient before id answer after
-  reads_all r answer offer each = record {
+  reads_all : (r : Reading) (answer : Result Action ActionError) → after.server.offer ≡ before.server.offer → ReadingMemory before id (action_content answer) after → Each r answer
+      → ReadsClient before id answer after
+  reads_all r answer offer memory each = record {
     client = (let (lacked, did, r', h) = each id in reads_as w id before.server.offer r r' (action_content answer) _ _ lacked did h);
     objects = λ other old.
         let (lacked, did, r', h) = each other.client in
@@ -193,11 +240,15 @@ module _ {T U G C : Type 0} (w : World T G C) (before after : BackendState T U G
         let (lacked, did, r', h) = each other in
         keeps (same_client id other) _ _ _ lacked did _ (λ x. is_some x) (λ about p q next. refl) h;
     globals = offer;
+    memory = memory;
   }
 
   pub next_action_reads : (answer : Result Action ActionError) → Calls w before (step.NextAction id) (reply.NextAction answer) after → ReadsClient before id answer after
   next_action_reads answer call =
       reads_all new_reading answer (offer_of call)
+      (let (did, (r, left, is, h)) = of_own call id refl (λ other lacked did differ (r, left, is, h). (when_false _ (same_client id other) differ h).0) in
+      memory_as new_reading left (action_content answer) did
+      (subst (λ (x : Result Action ActionError). ReadsFor w id before.server.offer id new_reading (action_content x) left (seen id before.server) after.refused did (seen id after.server)) (inside r is) h))
       (λ other.
       let (lacked, did, (r, left, is, h)) = of_each call other in (
         lacked,
@@ -214,6 +265,9 @@ module _ {T U G C : Type 0} (w : World T G C) (before after : BackendState T U G
       → Calls w before (step.NextActionWithin id reading) (reply.NextActionWithin answer left) after → ReadsClient before id answer after
   next_action_within_reads reading left answer call =
       reads_all reading answer (offer_of call)
+      (let (did, (r, l, is, h)) = of_own call id refl (λ other lacked did differ (r, l, is, h). (when_false _ (same_client id other) differ h).0) in
+      memory_as reading l (action_content answer) did
+      (subst (λ (x : Result Action ActionError). ReadsFor w id before.server.offer id reading (action_content x) l (seen id before.server) after.refused did (seen id after.server)) (inside r l is) h))
       (λ other.
       let (lacked, did, (r, l, is, h)) = of_each call other in (
         lacked,

@@ -69,7 +69,7 @@ TookOne t = (es : List Sending) × (t ≡ Handled es)
 
 module _ {U : Type 0} where
   -- messages that were put do not answer
-  after_puts : (put : List Said) (gave : List (Given (Told U))) → action_in (map Queued put ++ gave) ≡ action_in gave
+  pub after_puts : (put : List Said) (gave : List (Given (Told U))) → action_in (map Queued put ++ gave) ≡ action_in gave
   after_puts [] gave = refl
   after_puts (m ∷ put) gave = after_puts put gave
 
@@ -89,7 +89,7 @@ module _ {U C : Type 0} where
     pub idle : c.action ≡ None
     pub fresh : c.ended ≡ None
 
-  reads_of : (c : Core U C) → IsRead c → reads_on c ≡ true
+  pub reads_of : (c : Core U C) → IsRead c → reads_on c ≡ true
   reads_of c r = ap (λ (b : Bool). not b && is_none c.action) r.live ∙ ap (λ (o : Option OpenAction). is_none o) r.idle
 
 -- ---- a bind
@@ -150,7 +150,7 @@ module _ {U G C : Type 0} (a : Around G C) (c : Core U C) (P : Verdict (Core U C
 
 module _ {T U G C : Type 0} (sends : T → Queue → Result ℕ IoFault → T → Type 0) (receives : T → ℕ → Result Queue IoFault → T → Type 0) (a : Around G C) where
   -- what is answered at the end of a reading for what the message at the front came to in this turn
-  abbrev Answers : Turn → ReaderState T (Core U C) → Result Handed ActionError → ReaderState T (Core U C) → Type 0
+  abbrev pub Answers : Turn → ReaderState T (Core U C) → Result Handed ActionError → ReaderState T (Core U C) → Type 0
   Answers t before (Ok h) end = (end.core.is_killed ≡ false) × (end.core.ended ≡ None) × TookOne t × ComesOfFront sends a h before end
   Answers t before (Err (Io fault.Proto)) end = FoundNoMessage sends a t before × (end.core.ended ≡ Some ConnectionClosed) × LeavesClient fault.Proto end.core
   Answers t before (Err (Io fault.Pipe)) end = TookMessage sends a t before × IsSome end.core.ended × LeavesClient fault.Pipe end.core
@@ -169,7 +169,7 @@ module _ {T U G C : Type 0} (sends : T → Queue → Result ℕ IoFault → T �
   answers_end t before refused left (Err (Io (fault.Other n))) end so = absurd so
 
   -- what a verdict came to: the client is read on, and nothing is answered; or this is answered
-  abbrev Turned : Turn → ReaderState T (Core U C) → List (Given (Told U)) → ReaderState T (Core U C) → Type 0
+  abbrev pub Turned : Turn → ReaderState T (Core U C) → List (Given (Told U)) → ReaderState T (Core U C) → Type 0
   Turned t before first mid = (IsRead mid.core × Silent first) ⊎ ((reads_on mid.core ≡ false) × Answers t before (action_in first) mid)
 
   abbrev Turns : (List Sending → Turn) → ReaderState T (Core U C) → Verdict (Core U C) (Told U) → LinkState T → Type 0
@@ -196,7 +196,7 @@ module _ {T U G C : Type 0} (sends : T → Queue → Result ℕ IoFault → T �
   garbled_came c r (Err fault.InvalidInput) = (refl, reason_if c.is_killed c.ended ConnectionClosed r.live, r.idle)
   garbled_came c r (Err (fault.Other n)) = (refl, reason_if c.is_killed c.ended ConnectionClosed r.live, r.idle)
 
-  garbled_turns : (turn : List Sending → Turn) (before : ReaderState T (Core U C)) (c : Core U C) → IsRead c → ((es : List Sending) → FoundNoMessage sends a (turn es) before)
+  pub garbled_turns : (turn : List Sending → Turn) (before : ReaderState T (Core U C)) (c : Core U C) → IsRead c → ((es : List Sending) → FoundNoMessage sends a (turn es) before)
       → (link : LinkState T) → Turns turn before (garbled c) link
   garbled_turns turn before c r found link es first lacked mid (inr (asks, memory, none, gave, is)) = absurd (true≢false (sym asks))
   garbled_turns turn before c r found link es first lacked mid (inl (es1, es2, put, wrote, l, lacks, puts, flushed, is, core, gave, refused)) =
@@ -384,7 +384,7 @@ module _ {T U G C : Type 0} (sends : T → Queue → Result ℕ IoFault → T �
         id : IdParts
         id = made_id a.client (objects_in c) n kept.interface
 
-    request_turns : Turns Handled here ((server a).handles c m) link
+    pub request_turns : Turns Handled here ((server a).handles c m) link
     request_turns = whole (held c.store m.sender) (row_in a.table (held c.store m.sender) m.opcode) refl refl
       where
         P : Verdict (Core U C) (Told U) → Type 0
@@ -444,7 +444,7 @@ module _ {T U G C : Type 0} (sends : T → Queue → Result ℕ IoFault → T �
   ends_later t turns (Err (Io f)) lacked refused left end start mid leads (inl last, leaves) = (inl (later_turn f t turns last), leaves)
   ends_later t turns (Err (Io f)) lacked refused left end start mid leads (inr so, leaves) = (inr (itself_later f t turns lacked refused left end start mid leads so), leaves)
 
-  still_answered : (stopped : Option IoFault) (first gave : List (Given (Told U))) → Silent first → answered stopped (first ++ gave) ≡ answered stopped gave
+  pub still_answered : (stopped : Option IoFault) (first gave : List (Given (Told U))) → Silent first → answered stopped (first ++ gave) ≡ answered stopped gave
   still_answered None first gave silent = silent gave
   still_answered (Some f) first gave silent = refl
 

@@ -1,6 +1,5 @@
 -- That a reading of one client ends for a reason.
-use Rattle.std.proofs.Common.{◌≡◌, ◌⊎◌, ℕ, Bool, true, false, List, ◌++◌, Some, Result, refl, sym, ap, subst, ◌∙◌, true≢false}
-use mathlib.Core.Logic.{inl, inr}
+use Rattle.std.proofs.Common.{◌≡◌, ℕ, Bool, false, List, ◌++◌, Some, Result, sym, ap, subst, ◌∙◌}
 use Rattle.wl_link.specs.Reader.{ReaderState, Turn}
 use Rattle.wl_server.specs.declared.error.ActionError.{ActionError}
 use Rattle.wl_server.specs.declared.notes.Happening.{Happening}
@@ -17,32 +16,12 @@ use Rattle.wl_server.specs.PartStep.{Call, PartCall, ReadsFor, World, around}
 use Rattle.wl_server.specs.Reading.{Around, action_content, answered, exchanges_in, new_reading}
 use Rattle.wl_server.specs.ReadingEnds.{EndsForAReason, ReadingEnds}
 use Rattle.wl_server.specs.Server.{Seen, seen}
-use Rattle.wl_server.specs.Steps.{Entry, IsRefused, lacks_growth}
+use Rattle.wl_server.specs.Steps.{Entry, lacks_growth}
 use Rattle.wl_server.specs.Telling.{Core, deeds_of, end_deeds, part_of, reader_part}
 use Rattle.wl_server.proofs.OverRuns.Cut.CuttingLaws.{of_part, reads_to}
-use Rattle.wl_server.proofs.Plain.Base.{own, same_is, when_false}
+use Rattle.wl_server.proofs.Plain.Base.{lacks_as, own, when_false}
 use Rattle.wl_server.proofs.Plain.ReadingEnds.{reading_ends}
 use Rattle.wl_server.proofs.Plain.ReadingNotes.{notes_of_reading}
-
-module _ {T U G C : Type 0} (id : ClientParts) (e : Entry T U G C) (by : IsRefused e) (growth : lacks_growth e.call ≡ false)
-    (others : (other : ClientParts) → same_client id other ≡ false → e.lacks other ≡ false) where
-  -- memory was refused in a call about this client exactly if it was refused to the client
-  lacks_as : e.refused ≡ e.lacks id
-  lacks_as = at e.refused (e.lacks id) refl refl
-    where
-      nobody : e.lacks id ≡ false → (lacks_growth e.call ≡ true) ⊎ ((other : ClientParts) × (e.lacks other ≡ true)) → ⊥
-      nobody calm (inl grows) = true≢false (sym grows ∙ growth)
-      nobody calm (inr (other, lacks)) = of (same_client id other) refl
-        where
-          of : (b : Bool) → same_client id other ≡ b → ⊥
-          of true same = true≢false (sym lacks ∙ ap e.lacks (sym (same_is id other same)) ∙ calm)
-          of false differ = true≢false (sym lacks ∙ others other differ)
-
-      at : (r l : Bool) → e.refused ≡ r → e.lacks id ≡ l → e.refused ≡ e.lacks id
-      at true true refused lacked = refused ∙ sym lacked
-      at false false refused lacked = refused ∙ sym lacked
-      at false true refused lacked = absurd (true≢false (sym (by.1 (inr (id, lacked))) ∙ refused))
-      at true false refused lacked = absurd (nobody lacked (by.0 refused))
 
 module _ {T U C : Type 0} where
   abbrev seen_as : Part T U C → List (Happening U) → Seen T U C

@@ -1,11 +1,12 @@
 -- What waits for clients is flushed.
-use Rattle.std.proofs.Common.{◌≡◌, ℕ, Bool, true, List, [], ◌∷◌, map, Option, None, Some, Result, Ok, MatchOption, refl, sym, ap, subst, ◌∙◌}
+use Rattle.std.proofs.Common.{◌≡◌, ℕ, Bool, true, List, [], ◌∷◌, map, Option, None, Some, Result, Ok, MatchOption, refl, sym, ap, subst, ◌∙◌, true≢false}
 use mathlib.Core.Logic.{inl, inr}
 use Rattle.std.specs.Prelude.{option_map}
 use Rattle.wl_wire.specs.declared.error.IoFault.{IoFault}
 use Rattle.wl_link.proofs.Calls.Branches.{either_bool, either_option}
 use Rattle.wl_link.specs.Exchange.{Queue, Sending}
-use Rattle.wl_link.specs.Link.{Flushed, LinkState}
+use Rattle.wl_link.specs.Link.{Flushed, FlushedBy, LinkState}
+use Rattle.wl_link.specs.Puts.{lacks_memory}
 use Rattle.wl_server.specs.declared.runs.step.Reply.{Reply}
 use Rattle.wl_server.specs.declared.runs.step.Reply.TheVariants as reply
 use Rattle.wl_server.specs.declared.runs.step.Step.TheVariants as step
@@ -17,10 +18,11 @@ use Rattle.wl_server.specs.Ids.{ClientParts, same_client}
 use Rattle.wl_server.specs.Lookups.{and_then, client_of}
 use Rattle.wl_server.specs.Part.{Part, named, with_link}
 use Rattle.wl_server.specs.PartStep.{FlushedFor, World}
-use Rattle.wl_server.specs.Plain.{FlushedAs, FlushesClients, IsUnchanged}
+use Rattle.wl_server.specs.Plain.{FlushMemory, FlushedAs, FlushesClients, IsUnchanged}
 use Rattle.wl_server.specs.Server.{Seen, seen}
 use Rattle.wl_server.specs.Telling.{core_of}
-use Rattle.wl_server.proofs.Plain.Base.{keeps, missing_stays, none_and_some, notes_stay, nothing_new, of_each, offer_of, one_value, other_stays, own, same_is, unchanged, when_true}
+use Rattle.wl_server.proofs.Plain.Base.{keeps, missing_stays, none_and_some, notes_stay, nothing_new, of_each, of_own, offer_of, one_value, other_stays, own, same_is, some_lacks, split_bool, unchanged, when_false, when_true}
+use Rattle.wl_server.proofs.Plain.Verdicts.{lacking}
 
 silent : {U : Type 0} (es : List Sending) → notes_in {U = U} (map Sent es) ≡ []
 silent [] = refl
@@ -120,6 +122,30 @@ module _ {T U G C : Type 0} {w : World T G C} {before after : BackendState T U G
           of_one r same gone =
               subst (λ (x : Part T U C). (link : LinkState T) × Flushed w.sends x.link answer link × (client_of after.server id ≡ Some (with_link x link))) same gone
 
+  flush_memory : (target : Option ClientParts) (answer : Result (Unit {0}) IoFault) → Calls w before (step.Flush target) (reply.Flush answer) after
+      → FlushMemory w.sends before target answer after
+  flush_memory None answer call =
+      λ known.
+      let (id, did, (r, is, (ok, h))) = some_lacks call refl known in
+      elim (either_option (client_of before.server id) h) [
+        | inl (none, (u, (calm, nothing, stays))) ↦ absurd (true≢false calm)
+        | inr (p, there, (q, flushes, same)) ↦
+            elim (split_bool p.is_killed flushes) [
+              | inl (dead, (calm, nothing, stays)) ↦ absurd (true≢false calm)
+              | inr (live, (a, (es, link, by, memory, did_so, is))) ↦
+                  (id, p, link, there, live, (es, subst (λ (x : Result (Unit {0}) IoFault). FlushedBy w.sends p.link es x link) (lacking a (sym memory)) by), ap (λ (x : Seen T U C). x.part) same ∙ ap Some is)
+            ]
+      ]
+  flush_memory (Some id) answer call =
+      let (did, (r, is, h)) = of_own call id refl (λ other lacked did differ (r, is, h). (when_false _ (same_client id other) differ h).0) in
+      elim (either_option (client_of before.server id) (own id _ _ _ after.refused did _ h)) [
+        | inl (none, (ok, (calm, nothing, stays))) ↦ calm ∙ ap lacks_memory (sym ok ∙ inside r is)
+        | inr (p, there, (q, (es, link, by, memory, did_so, same), stays)) ↦ memory ∙ ap lacks_memory (inside r is)
+      ]
+    where
+      inside : (r : Result (Unit {0}) IoFault) → ◌≡◌ {A = Reply T U} (reply.Flush answer) (reply.Flush r) → r ≡ answer
+      inside r is = cc
+
   pub flushes_clients : (target : Option ClientParts) (answer : Result (Unit {0}) IoFault) → Calls w before (step.Flush target) (reply.Flush answer) after
       → FlushesClients w.sends before target answer after
   flushes_clients target answer call = record {
@@ -132,4 +158,5 @@ module _ {T U G C : Type 0} {w : World T G C} {before after : BackendState T U G
         let (lacked, did, h) = flush_each target answer call o.client in
         flush_keeps w o.client before.server.offer _ _ lacked did (λ x. and_then x (λ p. named p.store o)) (λ p link. refl) target answer h;
     globals = offer_of call;
+    memory = flush_memory target answer call;
   }

@@ -14,7 +14,18 @@ use Rattle.wl_server.specs.Part.{Part}
 use Rattle.wl_server.specs.Telling.{Core, Tells, Told, closed_down, deeds_of, end_deeds, part_of, speaker}
 use Rattle.wl_server.proofs.Readings.Notes.{notes_told}
 
-no_flush : {T : Type 0} (sends : T → Queue → Result ℕ IoFault → T → Type 0) (flushes : Bool) (mid : LinkState T) (es : List Sending) (lacked : Bool) (after : LinkState T)
+-- an answer that lacks memory
+pub lacking : (a : Result (Unit {0}) IoFault) → lacks_memory a ≡ true → a ≡ Err fault.OutOfMemory
+lacking (Err fault.OutOfMemory) is = refl
+lacking (Ok u) is = absurd (true≢false (sym is))
+lacking (Err fault.WouldBlock) is = absurd (true≢false (sym is))
+lacking (Err fault.Pipe) is = absurd (true≢false (sym is))
+lacking (Err fault.TooBig) is = absurd (true≢false (sym is))
+lacking (Err fault.Proto) is = absurd (true≢false (sym is))
+lacking (Err fault.InvalidInput) is = absurd (true≢false (sym is))
+lacking (Err (fault.Other n)) is = absurd (true≢false (sym is))
+
+pub no_flush : {T : Type 0} (sends : T → Queue → Result ℕ IoFault → T → Type 0) (flushes : Bool) (mid : LinkState T) (es : List Sending) (lacked : Bool) (after : LinkState T)
     → flushes ≡ false → FlushesOut sends flushes mid es lacked after → lacked ≡ false
 no_flush sends true mid es lacked after none h = absurd (true≢false none)
 no_flush sends false mid es lacked after none (nothing, same, calm) = calm
@@ -43,7 +54,7 @@ told {T} {U} {C} {A} sends g f agree v none last closed link lacked did q (es, g
     carried (inr (asks, refused, nothing, given, starves)) =
         ap (λ (x : ReaderState T (Core U C)). g x.core) starves ∙ ap (λ (b : Bool). cond b (g v.starved) (g v.core)) (sym refused)
 
-nothing_put : {T : Type 0} (sends : T → Queue → Result ℕ IoFault → T → Type 0) (link : LinkState T) (ms : List Said) → ms ≡ [] → (es : List Sending) (put : List Said)
+pub nothing_put : {T : Type 0} (sends : T → Queue → Result ℕ IoFault → T → Type 0) (link : LinkState T) (ms : List Said) → ms ≡ [] → (es : List Sending) (put : List Said)
     (wrote : Result (Unit {0}) IoFault) (mid : LinkState T) → PutsOut sends link ms es put wrote mid → wrote ≡ Ok tt
 nothing_put sends link [] is es put wrote mid (sent, done, ok, stays) = ok
 nothing_put sends link (m ∷ ms) is es put wrote mid h = absurd cc

@@ -3,11 +3,12 @@
 --
 -- A contract that cites one of these has another clause beside it, `call`, from which it follows. `AddsInterfaces` also needs the
 -- clause `server`.
-use Rattle.std.specs.Prelude.{◌≡◌, ℕ, List, ◌∷◌, [], ◌++◌, false, None, Some, Result, Ok, Err, MatchOption}
+use Rattle.std.specs.Prelude.{◌≡◌, ℕ, List, ◌∷◌, [], ◌++◌, Bool, true, false, None, Some, Result, Ok, Err, MatchOption}
 use Rattle.wl_wire.specs.declared.protocol.TableError.{TableError}
 use Rattle.wl_wire.specs.Table.{AnswersGrowth, InterfaceRow, grown, refused_growth}
 use Rattle.wl_link.specs.Link.{IsFresh, LimitSet, LinkState}
 use Rattle.wl_server.specs.declared.error.InsertClientError.{InsertClientError}
+use Rattle.wl_server.specs.declared.error.InsertClientError.TheVariants as insert
 use Rattle.wl_server.specs.declared.notes.Happening.TheVariants.{Initialized}
 use Rattle.wl_server.specs.Backend.{BackendState}
 use Rattle.wl_server.specs.Globals.{with_table}
@@ -15,6 +16,11 @@ use Rattle.wl_server.specs.Ids.{ClientParts}
 use Rattle.wl_server.specs.Part.{fresh_part, with_link}
 use Rattle.wl_server.specs.Plain.{GlobalsStay, ObjectsStay, OtherClientsStay, client_in, notes_made_in}
 use Rattle.wl_server.specs.Server.{seen}
+
+-- the answer is `OutOfMemory`
+abbrev pub lacks_insertion : Result ClientParts InsertClientError → Bool
+lacks_insertion (Err insert.OutOfMemory) = true
+lacks_insertion _ = false
 
 module _ {T U G C : Type 0} where
   -- nothing of any client has changed
@@ -35,6 +41,7 @@ module _ {T U G C : Type 0} where
       : Type 0 where
     pub client : NewClientAs before transport client_data answer after
     pub offer : GlobalsStay before after
+    pub memory : after.refused ≡ lacks_insertion answer
 
   -- The buffers of the client have the limit, if it is stored. Nothing else of it has changed, and nothing of another client.
   pub record SetsLimit (before : BackendState T U G C) (id : ClientParts) (limit : ℕ) (after : BackendState T U G C) : Type 0 where

@@ -1,7 +1,7 @@
 -- What a program finds after an event was sent, and after an error was posted, in the words of the look-ups.
 --
 -- A contract that cites one of these has another clause beside it, `call`, from which it follows.
-use Rattle.std.specs.Prelude.{◌≡◌, ◌⊎◌, ℕ, List, [], ◌∷◌, ◌++◌, Bool, true, false, ◌==◌, if◌then◌else◌, None, Some, is_some, Result, Ok, Err, MatchBool, option_map}
+use Rattle.std.specs.Prelude.{◌≡◌, ◌≢◌, ◌⊎◌, ℕ, List, [], ◌∷◌, ◌++◌, Bool, true, false, ◌==◌, if◌then◌else◌, None, Some, IsSome, is_some, Result, Ok, Err, MatchBool, option_map}
 use Rattle.wl_wire.specs.Table.{InterfaceRow}
 use Rattle.wl_link.specs.declared.object.Object.{Object}
 use Rattle.wl_server.specs.declared.error.EventError.{EventError}
@@ -59,12 +59,20 @@ module _ {T U G C : Type 0} where
   EventSentAs before m (Err e) after =
       (((client_in before m.sender.client ≡ None) × (e ≡ refused.InvalidId)) ⊎ ChecksTo before m (Err e)) × IsUnchanged before after
 
+  -- After an error memory was refused exactly if the answer is `OutOfMemory`. Else it was only if the client was live and is killed
+  -- now: it could not be told that a number is free.
+  abbrev pub EventMemory : BackendState T U G C → ClientParts → Result (Unit {0}) EventError → BackendState T U G C → Type 0
+  EventMemory before client (Ok _) after = after.refused ≡ true → (killed_in before client ≡ Some false) × (killed_in after client ≡ Some true)
+  EventMemory before client (Err refused.OutOfMemory) after = after.refused ≡ true
+  EventMemory before client (Err e) after = after.refused ≡ false
+
   pub record EmitsEvent (before : BackendState T U G C) (m : SessionMessage) (answer : Result (Unit {0}) EventError) (after : BackendState T U G C) : Type 0 where
     pub event : EventSentAs before m answer after
     pub objects : OtherObjectsStay before m.sender after
     pub clients : OtherClientsStay before m.sender.client after
     pub stored : (client : ClientParts) → is_some (client_in after client) ≡ is_some (client_in before client)
     pub globals : GlobalsStay before after
+    pub memory : EventMemory before m.sender.client answer after
 
   -- ---- an error
 
@@ -76,9 +84,10 @@ module _ {T U G C : Type 0} where
       × (option_map core_of (client_in after id.client) ≡ option_map (λ p. core_of (as_killed p)) (client_in before id.client))
       × (notes_made_in after id.client ≡ notes_made_in before id.client ++ end_note_of (client_in before id.client) reason)
 
-  -- if the id is null, nothing has changed
+  -- If the id is null, nothing has changed. Memory was refused only if it is not, and its client is stored.
   pub record KillsForError (before : BackendState T U G C) (id : IdParts) (code : ℕ) (text : List ℕ) (after : BackendState T U G C) : Type 0 where
     pub client : MatchBool (id.number == 0) (IsUnchanged before after) (ErrorPostedAs before id code text after)
     pub objects : ObjectsStay before after
     pub clients : OtherClientsStay before id.client after
     pub globals : GlobalsStay before after
+    pub memory : after.refused ≡ true → (id.number ≢ 0) × IsSome (client_in before id.client)

@@ -1,20 +1,21 @@
 -- What a program finds after a global was created, disabled or removed, in the words of the look-ups.
 --
 -- A contract that cites one of these has another clause beside it, `call`, from which it follows.
-use Rattle.std.specs.Prelude.{◌≡◌, ◌⊎◌, ℕ, ◌∷◌, [], ◌++◌, false, Option, None, Some, Result, Ok, Err, MatchOption, option_map}
+use Rattle.std.specs.Prelude.{◌≡◌, ◌⊎◌, ℕ, ◌∷◌, [], ◌++◌, true, false, Option, None, Some, Result, Ok, Err, MatchOption, option_map}
 use Rattle.wl_wire.specs.declared.interface.InterfaceId.{InterfaceId}
 use Rattle.wl_link.specs.declared.object.Object.{Object}
 use Rattle.wl_link.specs.Link.{LinkState}
 use Rattle.wl_server.specs.declared.error.GlobalError.{GlobalError}
+use Rattle.wl_server.specs.declared.error.GlobalError.TheVariants as no_global
 use Rattle.wl_server.specs.declared.globals.KeptGlobal.{KeptGlobal}
 use Rattle.wl_server.specs.declared.notes.DisconnectReason.TheVariants.{ConnectionClosed}
 use Rattle.wl_server.specs.declared.notes.Happening.TheVariants.{Disconnected}
 use Rattle.wl_server.specs.Backend.{BackendState}
 use Rattle.wl_server.specs.GivenOnce.{same_global}
-use Rattle.wl_server.specs.Globals.{as_disabled, global_of, new_global}
+use Rattle.wl_server.specs.Globals.{as_disabled, global_of, is_enabled, new_global}
 use Rattle.wl_server.specs.Ids.{ClientParts, GlobalParts}
 use Rattle.wl_server.specs.Part.{with_link}
-use Rattle.wl_server.specs.Plain.{ObjectsStay, as_killed}
+use Rattle.wl_server.specs.Plain.{ObjectsStay, as_killed, killed_in}
 use Rattle.wl_server.specs.Plain.Calls.{ClientsStay}
 use Rattle.wl_server.specs.Server.{Seen, seen}
 
@@ -43,6 +44,17 @@ module _ {T U G C : Type 0} where
     pub each : (id : ClientParts) → IsToldOrKilled (seen id before.server) (seen id after.server)
     pub objects : ObjectsStay before after
 
+  -- some client that was live is killed now
+  abbrev pub KillsSome : BackendState T U G C → BackendState T U G C → Type 0
+  KillsSome before after = (id : ClientParts) × (killed_in before id ≡ Some false) × (killed_in after id ≡ Some true)
+
+  -- After an error memory was refused exactly if the answer is `OutOfMemory`. Else it was only if a client could not be told of the
+  -- global, and is killed now.
+  abbrev pub GlobalMemory : BackendState T U G C → Result GlobalParts GlobalError → BackendState T U G C → Type 0
+  GlobalMemory before (Ok g) after = after.refused ≡ true → KillsSome before after
+  GlobalMemory before (Err no_global.OutOfMemory) after = after.refused ≡ true
+  GlobalMemory before (Err e) after = after.refused ≡ false
+
   -- The answer is the id of the new global, which is enabled and has this interface, version and handler. It named none
   -- before, and each other id names what it named. Or nothing has changed.
   abbrev pub GlobalCreatedAs : BackendState T U G C → InterfaceId → ℕ → G → Result GlobalParts GlobalError → BackendState T U G C → Type 0
@@ -54,15 +66,19 @@ module _ {T U G C : Type 0} where
       (after : BackendState T U G C) : Type 0 where
     pub global : GlobalCreatedAs before i version handler answer after
     pub clients : MayBeTold before after
+    pub memory : GlobalMemory before answer after
 
-  -- The global is disabled, if it is kept. The others stay.
+  -- The global is disabled, if it is kept. The others stay. Memory was refused only if the global was enabled, and a client could
+  -- not be told of it and is killed now.
   pub record DisablesGlobal (before : BackendState T U G C) (id : GlobalParts) (after : BackendState T U G C) : Type 0 where
     pub global : global_in after id ≡ option_map as_disabled (global_in before id)
     pub others : OtherGlobalsStay before id after
     pub clients : MayBeTold before after
+    pub memory : after.refused ≡ true → (is_enabled (global_in before id) ≡ true) × KillsSome before after
 
-  -- The id names no global any longer. The others stay.
+  -- The id names no global any longer. The others stay. Memory is refused as where it is disabled.
   pub record RemovesGlobal (before : BackendState T U G C) (id : GlobalParts) (after : BackendState T U G C) : Type 0 where
     pub global : global_in after id ≡ None
     pub others : OtherGlobalsStay before id after
     pub clients : MayBeTold before after
+    pub memory : after.refused ≡ true → (is_enabled (global_in before id) ≡ true) × KillsSome before after

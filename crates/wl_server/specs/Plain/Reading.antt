@@ -19,7 +19,7 @@ use Rattle.wl_server.specs.Backend.{BackendState}
 use Rattle.wl_server.specs.Deeds.{Bind, Handed, Request}
 use Rattle.wl_server.specs.Ids.{ClientParts, IdParts}
 use Rattle.wl_server.specs.Part.{Part, fresh_object, id_at, named}
-use Rattle.wl_server.specs.Plain.{GlobalsStay, OtherClientsStay, client_in, object_in}
+use Rattle.wl_server.specs.Plain.{GlobalsStay, OtherClientsStay, client_in, killed_in, object_in}
 use Rattle.wl_server.specs.Reading.{action_content}
 use Rattle.wl_server.specs.ReadingEnds.{MakesItsObject, ObjectsFit}
 use Rattle.wl_server.specs.Server.{Seen, seen}
@@ -78,6 +78,13 @@ module _ {T U C : Type 0} where
   IsOld (Some p) id = IsSome (named p.store id) ⊎ (id.serial ≤ p.last_serial)
 
 module _ {T U G C : Type 0} where
+  -- Memory was refused if the answer is `OutOfMemory`. If it is `Pipe`, it may have been, if the client was killed in this call: it
+  -- could not be told of something. Else it was not.
+  abbrev pub ReadingMemory : BackendState T U G C → ClientParts → Result Handed ActionError → BackendState T U G C → Type 0
+  ReadingMemory before id (Err (Io fault.OutOfMemory)) after = after.refused ≡ true
+  ReadingMemory before id (Err (Io fault.Pipe)) after = after.refused ≡ true → (killed_in before id ≡ Some false) × (killed_in after id ≡ Some true)
+  ReadingMemory before id _ after = after.refused ≡ false
+
   -- A reading: what it answers and leaves of its client. Each id but those that it made names what it named, and the other
   -- clients are as before.
   pub record ReadsClient (before : BackendState T U G C) (id : ClientParts) (answer : Result Action ActionError) (after : BackendState T U G C) : Type 0 where
@@ -86,3 +93,4 @@ module _ {T U G C : Type 0} where
     pub clients : OtherClientsStay before id after
     pub stored : (other : ClientParts) → is_some (client_in after other) ≡ is_some (client_in before other)
     pub globals : GlobalsStay before after
+    pub memory : ReadingMemory before id (action_content answer) after

@@ -1,0 +1,81 @@
+-- That a dispatch changes no global, if no call of its handler does.
+use Rattle.std.proofs.Common.{◌≡◌, ◌∙◌, ℕ, Bool, List, Option, None, Some, Result, Ok, refl, ap}
+use Rattle.wl_wire.specs.declared.error.IoFault.{IoFault}
+use Rattle.wl_server.specs.declared.error.FinishError.{FinishError}
+use Rattle.wl_server.specs.declared.reading.action.Action.{Action}
+use Rattle.wl_server.specs.declared.reading.action.Action.TheVariants as action
+use Rattle.wl_server.specs.declared.reading.action.Reading.{Reading}
+use Rattle.wl_server.specs.declared.runs.step.Step.{Step}
+use Rattle.wl_server.specs.Backend.{BackendState}
+use Rattle.wl_server.specs.Dispatch.{Answering, Answers, EachIsDispatched, EndsDispatch, Handles, IsDispatched, Last, Round, Rounds, more, no_action, none, not_ended}
+use Rattle.wl_server.specs.Ids.{ClientParts}
+use Rattle.wl_server.specs.PartStep.{Asked, Call, World}
+use Rattle.wl_server.specs.Plain.Dispatch.{KeepsGlobals}
+use Rattle.wl_server.specs.Server.{ServerState}
+use Rattle.wl_server.specs.Steps.{Entry, OneStep, offer_after}
+
+module _ {H T U G C : Type 0} (w : World T G C) (answers : Answering H T U G C) (keeps : KeepsGlobals answers) where
+  -- so does a call of this kind
+  kept_by : (before after : ServerState T U G C) (e : Entry T U G C) (call : Call T U G C) → OneStep w before e after → e.call ≡ call
+      → offer_after before.offer call ≡ before.offer → after.offer ≡ before.offer
+  kept_by before after e call by is same = by.offer ∙ ap (offer_after before.offer) is ∙ same
+
+  module _ (id : ClientParts) where
+    handled_keeps : (h h' : H) (before : BackendState T U G C) (a : Action) (run : List (Entry T U G C)) (lacked : Bool) (why : Option FinishError) (after : ServerState T U G C)
+        → Handles w answers id h before a run lacked why h' after → after.offer ≡ before.server.offer
+    handled_keeps h h' before a run lacked why after x = at a x.answers_so
+      where
+        ended : (s : Step T U G C) → x.end ≡ s → offer_after x.left.server.offer (Asked s x.answer) ≡ x.left.server.offer → after.offer ≡ x.left.server.offer
+        ended s is same = kept_by x.left.server after x.ended (Asked s x.answer) x.ends (x.ended_is ∙ ap (λ (s : Step T U G C). Asked s x.answer) is) same
+
+        at : (a : Action) → Answers w answers id h before a x.end h' x.left → after.offer ≡ before.server.offer
+        at (action.Request sender opcode args is_destructor created) (u, so, is) = ended _ is refl ∙ keeps.requests h h' before x.left id sender opcode args.items created u so
+        at (action.Bind global object) (u, so, is) = ended _ is refl ∙ keeps.binds h h' before x.left id global object u so
+
+    round_keeps : (h h' : H) (r r' : Reading) (before after : ServerState T U G C) (run : List (Entry T U G C)) (lacked : Bool) (why : Option FinishError)
+        → Round w answers id h r before run lacked why h' r' after → after.offer ≡ before.offer
+    round_keeps h h' r r' before after run lacked why round =
+        handled_keeps h h' round.found round.handed round.rest round.end_lacked why after round.handles
+        ∙ kept_by before round.found.server round.read _ round.reads round.read_is refl
+
+    rounds_keep : (h h' : H) (r r' : Reading) (before after : ServerState T U G C) (run : List (Entry T U G C)) (lacked : Bool)
+        → Rounds w answers id h r before run lacked h' r' after → after.offer ≡ before.offer
+    rounds_keep h h' r r' before after run lacked (none nothing calm) = refl
+    rounds_keep h h' r r' before after run lacked (more {h1 = h1} {r1 = r1} {s1 = s1} {first = first} {next = next} {before = was} {now = now} rounds round run_is lacked_is) =
+        round_keeps h1 h' r1 r' s1 after next now None round ∙ rounds_keep h h1 r r1 before s1 first was rounds
+
+    last_keeps : (h h' : H) (r r' : Reading) (before after : ServerState T U G C) (run : List (Entry T U G C)) (lacked : Bool) (f : IoFault)
+        → Last w answers id h r before run lacked f h' r' after → after.offer ≡ before.offer
+    last_keeps h h' r r' before after run lacked f (no_action e error by is run_is lacked_is fault_is same) = kept_by before after e _ by is refl
+    last_keeps h h' r r' before after run lacked f (not_ended why round fault_is) = round_keeps h h' r r' before after run lacked (Some why) round
+
+    client_keeps : (h h' : H) (before after : ServerState T U G C) (run : List (Entry T U G C)) (lacked : Bool) (answer : Result ℕ IoFault)
+        → IsDispatched w answers id h before run lacked answer h' after → after.offer ≡ before.offer
+    client_keeps h h' before after run lacked answer serves =
+        let s = serves.rounds_end in
+        last_keeps s.handler h' s.reading serves.left s.mid after s.last s.last_lacked serves.fault s.end
+        ∙ rounds_keep h s.handler _ s.reading before s.mid s.first s.first_lacked s.rounds
+
+  -- the clients one after another
+  clients_keep : (ids : List ClientParts) (h h' : H) (before after : ServerState T U G C) (run : List (Entry T U G C)) (lacked : Bool) (total : ℕ)
+      → EachIsDispatched w answers ids h before run lacked total h' after → after.offer ≡ before.offer
+  clients_keep ids h h' before after run lacked total (none no_ids nothing calm no_total) = refl
+  clients_keep ids h h' before after run lacked total (more {earlier = earlier} {h1 = h1} {s1 = s1} {first = first} {next = next} {before = was} {now = now} {count = count} id answer each serves ids_are run_is lacked_is total_is) =
+      client_keeps id h1 h' s1 after next now answer serves ∙ clients_keep earlier h h1 before s1 first was count each
+
+  -- the cleanup at the end
+  end_keeps : (before mid : ServerState T U G C) (after : BackendState T U G C) (calls : List (Entry T U G C)) (lacked : Bool) (answer result : Result ℕ IoFault)
+      → EndsDispatch w before calls lacked mid answer result after → after.server.offer ≡ mid.offer
+  end_keeps before mid after calls lacked answer result ends = kept_by mid after.server ends.cleanup _ ends.cleans ends.cleanup_is refl
+
+  pub dispatch_keeps : (id : ClientParts) (h h' : H) (before mid : ServerState T U G C) (after : BackendState T U G C) (calls : List (Entry T U G C)) (lacked : Bool)
+      (answer result : Result ℕ IoFault) → IsDispatched w answers id h before calls lacked answer h' mid → EndsDispatch w before calls lacked mid answer result after
+      → after.server.offer ≡ before.offer
+  dispatch_keeps id h h' before mid after calls lacked answer result serves ends =
+      end_keeps before mid after calls lacked answer result ends ∙ client_keeps id h h' before mid calls lacked answer serves
+
+  pub dispatches_keep : (ids : List ClientParts) (h h' : H) (before mid : ServerState T U G C) (after : BackendState T U G C) (calls : List (Entry T U G C)) (lacked : Bool)
+      (total : ℕ) (result : Result ℕ IoFault) → EachIsDispatched w answers ids h before calls lacked total h' mid → EndsDispatch w before calls lacked mid (Ok total) result after
+      → after.server.offer ≡ before.offer
+  dispatches_keep ids h h' before mid after calls lacked total result each ends =
+      end_keeps before mid after calls lacked (Ok total) result ends ∙ clients_keep ids h h' before mid calls lacked total each
