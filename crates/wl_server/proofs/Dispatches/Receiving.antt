@@ -187,7 +187,7 @@ module _ {T U G C : Type 0} (w : World T G C) (id : ClientParts) where
       let rest = calls_quiet mid after run leads others in omega (arith, first, rest)
 
   -- a reading of this client with so many receives left
-  reading_bounded : (before after : ServerState T U G C) (e : Entry T U G C) (r r' : Reading) (answer : Result Action ActionError)
+  pub reading_bounded : (before after : ServerState T U G C) (e : Entry T U G C) (r r' : Reading) (answer : Result Action ActionError)
       → e.call ≡ Asked (step.NextActionWithin id r) (reply.NextActionWithin answer r') → OneStep w before e after
       → receives_in (e.did id) + r'.turns_left ≤ r.turns_left
   reading_bounded before after e r r' answer is one =

@@ -1,14 +1,14 @@
 -- A reading of one client.
-use Rattle.std.proofs.Common.{◌≡◌, ◌⊎◌, ℕ, Bool, true, false, List, [], ◌++◌, append-nil, Option, None, Some, is_some, Result, Ok, Err, refl, sym, ap, subst, ◌∙◌, true≢false}
+use Rattle.std.proofs.Common.{◌≡◌, ◌≤◌, ◌+◌, ℕ, Bool, true, false, List, [], ◌++◌, append-nil, Option, None, Some, is_some, Result, Ok, Err, refl, sym, ap, subst, ◌∙◌, arith, true≢false}
 use mathlib.Core.Logic.{inl, inr}
-use Rattle.std.specs.Prelude.{IsSome, option_map}
+use Rattle.std.specs.Prelude.{◌⊎◌, IsSome, min, option_map}
 use Rattle.wl_wire.specs.declared.interface.InterfaceId.{InterfaceId}
 use Rattle.wl_wire.specs.declared.error.IoFault.{IoFault}
 use Rattle.wl_wire.specs.declared.error.IoFault.TheVariants as fault
 use Rattle.wl_link.proofs.Calls.Branches.{either_option}
 use Rattle.wl_link.specs.Exchange.{Queue}
 use Rattle.wl_wire.specs.MessageRows.{request_row}
-use Rattle.wl_link.specs.Reader.{ReaderState, Turn}
+use Rattle.wl_link.specs.Reader.{ReaderState, Turn, handled_in}
 use Rattle.wl_link.specs.Store.{held}
 use Rattle.wl_server.specs.declared.error.ActionError.{ActionError}
 use Rattle.wl_server.specs.declared.error.ActionError.TheVariants.{ActionOpen, Io}
@@ -28,11 +28,12 @@ use Rattle.wl_server.specs.Lookups.{and_then}
 use Rattle.wl_server.specs.Part.{Part, fresh_object, id_at, named}
 use Rattle.wl_server.specs.PartStep.{ReadsFor, World, around}
 use Rattle.wl_server.specs.Plain.{killed_in}
-use Rattle.wl_server.specs.Plain.Reading.{IsHandedOut, IsKilledOnce, IsOld, LivesOn, OpenReadAs, ReadAs, ReadingMemory, ReadsClient}
-use Rattle.wl_server.specs.Reading.{Around, NextAction, action_content, answered, new_reading}
+use Rattle.wl_server.specs.Plain.Reading.{IsHandedOut, IsKilledOnce, IsOld, LivesOn, OpenReadAs, ReadAs, ReadingMemory, ReadsClient, ReadsOn}
+use Rattle.wl_server.specs.Reading.{Around, NextAction, action_content, answered, new_reading, read_on}
 use Rattle.wl_server.specs.ReadingEnds.{ComesOfLast, ReadingEnds}
 use Rattle.wl_server.specs.Server.{Seen, seen}
 use Rattle.wl_server.specs.Telling.{Core, end_deeds, part_of, reader_part}
+use Rattle.wl_server.proofs.Dispatches.Receiving.{reading_bounded}
 use Rattle.wl_server.proofs.Plain.Base.{keeps, nothing_new, of_each, of_own, offer_of, other_stays, own, split_bool, when_false}
 use Rattle.wl_server.proofs.Plain.ReadingEnds.{reading_ends}
 use Rattle.wl_server.proofs.Plain.ReadingMemory.{MemoryOf, reads_memory}
@@ -278,4 +279,44 @@ module _ {T U G C : Type 0} (w : World T G C) (before after : BackendState T U G
       ))
     where
       inside : (r : Result Action ActionError) (l : Reading) → ◌≡◌ {A = Reply T U} (reply.NextActionWithin answer left) (reply.NextActionWithin r l) → r ≡ answer
+      inside r l is = cc
+
+  -- ---- a reading that goes on with what an earlier one left
+
+  no_fewer : (r r' : Reading) → (r' ≡ r) ⊎ ((left handled : ℕ) × (r' ≡ read_on r left handled)) → min r.read 0xFFFFFFFFFFFFFFFF ≤ r'.read
+  no_fewer r r' (inl same) = let read : r'.read ≡ r.read = ap (λ (x : Reading). x.read) same in omega (arith, read)
+  no_fewer r r' (inr (left, handled, is)) =
+      let read : r'.read ≡ min (r.read + handled) 0xFFFFFFFFFFFFFFFF = ap (λ (x : Reading). x.read) is in omega (arith, read)
+
+  goes_on : (r r' : Reading) (answer : Result Handed ActionError) (lacked : Bool) (did : List (Deed U))
+      → ReadsFor w id before.server.offer id r answer r' (seen id before.server) lacked did (seen id after.server) → (r' ≡ r) ⊎ ((left handled : ℕ) × (r' ≡ read_on r left handled))
+  goes_on r r' answer lacked did h =
+      elim (either_option (seen id before.server).part (own id _ _ _ lacked did _ h)) [
+        | inl (none, ((says, same), (calm, nothing, stays))) ↦ inl same
+        | inr (p, there, (q, next, is)) ↦
+            elim (either_option p.action next) [
+              | inr (action, is_open, (says, same, calm, none, stays)) ↦ inl same
+              | inl (idle, g) ↦
+                  elim (split_bool p.is_killed g) [
+                    | inl (dead, (says, same, calm, none, stays)) ↦ inl same
+                    | inr (live, (turns, out, end, reads, says, same, calm, did_so, ends)) ↦ inr (out.left, handled_in turns, same)
+                  ]
+            ]
+      ]
+
+  pub reading_goes_on : (reading left : Reading) (answer : Result Action ActionError) → Calls w before (step.NextActionWithin id reading) (reply.NextActionWithin answer left) after
+      → ReadsOn before id reading answer left after
+  reading_goes_on reading left answer call = record {
+    reads = next_action_within_reads reading left answer call;
+    turns = (
+        let (e, is, refused, by) = call.step in
+        let few = reading_bounded w id before.server after.server e reading left answer is by in omega (arith, few)
+        );
+    count = (
+        let (lacked, did, (r, l, is, h)) = of_each call id in
+        no_fewer reading left (subst (λ (x : Reading). (x ≡ reading) ⊎ ((left handled : ℕ) × (x ≡ read_on reading left handled))) (inside r l is) (goes_on reading l (action_content r) lacked did h))
+        );
+  }
+    where
+      inside : (r : Result Action ActionError) (l : Reading) → ◌≡◌ {A = Reply T U} (reply.NextActionWithin answer left) (reply.NextActionWithin r l) → l ≡ left
       inside r l is = cc

@@ -1,7 +1,7 @@
 -- What a program finds of a client after a reading: what is handed out, and whether the client lives.
 --
 -- A contract that cites `ReadsClient` has another clause beside it, `call`, from which it follows.
-use Rattle.std.specs.Prelude.{◌≡◌, ◌⊎◌, ◌≤◌, ℕ, List, ◌∷◌, [], ◌++◌, true, false, Option, None, Some, IsSome, is_some, Result, Ok, Err}
+use Rattle.std.specs.Prelude.{◌≡◌, ◌⊎◌, ◌≤◌, ℕ, min, List, ◌∷◌, [], ◌++◌, true, false, Option, None, Some, IsSome, is_some, Result, Ok, Err}
 use Rattle.wl_wire.specs.declared.error.IoFault.{IoFault}
 use Rattle.wl_wire.specs.declared.error.IoFault.TheVariants as fault
 use Rattle.wl_wire.specs.MessageRows.{request_row}
@@ -15,6 +15,7 @@ use Rattle.wl_server.specs.declared.notes.Happening.TheVariants.{Disconnected}
 use Rattle.wl_server.specs.declared.objects.Kept.{Kept}
 use Rattle.wl_server.specs.declared.reading.action.Action.{Action}
 use Rattle.wl_server.specs.declared.reading.action.OpenAction.TheVariants as opened
+use Rattle.wl_server.specs.declared.reading.action.Reading.{Reading}
 use Rattle.wl_server.specs.Backend.{BackendState}
 use Rattle.wl_server.specs.Deeds.{Bind, Handed, Request}
 use Rattle.wl_server.specs.Ids.{ClientParts, IdParts}
@@ -94,3 +95,11 @@ module _ {T U G C : Type 0} where
     pub stored : (other : ClientParts) → is_some (client_in after other) ≡ is_some (client_in before other)
     pub globals : GlobalsStay before after
     pub memory : ReadingMemory before id (action_content answer) after
+
+  -- A reading that goes on with what an earlier one left: it leaves no more receives than it found, and counts no fewer requests. The
+  -- count stops at the greatest number.
+  pub record ReadsOn (before : BackendState T U G C) (id : ClientParts) (reading : Reading) (answer : Result Action ActionError) (left : Reading)
+      (after : BackendState T U G C) : Type 0 where
+    pub reads : ReadsClient before id answer after
+    pub turns : left.turns_left ≤ reading.turns_left
+    pub count : min reading.read 0xFFFFFFFFFFFFFFFF ≤ left.read
