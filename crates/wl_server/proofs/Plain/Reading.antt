@@ -28,7 +28,7 @@ use Rattle.wl_server.specs.Lookups.{and_then}
 use Rattle.wl_server.specs.Part.{Part, fresh_object, id_at, named}
 use Rattle.wl_server.specs.PartStep.{ReadsFor, World, around}
 use Rattle.wl_server.specs.Plain.{killed_in}
-use Rattle.wl_server.specs.Plain.Reading.{IsHandedOut, IsKilledOnce, IsOld, LivesOn, OpenReadAs, ReadAs, ReadingMemory, ReadsClient, ReadsOn}
+use Rattle.wl_server.specs.Plain.Reading.{IsHandedOut, IsKilledOnce, IsOld, LivesOn, OpenReadAs, ReadAs, ReadingMemory, ReadsClient, ReadsWithin}
 use Rattle.wl_server.specs.Reading.{Around, NextAction, action_content, answered, new_reading, read_on}
 use Rattle.wl_server.specs.ReadingEnds.{ComesOfLast, ReadingEnds}
 use Rattle.wl_server.specs.Server.{Seen, seen}
@@ -304,9 +304,9 @@ module _ {T U G C : Type 0} (w : World T G C) (before after : BackendState T U G
             ]
       ]
 
-  pub reading_goes_on : (reading left : Reading) (answer : Result Action ActionError) → Calls w before (step.NextActionWithin id reading) (reply.NextActionWithin answer left) after
-      → ReadsOn before id reading answer left after
-  reading_goes_on reading left answer call = record {
+  pub reads_within : (reading left : Reading) (answer : Result Action ActionError) → Calls w before (step.NextActionWithin id reading) (reply.NextActionWithin answer left) after
+      → ReadsWithin before id reading answer left after
+  reads_within reading left answer call = record {
     reads = next_action_within_reads reading left answer call;
     turns = (
         let (e, is, refused, by) = call.step in

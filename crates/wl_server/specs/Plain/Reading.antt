@@ -1,6 +1,6 @@
 -- What a program finds of a client after a reading: what is handed out, and whether the client lives.
 --
--- A contract that cites `ReadsClient` has another clause beside it, `call`, from which it follows.
+-- A contract that cites `ReadsClient` or `ReadsWithin` has another clause beside it, `call`, from which it follows.
 use Rattle.std.specs.Prelude.{◌≡◌, ◌⊎◌, ◌≤◌, ℕ, min, List, ◌∷◌, [], ◌++◌, true, false, Option, None, Some, IsSome, is_some, Result, Ok, Err}
 use Rattle.wl_wire.specs.declared.error.IoFault.{IoFault}
 use Rattle.wl_wire.specs.declared.error.IoFault.TheVariants as fault
@@ -98,7 +98,7 @@ module _ {T U G C : Type 0} where
 
   -- A reading that goes on with what an earlier one left: it leaves no more receives than it found, and counts no fewer requests. The
   -- count stops at the greatest number.
-  pub record ReadsOn (before : BackendState T U G C) (id : ClientParts) (reading : Reading) (answer : Result Action ActionError) (left : Reading)
+  pub record ReadsWithin (before : BackendState T U G C) (id : ClientParts) (reading : Reading) (answer : Result Action ActionError) (left : Reading)
       (after : BackendState T U G C) : Type 0 where
     pub reads : ReadsClient before id answer after
     pub turns : left.turns_left ≤ reading.turns_left

@@ -5,7 +5,7 @@ ghost use Rattle.std.specs.Result.{result_and};
 ghost use Rattle.wl_server.specs.Backend.{Calls};
 ghost use Rattle.wl_server.specs.Cutting.{CallIsCut};
 ghost use Rattle.wl_server.specs.PartStep.{Asked, over};
-ghost use Rattle.wl_server.specs.Plain.Reading.{ReadsClient};
+ghost use Rattle.wl_server.specs.Plain.Reading.{ReadsClient, ReadsWithin};
 ghost use Rattle.wl_server.specs.Reading.{new_reading};
 ghost use Rattle.wl_server.specs.ReadingEnds.{EndsForAReason};
 ghost use Rattle.wl_server.specs.Room.{HasRoom};
@@ -96,7 +96,7 @@ impl<T: Transport + Drop, U: Drop, G: GlobalHandler<C> + Drop, C: Drop> Backend<
         reading: &mut Reading,
     ) -> Result<Action, ActionError>
         ensures call { Calls (over T.sends T.receives G.views) self.old (step.NextActionWithin id.now reading.old) (reply.NextActionWithin result reading.new) self.new }
-        ensures plain { ReadsClient self.old id.now result self.new }
+        ensures plain { ReadsWithin self.old id.now reading.old result reading.new self.new }
         ensures reason { EndsForAReason (over T.sends T.receives G.views) self.old id.now reading.old result reading.new self.new }
         ensures cutting { CallIsCut (over T.sends T.receives G.views) self.old.server (Asked (step.NextActionWithin id.now reading.old) (reply.NextActionWithin result reading.new)) self.new.refused self.new.server }
         ensures room { HasRoom (over T.sends T.receives G.views) self.old.server (Asked (step.NextActionWithin id.now reading.old) (reply.NextActionWithin result reading.new)) self.new.server }
@@ -136,7 +136,7 @@ impl<T: Transport + Drop, U: Drop, G: GlobalHandler<C> + Drop, C: Drop> Backend<
         action: &mut Action,
     ) -> Result<(), ActionError>
         ensures call { Calls (over T.sends T.receives G.views) self.old (step.NextActionWithin id.now reading.old) (reply.NextActionWithin (result_and result (Ok action.new)) reading.new) self.new }
-        ensures plain { ReadsClient self.old id.now (result_and result (Ok action.new)) self.new }
+        ensures plain { ReadsWithin self.old id.now reading.old (result_and result (Ok action.new)) reading.new self.new }
         ensures reason { EndsForAReason (over T.sends T.receives G.views) self.old id.now reading.old (result_and result (Ok action.new)) reading.new self.new }
         ensures cutting { CallIsCut (over T.sends T.receives G.views) self.old.server (Asked (step.NextActionWithin id.now reading.old) (reply.NextActionWithin (result_and result (Ok action.new)) reading.new)) self.new.refused self.new.server }
         ensures room { HasRoom (over T.sends T.receives G.views) self.old.server (Asked (step.NextActionWithin id.now reading.old) (reply.NextActionWithin (result_and result (Ok action.new)) reading.new)) self.new.server }

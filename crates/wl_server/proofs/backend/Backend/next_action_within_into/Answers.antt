@@ -1,7 +1,7 @@
 use Rattle.wl_server.proofs.OverRuns.Cut.CuttingLaws.{histories_cut}
 use Rattle.wl_server.proofs.OverRuns.Cut.RoomLaws.{within_has_room}
 use Rattle.wl_server.proofs.Plain.Reasons.{next_action_within_ends}
-use Rattle.wl_server.proofs.Plain.Reading.{next_action_within_reads}
+use Rattle.wl_server.proofs.Plain.Reading.{reads_within}
 use Rattle.wl_server.proofs.backend.Backend.next_action_within_into.Goals as goal
 
 pub returns-clause-call : goal.returns-clause-call
@@ -14,7 +14,7 @@ pub returns-clause-cutting : goal.returns-clause-cutting
 returns-clause-cutting g c = ((returns-clause-call g c).step, histories_cut _ _ _ _)
 
 pub returns-clause-plain : goal.returns-clause-plain
-returns-clause-plain g c = next_action_within_reads _ _ _ _ _ _ _ (returns-clause-call g c)
+returns-clause-plain g c = reads_within _ _ _ _ _ _ _ (returns-clause-call g c)
 
 pub returns-clause-reason : goal.returns-clause-reason
 returns-clause-reason g c = next_action_within_ends _ _ _ _ _ _ _ (returns-clause-call g c)
