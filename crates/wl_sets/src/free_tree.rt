@@ -70,6 +70,8 @@ impl FreeTree {
     }
 
     /// Adds the next place, which is not free. It allocates nothing.
+    ///
+    /// Most places are in a word that is there already. So this test stands in the caller, and the rest is a function.
     #[inline(always)]
     pub fn push(&mut self, at: usize)
         requires tree { (flag : ℕ → Bool) × IsTree flag at (words_of self.old.levels.items) }
@@ -245,7 +247,8 @@ fn take_least(levels: &mut [Vec<u64>], end: usize, reads: &mut u32) -> Option<us
     ensures ready { is_ready levels.new ≡ is_ready levels.old }
     ensures len { length levels.new ≡ length levels.old }
 {
-    // Up to 64 places have one word: the search reads it once, and clears the bit in it. Up to 4096 have one word above.
+    // Up to 64 places have one word: the search reads it once, and clears the bit in it. That stands in the caller. Up to
+    // 4096 have one word above. These, and more, are functions of their own, so that few places do not pay for them.
     if has_one_word(levels) {
         take_from_one(levels, end, reads)
     } else if has_one_word_above(levels) {
