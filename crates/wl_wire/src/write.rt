@@ -169,9 +169,7 @@ fn put_word(payload: &mut [u8], at: usize, n: u32) -> usize
 ///
 /// `ending` zeros (none or one) follow the bytes, and count with them. First a word of zeros is written over the last four
 /// bytes, and then the count and the bytes. The rest of that word is the ending and the padding.
-///
-/// It is not inlined, so that the loops that call it stay short for arguments that are words.
-#[inline(never)]
+#[inline]
 fn put_counted(payload: &mut [u8], at: usize, bytes: &[u8], ending: usize) -> usize
     requires room { at + counted_len (length bytes.now + ending) ≤ length payload.old }
     requires small { length bytes.now + ending ≤ 65535 }
@@ -185,6 +183,20 @@ fn put_counted(payload: &mut [u8], at: usize, bytes: &[u8], ending: usize) -> us
     let start = put_word(payload, at, len as u32);
     put_block(payload, start, bytes);
     last + 4
+}
+
+/// Does the same as `put_counted`.
+///
+/// It is not inlined, so that the loop that calls it stays short for arguments that are words.
+#[inline(never)]
+fn put_counted_apart(payload: &mut [u8], at: usize, bytes: &[u8], ending: usize) -> usize
+    requires room { at + counted_len (length bytes.now + ending) ≤ length payload.old }
+    requires small { length bytes.now + ending ≤ 65535 }
+    requires ending { ending ≤ 1 }
+    ensures bytes { payload.new ≡ overwritten payload.old at (counted (bytes.now ++ replicate ending 0)) }
+    ensures next { result ≡ at + counted_len (length bytes.now + ending) }
+{
+    put_counted(payload, at, bytes, ending)
 }
 
 /// Writes the argument's bytes from the place `at` on, and returns the place after them.
@@ -206,10 +218,10 @@ fn put_argument<Id, N: Numbering<Id>>(
         Argument::Uint(n) => put_word(payload, at, *n),
         Argument::Fixed(n) => put_word(payload, at, n.cast_unsigned()),
         Argument::Str(None) => put_word(payload, at, 0),
-        Argument::Str(Some(text)) => put_counted(payload, at, text.as_bytes(), 1),
+        Argument::Str(Some(text)) => put_counted_apart(payload, at, text.as_bytes(), 1),
         Argument::Object(id) => put_word(payload, at, numbers.number_object(id)),
         Argument::NewId(id) => put_word(payload, at, numbers.number_new(id)),
-        Argument::Array(bytes) => put_counted(payload, at, bytes.as_slice(), 0),
+        Argument::Array(bytes) => put_counted_apart(payload, at, bytes.as_slice(), 0),
         Argument::Fd(_) => at,
     }
 }
