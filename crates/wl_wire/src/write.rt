@@ -518,34 +518,54 @@ fn put_counted_within(
     Some(put_counted(payload, at, bytes, ending))
 }
 
-/// Writes the argument's bytes from the place `at` on if they end by the place `end`, and returns the place after them. There
-/// is room for a word. It writes no argument that has a token.
+/// Writes counted bytes as `put_counted` does, if they take no more than a word and `room` bytes. Returns the place after them,
+/// and how much of the room is left.
+fn put_block_within(
+    payload: &mut [u8],
+    at: usize,
+    room: usize,
+    bytes: &[u8],
+    ending: usize,
+) -> Option<(usize, usize)>
+    requires end { at + 4 + room ≤ length payload.old }
+    requires small { at + 4 + room ≤ 65535 }
+    requires ending { ending ≤ 1 }
+    ensures next { IfSome result (λ x. (x.0 ≡ at + counted_len (length bytes.now + ending)) × (x.0 + x.1 ≡ at + 4 + room)) }
+    ensures written { IfSome result (λ _. payload.new ≡ overwritten payload.old at (counted (bytes.now ++ replicate ending 0))) }
+    ensures none { result ≡ None → at + 4 + room < at + counted_len (length bytes.now + ending) }
+{
+    let end = at + 4 + room;
+    let next = put_counted_within(payload, at, end, bytes, ending)?;
+    Some((next, end - next))
+}
+
+/// Writes the argument's bytes from the place `at` on if they take no more than a word and `room` bytes. Returns the place
+/// after them, and how much of the room is left. It writes no argument that has a token.
 #[tactic(auto, unfolding(crate::specs::Message::piece))]
 fn put_within<Id, N: Numbering<Id>>(
     payload: &mut [u8],
     at: usize,
-    end: usize,
+    room: usize,
     arg: &Argument<Id, Token>,
     numbers: &N,
-) -> Option<usize>
-    requires at { at + 4 ≤ end }
-    requires end { end ≤ length payload.old }
-    requires small { end ≤ 65535 }
-    ensures next { IfSome result (λ next. (next ≡ at + piece_len arg.now) × (next ≤ end)) }
+) -> Option<(usize, usize)>
+    requires end { at + 4 + room ≤ length payload.old }
+    requires small { at + 4 + room ≤ 65535 }
+    ensures next { IfSome result (λ x. (x.0 ≡ at + piece_len arg.now) × (x.0 + x.1 ≡ at + 4 + room)) }
     ensures bytes { IfSome result (λ _. payload.new ≡ overwritten payload.old at (piece (with_ids (N.object_number numbers.now) (N.new_number numbers.now) arg.now))) }
     ensures token { IfSome result (λ _. token_of arg.now ≡ []) }
     ensures value { IfSome result (λ _. IsArgument (with_ids (N.object_number numbers.now) (N.new_number numbers.now) arg.now)) }
-    ensures none { result ≡ None → token_of arg.now ≡ [] → end < at + piece_len arg.now }
+    ensures none { result ≡ None → token_of arg.now ≡ [] → at + 4 + room < at + piece_len arg.now }
 {
     match arg {
-        Argument::Int(n) => Some(put_word(payload, at, n.cast_unsigned())),
-        Argument::Uint(n) => Some(put_word(payload, at, *n)),
-        Argument::Fixed(n) => Some(put_word(payload, at, n.cast_unsigned())),
-        Argument::Str(None) => Some(put_word(payload, at, 0)),
-        Argument::Str(Some(text)) => put_counted_within(payload, at, end, text.as_bytes(), 1),
-        Argument::Object(id) => Some(put_word(payload, at, numbers.number_object(id))),
-        Argument::NewId(id) => Some(put_word(payload, at, numbers.number_new(id))),
-        Argument::Array(bytes) => put_counted_within(payload, at, end, bytes.as_slice(), 0),
+        Argument::Int(n) => Some((put_word(payload, at, n.cast_unsigned()), room)),
+        Argument::Uint(n) => Some((put_word(payload, at, *n), room)),
+        Argument::Fixed(n) => Some((put_word(payload, at, n.cast_unsigned()), room)),
+        Argument::Str(None) => Some((put_word(payload, at, 0), room)),
+        Argument::Str(Some(text)) => put_block_within(payload, at, room, text.as_bytes(), 1),
+        Argument::Object(id) => Some((put_word(payload, at, numbers.number_object(id)), room)),
+        Argument::NewId(id) => Some((put_word(payload, at, numbers.number_new(id)), room)),
+        Argument::Array(bytes) => put_block_within(payload, at, room, bytes.as_slice(), 0),
         Argument::Fd(_) => None,
     }
 }
@@ -574,9 +594,9 @@ fn put_each_within<Id, N: Numbering<Id>>(
     let mut room = end - 8 - 4 * args.len();
     let mut at = 8;
     for arg in args {
-        let limit = at + 4 + room;
-        at = put_within(payload, at, limit, arg, numbers)?;
-        room = limit - at;
+        let (next, left) = put_within(payload, at, room, arg, numbers)?;
+        at = next;
+        room = left;
     }
     Some(at)
 }

@@ -19,13 +19,13 @@ loop-arg-preserved g c =
     let a = with_ids object_number new_number c.arg-item.result in
     let got = got_with_ids object_number new_number c.args.args.now i c.arg-item.result c.loop-arg-test.true c.arg-item.is in
     let front = length-pieces-front object_number new_number c.args.args.now i in (
-      omega (arith, c.loop-arg.invariant.0, c.in_ok-at.ensures.next.0, sum_by-more piece_len c.args.args.now i c.arg-item.result c.loop-arg-test.true c.arg-item.is),
-      omega (arith, c.loop-arg.invariant.1, c.loop-arg.invariant.2, c.in_ok-at.ensures.next.1, c.loop-arg-test.true),
+      omega (arith, c.loop-arg.invariant.0, c.in_ok-next.ensures.next.0, sum_by-more piece_len c.args.args.now i c.arg-item.result c.loop-arg-test.true c.arg-item.is),
+      omega (arith, c.loop-arg.invariant.1, c.loop-arg.invariant.2, c.in_ok-next.ensures.next.1, c.loop-arg-test.true),
       omega (arith, c.loop-arg-test.true),
       overwritten-next c.args.payload.now c.loop-arg.payload c.put_within.new.payload args i c.loop-arg.at a got.0 got.1
-          (omega (arith, c.loop-arg.invariant.1, c.loop-arg.invariant.2, c.loop-arg-test.true, c.in_ok-at.ensures.next.0, c.in_ok-at.ensures.next.1, c.requires.end, length-piece-with_ids object_number new_number c.arg-item.result)) (omega (arith, c.loop-arg.invariant.0, front)) c.loop-arg.invariant.3 c.in_ok-at.ensures.bytes,
-      flat_map-more token_of c.args.args.now i c.arg-item.result c.loop-arg-test.true c.arg-item.is ∙ ap (λ t. t ++ token_of c.arg-item.result) c.loop-arg.invariant.4 ∙ c.in_ok-at.ensures.token,
-      all-more IsArgument args i a got.0 got.1 c.loop-arg.invariant.5 c.in_ok-at.ensures.value,
+          (omega (arith, c.loop-arg.invariant.1, c.loop-arg.invariant.2, c.loop-arg-test.true, c.in_ok-next.ensures.next.0, c.in_ok-next.ensures.next.1, c.requires.end, length-piece-with_ids object_number new_number c.arg-item.result)) (omega (arith, c.loop-arg.invariant.0, front)) c.loop-arg.invariant.3 c.in_ok-next.ensures.bytes,
+      flat_map-more token_of c.args.args.now i c.arg-item.result c.loop-arg-test.true c.arg-item.is ∙ ap (λ t. t ++ token_of c.arg-item.result) c.loop-arg.invariant.4 ∙ c.in_ok-next.ensures.token,
+      all-more IsArgument args i a got.0 got.1 c.loop-arg.invariant.5 c.in_ok-next.ensures.value,
     )
 
 pub returns-then-args-gt-MAX_WORDS-clause-none : goal.returns-then-args-gt-MAX_WORDS-clause-none
@@ -36,13 +36,10 @@ returns-then-args-gt-MAX_WORDS-clause-none g c = λ is none.
       | then-args-gt-MAX_WORDS-via-else-args-gt-MAX_WORDS+then-end-args w ↦ omega (arith, least, w.if-end-args.true, c.requires.header)
     ]
 
-pub returns-in_err-at-clause-none : goal.returns-in_err-at-clause-none
-returns-in_err-at-clause-none g c = λ is none.
+pub returns-in_err-next-clause-none : goal.returns-in_err-next-clause-none
+returns-in_err-next-clause-none g c = λ is none.
     let rest = rest_at_least c.args.args.now c.loop-arg.arg-index c.arg-item.result c.loop-arg-test.true c.arg-item.is none in
-    omega (arith, rest.1, c.in_err-at.ensures.none refl rest.0, c.loop-arg.invariant.0, c.loop-arg.invariant.1)
-
-pub overflow_sub-room-in-loop-arg : goal.overflow_sub-room-in-loop-arg
-overflow_sub-room-in-loop-arg g c = grind (arith, common_steps)
+    omega (arith, rest.1, c.in_err-next.ensures.none refl rest.0, c.loop-arg.invariant.0, c.loop-arg.invariant.1)
 
 pub returns-clause-next : goal.returns-clause-next
 returns-clause-next g c = grind (arith, common_steps)
