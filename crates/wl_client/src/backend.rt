@@ -81,7 +81,7 @@ impl<T, U> Model for Backend<T, U> {
     } };
 }
 
-/// The objects of a new session: the display alone. The error is `OutOfMemory`.
+/// The objects of a new session: the display alone.
 fn first_objects<U: Drop>(alloc: Global) -> Result<ObjectMap<Kept<U>>, OutOfMemory>
     ensures { IfOk result (λ objects. objects.store ≡ stored empty_store 1 display_object) }
 {
@@ -105,7 +105,7 @@ impl<T: Drop, U: Drop> Backend<T, U> {
     /// version 1.
     ///
     /// It stands for `wayland_backend::client::Backend::connect`. Nothing is sent yet, and no limit is set for what waits
-    /// to be sent. The error is `OutOfMemory`.
+    /// to be sent.
     pub fn connect(alloc: Global, protocol: Protocol, transport: T) -> Result<Self, OutOfMemory>
         ensures connected { IfOk result (λ client. IsConnected protocol transport client.session) }
         ensures refused { IfOk result (λ client. client.refused ≡ false) }

@@ -95,8 +95,6 @@ impl ObjectId {
 
     /// The id as text: the name of its interface, `@`, and its number. The name is `<unknown>` if the interface is not in
     /// the table.
-    ///
-    /// The error is `OutOfMemory`.
     pub fn display(&self, alloc: Global, protocol: &Protocol) -> Result<String, OutOfMemory>
         ensures { IfOk result (λ text. string_bytes text ≡ name_of protocol.now self.now.interface.0 ++ codes "@" ++ decimal self.now.number) }
     {

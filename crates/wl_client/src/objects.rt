@@ -144,7 +144,8 @@ fn lend_data_of<U: Drop, R, F: FnOnce(&mut U) -> R>(object: &mut Object<Kept<U>>
     }
 }
 
-/// The same with the object that the id names. The error says that the id names no object, or one without user data.
+/// Calls `f` with the user data of the object that the id names, as `lend_data_of` does. The error says that the id names no
+/// object, or one without user data.
 fn lend_data<U: Drop, R, F: FnOnce(&mut U) -> R>(
     objects: &mut ObjectMap<Kept<U>>,
     id: &ObjectId,
