@@ -48,6 +48,7 @@ pub fn handle_event<U: Drop>(
     requires empty { event.old.args.items ≡ [] }
     requires room { HasRoomFor event.old.args (length message.old.args.items) }
     ensures capacity { event.new.args.capacity ≡ event.old.args.capacity }
+    ensures place { message.new.args.capacity ≡ message.old.args.capacity }
     ensures handled { MatchOption (held objects.old.store message.old.sender_id) ⊥
         (λ x. HandledAs (content message.old) x (message_row desc.now)
         (outcome_of x.version x.value.client_destroyed (start (objects_in objects.old last_serial.old) (message_row desc.now)) [] message.old.args.items)

@@ -169,6 +169,7 @@ pub fn convert<U: Drop>(
     requires can_make { CanMake progress.old (reverse args.old.items) objects.old }
     requires room { HasRoomFor converted.old (length args.old.items) }
     ensures capacity { converted.new.capacity ≡ converted.old.capacity }
+    ensures place { args.new.capacity ≡ args.old.capacity }
     ensures converts { MatchResult result
         (λ _. EndsWhole
         (convert receiver.version receiver.client_destroyed (state objects.old last_serial.old progress.old) converted.old.items (reverse args.old.items))

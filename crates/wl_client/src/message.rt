@@ -25,7 +25,7 @@ ghost use Rattle.wl_client.specs.Inside.ReadingLoop.{Carries, IsHeader, NotTaken
 use crate::backend::Backend;
 use crate::display_event::{DisplayMessage, display_event, told_error};
 use crate::error::{EventError, WaylandError};
-use crate::event::{OpenEvent, handle_event};
+use crate::event::handle_event;
 use crate::event_fault::{EventFault, fault_text};
 use crate::event_in_place::InPlace;
 use crate::object_id::ObjectId;
@@ -138,6 +138,7 @@ fn take<'p, T: Drop, U: Drop>(
     ensures inline { INLINE_ARGS ≤ converted.new.capacity }
     ensures empty { converted.new.items ≡ [] }
     ensures can_make { OnOk result (list_any (λ x. is_new_id (type_of x)) message.new.args.items ≡ true → objects.new.reserved ≡ true) }
+    ensures place { INLINE_ARGS ≤ message.new.args.capacity }
 {
     converted.clear();
     let (sender, opcode) = header;
@@ -231,42 +232,6 @@ fn handle_display<U: Drop>(
     }
 }
 
-/// Takes the first message off what was received, and handles it. It has this header. If it makes an event, that is in
-/// `event` then, and open.
-///
-/// `message` is the place that the message is read into. `stored` is the session's error.
-fn take_and_handle<T: Drop, U: Drop>(
-    protocol: &Protocol,
-    objects: &mut ObjectMap<Kept<U>>,
-    last_serial: &mut u64,
-    socket: &mut BufferedSocket<T>,
-    stored: &mut Option<WaylandError>,
-    open_event: &mut Option<OpenEvent>,
-    header: (u32, u16),
-    message: &mut Message<u32, Token>,
-    event: &mut Message<ObjectId, Token>,
-) -> Result<MessageEnd, MessageParseError>
-    requires header { IsHeader socket.old header }
-    requires place { INLINE_ARGS ≤ message.old.args.capacity }
-    requires inline { INLINE_ARGS ≤ event.old.args.capacity }
-    ensures taken { TakenTo protocol.now (objects_in objects.old last_serial.old) socket.old stored.old open_event.old result event.new
-        (objects_in objects.new last_serial.new) socket.new stored.new open_event.new }
-    ensures inline { INLINE_ARGS ≤ event.new.args.capacity }
-{
-    let desc = take(protocol, objects, socket, header, message, &mut event.args)?;
-    if message.sender_id == DISPLAY {
-        return Ok(handle_display(protocol, objects, stored, message));
-    }
-    match handle_event(objects, last_serial, open_event, desc, message, event) {
-        Ok(true) => Ok(MessageEnd::Event),
-        Ok(false) => Ok(MessageEnd::Continues),
-        Err(fault) => {
-            let alloc = *message.args.allocator();
-            Ok(MessageEnd::Ends(fail_by(alloc, protocol, stored, fault)))
-        }
-    }
-}
-
 impl<T: Transport + Drop, U: Drop> Backend<T, U> {
     /// Takes the first message off what was received, and handles it. If it makes an event, that is in `event` then.
     pub(crate) fn handle_message(&mut self, event: &mut Message<ObjectId, Token>) -> MessageEnd
@@ -284,7 +249,7 @@ impl<T: Transport + Drop, U: Drop> Backend<T, U> {
         }
     }
 
-    /// Does the same if this header waits.
+    /// Does the same for a message that is not handled in place, and has this header.
     #[inline(never)]
     fn handle_at(&mut self, header: (u32, u16), event: &mut Message<ObjectId, Token>) -> MessageEnd
         requires header { IsHeader self.old.session.link header }
@@ -292,21 +257,52 @@ impl<T: Transport + Drop, U: Drop> Backend<T, U> {
         ensures handles { HandlesMessage self.old.session (message_result result event.new) self.new.session }
         ensures inline { INLINE_ARGS ≤ event.new.args.capacity }
     {
-        let handled = take_and_handle(
-            &self.protocol,
-            &mut self.objects,
-            &mut self.last_serial,
-            &mut self.socket,
-            &mut self.error,
-            &mut self.open_event,
-            header,
-            &mut self.place.message,
-            event,
-        );
+        let handled = self.take_and_handle(header, event);
         clear_message(&mut self.place.message);
         match handled {
             Ok(end) => end,
             Err(error) => self.not_taken(error),
+        }
+    }
+
+    /// Takes the message off what was received, and handles it. What is left of it stays in the session's place.
+    fn take_and_handle(
+        &mut self,
+        header: (u32, u16),
+        event: &mut Message<ObjectId, Token>,
+    ) -> Result<MessageEnd, MessageParseError>
+        requires header { IsHeader self.old.session.link header }
+        requires inline { INLINE_ARGS ≤ event.old.args.capacity }
+        ensures taken { TakenTo self.old.session result event.new self.new.session }
+        ensures inline { INLINE_ARGS ≤ event.new.args.capacity }
+    {
+        let message = &mut self.place.message;
+        let desc = take(
+            &self.protocol,
+            &mut self.objects,
+            &mut self.socket,
+            header,
+            message,
+            &mut event.args,
+        )?;
+        if message.sender_id == DISPLAY {
+            return Ok(handle_display(&self.protocol, &mut self.objects, &mut self.error, message));
+        }
+        let handled = handle_event(
+            &mut self.objects,
+            &mut self.last_serial,
+            &mut self.open_event,
+            desc,
+            message,
+            event,
+        );
+        match handled {
+            Ok(true) => Ok(MessageEnd::Event),
+            Ok(false) => Ok(MessageEnd::Continues),
+            Err(fault) => {
+                let alloc = *message.args.allocator();
+                Ok(MessageEnd::Ends(fail_by(alloc, &self.protocol, &mut self.error, fault)))
+            }
         }
     }
 

@@ -128,16 +128,6 @@ module _ {U : Type 0} where
   Carries (Breaks e o) (Ended end) objects error error' opened opened' = (objects ≡ o) × (opened' ≡ opened) × Stores e end error'
   Carries _ _ objects error error' opened opened' = ⊥
 
-  -- the message at the front was taken and handled; or it was not taken, and all is as before
-  abbrev pub TakenTo : {T : Type 0} → List InterfaceRow → Objects (Kept U) → LinkState T → Option WaylandError → Option OpenEvent
-      → Result MessageEnd MessageParseError → Message IdParts Token → Objects (Kept U) → LinkState T → Option WaylandError → Option OpenEvent → Type 0
-  TakenTo table objects link error opened (Ok end) event objects' link' error' opened' =
-      (m : WireMessage) × ReadsIn table objects.store link (Ok m) link'
-      × Carries (handling table objects m) (message_result end event) objects' error error' opened opened'
-  TakenTo table objects link error opened (Err e) event objects' link' error' opened' =
-      (objects' ≡ objects) × (link' ≡ link) × (error' ≡ error) × (opened' ≡ opened)
-      × (ReadsIn table objects.store link (Err e) link ⊎ ((e ≡ parse.OutOfMemory) × EventAsks table objects.store link.incoming))
-
 module _ {T U : Type 0} where
   -- the handling of a message was carried out
   abbrev pub HandledTo : SessionState T U → Handling U → MessageResult → SessionState T U → Type 0
@@ -171,6 +161,11 @@ module _ {T U : Type 0} where
       NotTakenTo before to after
       ⊎ ((m : WireMessage) × (link : LinkState T) × ReadsAs before (Ok m) link
       × HandledTo (with_link before link) (handling before.table (objects_of before) m) to after)
+
+  -- the message at the front was taken and handled, and it came to this; or it was not taken, and nothing is changed
+  abbrev pub TakenTo : SessionState T U → Result MessageEnd MessageParseError → Message IdParts Token → SessionState T U → Type 0
+  TakenTo before (Ok end) event after = HandlesMessage before (message_result end event) after
+  TakenTo before (Err e) event after = (after ≡ before) × NotTaken before e
 
   abbrev pub Live : SessionState T U → Type 0
   Live s = (s.error ≡ None) × (s.open_event ≡ None)
