@@ -35,8 +35,9 @@ module _ {T U G C : Type 0} (before : ServerState T U G C) (id : ClientParts) wh
 
 -- no call of the handler changes a global, the table of interfaces or the limit of new clients
 pub record KeepsGlobals {H T U G C : Type 0} (answers : Answering H T U G C) : Type 0 where
-  pub requests : (h h' : H) (before after : BackendState T U G C) (client : ClientParts) (sender : IdParts) (opcode : ℕ) (args : List (Argument IdParts Token))
-      (created : Option IdParts) (u : Option U) → answers.requests h before client sender opcode args created u h' after → GlobalsStay before after
+  pub requests : (h h' : H) (before after : BackendState T U G C) (client : ClientParts) (sender : IdParts) (opcode : ℕ)
+      (args : List (Argument IdParts Token)) (created : Option IdParts) (u : Option U)
+      → answers.requests h before client sender opcode args created u h' after → GlobalsStay before after
   pub binds : (h h' : H) (before after : BackendState T U G C) (client : ClientParts) (global : GlobalParts) (object : IdParts) (u : U)
       → answers.binds h before client global object u h' after → GlobalsStay before after
 
@@ -56,7 +57,7 @@ module _ {T U G C : Type 0} where
 
   -- A dispatch of several clients. After a count every stored client is live, and no note waits for a cleanup. The one fault is
   -- `OutOfMemory`, and then `memory_refused` is true. The globals are as before, if no call of the handler changes them.
-  pub record DispatchOfSeveralLeaves {H : Type 0} (answers : Answering H T U G C) (before : ServerState T U G C) (answer : Result ℕ IoFault) (after : BackendState T U G C)
-      : Type 0 where
+  pub record DispatchOfSeveralLeaves {H : Type 0} (answers : Answering H T U G C) (before : ServerState T U G C) (answer : Result ℕ IoFault)
+      (after : BackendState T U G C) : Type 0 where
     pub all : MatchResult answer (λ count. AllLive after) (λ f. (f ≡ fault.OutOfMemory) × (after.refused ≡ true))
     pub globals : KeepsGlobals answers → after.server.offer ≡ before.offer

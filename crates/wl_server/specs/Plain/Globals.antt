@@ -76,7 +76,7 @@ module _ {T U G C : Type 0} where
     pub clients : MayBeTold before after
     pub memory : after.refused ≡ true → (is_enabled (global_in before id) ≡ true) × KillsSome before after
 
-  -- The id names no global any longer. The others stay. Memory is refused as where it is disabled.
+  -- The id names no global any longer. The others stay. Of memory the same holds as where a global is disabled.
   pub record RemovesGlobal (before : BackendState T U G C) (id : GlobalParts) (after : BackendState T U G C) : Type 0 where
     pub global : global_in after id ≡ None
     pub others : OtherGlobalsStay before id after

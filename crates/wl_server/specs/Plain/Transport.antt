@@ -17,7 +17,8 @@ module _ {T U G C : Type 0} where
     pub for_number : (id : ClientParts) (i : InterfaceId) (n : ℕ) → object_for_number after id i n ≡ object_for_number before id i n
     pub clients : live_clients after ≡ live_clients before
     pub objects : (id : ClientParts) → objects_of_client after id ≡ objects_of_client before id
-    pub name : (views : G → ClientParts → C → GlobalParts → Bool) (id : GlobalParts) (client : ClientParts) → name_for after views id client ≡ name_for before views id client
+    pub name : (views : G → ClientParts → C → GlobalParts → Bool) (id : GlobalParts) (client : ClientParts)
+        → name_for after views id client ≡ name_for before views id client
 
   -- The client has the transport that was left in the lent place, and all else of it is as before. So is all that is held of the
   -- other clients, each id of an object and of a global names what it named, and each other look-up answers as before.
