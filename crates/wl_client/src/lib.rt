@@ -29,13 +29,13 @@
 //! `ReadingEnds` (why a reading ends), `Scripted` (calls of `Memory` as steps).
 #![tactic(auto)]
 
-/// The session: its fields, how it is made, its limits and its notes.
+/// The session: its fields, how it is made, and the calls that are not about requests, events or objects.
 mod backend;
 /// What the events of the display say: an error, or that a number is given up.
 mod display_event;
 /// The errors of calls, and the error that ends a session.
 mod error;
-/// An event of any other object, and what is kept of it while it is open.
+/// An event of any object but the display, and what is kept of it while it is open.
 mod event;
 /// The arguments of an event: numbers become ids, and a new id makes an object.
 mod event_arguments;
@@ -43,7 +43,7 @@ mod event_arguments;
 mod event_fault;
 /// Events that are handled where they stand in the buffer, without being read first.
 mod event_in_place;
-/// `finish_event`: the end of an event that was handed out.
+/// `finish_event`: the end of an event that was handed out; and `open_event`, which says which one it is.
 mod finish_event;
 /// `flush`: sends what waits to be sent.
 mod flush;
@@ -55,13 +55,13 @@ mod message;
 mod next_event;
 /// The ids of objects.
 mod object_id;
-/// The objects: what is kept of each, and the calls about one object.
+/// The objects: what is kept of each, the calls about one object, and the notes of destroyed ones.
 mod objects;
 /// `replay`: runs of steps over the transport by script.
 mod replay;
 /// Whether a request is refused, and why; and the numbers of its ids.
 mod request;
-/// `send_request`: writes a request, puts its new object, and ends its sender.
+/// `send_request`: writes a request, puts the object that it makes, and ends the sender of a destructor.
 mod send_request;
 /// The calls and their answers as values.
 mod step;

@@ -40,11 +40,11 @@ pub mod laws;
 mod limit;
 /// The transport into which a program puts what it received, and from which it takes what is to be sent.
 mod mailbox;
-/// The transport by script, whose answers are given beforehand.
+/// `Memory`: the transport by script, whose answers are given beforehand.
 mod memory;
-/// The place that messages are read into.
+/// The place that messages are read into, and `clear_message`.
 mod message_place;
-/// A message of one number.
+/// A message whose one argument is a number.
 mod number_message;
 /// An object: its interface, its version, and what a session keeps of it.
 mod object;
@@ -56,7 +56,7 @@ mod object_range;
 mod parcel;
 /// The tokens that wait to be sent.
 mod token_queue;
-/// What carries bytes and tokens to the peer: the trait of transports.
+/// The trait of transports, which carry bytes and tokens to the peer and back.
 mod transport;
 
 pub use all_objects::AllObjects;

@@ -8,15 +8,15 @@
 
 /// `flush`: what waits is sent.
 pub mod flush;
-/// `insert_client`.
+/// `insert_client`, and `next_client_id`: the id that it gives next.
 pub mod insert;
 /// `kill_client`, and the end of a client for any other reason.
 pub mod kill;
-/// How large a client's messages may be.
+/// How far the buffers of a client may grow, and those of new clients.
 pub mod limits;
-/// A stored client is found by its id.
+/// A stored client is found by its id, to be changed.
 pub mod stored;
-/// Which clients have something to send or a note to hand out.
+/// Which clients may have something to send, may have notes, or may have been killed.
 pub mod touched;
 /// `transport_mut`.
 pub mod transport;

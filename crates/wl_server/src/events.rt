@@ -2,7 +2,7 @@
 
 /// Whether an event may be sent.
 pub mod check;
-/// The events that the server sends by itself: `error`, `delete_id`, `done`, `global`, `global_remove`.
+/// The events of displays and callbacks that the server sends by itself: `error`, `delete_id`, `done`.
 pub mod own_events;
 /// `post_error`.
 pub mod post_error;

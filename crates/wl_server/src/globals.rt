@@ -8,7 +8,7 @@ ghost use Rattle.wl_server.specs.Globals.{CreatesGlobal, as_disabled, disabled, 
 
 /// `add_interfaces`: the table grows.
 pub mod add_interfaces;
-/// Each registry is told of a change of a global.
+/// The message `wl_registry.global`, and how each registry of a client is told.
 pub mod announce;
 /// `create_global`.
 pub mod create_global;
@@ -16,7 +16,7 @@ pub mod create_global;
 pub mod handler;
 /// Look-ups of globals.
 pub mod lookups;
-/// A new registry is told of all globals.
+/// A new registry is told of each global that its client is shown.
 pub mod new_registry;
 /// `disable_global` and `remove_global`.
 pub mod remove_global;

@@ -51,22 +51,22 @@ mod client;
 mod dispatch;
 /// The errors that calls return.
 mod error;
-/// The errors that a client is killed for, and their texts.
-mod posted_errors;
 /// Events: `send_event`, `post_error`, and those that the server sends by itself.
 mod events;
-/// Globals: they are created, disabled, removed, and announced to registries.
+/// Globals: they are created, removed, looked up, and announced to registries; and `add_interfaces`.
 mod globals;
 /// The ids of clients, objects and globals.
 mod ids;
-/// The laws of runs.
+/// Laws that follow from the definitions alone: of runs of calls, of dispatches, and of one reading.
 pub mod laws;
 /// Look-ups of clients and objects.
 mod lookups;
-/// Notes of what was destroyed or disconnected: `cleanup` and `take_notes`.
+/// Notes of what happened to clients and objects: `cleanup` and `take_notes`.
 mod notes;
 /// The objects of a client: they are created, destroyed, and have data.
 mod objects;
+/// The texts of the errors that a client is killed for, and the error that its note gives.
+mod posted_errors;
 /// The requests of a client are read up to an action, and actions are finished.
 mod reading;
 /// Calls as values, and runs of them.

@@ -8,7 +8,7 @@
 pub mod cleanup;
 /// The notes of all clients are put into one list.
 pub mod gather;
-/// The notes of a client that leaves.
+/// The objects of a client that leaves: they are moved out, and notes of their end are made.
 pub mod leaving;
 /// The notes of one client, and the numbers that order them.
 pub mod queues;

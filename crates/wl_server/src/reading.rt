@@ -3,9 +3,9 @@
 //! A *reading* is one call of `next_action` or one of its kin. It handles messages, and receives more, until it finds an
 //! action or has nothing left to read. An *action* is a request or a bind that is handed out to the program.
 
-/// What a reading hands out, and what it comes to.
+/// `Action`, which a reading hands out; `Reading`, how much it may read; and what a message came to.
 pub mod action;
-/// How the arguments of a request are converted to those that are handed out.
+/// The arguments of a request: numbers become ids, and a new id makes an object.
 pub mod arguments;
 /// The requests to a display: `sync` and `get_registry`.
 pub mod display_request;
@@ -17,19 +17,19 @@ pub mod finish;
 pub mod front_request;
 /// The message at the front is taken off the buffer, and handled.
 pub mod handle_message;
-/// The short way of most requests, which are not read into a message.
+/// Most requests are handed out where they stand in the buffer, without being read into a message.
 pub mod in_place;
-/// `next_action` and its kin.
+/// `next_action` and `next_action_within`, and both `_into`.
 pub mod next_action;
 /// The requests to objects that are neither displays nor registries.
 pub mod object_request;
-/// The place in a client of its open action.
+/// The place in which a client keeps its open action.
 pub mod open_place;
 /// The request to a registry: `bind`.
 pub mod registry_request;
-/// A request goes to one of the three by the kind of its object.
+/// A request is handled by the kind of its object: a display, a registry, or any other.
 pub mod request;
-/// What is left to do for a request once the client's objects have changed: to write an answer, or to kill the client.
+/// How a client broke the protocol by a request, and what is left to do: to answer it, or to kill it.
 pub mod response;
 
 use crate::globals::KeptGlobal;

@@ -4,5 +4,7 @@
 //! list, and finds the next one from a slot on.
 #![tactic(auto)]
 
+/// `FreeTree`: which places of a range are free, and the least of them.
 pub mod free_tree;
+/// `SlotSet`: a set of slots of a list, and the next one from a slot on.
 pub mod slot_set;

@@ -24,31 +24,31 @@
 //! `Parse`, and `Stream` (messages one after another).
 #![tactic(auto)]
 
-/// An argument of a message, and its type.
+/// An argument of a message, its type, and `Token`: the number that stands for a file descriptor.
 mod argument;
 /// `ByteArray`: the bytes of an array argument.
 mod byte_array;
 /// `CString`: the bytes of a string argument.
 mod c_string;
-/// The interfaces that each table begins with: `wl_display`, `wl_registry`, `wl_callback`; and opcodes of theirs.
+/// The four interfaces that each table begins with, opcodes of theirs, and the number of the display.
 mod core_interfaces;
 /// The enums of the protocol: `WEnum` and `WaylandEnum`.
 mod enums;
-/// The errors of the crate.
+/// The errors of messages and memory, and those that the crates above return: `IoFault`, `ProtocolError`.
 mod error;
-/// An interface: its requests and events.
+/// An interface: its requests, its events and its id; and what is known of an object, `ObjectInfo`.
 mod interface;
-/// What follows from the definitions alone.
+/// Laws that follow from the definitions alone: what is written is read back, in one way only.
 pub mod laws;
 /// A message as a line of a log.
 mod log_text;
-/// `Message`.
+/// `Message`: a request or an event, with its arguments.
 mod message;
 /// How the ids in arguments become numbers.
 mod numbering;
 /// The parser: bytes become a message.
 mod parse;
-/// `Protocol`: the table of interfaces.
+/// `Protocol`: the table of interfaces, why one is refused, and whether arguments match a signature.
 mod protocol;
 /// Whether a table may be accepted.
 mod table_check;

@@ -10,11 +10,11 @@ ghost use Rattle.wl_server.specs.Inside.Conversion.{objects_of};
 ghost use Rattle.wl_server.specs.Inside.InPlace.{IsPut};
 ghost use Rattle.wl_server.specs.Inside.Words.{MayStand};
 
-// The arguments that are not all words.
+/// The arguments of such a request: words, strings and arrays, or one new object.
 pub mod arguments;
-// A sync, which is answered where it stands.
+/// A `wl_display.sync`, which is answered where it stands.
 pub mod sync;
-// The arguments that are words.
+/// The arguments that are words: numbers, and the ids of objects that are there.
 pub mod words;
 
 use crate::client::Client;
