@@ -73,7 +73,8 @@ module _ {U : Type 0} where
   is_destroyed None = false
   is_destroyed (Some x) = x.value.client_destroyed
 
-  -- The store without the object of a number, if the client destroyed it: the server gave up the number, or makes an object there.
+  -- The store without the object of a number, if the client destroyed it. So it is when the server gives the number up, and when it
+  -- makes an object there.
   abbrev pub vacated : Store (Kept U) → ℕ → Store (Kept U)
   vacated store n = if is_destroyed (held store n) then removed store n else store
 

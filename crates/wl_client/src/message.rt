@@ -265,7 +265,8 @@ impl<T: Transport + Drop, U: Drop> Backend<T, U> {
         }
     }
 
-    /// Takes the message off what was received, and handles it. What is left of it stays in the session's place.
+    /// Takes the message off what was received, and handles it. The rest of the message stays in the session's place. The error
+    /// says why no message was taken.
     fn take_and_handle(
         &mut self,
         header: (u32, u16),

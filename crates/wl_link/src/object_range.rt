@@ -289,7 +289,7 @@ impl<Data: Drop> ObjectRange<Data> {
 
 /// Reserves the capacity for one more slot. The error says that there was no memory.
 ///
-/// A list has four slots, then sixteen, and then twice as many each time: one that outgrows four seldom ends at eight.
+/// It asks for sixteen slots at once if four are full: a list that outgrows four seldom ends at eight.
 fn reserve_slot<Slot>(slots: &mut Vec<Slot>) -> Result<(), AllocError>
     ensures items { slots.new.items ≡ slots.old.items }
     ensures ok { OnOk result (has_capacity slots.new ≡ true) }

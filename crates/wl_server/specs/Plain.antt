@@ -319,8 +319,8 @@ module _ {T U G C : Type 0} where
       (λ p. (link : LinkState T) × Flushed sends p.link answer link × (client_in after id ≡ Some (record p { link = link })))
       × OtherClientsStay before id after
 
-  -- Memory was refused in a flush of one client exactly if the answer is `OutOfMemory`. In one of all clients it was only if the
-  -- flush of some live client was answered so.
+  -- After a flush of one client memory was refused exactly if the answer is `OutOfMemory`. After one of all clients it was only if
+  -- the flush of some live client answered that.
   abbrev pub FlushMemory : (T → Queue → Result ℕ IoFault → T → Type 0) → BackendState T U G C → Option ClientParts → Result (Unit {0}) IoFault → BackendState T U G C
       → Type 0
   FlushMemory sends before None answer after =
@@ -342,7 +342,7 @@ module _ {T U G C : Type 0} where
   -- ---- a cleanup
 
   -- Each killed client is handed out. A live one stays, and its notes that waited are made. Of other ids nothing is handed
-  -- out. Memory was refused only if the last flush of some killed client was answered so.
+  -- out. Memory was refused only if the last flush of some killed client answered `OutOfMemory`.
   pub record CleansTo (sends : T → Queue → Result ℕ IoFault → T → Type 0) (before : BackendState T U G C) (out : List (ClientParts × T)) (after : BackendState T U G C) : Type 0 where
     pub killed : (id : ClientParts) (p : Part T U C) → client_in before id ≡ Some p → p.is_killed ≡ true → HandsOut sends p (share_of id out) (client_in after id)
     pub live : (id : ClientParts) (p : Part T U C) → client_in before id ≡ Some p → p.is_killed ≡ false

@@ -6,7 +6,7 @@
 //! A client is *stored* from its insertion until `Backend::cleanup` takes it out. It is *live* as long as it is stored
 //! and not killed. Its *slot* is its index in the server's list of clients.
 
-/// `flush`: what waits is sent.
+/// `flush` sends what waits.
 pub mod flush;
 /// `insert_client`, and `next_client_id`: the id that it gives next.
 pub mod insert;
@@ -14,7 +14,7 @@ pub mod insert;
 pub mod kill;
 /// How far the buffers of a client may grow, and those of new clients.
 pub mod limits;
-/// A stored client is found by its id, to be changed.
+/// Finds a stored client by its id, to change it.
 pub mod stored;
 /// Which clients may have something to send, may have notes, or may have been killed.
 pub mod touched;

@@ -16,7 +16,7 @@ pub mod create_global;
 pub mod handler;
 /// Look-ups of globals.
 pub mod lookups;
-/// A new registry is told of each global that its client is shown.
+/// Tells a new registry of each global that its client is shown.
 pub mod new_registry;
 /// `disable_global` and `remove_global`.
 pub mod remove_global;

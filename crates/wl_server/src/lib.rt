@@ -30,8 +30,10 @@
 //! | `replay` | `runs::replay` | `Runs`, `Histories`, `Outcome/Whole` |
 //!
 //! Most calls have a second clause, `plain`. It says what the program finds of the object, the client, the global or the
-//! notes after the call, in the words of the look-ups (`specs/Plain` and the files of the folder `specs/Plain/`), that the rest
-//! is as before, and when `memory_refused` is true. It follows from the clause `call`.
+//! notes after the call, in the words of the look-ups (`specs/Plain` and the files of the folder `specs/Plain/`). It also says
+//! that the other clients are as before if the call names one, that the globals are as before if the call is not about them,
+//! and after which answers `memory_refused` may be true. It follows from the clause `call`; that of `transport_mut` also needs
+//! the value that the loan leaves.
 //!
 //! The laws of runs are the contracts of the functions of [`laws`]. A *run* is a list of calls, one after another. The
 //! words of each law stand in a file of `specs/`: `Runs` (each client is alone), `Identified` (ids), `Logged` (what was

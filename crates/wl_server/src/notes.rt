@@ -6,7 +6,7 @@
 
 /// `cleanup`: killed clients leave, and notes that wait are made.
 pub mod cleanup;
-/// The notes of all clients are put into one list.
+/// Puts the notes of all clients into one list.
 pub mod gather;
 /// The objects of a client that leaves: they are moved out, and notes of their end are made.
 pub mod leaving;

@@ -1,6 +1,6 @@
 //! Reads the messages of a client up to an action, and finishes actions.
 //!
-//! A *reading* is one call of `next_action` or one of its kin. It handles messages, and receives more, until it finds an
+//! A *reading* is one call of `next_action`, or of one of the three calls like it. It handles messages, and receives more, until it finds an
 //! action or has nothing left to read. An *action* is a request or a bind that is handed out to the program.
 
 /// `Action`, which a reading hands out; `Reading`, how much it may read; and what a message came to.
@@ -9,13 +9,13 @@ pub mod action;
 pub mod arguments;
 /// The requests to a display: `sync` and `get_registry`.
 pub mod display_request;
-/// The loop of a reading: messages are handled, and more are received.
+/// The loop of a reading: it handles messages, and receives more.
 pub mod find_action;
 /// `finish_request` and `finish_bind`.
 pub mod finish;
 /// The request at the front of the incoming buffer, before it is read.
 pub mod front_request;
-/// The message at the front is taken off the buffer, and handled.
+/// Takes the message at the front off the buffer, and handles it.
 pub mod handle_message;
 /// Most requests are handed out where they stand in the buffer, without being read into a message.
 pub mod in_place;
@@ -27,9 +27,9 @@ pub mod object_request;
 pub mod open_place;
 /// The request to a registry: `bind`.
 pub mod registry_request;
-/// A request is handled by the kind of its object: a display, a registry, or any other.
+/// Handles a request by the kind of its object: a display, a registry, or any other.
 pub mod request;
-/// How a client broke the protocol by a request, and what is left to do: to answer it, or to kill it.
+/// How a client broke the protocol by a request, and what is left to do: to answer, or to kill the client.
 pub mod response;
 
 use crate::globals::KeptGlobal;

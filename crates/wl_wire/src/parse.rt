@@ -132,8 +132,8 @@ fn read_array(alloc: Global, payload: &[u8]) -> Result<(ByteArray, &[u8]), Messa
     Ok((bytes, rest))
 }
 
-/// Reads the argument of that type, and appends it to `args`. It is read from the front of the bytes, or it is the next token,
-/// if `used` tokens were used before. Returns the bytes after it, and how many tokens were used so far.
+/// Reads the argument of that type, and appends it to `args`. It is read from the front of the bytes, or it is the token after
+/// the `used` ones. Returns the bytes after it, and how many tokens were used so far.
 ///
 /// Each kind is appended where it is read, so a number is not copied with the fields of a string or an array.
 #[tactic(auto, unfolding(crate::specs::Inside::Cursor::argument_at))]

@@ -121,8 +121,8 @@ fn put_bytes(payload: &mut [u8], at: usize, bytes: &[u8])
     payload[at..at + bytes.len()].copy_from_slice(bytes);
 }
 
-/// Writes the bytes from the place `at` on, which are between `N` and twice as many: the first `N` and then the last `N`,
-/// which may overlap them. So each copy has a fixed length.
+/// Writes the bytes, of which there are between `N` and twice as many, from the place `at` on: the first `N`, and then the last
+/// `N`, which may overlap them. So each copy has a fixed length.
 fn put_ends<const N: usize>(payload: &mut [u8], at: usize, bytes: &[u8])
     requires room { at + length bytes.now ≤ length payload.old }
     requires least { N ≤ length bytes.now }

@@ -162,7 +162,7 @@ module _ {T U : Type 0} where
       ⊎ ((m : WireMessage) × (link : LinkState T) × ReadsAs before (Ok m) link
       × HandledTo (with_link before link) (handling before.table (objects_of before) m) to after)
 
-  -- the message at the front was taken and handled, and it came to this; or it was not taken, and nothing is changed
+  -- the message at the front was handled, and it came to this; or it was not taken, and nothing is changed
   abbrev pub TakenTo : SessionState T U → Result MessageEnd MessageParseError → Message IdParts Token → SessionState T U → Type 0
   TakenTo before (Ok end) event after = HandlesMessage before (message_result end event) after
   TakenTo before (Err e) event after = (after ≡ before) × NotTaken before e

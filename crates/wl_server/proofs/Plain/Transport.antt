@@ -1,5 +1,5 @@
 -- A transport that the program changed.
-use Rattle.std.proofs.Common.{◌≡◌, ◌∙◌, ◌+◌, ℕ, zero, suc, Bool, List, [], ◌∷◌, ◌++◌, Option, None, Some, option_map, refl, sym, ap, subst}
+use Rattle.std.proofs.Common.{◌≡◌, ◌∙◌, ◌+◌, ℕ, zero, suc, Bool, List, [], ◌∷◌, ◌++◌, Option, None, Some, option_map, is_some, refl, sym, ap, subst, true≢false}
 use mathlib.Core.Logic.{inl, inr}
 use Rattle.std.specs.FinMap as finmap
 use Rattle.std.specs.Prelude.{map, slice_set}
@@ -12,11 +12,16 @@ use Rattle.wl_server.specs.Globals.{global_of}
 use Rattle.wl_server.specs.Ids.{ClientParts, same_client}
 use Rattle.wl_server.specs.Lending.{over_transport, server_over, state_over}
 use Rattle.wl_server.specs.Lookups.{and_then, id_if, id_if_stored, live_from, name_if}
+use Rattle.wl_server.specs.Next.{NextClient}
 use Rattle.wl_server.specs.Part.{Part, id_at, named, with_link}
 use Rattle.wl_server.specs.PartStep.{Call, OfClient, PartCall, Quietly, WithTransport, World}
 use Rattle.wl_server.specs.Plain.Transport.{LeavesTransport}
 use Rattle.wl_server.specs.Server.{Seen, Stored, client_at, seen, stored_at}
 use Rattle.wl_server.proofs.Plain.Base.{keeps, none_and_some, notes_stay, one_value, other_stays, own}
+
+none_too : {A : Type 0} (o p : Option A) → is_some o ≡ is_some p → p ≡ None → o ≡ None
+none_too None p is none = refl
+none_too (Some x) p is none = absurd (true≢false (is ∙ ap is_some none))
 
 module _ {T U C : Type 0} (t : T) where
   abbrev changed_to : Part T U C → Part T U C
@@ -29,6 +34,30 @@ module _ {T U C : Type 0} (t : T) where
   live_over slot zero (None ∷ clients) = refl
   live_over slot zero (Some c ∷ clients) = refl
   live_over slot (suc k) (c ∷ clients) = ap (λ (ids : List ClientParts). id_if_stored slot c ++ ids) (live_over (slot + 1) k clients)
+
+  -- a slot that has a client keeps one, and one that is free stays so
+  is_free : (slot k : ℕ) (clients : List (Option (Stored T U C)))
+      → is_some (stored_at k (slice_set clients slot (option_map (λ c. over_transport c t) (stored_at slot clients)))) ≡ is_some (stored_at k clients)
+  is_free slot k [] = refl
+  is_free zero zero (None ∷ clients) = refl
+  is_free zero zero (Some c ∷ clients) = refl
+  is_free zero (suc k) (c ∷ clients) = refl
+  is_free (suc slot) zero (c ∷ clients) = refl
+  is_free (suc slot) (suc k) (c ∷ clients) = is_free slot k clients
+
+  next_stays : (last slot : ℕ) (clients : List (Option (Stored T U C))) (told : Option ClientParts) → NextClient last clients told
+      → NextClient last (slice_set clients slot (option_map (λ c. over_transport c t) (stored_at slot clients))) told
+  next_stays last slot clients (Some id) (least, left, serial) = (
+    record {
+      below = least.below;
+      free = none_too _ _ (is_free slot id.slot clients) least.free;
+      least = λ k under. is_free slot k clients ∙ least.least k under;
+    },
+    left,
+    serial,
+  )
+  next_stays last slot clients None (inl each) = inl (λ k under. is_free slot k clients ∙ each k under)
+  next_stays last slot clients None (inr none) = inr none
 
 module _ {T U G C : Type 0} (w : World T G C) (before : BackendState T U G C) (id : ClientParts) (t : T) (change : IsChange w before.server id t (server_over before.server id t)) where
   -- what the change is of each client
@@ -75,6 +104,7 @@ module _ {T U G C : Type 0} (w : World T G C) (before : BackendState T U G C) (i
       client_data = λ other. keeps_all (option_map (λ p. p.client_data)) (λ p link. refl) other;
       for_number = λ other i n. keeps_all (λ x. and_then x (λ p. and_then (held p.store n) (id_if other i n))) (λ p link. refl) other;
       clients = live_over t 0 id.slot before.server.clients;
+      next = λ told. next_stays t before.server.last_client id.slot before.server.clients told;
       objects = λ other. keeps_all (option_map (λ p. map (λ e. id_at other e.0 e.1) (finmap.entries p.store.objects))) (λ p link. refl) other;
       name = λ views g other.
           keeps_all (λ x. and_then x (λ p. and_then (global_of before.server.offer.globals g) (name_if views other p.client_data g.name))) (λ p link. refl) other;

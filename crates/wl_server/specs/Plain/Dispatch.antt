@@ -47,7 +47,8 @@ module _ {T U G C : Type 0} where
   AllLive after = (id : ClientParts) (p : Part T U C) → client_in after id ≡ Some p → (p.is_killed ≡ false) × (p.waiting ≡ [])
 
   -- A dispatch of one client. After each answer but `OutOfMemory` the killed clients are taken out. After `OutOfMemory`
-  -- `memory_refused` is true. The globals are as before, if no call of the handler changes them.
+  -- `memory_refused` is true. The globals, the table and the limit of new clients are
+  -- as before, if no call of the handler changes them.
   pub record DispatchOfOneLeaves {H : Type 0} (answers : Answering H T U G C) (before : ServerState T U G C) (id : ClientParts) (answer : Result ℕ IoFault)
       (after : BackendState T U G C) : Type 0 where
     pub client : LeftBy before id (client_in after id) answer
@@ -56,7 +57,8 @@ module _ {T U G C : Type 0} where
     pub globals : KeepsGlobals answers → after.server.offer ≡ before.offer
 
   -- A dispatch of several clients. After a count every stored client is live, and no note waits for a cleanup. The one fault is
-  -- `OutOfMemory`, and then `memory_refused` is true. The globals are as before, if no call of the handler changes them.
+  -- `OutOfMemory`, and then `memory_refused` is true. The globals, the table and the limit of new clients are
+  -- as before, if no call of the handler changes them.
   pub record DispatchOfSeveralLeaves {H : Type 0} (answers : Answering H T U G C) (before : ServerState T U G C) (answer : Result ℕ IoFault)
       (after : BackendState T U G C) : Type 0 where
     pub all : MatchResult answer (λ count. AllLive after) (λ f. (f ≡ fault.OutOfMemory) × (after.refused ≡ true))

@@ -59,8 +59,8 @@ module _ {T U G C : Type 0} where
   EventSentAs before m (Err e) after =
       (((client_in before m.sender.client ≡ None) × (e ≡ refused.InvalidId)) ⊎ ChecksTo before m (Err e)) × IsUnchanged before after
 
-  -- After an error memory was refused exactly if the answer is `OutOfMemory`. Else it was only if the client was live and is killed
-  -- now: it could not be told that a number is free.
+  -- After an error memory was refused exactly if the answer is `OutOfMemory`. After `Ok` it was only if this call killed the client,
+  -- since it could not be told that a number is free.
   abbrev pub EventMemory : BackendState T U G C → ClientParts → Result (Unit {0}) EventError → BackendState T U G C → Type 0
   EventMemory before client (Ok _) after = after.refused ≡ true → (killed_in before client ≡ Some false) × (killed_in after client ≡ Some true)
   EventMemory before client (Err refused.OutOfMemory) after = after.refused ≡ true
@@ -84,7 +84,7 @@ module _ {T U G C : Type 0} where
       × (option_map core_of (client_in after id.client) ≡ option_map (λ p. core_of (as_killed p)) (client_in before id.client))
       × (notes_made_in after id.client ≡ notes_made_in before id.client ++ end_note_of (client_in before id.client) reason)
 
-  -- If the id is null, nothing has changed. Memory was refused only if it is not, and its client is stored.
+  -- If the id is null, nothing has changed. Memory was refused only if the id is not null and its client is stored.
   pub record KillsForError (before : BackendState T U G C) (id : IdParts) (code : ℕ) (text : List ℕ) (after : BackendState T U G C) : Type 0 where
     pub client : MatchBool (id.number == 0) (IsUnchanged before after) (ErrorPostedAs before id code text after)
     pub objects : ObjectsStay before after

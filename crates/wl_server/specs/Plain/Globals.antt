@@ -48,8 +48,8 @@ module _ {T U G C : Type 0} where
   abbrev pub KillsSome : BackendState T U G C → BackendState T U G C → Type 0
   KillsSome before after = (id : ClientParts) × (killed_in before id ≡ Some false) × (killed_in after id ≡ Some true)
 
-  -- After an error memory was refused exactly if the answer is `OutOfMemory`. Else it was only if a client could not be told of the
-  -- global, and is killed now.
+  -- After an error memory was refused exactly if the answer is `OutOfMemory`. After `Ok` it was only if a client could not be told of
+  -- the global, and is killed now.
   abbrev pub GlobalMemory : BackendState T U G C → Result GlobalParts GlobalError → BackendState T U G C → Type 0
   GlobalMemory before (Ok g) after = after.refused ≡ true → KillsSome before after
   GlobalMemory before (Err no_global.OutOfMemory) after = after.refused ≡ true

@@ -79,8 +79,8 @@ module _ {T U C : Type 0} where
   IsOld (Some p) id = IsSome (named p.store id) ⊎ (id.serial ≤ p.last_serial)
 
 module _ {T U G C : Type 0} where
-  -- Memory was refused if the answer is `OutOfMemory`. If it is `Pipe`, it may have been, if the client was killed in this call: it
-  -- could not be told of something. Else it was not.
+  -- After `OutOfMemory` memory was refused. After `Pipe` it was only if this call killed the client, since it could not be told of
+  -- something. After any other answer it was not.
   abbrev pub ReadingMemory : BackendState T U G C → ClientParts → Result Handed ActionError → BackendState T U G C → Type 0
   ReadingMemory before id (Err (Io fault.OutOfMemory)) after = after.refused ≡ true
   ReadingMemory before id (Err (Io fault.Pipe)) after = after.refused ≡ true → (killed_in before id ≡ Some false) × (killed_in after id ≡ Some true)

@@ -1,10 +1,13 @@
 -- What a program finds after it changed a client's transport, in the words of the look-ups.
-use Rattle.std.specs.Prelude.{◌≡◌, ℕ, Bool, Some, option_map}
+--
+-- It follows from the clauses `call` and `lends`.
+use Rattle.std.specs.Prelude.{◌≡◌, ℕ, Bool, Option, Some, option_map}
 use Rattle.wl_wire.specs.declared.interface.InterfaceId.{InterfaceId}
 use Rattle.wl_link.specs.Link.{with_transport}
 use Rattle.wl_server.specs.Backend.{BackendState}
 use Rattle.wl_server.specs.Ids.{ClientParts, GlobalParts, IdParts}
 use Rattle.wl_server.specs.Lookups.{client_by, client_data_of, live_clients, name_for, object_for_number, objects_of_client, transport_of}
+use Rattle.wl_server.specs.Next.{NextClient}
 use Rattle.wl_server.specs.Part.{with_link}
 use Rattle.wl_server.specs.Plain.{GlobalsStay, ObjectsStay, OtherClientsStay, client_in, notes_made_in}
 use Rattle.wl_server.specs.Server.{ServerState}
@@ -17,6 +20,7 @@ module _ {T U G C : Type 0} where
     pub for_number : (id : ClientParts) (i : InterfaceId) (n : ℕ) → object_for_number after id i n ≡ object_for_number before id i n
     pub clients : live_clients after ≡ live_clients before
     pub objects : (id : ClientParts) → objects_of_client after id ≡ objects_of_client before id
+    pub next : (told : Option ClientParts) → NextClient before.last_client before.clients told → NextClient after.last_client after.clients told
     pub name : (views : G → ClientParts → C → GlobalParts → Bool) (id : GlobalParts) (client : ClientParts)
         → name_for after views id client ≡ name_for before views id client
 

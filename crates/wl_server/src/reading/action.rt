@@ -81,7 +81,7 @@ pub enum Found {
     Bind(GlobalId, ObjectId),
 }
 
-/// An action that is being found. An `Action` is large and is not to be moved, so its parts are filled one by one.
+/// An action that is being found. Its two parts are filled apart, and put together at the end.
 #[derive(Drop)]
 pub struct Finding {
     /// The action, once it is found.

@@ -12,7 +12,7 @@ use crate::objects::Kept;
 use wl_link::{BufferedSocket, ObjectMap};
 use wl_wire::{InterfaceId, MessageDesc, MessageParseError, Protocol};
 
-/// What the sender of a request is.
+/// The serial, the interface and the version of the object that a request was sent to.
 #[derive(Clone, Copy)]
 pub struct Sender {
     /// The serial of the object.
@@ -65,7 +65,7 @@ fn find_request<'p, U: Drop>(
 }
 
 /// The request at the front, once its header is there. The error is `MissingData` if that lacks bytes, and `Malformed` if no
-/// object has the number, or its interface has no such request.
+/// object has the number in the header, or the object's interface has no such request.
 pub fn front_request<'p, T: Drop, U: Drop>(
     protocol: &'p Protocol,
     objects: &ObjectMap<Kept<U>>,

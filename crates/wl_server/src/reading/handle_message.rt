@@ -69,9 +69,9 @@ fn make_room<T: Drop, U: Drop>(
     Ok(())
 }
 
-/// Reads the request at the front into the message, and handles it. If it is handed out, it is in `finding` then. There is room
-/// for what becomes of it before it is read: for its arguments in `finding`, and for the object that it may make in the map
-/// and among the registries.
+/// Reads the request at the front into the message, and handles it. It first makes room for the arguments in `finding`, and for
+/// the object that the request may make in the map and among the registries. Returns what is still to be done. A request that
+/// is handed out is in `finding` then. The error says why no message was taken.
 fn take_request<'p, 'm, T: Drop, U: Drop, G: GlobalHandler<C> + Drop, C>(
     around: &Surroundings<'_, G>,
     client_data: &C,
@@ -135,8 +135,8 @@ impl<T: Transport + Drop, U: Drop, C: Drop> Client<T, U, C> {
         end
     }
 
-    /// Does the same as `handle_message` for this request at the front, but does not clear `message`: what is left of the
-    /// request is still in it, or the answer to a sync. It is not inlined, so that it costs nothing for other requests.
+    /// Does the same as `handle_message` for this request at the front, but does not clear `message`: that still holds the rest
+    /// of the request, or the answer to a sync. It is not inlined, so that it costs nothing for other requests.
     #[inline(never)]
     fn handle_request<G: GlobalHandler<C> + Drop>(
         &mut self,

@@ -82,9 +82,9 @@ fn put_waiting<T: Drop, U: Drop>(
 }
 
 impl<T: Transport + Drop, U: Drop, C: Drop> Client<T, U, C> {
-    /// Hands the request at the front out into `action`, if that is a request, too, and it can be done where the request
-    /// stands: that has at most four arguments, without a descriptor, and makes no object or has no argument but that. Returns
-    /// whether it was done. If not, or if the request is not complete, nothing is changed.
+    /// Hands the request at the front out into `action`. It does so only if `action` is a request too, and the request at the
+    /// front is complete, has at most four arguments and no descriptor, and makes no object or has the new id as its one
+    /// argument. Returns whether it did. If not, nothing is changed.
     #[inline(always)]
     pub fn hand_out_in_place<G: GlobalHandler<C> + Drop>(
         &mut self,

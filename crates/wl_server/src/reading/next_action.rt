@@ -145,7 +145,7 @@ impl<T: Transport + Drop, U: Drop, G: GlobalHandler<C> + Drop, C: Drop> Backend<
         self.read_client(id, reading, action)
     }
 
-    /// Reads the client into `action`. After an error that is as it was.
+    /// Reads the client into `action`. After an error `action` is as it was.
     fn read_client(
         &mut self,
         id: &ClientId,

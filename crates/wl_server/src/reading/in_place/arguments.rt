@@ -1,5 +1,5 @@
 //! The arguments of a request that is handed out where it stands, if they are not all words: strings and arrays, or one new
-//! object. What cannot be done so is left to the general way, which also says what is wrong with a request.
+//! object. All else is left to the general way, which also says what is wrong with a request.
 
 ghost use Rattle.std.specs.Prelude.{◌≡◌, ◌≤◌, ◌+◌, [], ◌∷◌, true, IfSome, IsTrue, List, MatchBool, MatchOption, None, Some, length, option_map};
 ghost use Rattle.wl_wire.specs.declared.argument.Argument.TheVariants as argument;

@@ -37,7 +37,7 @@ fn waiting_sync<T: Drop>(socket: &BufferedSocket<T>, front: &FrontRequest<'_>) -
 
 impl<T: Transport + Drop, U: Drop, C: Drop> Client<T, U, C> {
     /// Answers the request at the front, if it is a sync whose callback need not be made and there is room for both answers.
-    /// If not, nothing is changed.
+    /// Returns whether it did. If not, nothing is changed.
     pub fn answer_sync<G: GlobalHandler<C> + Drop>(
         &mut self,
         around: &Surroundings<'_, G>,
