@@ -29,39 +29,39 @@
 //! `ReadingEnds` (why a reading ends), `Scripted` (calls of `Memory` as steps).
 #![tactic(auto)]
 
-/// The session: its fields, how it is made, and the calls that are not about requests, events or objects.
+/// The session: its fields, `connect`, `take_notes`, `add_interfaces`, the transport and the limit.
 mod backend;
 /// What the events of the display say: an error, or that a number is given up.
 mod display_event;
 /// The errors of calls, and the error that ends a session.
 mod error;
-/// An event of any object but the display, and what is kept of it while it is open.
+/// Handles an event of any object but the display; and `OpenEvent`: what is known of it while it is open.
 mod event;
 /// The arguments of an event: numbers become ids, and a new id makes an object.
 mod event_arguments;
 /// What is wrong with an event, and its text.
 mod event_fault;
-/// Events that are handled where they stand in the buffer, without being read first.
+/// Handles a `delete_id`, or an event of numbers alone, where it stands in the buffer, without reading it first.
 mod event_in_place;
-/// `finish_event`: the end of an event that was handed out; and `open_event`, which says which one it is.
+/// `finish_event` ends an event that was handed out; `open_event` says which event is open.
 mod finish_event;
 /// `flush`: sends what waits to be sent.
 mod flush;
 /// Laws that follow from the definitions alone: of runs of calls, and of one reading.
 pub mod laws;
-/// One message: it is taken off what was received, and handled.
+/// Takes the first message off what was received, and handles it; `MessageEnd`: what that came to.
 mod message;
 /// `next_event`: a reading, which handles messages and receives more.
 mod next_event;
 /// The ids of objects.
 mod object_id;
-/// The objects: what is kept of each, the calls about one object, and the notes of destroyed ones.
+/// The objects: what is kept of each, the calls about one object, and `Note`: an object was destroyed.
 mod objects;
 /// `replay`: runs of steps over the transport by script.
 mod replay;
 /// Whether a request is refused, and why; and the numbers of its ids.
 mod request;
-/// `send_request`: writes a request, puts the object that it makes, and ends the sender of a destructor.
+/// `send_request`: writes a request, inserts the object that it makes, and ends the sender of a destructor.
 mod send_request;
 /// The calls and their answers as values.
 mod step;

@@ -15,7 +15,7 @@ ghost use Rattle.wl_link.specs.NothingLost.{FlushKeeps, FlushDrains, WriteKeeps}
 ghost use Rattle.wl_link.specs.Sides.{ReadTakes};
 ghost use Rattle.wl_link.specs.Inside.WaitingBytes.{FitsUnder, IsFullUnder, grown_to, write_answer_of};
 
-/// For a program between two links: it looks at the first message, and hands it on as it is.
+/// For a program between two links: looks at the first message, and hands on that message or all that came.
 mod hand_on;
 
 use crate::buffer::Buffer;

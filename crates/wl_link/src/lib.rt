@@ -28,7 +28,7 @@
 
 /// The walk over the objects of a map.
 mod all_objects;
-/// A buffer of bytes that wait to be read or sent.
+/// A buffer of bytes that wait to be read or sent: writes messages, and receives from a transport.
 mod buffer;
 /// The link: a transport with buffers, over which messages are read and written.
 mod buffered_socket;
@@ -38,7 +38,7 @@ mod into_objects;
 pub mod laws;
 /// How far the buffers of a link may grow.
 mod limit;
-/// The transport into which a program puts what it received, and from which it takes what is to be sent.
+/// `Mailbox`: the transport into which a program puts what it received, and from which it takes what to send.
 mod mailbox;
 /// `Memory`: the transport by script, whose answers are given beforehand.
 mod memory;
@@ -54,7 +54,7 @@ mod object_map;
 mod object_range;
 /// Bytes with tokens, as they wait in a transport.
 mod parcel;
-/// The tokens that wait to be sent.
+/// The tokens that wait to be sent; and the write of a message, which appends its tokens to them.
 mod token_queue;
 /// The trait of transports, which carry bytes and tokens to the peer and back.
 mod transport;

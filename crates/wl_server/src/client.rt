@@ -12,9 +12,9 @@ pub mod flush;
 pub mod insert;
 /// `kill_client`, and the end of a client for any other reason.
 pub mod kill;
-/// How far the buffers of a client may grow, and those of new clients.
+/// How far the buffers of one client may grow, and those of clients that are inserted later.
 pub mod limits;
-/// Finds a stored client by its id, to change it.
+/// Finds a stored client by its id, to change it, and marks it as touched.
 pub mod stored;
 /// Which clients may have something to send, may have notes, or may have been killed.
 pub mod touched;

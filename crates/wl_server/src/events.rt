@@ -4,7 +4,7 @@
 pub mod check;
 /// The events of displays and callbacks that the server sends by itself: `error`, `delete_id`, `done`.
 pub mod own_events;
-/// `post_error`.
+/// Tells a client of an error on an object, and kills it: `post_error`, and breaches of the protocol.
 pub mod post_error;
 /// `send_event` and `send_event_lent`.
 pub mod send;

@@ -47,7 +47,7 @@
 
 /// The server: what it holds, and how one is made.
 mod backend;
-/// What a server keeps of one client; the calls that insert, kill and flush clients.
+/// What a server keeps of one client; the calls that insert, kill, flush and limit clients; `transport_mut`.
 mod client;
 /// `dispatch_single_client`, `dispatch_all_clients`, and the trait `Handler`.
 mod dispatch;
@@ -55,7 +55,7 @@ mod dispatch;
 mod error;
 /// Events: `send_event`, `post_error`, and those that the server sends by itself.
 mod events;
-/// Globals: they are created, removed, looked up, and announced to registries; and `add_interfaces`.
+/// Globals: the calls that create, remove and look them up; what registries are told; and `add_interfaces`.
 mod globals;
 /// The ids of clients, objects and globals.
 mod ids;
@@ -63,13 +63,13 @@ mod ids;
 pub mod laws;
 /// Look-ups of clients and objects.
 mod lookups;
-/// Notes of what happened to clients and objects: `cleanup` and `take_notes`.
+/// Notes of what happened, and `take_notes`; `cleanup`, which takes killed clients out and makes waiting notes.
 mod notes;
-/// The objects of a client: they are created, destroyed, and have data.
+/// What is kept of a client's objects and registries; the calls that create, destroy and change objects.
 mod objects;
 /// The texts of the errors that a client is killed for, and the error that its note gives.
 mod posted_errors;
-/// The requests of a client are read up to an action, and actions are finished.
+/// Reads the requests of a client up to an action, and finishes actions.
 mod reading;
 /// Calls as values, and runs of them.
 mod runs;

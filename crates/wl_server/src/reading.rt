@@ -3,7 +3,7 @@
 //! A *reading* is one call of `next_action`, or of one of the three calls like it. It handles messages, and receives more, until it finds an
 //! action or has nothing left to read. An *action* is a request or a bind that is handed out to the program.
 
-/// `Action`, which a reading hands out; `Reading`, how much it may read; and what a message came to.
+/// `Action` and `OpenAction`; `Reading`: how much may be read; and what a reading or a message came to.
 pub mod action;
 /// The arguments of a request: numbers become ids, and a new id makes an object.
 pub mod arguments;
@@ -11,13 +11,13 @@ pub mod arguments;
 pub mod display_request;
 /// The loop of a reading: it handles messages, and receives more.
 pub mod find_action;
-/// `finish_request` and `finish_bind`.
+/// `finish_request` and `finish_bind`, and both `_returning`.
 pub mod finish;
 /// The request at the front of the incoming buffer, before it is read.
 pub mod front_request;
 /// Takes the message at the front off the buffer, and handles it.
 pub mod handle_message;
-/// Most requests are handed out where they stand in the buffer, without being read into a message.
+/// Hands out most requests where they stand in the buffer, without reading them into a message.
 pub mod in_place;
 /// `next_action` and `next_action_within`, and both `_into`.
 pub mod next_action;

@@ -30,29 +30,29 @@ mod argument;
 mod byte_array;
 /// `CString`: the bytes of a string argument.
 mod c_string;
-/// The four interfaces that each table begins with, opcodes of theirs, and the number of the display.
+/// The four interfaces that each table begins with, some of their opcodes, and the number of the display.
 mod core_interfaces;
 /// The enums of the protocol: `WEnum` and `WaylandEnum`.
 mod enums;
 /// The errors of messages and memory, and those that the crates above return: `IoFault`, `ProtocolError`.
 mod error;
-/// An interface: its requests, its events and its id; and what is known of an object, `ObjectInfo`.
+/// An interface; `InterfaceId`, with the ids of the four fixed interfaces; and `ObjectInfo`.
 mod interface;
 /// Laws that follow from the definitions alone: what is written is read back, in one way only.
 pub mod laws;
-/// A message as a line of a log.
+/// Writes a message as a line of a log, as libwayland does; and the trait `KnownObjects`.
 mod log_text;
 /// `Message`: a request or an event, with its arguments.
 mod message;
 /// How the ids in arguments become numbers.
 mod numbering;
-/// The parser: bytes become a message.
+/// The parser: reads a message, or its header alone, and says whether a whole message is there.
 mod parse;
-/// `Protocol`: the table of interfaces, why one is refused, and whether arguments match a signature.
+/// `Protocol`: the table of interfaces; `TableError`; and whether arguments match a signature.
 mod protocol;
 /// Whether a table may be accepted.
 mod table_check;
-/// `Text`: a text that a value of this crate owns.
+/// `Text`: an owned string, as in `ProtocolError`. In contracts it is the list of its bytes.
 mod text;
 /// The writer: a message becomes bytes.
 mod write;

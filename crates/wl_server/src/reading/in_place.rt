@@ -10,9 +10,9 @@ ghost use Rattle.wl_server.specs.Inside.Conversion.{objects_of};
 ghost use Rattle.wl_server.specs.Inside.InPlace.{IsPut};
 ghost use Rattle.wl_server.specs.Inside.Words.{MayStand};
 
-/// The arguments of such a request: words, strings and arrays, or one new object.
+/// The arguments of a request in place: words, strings and arrays, or one new object.
 pub mod arguments;
-/// A `wl_display.sync`, which is answered where it stands.
+/// Answers a `wl_display.sync` where it stands.
 pub mod sync;
 /// The arguments that are words: numbers, and the ids of objects that are there.
 pub mod words;
