@@ -13,7 +13,8 @@ use Rattle.wl_link.specs.Store.{Store, held}
 use Rattle.wl_client.specs.declared.error.WaylandError.{WaylandError}
 use Rattle.wl_client.specs.declared.event.OpenEvent.{OpenEvent}
 use Rattle.wl_client.specs.declared.event_fault.EventFault.{EventFault}
-use Rattle.wl_client.specs.declared.message.NoEvent.{NoEvent}
+use Rattle.wl_client.specs.declared.message.MessageEnd.{MessageEnd}
+use Rattle.wl_client.specs.declared.message.MessageEnd.TheVariants as came
 use Rattle.wl_client.specs.declared.objects.Kept.{Kept}
 use Rattle.wl_client.specs.declared.objects.Note.{Note}
 use Rattle.wl_client.specs.Events.{Outcome, Whole, Wrong, convert, display_event, error_of, start}
@@ -22,7 +23,7 @@ use Rattle.wl_client.specs.ObjectId.{IdParts}
 use Rattle.wl_client.specs.Reading.{with_link}
 use Rattle.wl_client.specs.Requests.{SessionMessage, session_content}
 use Rattle.wl_client.specs.Session.{SessionState}
-use Rattle.wl_client.specs.Inside.ReadingLoop.{Carries, HandledAs, HandledTo, MessageResult, GaveEvent, WentOn, Ended, ReadsIn, HandlesMessage, Stores}
+use Rattle.wl_client.specs.Inside.ReadingLoop.{Carries, EndsWith, HandledAs, HandledTo, MessageResult, GaveEvent, WentOn, Ended, ReadsIn, HandlesMessage, Stores, message_result}
 
 -- the session of these parts
 abbrev session_of : {T U : Type 0} → List InterfaceRow → LinkState T → Objects (Kept U) → Option WaylandError → Option OpenEvent → List Note → SessionState T U
@@ -90,36 +91,22 @@ module _ {U : Type 0} (table : List InterfaceRow) (objects objects' : Objects (K
       at (Some x) e became =
           subst (λ (h : Handling U). Carries h to objects' error error' opened opened') (sym (handling_is x other e has)) (each x (converted_of x) became)
 
-  event_carries : (e : Message IdParts Token) → m.sender ≢ 1 → row_in table (held objects.store m.sender) m.opcode ≡ Some row
-      → MatchOption (held objects.store m.sender) ⊥ (λ x. Became (Ok true) (session_content e) x (converted_of x))
-      → Carries (handling table objects m) (GaveEvent e) objects' error error opened opened'
-  event_carries e = carries (Ok true) (session_content e) (GaveEvent e) error each
-    where
-      each : (x : Object (Kept U)) (o : Outcome U) → Became (Ok true) (session_content e) x o
-          → Carries (of_converted table objects m x row o) (GaveEvent e) objects' error error opened opened'
-      each x (Whole c args) (live, is, opens, objects_is) = rw live (is, objects_is, refl, opens)
-      each x (Wrong w after) became = absurd became
-
-  nothing_carries : (event : SessionMessage) → m.sender ≢ 1 → row_in table (held objects.store m.sender) m.opcode ≡ Some row
-      → MatchOption (held objects.store m.sender) ⊥ (λ x. Became (Ok false) event x (converted_of x))
-      → Carries (handling table objects m) WentOn objects' error error opened opened'
-  nothing_carries event = carries (Ok false) event WentOn error each
-    where
-      each : (x : Object (Kept U)) (o : Outcome U) → Became (Ok false) event x o
-          → Carries (of_converted table objects m x row o) WentOn objects' error error opened opened'
-      each x (Whole c args) (over, same, objects_is) = rw over (objects_is, refl, same)
-      each x (Wrong w after) became = absurd became
-
-  fault_carries : (fault : EventFault) (end : NoEvent) (error' : Option WaylandError) (event : SessionMessage) → Stores (error_of table fault) end error'
+  event_carries : (r : Result Bool EventFault) (end : MessageEnd) (e : Message IdParts Token) (error' : Option WaylandError) → EndsWith table r end error error'
       → m.sender ≢ 1 → row_in table (held objects.store m.sender) m.opcode ≡ Some row
-      → MatchOption (held objects.store m.sender) ⊥ (λ x. Became (Err fault) event x (converted_of x))
-      → Carries (handling table objects m) (Ended end) objects' error error' opened opened'
-  fault_carries fault end error' event stores = carries (Err fault) event (Ended end) error' each
+      → MatchOption (held objects.store m.sender) ⊥ (λ x. Became r (session_content e) x (converted_of x))
+      → Carries (handling table objects m) (message_result end e) objects' error error' opened opened'
+  event_carries r end e error' ends = carries r (session_content e) (message_result end e) error' (each r end ends)
     where
-      each : (x : Object (Kept U)) (o : Outcome U) → Became (Err fault) event x o
-          → Carries (of_converted table objects m x row o) (Ended end) objects' error error' opened opened'
-      each x (Wrong w after) (same, opened_is, objects_is) = (objects_is, opened_is, subst (λ (v : EventFault). Stores (error_of table v) end error') same stores)
-      each x (Whole c args) became = absurd became
+      each : (r : Result Bool EventFault) (end : MessageEnd) → EndsWith table r end error error' → (x : Object (Kept U)) (o : Outcome U)
+          → Became r (session_content e) x o → Carries (of_converted table objects m x row o) (message_result end e) objects' error error' opened opened'
+      each (Ok true) came.Event stays x (Whole c args) (live, is, opens, objects_is) = rw live (is, objects_is, stays, opens)
+      each (Ok false) came.Continues stays x (Whole c args) (over, same, objects_is) = rw over (objects_is, stays, same)
+      each (Err fault) (came.Ends end) stores x (Wrong w over) (same, opened_is, objects_is) =
+          (objects_is, opened_is, subst (λ (v : EventFault). Stores (error_of table v) end error') same stores)
+      each (Err fault) (came.Ends end) ends x (Whole c args) became = absurd became
+      each (Ok true) came.Event ends x (Wrong w over) became = absurd became
+      each (Ok false) came.Continues ends x (Wrong w over) became = absurd became
+      each _ _ ends x o became = absurd ends
 
 -- ---- the message was taken, and handled
 
@@ -141,25 +128,9 @@ module _ {T U : Type 0} (table : List InterfaceRow) (link link' : LinkState T) (
         MatchOption (held s m.sender) ⊥
         (λ x. HandledAs m x row (convert x.version x.value.client_destroyed (start (objects_at s) row) [] m.args) r event opened opened' objects')
 
-    handles : (to : MessageResult) (error' : Option WaylandError) → Carries (handling table (objects_at store) m) to objects' error error' opened opened'
-        → HandlesMessage (session_of table link (objects_at store) error opened notes) to (session_of table link' objects' error' opened' notes)
-    handles to error' carried = handled_handles table link link' (objects_at store) objects' error error' opened opened' notes m to read carried
-
-    pub event_handles : (e : Message IdParts Token) → Came (Ok true) (session_content e) taken_store
-        → HandlesMessage (session_of table link (objects_at store) error opened notes) (GaveEvent e) (session_of table link' objects' error opened' notes)
-    event_handles e came =
-        handles (GaveEvent e) error
-        (event_carries table (objects_at store) objects' m row error opened opened' e other has (subst (Came (Ok true) (session_content e)) same came))
-
-    pub nothing_handles : (event : SessionMessage) → Came (Ok false) event taken_store
-        → HandlesMessage (session_of table link (objects_at store) error opened notes) WentOn (session_of table link' objects' error opened' notes)
-    nothing_handles event came =
-        handles WentOn error
-        (nothing_carries table (objects_at store) objects' m row error opened opened' event other has (subst (Came (Ok false) event) same came))
-
-    pub fault_handles : (fault : EventFault) (end : NoEvent) (error' : Option WaylandError) (event : SessionMessage) → Stores (error_of table fault) end error'
-        → Came (Err fault) event taken_store
-        → HandlesMessage (session_of table link (objects_at store) error opened notes) (Ended end) (session_of table link' objects' error' opened' notes)
-    fault_handles fault end error' event stores came =
-        handles (Ended end) error'
-        (fault_carries table (objects_at store) objects' m row error opened opened' fault end error' event stores other has (subst (Came (Err fault) event) same came))
+    pub event_handles : (r : Result Bool EventFault) (end : MessageEnd) (e : Message IdParts Token) (error' : Option WaylandError)
+        → EndsWith table r end error error' → Came r (session_content e) taken_store
+        → HandlesMessage (session_of table link (objects_at store) error opened notes) (message_result end e) (session_of table link' objects' error' opened' notes)
+    event_handles r end e error' ends came =
+        handled_handles table link link' (objects_at store) objects' error error' opened opened' notes m (message_result end e) read
+        (event_carries table (objects_at store) objects' m row error opened opened' r end e error' ends other has (subst (Came r (session_content e)) same came))

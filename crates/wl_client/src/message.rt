@@ -20,7 +20,7 @@ ghost use Rattle.wl_wire.specs.declared.argument.Token.{Token};
 ghost use Rattle.wl_wire.specs.declared.message.Message.{Message};
 ghost use Rattle.wl_client.specs.declared.event.OpenEvent.{OpenEvent as OpenEventOf};
 ghost use Rattle.wl_client.specs.ObjectId.{IdParts};
-ghost use Rattle.wl_client.specs.Inside.ReadingLoop.{Carries, IsHeader, NotTaken, NotTakenTo, Stores, TakenTo, TookWith, HandlesMessage, message_result};
+ghost use Rattle.wl_client.specs.Inside.ReadingLoop.{Carries, EndsWith, IsHeader, NotTaken, NotTakenTo, Stores, TakenTo, TookWith, HandlesMessage, message_result};
 
 use crate::backend::Backend;
 use crate::display_event::{DisplayMessage, display_event, told_error};
@@ -232,6 +232,23 @@ fn handle_display<U: Drop>(
     }
 }
 
+/// What the handling of a message comes to, if an event came to this: it was handed out, or not, or has a fault. A fault is
+/// stored as the session's error.
+fn event_end(
+    alloc: Global,
+    protocol: &Protocol,
+    stored: &mut Option<WaylandError>,
+    handled: Result<bool, EventFault>,
+) -> MessageEnd
+    ensures { EndsWith protocol.now handled result stored.old stored.new }
+{
+    match handled {
+        Ok(true) => MessageEnd::Event,
+        Ok(false) => MessageEnd::Continues,
+        Err(fault) => MessageEnd::Ends(fail_by(alloc, protocol, stored, fault)),
+    }
+}
+
 impl<T: Transport + Drop, U: Drop> Backend<T, U> {
     /// Takes the first message off what was received, and handles it. If it makes an event, that is in `event` then.
     pub(crate) fn handle_message(&mut self, event: &mut Message<ObjectId, Token>) -> MessageEnd
@@ -297,14 +314,8 @@ impl<T: Transport + Drop, U: Drop> Backend<T, U> {
             message,
             event,
         );
-        match handled {
-            Ok(true) => Ok(MessageEnd::Event),
-            Ok(false) => Ok(MessageEnd::Continues),
-            Err(fault) => {
-                let alloc = *message.args.allocator();
-                Ok(MessageEnd::Ends(fail_by(alloc, &self.protocol, &mut self.error, fault)))
-            }
-        }
+        let alloc = *message.args.allocator();
+        Ok(event_end(alloc, &self.protocol, &mut self.error, handled))
     }
 
     /// What it comes to if no message was taken.

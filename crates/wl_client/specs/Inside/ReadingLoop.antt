@@ -119,6 +119,13 @@ Stores e end after =
     × (((end.refused ≡ false) × (after ≡ Some (Protocol e)))
     ⊎ ((end.refused ≡ true) × (after ≡ Some (Io fault.OutOfMemory))))
 
+-- what the handling of a message comes to, after this event of an object
+abbrev pub EndsWith : List InterfaceRow → Result Bool EventFault → MessageEnd → Option WaylandError → Option WaylandError → Type 0
+EndsWith table (Ok true) came.Event error error' = error' ≡ error
+EndsWith table (Ok false) came.Continues error error' = error' ≡ error
+EndsWith table (Err fault) (came.Ends end) error error' = Stores (error_of table fault) end error'
+EndsWith table handled end error error' = ⊥
+
 module _ {U : Type 0} where
   -- the handling of a message was carried out: what the objects are then, and the error and the open event before and then
   abbrev pub Carries : Handling U → MessageResult → Objects (Kept U) → Option WaylandError → Option WaylandError → Option OpenEvent → Option OpenEvent → Type 0

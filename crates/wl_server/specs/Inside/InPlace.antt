@@ -1,5 +1,5 @@
 -- What a request that is handed out where it stands hands out.
-use Rattle.std.specs.Prelude.{◌≡◌, ℕ, Bool, List, [], ◌∷◌, ◌++◌, ◌&&◌, nat_le, if◌then◌else◌, Option, None, Some, length, drop}
+use Rattle.std.specs.Prelude.{◌≡◌, ℕ, List, [], ◌∷◌, ◌++◌, ◌&&◌, nat_le, if◌then◌else◌, Option, None, Some, length, drop}
 use Rattle.wl_wire.specs.declared.argument.Argument.{Argument}
 use Rattle.wl_wire.specs.declared.argument.Argument.TheVariants as arg
 use Rattle.wl_wire.specs.declared.argument.ArgumentType.{ArgumentType}

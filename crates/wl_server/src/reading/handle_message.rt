@@ -15,7 +15,7 @@ ghost use Rattle.wl_server.specs.declared.reading.action.Found.{Found as FoundOf
 ghost use Rattle.wl_server.specs.declared.reading.action.MessageEnd.TheVariants as came;
 ghost use Rattle.wl_server.specs.declared.reading.action.Reading.{Reading as ReadingOf};
 ghost use Rattle.wl_server.specs.Inside.Responses.{HasNames, IsOther, TookRequest, response_to};
-ghost use Rattle.wl_server.specs.Inside.ReadingLoop.{HandlesMessage, IsFront, IsHandled, Live, NotTaken, around_of, message_result};
+ghost use Rattle.wl_server.specs.Inside.ReadingLoop.{HandlesMessage, IsFront, IsHandled, Live, NotTaken, around_of, found_with, message_result};
 
 use crate::client::Client;
 use crate::globals::handler::GlobalHandler;
@@ -118,25 +118,45 @@ impl<T: Transport + Drop, U: Drop, C: Drop> Client<T, U, C> {
     {
         // The count of requests starts within its type.
         prove!(reading.read <= usize::MAX);
-        let front = match front_request(around.protocol, &self.objects.map, &self.socket) {
-            Ok(front) => front,
-            Err(error) => return self.not_taken(numbers, around, error),
-        };
+        match front_request(around.protocol, &self.objects.map, &self.socket) {
+            Ok(front) => self.handle_front(numbers, around, reading, &front, message, action),
+            Err(error) => self.not_taken(numbers, around, error),
+        }
+    }
+
+    /// Does the same as `handle_message` for this request at the front.
+    #[inline(always)]
+    fn handle_front<G: GlobalHandler<C> + Drop>(
+        &mut self,
+        numbers: &mut NoteNumbers,
+        around: &Surroundings<'_, G>,
+        reading: &mut Reading,
+        front: &FrontRequest<'_>,
+        message: &mut Message<u32, Token>,
+        action: &mut Action,
+    ) -> MessageEnd
+        requires live { Live self.old.part }
+        requires front { IsFront around.now.protocol.now self.old.part.store self.old.part.link front.now }
+        requires place { INLINE_ARGS ≤ message.old.args.capacity }
+        ensures handles { HandlesMessage T.sends T.receives (around_of G.views around.now) self.old reading.old (message_result result (handed action.new)) self.new reading.new }
+        ensures kept { result ≢ came.HandsOut → action.new ≡ action.old }
+        ensures place { INLINE_ARGS ≤ message.new.args.capacity }
+        ensures in_time { NotesInTime self.old.times numbers.old self.new.times numbers.new }
+        ensures numbered { IsNumbered (Some self.old) → IsNumbered (Some self.new) }
+    {
         // Most syncs need no object for their callback.
-        if self.answer_sync(around, reading, &front) {
+        if self.answer_sync(around, reading, front) {
             return MessageEnd::Continues;
         }
         // Most requests can be handed out where they stand.
-        if self.hand_out_in_place(around, reading, &front, action) {
+        if self.hand_out_in_place(around, reading, front, action) {
             return MessageEnd::HandsOut;
         }
-        let end = self.handle_request(numbers, around, reading, &front, message, action);
-        clear_message(message);
-        end
+        self.handle_request(numbers, around, reading, front, message, action)
     }
 
-    /// Does the same as `handle_message` for this request at the front, but does not clear `message`: that still holds the rest
-    /// of the request, or the answer to a sync. It is not inlined, so that it costs nothing for other requests.
+    /// Does the same for a request that cannot be handled where it stands. It is not inlined, so that it costs nothing for
+    /// other requests.
     #[inline(never)]
     fn handle_request<G: GlobalHandler<C> + Drop>(
         &mut self,
@@ -152,12 +172,44 @@ impl<T: Transport + Drop, U: Drop, C: Drop> Client<T, U, C> {
         requires place { INLINE_ARGS ≤ message.old.args.capacity }
         ensures handles { HandlesMessage T.sends T.receives (around_of G.views around.now) self.old reading.old (message_result result (handed action.new)) self.new reading.new }
         ensures kept { result ≢ came.HandsOut → action.new ≡ action.old }
+        ensures place { INLINE_ARGS ≤ message.new.args.capacity }
+        ensures in_time { NotesInTime self.old.times numbers.old self.new.times numbers.new }
+        ensures numbered { IsNumbered (Some self.old) → IsNumbered (Some self.new) }
+    {
+        let mut finding = Finding::new(self.alloc());
+        let end = self.take_and_handle(numbers, around, reading, front, message, &mut finding);
+        // The rest of the request is in `message` still, or the answer to a sync.
+        clear_message(message);
+        match end {
+            MessageEnd::HandsOut => {
+                *action = finding.into_action();
+                MessageEnd::HandsOut
+            }
+            other => other,
+        }
+    }
+
+    /// Takes the request at the front, and handles it. If it is handed out, it is in `finding` then.
+    fn take_and_handle<G: GlobalHandler<C> + Drop>(
+        &mut self,
+        numbers: &mut NoteNumbers,
+        around: &Surroundings<'_, G>,
+        reading: &mut Reading,
+        front: &FrontRequest<'_>,
+        message: &mut Message<u32, Token>,
+        finding: &mut Finding,
+    ) -> MessageEnd
+        requires live { Live self.old.part }
+        requires front { IsFront around.now.protocol.now self.old.part.store self.old.part.link front.now }
+        requires empty { finding.old.args.items ≡ [] }
+        requires inline { INLINE_ARGS ≤ finding.old.args.capacity }
+        requires place { INLINE_ARGS ≤ message.old.args.capacity }
+        ensures handles { HandlesMessage T.sends T.receives (around_of G.views around.now) self.old reading.old (message_result result (found_with finding.new.found finding.new.args.items)) self.new reading.new }
         ensures in_time { NotesInTime self.old.times numbers.old self.new.times numbers.new }
         ensures numbered { IsNumbered (Some self.old) → IsNumbered (Some self.new) }
     {
         // The count of requests starts within its type.
         prove!(reading.read <= usize::MAX);
-        let mut finding = Finding::new(self.alloc());
         let taken = take_request(
             around,
             &self.data,
@@ -165,7 +217,7 @@ impl<T: Transport + Drop, U: Drop, C: Drop> Client<T, U, C> {
             &mut self.socket,
             front,
             message,
-            &mut finding,
+            finding,
         );
         let response = match taken {
             Ok(response) => response,
@@ -176,7 +228,6 @@ impl<T: Transport + Drop, U: Drop, C: Drop> Client<T, U, C> {
             Response::Syncs(callback) => self.tell_done(numbers, message, &callback),
             Response::HandsOut => {
                 self.action.open_action(&finding.found);
-                *action = finding.into_action();
                 MessageEnd::HandsOut
             }
             other => self.respond(numbers, around, &other),

@@ -1,6 +1,6 @@
 use Rattle.wl_wire.specs.Message.{content}
 use Rattle.wl_wire.specs.Table.{message_row}
-use Rattle.wl_client.proofs.Handling.{display_handles, event_handles, fault_handles, nothing_handles}
+use Rattle.wl_client.proofs.Handling.{display_handles, event_handles}
 use Rattle.wl_client.specs.Inside.Conversion.{objects_in}
 use Rattle.wl_client.proofs.backend.Backend.take_and_handle.Goals as goal
 
@@ -12,26 +12,10 @@ returns-then-message-eq-DISPLAY-clause-taken g c =
     (display_handles _ _ _ _ _ last (objects_in c.handle_display.new.objects last) (content c.take.new.message) _ _ _ c.in_ok-desc.ensures.store took.0 _ _
     (c.handle_display.ensures last _ _))
 
-pub returns-in-Ok-true-clause-taken : goal.returns-in-Ok-true-clause-taken
-returns-in-Ok-true-clause-taken g c =
+pub returns-clause-taken : goal.returns-clause-taken
+returns-clause-taken g c =
     let took = c.in_ok-desc.ensures.took in
     rw (← c.self.view_is, ← c.self-inside.view_is)
     (event_handles _ _ _ _ _ c.self-inside.inside.0.1.1.1.0 (objects_in c.handle_event-handled.new.objects c.handle_event-handled.new.last_serial)
-    (content c.take.new.message) _ _ _ c.in_ok-desc.ensures.store took.0 (message_row c.in_ok-desc.desc.now) _ c.if-message-eq-DISPLAY.false took.1 _
-    (rw c.in-Ok-true.field-0-test at c.in-Ok-true.ensures.handled))
-
-pub returns-in-Ok-false-clause-taken : goal.returns-in-Ok-false-clause-taken
-returns-in-Ok-false-clause-taken g c =
-    let took = c.in_ok-desc.ensures.took in
-    rw (← c.self.view_is, ← c.self-inside.view_is)
-    (nothing_handles _ _ _ _ _ c.self-inside.inside.0.1.1.1.0 (objects_in c.handle_event-handled.new.objects c.handle_event-handled.new.last_serial)
-    (content c.take.new.message) _ _ _ c.in_ok-desc.ensures.store took.0 (message_row c.in_ok-desc.desc.now) _ c.if-message-eq-DISPLAY.false took.1 _
-    (rw c.in-Ok-false.field-0-test at c.in-Ok-false.ensures.handled))
-
-pub returns-in-Err-clause-taken : goal.returns-in-Err-clause-taken
-returns-in-Err-clause-taken g c =
-    let took = c.in_ok-desc.ensures.took in
-    rw (← c.self.view_is, ← c.self-inside.view_is)
-    (fault_handles _ _ _ _ _ c.self-inside.inside.0.1.1.1.0 (objects_in c.handle_event-handled.new.objects c.handle_event-handled.new.last_serial)
-    (content c.take.new.message) _ _ _ c.in_ok-desc.ensures.store took.0 (message_row c.in_ok-desc.desc.now) _ c.if-message-eq-DISPLAY.false took.1
-    c.in-Err.fault _ _ _ c.fail_by.ensures c.in-Err.ensures.handled)
+    (content c.take.new.message) _ _ _ c.in_ok-desc.ensures.store took.0 (message_row c.in_ok-desc.desc.now) _ c.if-message-eq-DISPLAY.false took.1 _ _ _ _
+    c.event_end.ensures c.handle_event-handled.ensures.handled)

@@ -1,10 +1,6 @@
-use Rattle.std.proofs.Common.{◌≤◌, arith, rules}
-use Rattle.std.proofs.lemmas.Grind.{common_steps}
+use Rattle.std.proofs.Common.{◌≤◌, rules}
 use Rattle.wl_server.specs.Deeds.{handed}
 use Rattle.wl_server.proofs.client.Client.handle_message.Goals as goal
-
-pub returns-clause-in_time : goal.returns-clause-in_time
-returns-clause-in_time g c = grind (arith, common_steps)
 
 pub returns-in-Err-clause-handles : goal.returns-in-Err-clause-handles
 returns-in-Err-clause-handles g c =
