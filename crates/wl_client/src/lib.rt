@@ -29,7 +29,7 @@
 //! `ReadingEnds` (why a reading ends), `Scripted` (calls of `Memory` as steps).
 #![tactic(auto)]
 
-/// The session: its fields, `connect`, `take_notes`, `add_interfaces`, the transport and the limit.
+/// The session: its fields, `connect`, `display_id`, `last_error`, `take_notes`, the table, the transport, the limit.
 mod backend;
 /// What the events of the display say: an error, or that a number is given up.
 mod display_event;

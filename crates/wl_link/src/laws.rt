@@ -1,6 +1,6 @@
 //! What follows from the definitions alone. Each function does nothing; its contract states a law.
 
-/// Laws of single calls, on a link, `Memory` and `Mailbox`: nothing is lost, and there is one outcome.
+/// Laws of a link, `Memory` and `Mailbox`: nothing is lost, messages come back however cut, and there is one outcome.
 pub mod calls;
 /// Laws of what object ids name, over every run of a session.
 pub mod ids;

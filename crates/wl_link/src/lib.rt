@@ -20,7 +20,7 @@
 //!
 //! | Laws | Code | Definitions, in `specs/` |
 //! |---|---|---|
-//! | of calls: nothing is lost, messages come back, one outcome | `laws::calls` | `NothingLost`, `Sides`, `Outcome` |
+//! | of calls: nothing is lost, messages come back, one outcome | `laws::calls` | `NothingLost`, `Sides`, `Outcome`, `Relayed`; `Mailbox`, `MailboxCalls`, `MailboxLink` |
 //! | of readers: how both sessions read | `laws::readers` | `Reader`, `Puts`, `Served`, `Respect`, `Total`, `Stretch` |
 //! | of runs of calls | `laws::runs` | `Runs` |
 //! | of object ids | `laws::ids` | `Identity`, `Named` |

@@ -10,11 +10,11 @@
 pub mod flush;
 /// `insert_client`, and `next_client_id`: the id that it gives next.
 pub mod insert;
-/// `kill_client`, and the end of a client for any other reason.
+/// `kill_client`; `kill`, which marks a client and notes the reason; and the killing after a failed write.
 pub mod kill;
 /// How far the buffers of one client may grow, and those of clients that are inserted later.
 pub mod limits;
-/// Finds a stored client by its id, to change it, and marks it as touched.
+/// Finds a stored client by its id, to change it, and marks it as touched, but for `transport_mut`.
 pub mod stored;
 /// Which clients may have something to send, may have notes, or may have been killed.
 pub mod touched;

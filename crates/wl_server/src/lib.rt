@@ -45,7 +45,7 @@
 //! `next_action` itself.
 #![tactic(auto)]
 
-/// The server: what it holds, and how one is made.
+/// The server: what it holds, how one is made, and `memory_refused`: whether memory ran out in the last call.
 mod backend;
 /// What a server keeps of one client; the calls that insert, kill, flush and limit clients; `transport_mut`.
 mod client;

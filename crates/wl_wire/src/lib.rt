@@ -32,7 +32,7 @@ mod byte_array;
 mod c_string;
 /// The four interfaces that each table begins with, some of their opcodes, and the number of the display.
 mod core_interfaces;
-/// The enums of the protocol: `WEnum` and `WaylandEnum`.
+/// The enums of the protocol: the trait `WaylandEnum`, and `WEnum`: a value of one, or a number that is none.
 mod enums;
 /// The errors of messages and memory, and those that the crates above return: `IoFault`, `ProtocolError`.
 mod error;

@@ -1,5 +1,5 @@
-//! What follows from the definitions of a link alone, for single calls. Each function does nothing; its contract states a
-//! law.
+//! What follows from the definitions of a link and its transports alone, for one call or several. Each function does nothing;
+//! its contract states a law.
 
 ghost use Rattle.std.specs.Prelude.{◌≡◌, ◌≢◌, ℕ, List, Option, Result, Err};
 ghost use Rattle.wl_wire.specs.declared.argument.ArgumentType.{ArgumentType};
