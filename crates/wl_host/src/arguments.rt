@@ -12,6 +12,7 @@ use crate::flat::{FlatArgument, FlatObjectId, count_number, kind};
 use crate::status::Status;
 use smallvec::SmallVec;
 use std::alloc::Global;
+use std::mem;
 use wl_wire::{Argument, ByteArray, CString, INLINE_ARGS, OutOfMemory, Token};
 
 /// The arguments of a message of a session whose object ids are of the type `Id`.
@@ -182,10 +183,10 @@ pub fn write_arguments<Id, O: Objects<Id>>(
     }
 }
 
-/// A copy of the bytes of a string or an array.
+/// A copy of the bytes of a string or an array, in the memory of `spare`, which grows if it is too small.
 ///
 /// The status is `InvalidInput` if they are not all in the bytes that were passed, and `OutOfMemory`.
-fn copy_bytes(alloc: Global, arg: &FlatArgument, bytes: &[u8]) -> Result<Vec<u8>, Status>
+fn copy_bytes(spare: &mut Vec<u8>, arg: &FlatArgument, bytes: &[u8]) -> Result<Vec<u8>, Status>
     ensures ok { IfOk result (λ copy. part_of bytes.now arg.now ≡ Some copy.items) }
     ensures err { IfErr result (λ s. IsUnread s (part_of bytes.now arg.now)) }
 {
@@ -193,8 +194,10 @@ fn copy_bytes(alloc: Global, arg: &FlatArgument, bytes: &[u8]) -> Result<Vec<u8>
     let Some(part) = bytes.get(from..from + arg.length as usize) else {
         return Err(Status::InvalidInput);
     };
-    match Vec::from_slice(alloc, part) {
-        Ok(copy) => Ok(copy),
+    let mut copy = mem::replace(spare, Vec::new(*spare.allocator()));
+    copy.clear();
+    match copy.extend_from_slice(part) {
+        Ok(()) => Ok(copy),
         Err(_) => Err(Status::OutOfMemory),
     }
 }
@@ -229,14 +232,14 @@ pub fn text_of(alloc: Global, bytes: &[u8]) -> Result<CString, Status>
 ///
 /// The status is `InvalidInput` if its bytes were not all passed or one of them is zero, and `OutOfMemory`.
 fn read_string<Id>(
-    alloc: Global,
+    spare: &mut Vec<u8>,
     arg: &FlatArgument,
     bytes: &[u8],
 ) -> Result<Argument<Id, Token>, Status>
     ensures ok { IfOk result (λ a. string_in (part_of bytes.now arg.now) ≡ Some a) }
     ensures err { IfErr result (λ s. IsUnread s (string_in {Id = Id} (part_of bytes.now arg.now))) }
 {
-    let text = string_of(copy_bytes(alloc, arg, bytes)?)?;
+    let text = string_of(copy_bytes(spare, arg, bytes)?)?;
     Ok(Argument::Str(Some(text)))
 }
 
@@ -244,14 +247,14 @@ fn read_string<Id>(
 ///
 /// The status is `InvalidInput` if its bytes were not all passed, and `OutOfMemory`.
 fn read_array<Id>(
-    alloc: Global,
+    spare: &mut Vec<u8>,
     arg: &FlatArgument,
     bytes: &[u8],
 ) -> Result<Argument<Id, Token>, Status>
     ensures ok { IfOk result (λ a. array_in (part_of bytes.now arg.now) ≡ Some a) }
     ensures err { IfErr result (λ s. IsUnread s (array_in {Id = Id} (part_of bytes.now arg.now))) }
 {
-    let array = copy_bytes(alloc, arg, bytes)?;
+    let array = copy_bytes(spare, arg, bytes)?;
     Ok(Argument::Array(ByteArray::new(array)))
 }
 
@@ -266,12 +269,12 @@ fn put_in(descriptors: &mut DescriptorQueue, descriptor: i32) -> Result<Token, O
     Ok(token)
 }
 
-/// The argument that the flat struct stands for. Its descriptor is put in.
+/// The argument that the flat struct stands for. Its descriptor is put in. The memory of `spare` is used for its bytes.
 ///
 /// The status is `InvalidInput` if the flat struct cannot be read, and `OutOfMemory`. Then no descriptor was put in.
 #[tactic(auto, using(crate::proofs::Flattening::put_nothing))]
 fn read_argument<Id: FromFlat>(
-    alloc: Global,
+    spare: &mut Vec<u8>,
     arg: &FlatArgument,
     bytes: &[u8],
     descriptors: &mut DescriptorQueue,
@@ -285,14 +288,27 @@ fn read_argument<Id: FromFlat>(
         kind::INT => Ok(Argument::Int(arg.value)),
         kind::UINT => Ok(Argument::Uint(arg.value.cast_unsigned())),
         kind::FIXED => Ok(Argument::Fixed(arg.value)),
-        kind::STRING => read_string(alloc, arg, bytes),
+        kind::STRING => read_string(spare, arg, bytes),
         kind::OBJECT => Ok(Argument::Object(Id::from_flat(&arg.object))),
         kind::NEW_ID => Ok(Argument::NewId(Id::from_flat(&arg.object))),
-        kind::ARRAY => read_array(alloc, arg, bytes),
+        kind::ARRAY => read_array(spare, arg, bytes),
         kind::DESCRIPTOR => Ok(Argument::Fd(put_in(descriptors, arg.value)?)),
         kind::NULL_STRING => Ok(Argument::Str(None)),
         _ => Err(Status::InvalidInput),
     }
+}
+
+/// Takes the memory of the first argument out, if that is a string.
+fn take_spare<Id>(args: &mut Arguments<Id>) -> Vec<u8>
+    ensures { length args.new.items ≡ length args.old.items }
+{
+    let alloc = *args.allocator();
+    if let Some(Argument::Str(first)) = args.as_mut_slice().first_mut() {
+        if let Some(text) = first.take() {
+            return text.into_bytes();
+        }
+    }
+    Vec::new(alloc)
 }
 
 /// Reads the arguments that the flat structs stand for in place of those that were there. Their descriptors are put in.
@@ -309,13 +325,13 @@ fn fill_arguments<Id: FromFlat + Drop>(
     ensures longer { IsLonger descriptors.old descriptors.new }
     ensures why { IfErr result (λ s. IsUnread s (arguments_of Id.stands_for bytes.now descriptors.old arguments.now)) }
 {
+    let mut spare = take_spare(args);
     args.clear();
     if args.reserve(arguments.len()).is_err() {
         return Err(Status::OutOfMemory);
     }
-    let alloc = *args.allocator();
     for arg in arguments {
-        let argument = read_argument(alloc, arg, bytes, descriptors)?;
+        let argument = read_argument(&mut spare, arg, bytes, descriptors)?;
         args.push_reserved(argument);
     }
     Ok(())
