@@ -128,11 +128,7 @@ module _ (U : Type 0) where
     arg.Fixed (cast_signed w32 n),
     record { piece = (n, word, refl); tokens = refl; converts = λ version c. ap (λ o. Ok (what_is b o, c)) is; none = refl },
   )
-  becomes (kind.Str _) b n raw word is = absurd (no_number b is)
-  becomes (kind.Object _) b n raw word is = absurd (no_number b is)
-  becomes kind.NewId b n raw word is = absurd (no_number b is)
-  becomes kind.Array b n raw word is = absurd (no_number b is)
-  becomes kind.Fd b n raw word is = absurd (no_number b is)
+  becomes _ b n raw word is = absurd (no_number b is)
 
   -- the same of all arguments
   record BecomeAll (kinds : List ArgumentType) (values : List (Argument IdParts Token)) (payload : List ℕ) (fds : List Token) (args : List WireArgument) : Type 0 where

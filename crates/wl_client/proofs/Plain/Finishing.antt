@@ -202,14 +202,9 @@ unfitting : {T U : Type 0} (s : SessionState T U) (event : OpenEvent) (created :
     → refusal created u ≡ Some e → NotEnded s u e
 unfitting s event None None e some made is = absurd (true≢false (sym (ap is_some is)))
 unfitting s event None (Some u) finish.UnexpectedData some made is = (event, some, made, refl)
-unfitting s event None (Some u) finish.NoOpenEvent some made is = absurd cc
-unfitting s event None (Some u) finish.MissingObjectData some made is = absurd cc
-unfitting s event None (Some u) finish.OutOfMemory some made is = absurd cc
 unfitting s event (Some id) None finish.MissingObjectData some made is = (event, some, ap is_some made, refl)
-unfitting s event (Some id) None finish.NoOpenEvent some made is = absurd cc
-unfitting s event (Some id) None finish.UnexpectedData some made is = absurd cc
-unfitting s event (Some id) None finish.OutOfMemory some made is = absurd cc
 unfitting s event (Some id) (Some u) e some made is = absurd (true≢false (sym (ap is_some is)))
+unfitting s event _ _ _ some made is = absurd cc
 
 module _ {T U : Type 0} (s : SessionState T U) (u : Option U) where
   is_ended : (event : OpenEvent) → s.open_event ≡ Some event → refusal event.created u ≡ None → EventIsEnded s event u (with_core s (core_finished (core_of s) event u))
