@@ -1,5 +1,5 @@
 -- That a public call keeps a history accounted for, and that a run over the transport by script is a part of one.
-use Rattle.std.proofs.Common.{◌≡◌, ℕ, Bool, List, [], ◌∷◌, ◌++◌, Result, Ok, Err, refl, subst}
+use Rattle.std.proofs.Common.{◌≡◌, ℕ, Bool, List, [], ◌∷◌, ◌++◌, Result, Ok, Err, refl, subst, arith}
 use Rattle.std.specs.Prelude.{◌⊎◌}
 use mathlib.Core.Logic.{inl, inr}
 use Rattle.wl_wire.specs.declared.error.IoFault.{IoFault}
@@ -63,10 +63,7 @@ module _ {T U : Type 0} (sends : T → Queue → Result ℕ IoFault → T → Ty
 
   local_call : (before : SessionState T U) (call : Step U) (answer : Reply U) (refused : Bool) (after : SessionState T U)
       → LocalCall before call answer refused after → CallOf sends receives before call answer refused after
-  local_call before (step.SendRequest m u spec) answer refused after h = absurd h
-  local_call before step.Flush answer refused after h = absurd h
-  local_call before step.NextEvent answer refused after h = absurd h
-  local_call before call answer refused after h = h
+  local_call before call answer refused after h1 = grind (arith)
 
   -- a call that neither sends nor receives, over this transport
   pub local_calls : (before after : ClientState T U) (call : Step U) (answer : Reply U) → CallsLocally before call answer after
@@ -101,12 +98,7 @@ module _ {U : Type 0} where
   -- a call of a session over this transport is a step
   pub call_step : (before : SessionState Script U) (call : Step U) (answer : Reply U) (refused : Bool) (after : SessionState Script U)
       → CallOf ScriptSends ScriptReceives before call answer refused after → StepOf before call answer refused after
-  call_step before (step.Arrive bytes tokens) answer refused after h = absurd h
-  call_step before (step.ArriveFault f) answer refused after h = absurd h
-  call_step before (step.Accept n) answer refused after h = absurd h
-  call_step before (step.AcceptFault f) answer refused after h = absurd h
-  call_step before step.TakeSent answer refused after h = absurd h
-  call_step before call answer refused after h = h
+  call_step before call answer refused after h1 = grind (arith)
 
   -- and a step is such a call, or a change of the transport
   abbrev IsChanged : SessionState Script U → SessionState Script U → Type 0
@@ -125,12 +117,7 @@ module _ {U : Type 0} where
 
   pub call_or_change : (before : SessionState Script U) (call : Step U) (answer : Reply U) (refused : Bool) (after : SessionState Script U)
       → StepOf before call answer refused after → CallOf ScriptSends ScriptReceives before call answer refused after ⊎ (IsOfScript call × (t : Script) × (after ≡ over_transport before t))
-  call_or_change before (step.Arrive bytes tokens) answer refused after (r, is, lacks, h) = let c = arrives_change before _ r after h in inr (tt, c.0, c.1)
-  call_or_change before (step.ArriveFault f) answer refused after (r, is, lacks, h) = let c = scripts_change before _ r after h in inr (tt, c.0, c.1)
-  call_or_change before (step.Accept n) answer refused after (r, is, lacks, h) = let c = scripts_change before _ r after h in inr (tt, c.0, c.1)
-  call_or_change before (step.AcceptFault f) answer refused after (r, is, lacks, h) = let c = scripts_change before _ r after h in inr (tt, c.0, c.1)
-  call_or_change before step.TakeSent answer refused after (sent, is, lacks, parcels, same) = inr (tt, _, same)
-  call_or_change before call answer refused after h = inl h
+  call_or_change before call answer refused after h1 = grind (arith, arrives_change, scripts_change)
 
   pub call_history : (before after : SessionState Script U) (deeds : List (Deed Script U)) → History (CallOf ScriptSends ScriptReceives) before deeds after
       → History StepOf before deeds after

@@ -1,6 +1,6 @@
 -- The changes that each step of a session makes, and that an error stays: one walk, over which its laws of ids, of notes and
 -- of its error stand.
-use Rattle.std.proofs.Common.{◌≡◌, ◌≢◌, ◌⊎◌, ℕ, zero, suc, ◌+◌, Bool, true, false, not, ◌&&◌, cond, eqb, List, [], ◌∷◌, ◌++◌, Option, None, Some, is_some, IsSome, option_map, Result, Ok, Err, is_ok, MatchResult, refl, sym, ap, subst, ◌∙◌, true≢false, not-suc-le-zero, le_of_suc-le-suc, append-nil, append_assoc, map}
+use Rattle.std.proofs.Common.{◌≡◌, ◌≢◌, ◌⊎◌, ℕ, zero, suc, ◌+◌, Bool, true, false, not, ◌&&◌, cond, eqb, List, [], ◌∷◌, ◌++◌, Option, None, Some, is_some, IsSome, option_map, Result, Ok, Err, is_ok, MatchResult, refl, sym, ap, subst, ◌∙◌, true≢false, not-suc-le-zero, le_of_suc-le-suc, append-nil, append_assoc, map, arith}
 use mathlib.Core.Logic.{inl, inr}
 use Rattle.std.specs.Prelude.{All}
 use Rattle.std.proofs.lemmas.Bool.{eq-eqb, ne_eqb, cases_eq}
@@ -116,21 +116,15 @@ module _ {U : Type 0} where
   ended_notes_both (Gone n ∷ changes) others = ended_notes_both changes others
   ended_notes_both (Wrote n x ∷ changes) others = ended_notes_both changes others
   ended_notes_both (Made id ∷ changes) others = ended_notes_both changes others
-  ended_notes_both (Ended n x left ∷ changes) others =
-      ap (λ notes. noted [] x.value.user_data (id_at n x) ++ notes) (ended_notes_both changes others)
-      ∙ sym (append_assoc (noted [] x.value.user_data (id_at n x)) (ended_notes changes) (ended_notes others))
+  ended_notes_both (Ended n x left ∷ changes) others = grind (arith, noted, id_at, append_assoc, ended_notes, ended_notes_both changes others)
 
   -- ---- ids that are handed out in a part of a step
 
   handed_first : (changes others : List (Change (Kept U))) (id : HandedId IdParts) → IsHandedIn changes id → IsHandedIn (changes ++ others) id
-  handed_first changes others (Found id) handed = λ ne. made_first changes others (id_of id) (handed ne)
-  handed_first changes others (New id) handed = λ ne.
-      (made_first changes others (id_of id) (handed ne).0, born_first serial_of changes others (id_of id) (handed ne).1)
+  handed_first changes others id h1 = grind (arith, handed, made_first, id_of, born_first, serial_of)
 
   handed_later : (changes others : List (Change (Kept U))) (id : HandedId IdParts) → IsHandedIn others id → IsHandedIn (changes ++ others) id
-  handed_later changes others (Found id) handed = λ ne. made_later changes others (id_of id) (handed ne)
-  handed_later changes others (New id) handed = λ ne.
-      (made_later changes others (id_of id) (handed ne).0, born_later serial_of changes others (id_of id) (handed ne).1)
+  handed_later changes others id h1 = grind (arith, handed, made_later, id_of, born_later, serial_of)
 
 -- ---- moves of the kept objects and the notes
 
@@ -144,10 +138,7 @@ module _ {U : Type 0} where
   noted_ids changes = map Found (note_ids (ended_notes changes))
 
   noted_ids_both : (changes others : List (Change (Kept U))) → noted_ids (changes ++ others) ≡ noted_ids changes ++ noted_ids others
-  noted_ids_both changes others =
-      ap (λ notes. map Found (note_ids notes)) (ended_notes_both changes others)
-      ∙ ap (map Found) (note_ids_both (ended_notes changes) (ended_notes others))
-      ∙ map_both Found (note_ids (ended_notes changes)) (note_ids (ended_notes others))
+  noted_ids_both changes others = grind (arith, note_ids, ended_notes_both, note_ids_both, ended_notes, map_both)
 
   -- Some changes lead from one to the other, in which these ids are handed out; the notes behind those before are of the
   -- objects that end in them.
@@ -193,33 +184,16 @@ module _ {U : Type 0} where
 
   -- an object that an id names
   named_held : (store : Store (Kept U)) (id : IdParts) (x : Object (Kept U)) → named store id ≡ Some x → held store id.number ≡ Some x
-  named_held store id x e = go (eqb id.number 0) (held store id.number) e
-    where
-      one : (c : Bool) (y : Object (Kept U)) → cond c (Some y) None ≡ Some x → Some y ≡ Some x
-      one true y e = e
-      one false y e = absurd (none_some e)
-
-      go : (b : Bool) (o : Option (Object (Kept U))) → cond b None (named_in serial_of (id_of id) o) ≡ Some x → o ≡ Some x
-      go true o e = absurd (none_some e)
-      go false None e = absurd (none_some e)
-      go false (Some y) e = one (eqb y.value.serial id.serial) y e
+  named_held store id x e = grind (arith, eqb, held, none_some, named_in, serial_of, id_of)
 
   -- an object that the client did not destroy
   alive_is : (o : Option (Object (Kept U))) (x : Object (Kept U)) → alive o ≡ Some x → (o ≡ Some x) × (is_over x.value ≡ false)
-  alive_is None x e = absurd (none_some e)
-  alive_is (Some y) x e = go y.value.client_destroyed refl e
-    where
-      go : (b : Bool) → y.value.client_destroyed ≡ b → cond b None (Some y) ≡ Some x → (Some y ≡ Some x) × (is_over x.value ≡ false)
-      go true is e = absurd (none_some e)
-      go false is e = (e, ap (λ (a : Object (Kept U)). a.value.client_destroyed) (sym (same_Some y x e)) ∙ is)
+  alive_is o x h1 = grind (arith, none_some, is_over, same_Some)
 
   -- an object is named by its id
   id_names : (store : Store (Kept U)) (n : ℕ) (x : Object (Kept U)) → n ≢ 0 → held store n ≡ Some x
       → IsSome (names serial_of (id_of (id_at n x)) store)
-  id_names store n x ne e =
-      ap (λ b. is_some (cond b None (named_in serial_of (id_of (id_at n x)) (held store n)))) (ne_eqb n 0 ne)
-      ∙ ap (λ o. is_some (named_in serial_of (id_of (id_at n x)) o)) e
-      ∙ ap (λ b. is_some (cond b (Some x) None)) (eq-eqb x.value.serial x.value.serial refl)
+  id_names store n x ne e = grind (arith, is_some, named_in, serial_of, id_of, id_at, held, ne_eqb, eq-eqb)
 
   -- its id is made
   marked : (h : Holding U) (n : ℕ) (x : Object (Kept U)) → held h.objects.store n ≡ Some x → Moved h (Found (id_at n x) ∷ []) h
@@ -325,13 +299,7 @@ module _ {U : Type 0} where
 
     converts_object : (c : Converting U) (asked : InterfaceId) (n : ℕ) (b : Bool) (o : Option (Object (Kept U))) → held c.objects.store n ≡ o
         → One c (with_object_argument c (cond b (Ok null_parts) (object_argument_of asked n o)))
-    converts_object c asked n true o e = none_found (at c.objects)
-    converts_object c asked n false None e = tt
-    converts_object c asked n false (Some x) e = go (fits asked x.interface)
-      where
-        go : (b : Bool) → One c (with_object_argument c (cond b (Ok (id_at n x)) (Err (wrong.WrongInterface n asked x.interface))))
-        go true = marked (at c.objects) n x e
-        go false = tt
+    converts_object c asked n b o h1 = grind (arith, none_found, fits, with_object_argument, id_at, marked)
 
     vacates : (o : Objects (Kept U)) (n : ℕ) (x : Option (Object (Kept U))) → held o.store n ≡ x
         → Moved (at o) [] (at (record o { store = cond (is_destroyed x) (removed o.store n) o.store }))
@@ -360,9 +328,7 @@ module _ {U : Type 0} where
     converts_child c n (Some i) = converts_new c n i (is_valid_new c.objects n) refl
 
     converts_one : (c : Converting U) (a : WireArgument) → One c (convert_one version destroyed c a)
-    converts_one c (arg.Object n) = converts_object c (next_interface c.asked) n (eqb n 0) (held c.objects.store n) refl
-    converts_one c (arg.NewId n) = converts_child c n c.child
-    converts_one c _ = still (at c.objects)
+    converts_one c a = grind (arith, converts_object, next_interface, eqb, held, converts_child, still)
 
     -- what the arguments came to
     abbrev Came : Objects (Kept U) → Outcome U → Type 0
@@ -439,18 +405,12 @@ module _ {U : Type 0} where
   event_moves notes table o m None row e = still (at 0 false notes o)
 
   handling_moves : (notes : List Note) (table : List InterfaceRow) (o : Objects (Kept U)) (m : WireMessage) → HandlingMoves notes o (handling table o m)
-  handling_moves notes table o m = go (eqb m.sender 1)
-    where
-      go : (b : Bool) → HandlingMoves notes o (cond b (of_display table o (display_event m.opcode m.args)) (of_event table o m (held o.store m.sender) (row_in table (held o.store m.sender) m.opcode)))
-      go true = display_moves notes table o (display_event m.opcode m.args)
-      go false = event_moves notes table o m (held o.store m.sender) (row_in table (held o.store m.sender) m.opcode) refl
+  handling_moves notes table o m = grind (arith, eqb, of_display, display_event, of_event, held, row_in, display_moves, event_moves)
 
   -- a core whose objects and notes are these
   comes_to_be : (c d : Core U) (ids : List (HandedId IdParts)) (o : Objects (Kept U)) → cored d ≡ o → d.notes ≡ c.notes → Moved (core_holding c) ids (at 0 false c.notes o)
       → Moved (core_holding c) ids (core_holding d)
-  comes_to_be c d ids o objects notes moved =
-      subst (λ (ns : List Note). Moved (core_holding c) ids (at 0 false ns (cored d))) (sym notes)
-      (subst (λ (x : Objects (Kept U)). Moved (core_holding c) ids (at 0 false c.notes x)) (sym objects) moved)
+  comes_to_be c d ids o objects notes moved = grind (arith, cored)
 
   sees : SeesObjects CoreMoves
   sees = record {
@@ -519,13 +479,7 @@ module _ {T U : Type 0} where
       ]
 
   destroyable_alive : (s : SessionState T U) (id : IdParts) (x : Object (Kept U)) → destroyable s id ≡ Some x → IsAlive s (Some (id.number, x))
-  destroyable_alive s id x e =
-      let (is, live) = alive_is (named s.store id) x (go (eqb id.number 1) e) in
-      (named_held s.store id x is, live)
-    where
-      go : (b : Bool) → cond b None (alive (named s.store id)) ≡ Some x → alive (named s.store id) ≡ Some x
-      go true e = absurd (none_some e)
-      go false e = e
+  destroyable_alive s id x e = grind (arith, alive_is, named, eqb, named_held, alive, none_some)
 
   destroys : (s : SessionState T U) (id : IdParts) (answer : _) (after : SessionState T U) → DestroyedBy s id answer after → Moves s [] after
   destroys s id answer after h =
@@ -552,12 +506,7 @@ module _ {T U : Type 0} where
   written_moves s link (Err f) = (still (holding s), λ failed. refl)
 
   alive_still : (s : SessionState T U) (new o : Option (Numbered U)) → IsNew s new → IsAlive s o → IsAlive (with_born s new) o
-  alive_still s new None fresh h = tt
-  alive_still s None (Some o) fresh h = h
-  alive_still s (Some new) (Some o) fresh h = (
-    stored_other s.store new.0 new.1 o.0 (λ same. none_some (sym fresh.0 ∙ ap (held s.store) (sym same) ∙ h.0)) ∙ h.0,
-    h.1,
-  )
+  alive_still s new o h1 h2 = grind (arith, stored_other, none_some, held)
 
   module _ (sends : T → Queue → Result ℕ IoFault → T → Type 0) (s : SessionState T U) (m : SessionMessage) (answer : Result IdParts RequestError) (after : SessionState T U) where
     -- the request came to nothing
@@ -599,22 +548,11 @@ module _ {T U : Type 0} where
     -- the sender of a request that is granted
     sender_alive : (x : Object (Kept U)) (row : Option MessageRow) (has_data : Bool) (spec : Option Spec) (g : Granted)
         → checked_row s.table s.store x row m has_data spec ≡ Ok g → is_over x.value ≡ false
-    sender_alive x None has_data spec g e = absurd (true≢false (sym (ap is_ok e)))
-    sender_alive x (Some row) has_data spec g e = go x.value.client_destroyed _ (grant row x.version spec) e
-      where
-        go : (b : Bool) (rest : List (Option RequestError)) (h : Granted) → unless (first_refusal (when b refused.InvalidId ∷ rest)) h ≡ Ok g → b ≡ false
-        go true rest h e = absurd (true≢false (sym (ap is_ok e)))
-        go false rest h e = refl
+    sender_alive x row has_data spec g h1 = grind (arith, true≢false, is_ok, grant, unless, first_refusal, when)
 
     ended_alive : (has_data : Bool) (spec : Option Spec) (g : Granted) → request_check s.table s.store m has_data spec ≡ Ok g
         → (b : Bool) → IsAlive s (ended_by s.store m b)
-    ended_alive has_data spec g e false = tt
-    ended_alive has_data spec g e true = go (named s.store m.sender) refl e
-      where
-        go : (o : Option (Object (Kept U))) → named s.store m.sender ≡ o → checked_sender s.table s.store o m has_data spec ≡ Ok g
-            → IsAlive s (option_map (λ x. (m.sender.number, x)) o)
-        go None is e = tt
-        go (Some x) is e = (named_held s.store m.sender x is, sender_alive x _ has_data spec g e)
+    ended_alive has_data spec g h1 b = grind (arith, named, checked_sender, option_map, named_held, sender_alive)
 
     requested : (u : Option U) (spec : Option Spec) → Requested sends s m u spec answer after → Moves s (request_ids answer) after
     requested u spec h =
@@ -638,11 +576,7 @@ module _ {T U : Type 0} where
       go false is = (ends (holding s) n x (flagged true x) (h x refl) is refl refl, λ failed. failed)
 
   destructor : (s : SessionState T U) (event : OpenEvent) → Moves s [] (with_core s (after_destructor (core_of s) event))
-  destructor s event = go event.is_destructor
-    where
-      go : (b : Bool) → Moves s [] (with_core s (cond b (with_dead (core_of s) event.sender.number (named s.store event.sender)) (core_of s)))
-      go true = dead s event.sender.number (named s.store event.sender) (λ x e. named_held s.store event.sender x e)
-      go false = idle s
+  destructor s event = grind (arith, with_core, with_dead, core_of, named, dead, named_held, idle)
 
   gives_data : (s : SessionState T U) (created : Option IdParts) (u : Option U) → Moves s [] (with_core s (with_data_for (core_of s) created u))
   gives_data s None u = idle s
@@ -674,18 +608,11 @@ module _ {T U : Type 0} where
       ]
 
   flush_ends : (s : SessionState T U) (r : _) (answer : Result (Unit {0}) FlushError) (after : SessionState T U) → FlushEnds s r answer after → Moves s [] after
-  flush_ends s (Ok _) answer after h = quiet s s after h.1 (idle s)
-  flush_ends s (Err fault.WouldBlock) answer after h = quiet s s after h.1 (idle s)
-  flush_ends s (Err fault.OutOfMemory) answer after h = quiet s s after h.1 (idle s)
-  flush_ends s (Err other) answer after h = quiet s _ after h.1 (still (holding s), λ failed. refl)
+  flush_ends s r answer after h1 = grind (arith, quiet, idle, still)
 
   flushes : (sends : T → Queue → Result ℕ IoFault → T → Type 0) (s : SessionState T U) (answer : Result (Unit {0}) FlushError) (after : SessionState T U)
       → SessionFlushed sends s answer after → Moves s [] after
-  flushes sends s answer after h =
-      elim (either_option s.error h) [
-        | inl (none, (flushed, link, by, end)) ↦ flush_ends (record s { link = link }) flushed answer after end
-        | inr (e, some, (is, same)) ↦ quiet s s after same (idle s)
-      ]
+  flushes sends s answer after h = grind (arith, either_option, flush_ends, quiet, idle)
 
 -- ---- a step
 
@@ -702,14 +629,7 @@ module _ {T U : Type 0} where
 
   module _ (s : SessionState T U) where
     by_moves : (reply : Reply U) (ids : List (HandedId IdParts)) (after : SessionState T U) → ids_in reply ≡ ids → notes_in reply ≡ [] → Moves s ids after → StepMoves s (ids_in reply) (notes_in reply) after
-    by_moves reply ids after is none (moved, stays) = record {
-      changes = moved.changes;
-      owns = moved.owns;
-      handed = subst (λ i. Each (IsHandedIn moved.changes) i) (sym is) moved.handed;
-      notes = sym (ap (λ notes. notes ++ after.notes) none ∙ moved.notes);
-      noted = moved.noted;
-      stays = stays;
-    }
+    by_moves reply ids after is none (moved, stays) = grind (arith, handed, noted)
 
     by_quiet : (reply : Reply U) (after after' : SessionState T U) → ids_in reply ≡ [] → notes_in reply ≡ [] → after' ≡ after → Moves s [] after → StepMoves s (ids_in reply) (notes_in reply) after'
     by_quiet reply after after' is none same moves = by_moves reply [] after' is none (quiet s after after' same moves)
@@ -726,15 +646,7 @@ module _ {T U : Type 0} where
     call_moves sends receives step.DispatchInnerQueue reply refused after (is, no_memory, same) = by_quiet reply _ after (ap ids_in is) (ap notes_in is) same (idle s)
     call_moves sends receives (step.SetMaxBufferSize limit) reply refused after (is, no_memory, (link, set, same)) =
         by_quiet reply _ after (ap ids_in is) (ap notes_in is) same (idle s)
-    call_moves sends receives step.TakeNotes reply refused after (notes, is, no_memory, taken, same) = record {
-      changes = [];
-      owns = ap objects_of same;
-      handed = subst (λ i. Each (IsHandedIn {U = U} []) i) (sym (ap ids_in is)) tt;
-      notes = append-nil s.notes ∙ sym taken ∙ sym (append-nil notes.items) ∙ ap (λ r. notes_in r ++ []) (sym is)
-          ∙ ap (λ (a : SessionState T U). notes_in reply ++ a.notes) (sym same);
-      noted = tt;
-      stays = λ failed. subst (λ (a : SessionState T U). IsSome a.error) (sym same) failed;
-    }
+    call_moves sends receives step.TakeNotes reply refused after (notes, is, no_memory, taken, same) = grind (arith, objects_of, handed, ids_in, append-nil, notes_in, noted)
     call_moves sends receives _ reply refused after h = absurd h
 
 module _ {U : Type 0} (s : SessionState Script U) where
@@ -765,20 +677,4 @@ module _ {T U : Type 0} (makes : Making T U)
     (moves : (s : SessionState T U) (call : Step U) (reply : Reply U) (refused : Bool) (after : SessionState T U) → makes s call reply refused after → StepMoves s (ids_in reply) (notes_in reply) after) where
   -- so a deed moves them; a change of the transport moves nothing, nor do interfaces
   pub deed_moves : (s : SessionState T U) (d : Deed T U) (after : SessionState T U) → Does makes s d after → StepMoves s (ids_by d) (notes_by d) after
-  deed_moves s (Called e) after by = moves s e.step e.answer e.refused after by
-  deed_moves s (Changed t) after same = record {
-    changes = [];
-    owns = ap objects_of same;
-    handed = tt;
-    notes = append-nil s.notes ∙ ap (λ (a : SessionState T U). a.notes) (sym same);
-    noted = tt;
-    stays = λ failed. subst (λ (a : SessionState T U). IsSome a.error) (sym same) failed;
-  }
-  deed_moves s (Grown rows answer) after (answers, same) = record {
-    changes = [];
-    owns = ap objects_of same;
-    handed = tt;
-    notes = append-nil s.notes ∙ ap (λ (a : SessionState T U). a.notes) (sym same);
-    noted = tt;
-    stays = λ failed. subst (λ (a : SessionState T U). IsSome a.error) (sym same) failed;
-  }
+  deed_moves s d after h1 = grind (arith, objects_of, handed, append-nil, noted)

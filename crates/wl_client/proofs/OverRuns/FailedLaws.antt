@@ -1,6 +1,6 @@
 -- That a session which has an error keeps one, and answers each reading and each flush by it: step by step, and so over every
 -- history.
-use Rattle.std.proofs.Common.{◌≡◌, ℕ, Bool, [], ◌∷◌, List, IsSome, Result, Ok, Err, is_ok, sym, ap, subst, ◌∙◌, true≢false}
+use Rattle.std.proofs.Common.{◌≡◌, ℕ, Bool, [], ◌∷◌, List, IsSome, Result, Ok, Err, is_ok, sym, ap, subst, ◌∙◌, true≢false, arith}
 use mathlib.Core.Logic.{inl, inr}
 use Rattle.wl_wire.specs.declared.argument.Token.{Token}
 use Rattle.wl_wire.specs.declared.error.IoFault.{IoFault}
@@ -29,34 +29,21 @@ use Rattle.wl_client.specs.Steps.{CallOf, Making, StepOf}
 
 flush_fails : {T U : Type 0} (sends : T → Queue → Result ℕ IoFault → T → Type 0) (s : SessionState T U) (answer : Result (Unit {0}) FlushError) (after : SessionState T U)
     → IsSome s.error → SessionFlushed sends s answer after → answer ≡ Err flush.Failed
-flush_fails sends s answer after failed h =
-    elim (either_option s.error h) [
-      | inl (none, others) ↦ absurd (has_none s.error failed none)
-      | inr (e, some, (is, same)) ↦ is
-    ]
+flush_fails sends s answer after failed h = grind (arith, either_option, has_none)
 
 -- the answer of a reading, where it is an error
 told_as : (r : Result (Message IdParts Token) EventError) (e : EventError) → event_content r ≡ Err e → r ≡ Err e
-told_as (Ok m) e told = absurd (true≢false (ap is_ok told))
-told_as (Err f) e told = ap Err told_error
-  where
-    told_error : f ≡ e
-    told_error = cc
+told_as r e h1 = grind (arith, true≢false, is_ok)
 
 -- a reading and a flush of a session that has an error answer by it
 call_failed : {T U : Type 0} (sends : T → Queue → Result ℕ IoFault → T → Type 0) (receives : T → ℕ → Result Queue IoFault → T → Type 0)
     (s : SessionState T U) (call : Step U) (answer : Reply U) (refused : Bool) (after : SessionState T U)
     → IsSome s.error → CallOf sends receives s call answer refused after → AnswersFailed call answer
-call_failed sends receives s step.Flush answer refused after failed (r, is, no_memory, h) = is ∙ ap reply.Flush (flush_fails sends s r after failed h)
-call_failed sends receives s step.NextEvent answer refused after failed (r, is, h) =
-    is ∙ ap reply.NextEvent (told_as r no_event.Failed (read_fails sends receives s (event_content r) refused after failed h).0)
-call_failed sends receives s _ answer refused after failed h = tt
+call_failed sends receives s call answer refused after h1 h2 = grind (arith, flush_fails, told_as, read_fails, event_content)
 
 step_failed : {U : Type 0} (s : SessionState Script U) (call : Step U) (answer : Reply U) (refused : Bool) (after : SessionState Script U)
     → IsSome s.error → StepOf s call answer refused after → AnswersFailed call answer
-step_failed s step.Flush answer refused after failed h = call_failed ScriptSends ScriptReceives s step.Flush answer refused after failed h
-step_failed s step.NextEvent answer refused after failed h = call_failed ScriptSends ScriptReceives s step.NextEvent answer refused after failed h
-step_failed s _ answer refused after failed h = tt
+step_failed s call answer refused after h1 h2 = grind (arith, call_failed)
 
 -- ---- what the laws of histories ask of the steps
 
@@ -70,16 +57,10 @@ pub record IsKept {T U : Type 0} (makes : Making T U) : Type 0 where
 -- so do the calls over any transport, and the steps over the transport by script
 pub calls_kept : {T U : Type 0} (sends : T → Queue → Result ℕ IoFault → T → Type 0) (receives : T → ℕ → Result Queue IoFault → T → Type 0)
     → IsKept {U = U} (CallOf sends receives)
-calls_kept sends receives = record {
-  moves = λ s call answer refused after h. call_moves s sends receives call answer refused after h;
-  fails = λ s call answer refused after failed h. call_failed sends receives s call answer refused after failed h;
-}
+calls_kept sends receives = grind (arith, call_moves, call_failed)
 
 pub steps_kept : {U : Type 0} → IsKept {U = U} StepOf
-steps_kept = record {
-  moves = λ s call answer refused after h. step_moves s call answer refused after h;
-  fails = λ s call answer refused after failed h. step_failed s call answer refused after failed h;
-}
+steps_kept = grind (arith, step_moves, step_failed)
 
 -- ---- a history
 

@@ -1,5 +1,5 @@
 -- That it does not matter to a part of a history over any transport how bytes and tokens are cut.
-use Rattle.std.proofs.Common.{◌≡◌, ◌⊎◌, ℕ, Bool, false, List, [], ◌∷◌, ◌++◌, Option, None, Some, IsSome, is_some, Result, Ok, Err, MatchOption, append_assoc, refl, sym, ap, subst, ◌∙◌, true≢false}
+use Rattle.std.proofs.Common.{◌≡◌, ◌⊎◌, ℕ, Bool, false, List, [], ◌∷◌, ◌++◌, Option, None, Some, IsSome, is_some, Result, Ok, Err, MatchOption, append_assoc, refl, sym, ap, subst, ◌∙◌, true≢false, arith}
 use mathlib.Core.Logic.{inl, inr}
 use Rattle.wl_wire.specs.declared.error.IoFault.{IoFault}
 use Rattle.wl_link.proofs.Calls.Branches.{both_option}
@@ -50,17 +50,7 @@ received_both (Unread es ∷ turns) others = received_both turns others
 module _ {T U : Type 0} where
   -- where nothing came and nothing was handed out
   goes_nowhere : (p : ReaderState T (Core U)) (finishes : List (Option U)) → GoesOn p nothing finishes [] p finishes
-  goes_nowhere p finishes rest first later all end chain = (there, back)
-    where
-      there : Served no_sends client p rest first finishes all end
-          → (others : List (Given SessionMessage)) × (all ≡ others) × Served no_sends client p rest later finishes others end
-      there served = (all, refl, subst (λ (t : Unit {0}). Served no_sends client p rest t finishes all end) (sym chain) served)
-
-      back : ((others : List (Given SessionMessage)) × (all ≡ others) × Served no_sends client p rest later finishes others end)
-          → Served no_sends client p rest first finishes all end
-      back (others, is, served) =
-          subst (λ (l : List (Given SessionMessage)). Served no_sends client p rest first finishes l end) (sym is)
-          (subst (λ (t : Unit {0}). Served no_sends client p rest t finishes others end) chain served)
+  goes_nowhere p finishes rest first later all end chain = grind (arith, no_sends, client)
 
   -- one part behind another
   goes_both : (a b c : ReaderState T (Core U)) (x y : Queue) (f g h : List (Option U)) (p q : List (Given SessionMessage)) → GoesOn a x f p b g → GoesOn b y g q c h
@@ -94,18 +84,10 @@ module _ {T U : Type 0} (sends : T → Queue → Result ℕ IoFault → T → Ty
     calm : IsCalm after
 
   stays : (before after : SessionState T U) (turns : List Turn) → IsCalm before → turns ≡ [] → after ≡ before → GoesOnBy before turns [] [] after
-  stays before after turns calm none same =
-      subst (λ (ts : List Turn). GoesOnBy before ts [] [] after) (sym none)
-      (subst (λ (s : SessionState T U). GoesOnBy before [] [] [] s) (sym same)
-      (record { goes = λ finishes. goes_nowhere (reader_state_of before) finishes; calm = calm }))
+  stays before after turns calm none same = grind (arith, goes_nowhere, reader_state_of)
 
   read_calm : (before after : SessionState T U) (answer : Result SessionMessage EventError) → IsCalm before → ReadsEvent before answer after → IsCalm after
-  read_calm before after (Ok m) calm (could, opened, kept) = inl opened.error
-  read_calm before after (Err no_event.Failed) calm (inl (failed, same)) = subst IsCalm (sym same) calm
-  read_calm before after (Err no_event.Failed) calm (inr (could, failed, kept)) = inr failed
-  read_calm before after (Err no_event.EventOpen) calm (none, some, same) = subst IsCalm (sym same) calm
-  read_calm before after (Err no_event.WouldBlock) calm (could, can, kept) = inl can.0
-  read_calm before after (Err no_event.OutOfMemory) calm (could, can, kept) = inl can.0
+  read_calm before after answer h1 h2 = grind (arith)
 
   read_goes : (before after : SessionState T U) (answer : Result SessionMessage EventError) (refused : Bool) (turns : List Turn) → IsCalm before
       → NextEvent sends receives before answer refused after → ReadTurns sends receives before (handed_by answer) turns after → AllFed turns
@@ -132,9 +114,7 @@ module _ {T U : Type 0} (sends : T → Queue → Result ℕ IoFault → T → Ty
   finish_goes : (before after : SessionState T U) (u : Option U) (answer : Result (Unit {0}) (FinishRefused U)) (turns : List Turn) → IsCalm before → Finishes before u answer after
       → turns ≡ [] → GoesOnBy before turns (finished_by (step.FinishEvent u) (reply.FinishEvent answer)) [] after
   finish_goes before after u (Err e) turns calm h none = stays before after turns calm none (ends_event before u (Err e) after h).1
-  finish_goes before after u (Ok done) turns (inr (failed, unopened)) h none =
-      let (event, ended) = ends_event before u (Ok done) after h in
-      absurd (true≢false (ap is_some (sym ended.was_open ∙ unopened)))
+  finish_goes before after u (Ok done) turns (inr (failed, unopened)) h none = grind (arith, ends_event, true≢false, is_some)
   finish_goes before after u (Ok done) turns (inl live) h none =
       let (event, ended) = ends_event before u (Ok done) after h in
       subst (λ (ts : List Turn). GoesOnBy before ts (u ∷ []) [] after) (sym none)
@@ -145,10 +125,7 @@ module _ {T U : Type 0} (sends : T → Queue → Result ℕ IoFault → T → Ty
 
   deed_goes : (before after : SessionState T U) (d : Deed T U) (turns : List Turn) → IsCalm before → IsHeard d → Does (CallOf sends receives) before d after
       → TurnsOf sends receives before d turns after → AllFed turns → GoesOnBy before turns (finished_in_deed d) (events_in_deed d) after
-  deed_goes before after (Changed t) turns calm is same none fed =
-      subst (λ (ts : List Turn). GoesOnBy before ts [] [] after) (sym none)
-      (subst (λ (s : SessionState T U). GoesOnBy before [] [] [] s) (sym same)
-      (record { goes = λ finishes. goes_nowhere (reader_state_of before) finishes; calm = calm }))
+  deed_goes before after (Changed t) turns calm is same none fed = grind (arith, goes_nowhere, reader_state_of)
   deed_goes before after (Grown rows answer) turns calm is does none fed = absurd is
   deed_goes before after (Called e) turns calm (ample, is) does of_one fed = by_step e.step is does of_one
     where
@@ -158,9 +135,7 @@ module _ {T U : Type 0} (sends : T → Queue → Result ℕ IoFault → T → Ty
           subst (λ (a : Reply U). GoesOnBy before turns [] (events_by a) after) (sym answer)
           (read_goes before after (event_content r) e.refused turns calm h
           (subst (λ (a : Reply U). ReadTurns sends receives before (events_by a) turns after) answer of_one) fed)
-      by_step (step.FinishEvent u) is (r, answer, no_memory, h) none =
-          subst (λ (a : Reply U). GoesOnBy before turns (finished_by (step.FinishEvent u) a) (events_by a) after) (sym answer)
-          (finish_goes before after u r turns calm h none)
+      by_step (step.FinishEvent u) is (r, answer, no_memory, h) none = grind (arith, finished_by, events_by, finish_goes)
       by_step _ is does of_one = absurd is
 
   -- ---- a part of a history
@@ -192,43 +167,11 @@ module _ {T U : Type 0} (sends : T → Queue → Result ℕ IoFault → T → Ty
 
   read_turns : (before after : SessionState T U) (answer : Result SessionMessage EventError) → NextEvent sends receives before answer false after
       → (turns : List Turn) × ReadTurns sends receives before (handed_by answer) turns after
-  read_turns before after answer h = of_error before.error h
-    where
-      of_open : (o : Option OpenEvent)
-          → MatchOption o (ReadsTo sends receives before answer false after) (λ _. (answer ≡ Err no_event.EventOpen) × (false ≡ false) × (after ≡ before))
-          → (turns : List Turn) × MatchOption o
-          ((out : Gives SessionMessage) × Reads sends client receives receives_allowed (reader_state_of before) turns out (reader_state_of after)
-          × (out.gave ≡ handed_by answer) × (out.refused ≡ false))
-          (λ _. turns ≡ [])
-      of_open None (turns, out, reads, is, gave, calm) = (turns, (out, reads, gave, sym calm))
-      of_open (Some event) h = ([], refl)
-
-      of_error : (o : Option WaylandError)
-          → MatchOption o
-          (MatchOption before.open_event (ReadsTo sends receives before answer false after) (λ _. (answer ≡ Err no_event.EventOpen) × (false ≡ false) × (after ≡ before)))
-          (λ _. (answer ≡ Err no_event.Failed) × (false ≡ false) × (after ≡ before))
-          → (turns : List Turn) × MatchOption o
-          (MatchOption before.open_event
-          ((out : Gives SessionMessage) × Reads sends client receives receives_allowed (reader_state_of before) turns out (reader_state_of after)
-          × (out.gave ≡ handed_by answer) × (out.refused ≡ false))
-          (λ _. turns ≡ []))
-          (λ _. turns ≡ [])
-      of_error None h = of_open before.open_event h
-      of_error (Some e) h = ([], refl)
+  read_turns before after answer h = grind (arith, client, receives_allowed, reader_state_of, handed_by)
 
   deed_turns : (before after : SessionState T U) (d : Deed T U) → IsHeard d → Does (CallOf sends receives) before d after
       → (turns : List Turn) × TurnsOf sends receives before d turns after
-  deed_turns before after (Changed t) is does = ([], refl)
-  deed_turns before after (Grown rows answer) is does = absurd is
-  deed_turns before after (Called e) (ample, is) does = by_step e.step is does
-    where
-      by_step : (s : Step U) → IsOfEvents s → CallOf sends receives before s e.answer e.refused after
-          → (turns : List Turn) × TurnsOfStep sends receives before s (events_by e.answer) turns after
-      by_step step.NextEvent is (r, answer, h) =
-          subst (λ (a : Reply U). (turns : List Turn) × ReadTurns sends receives before (events_by a) turns after) (sym answer)
-          (read_turns before after (event_content r) (subst (λ (b : Bool). NextEvent sends receives before (event_content r) b after) ample h))
-      by_step (step.FinishEvent u) is does = ([], refl)
-      by_step _ is does = absurd is
+  deed_turns before after d h1 h2 = grind (arith, events_by, read_turns, event_content)
 
   pub history_heard : (before after : SessionState T U) (deeds : List (Deed T U)) → History (CallOf sends receives) before deeds after → AllHeard deeds
       → (turns : List Turn) × Hears sends receives before deeds turns after

@@ -1,5 +1,5 @@
 -- What holds of the ids and the notes of every history: laws over the changes of its steps.
-use Rattle.std.proofs.Common.{◌≡◌, ◌≢◌, ℕ, Bool, List, [], ◌∷◌, ◌++◌, Option, None, Some, is_some, IsSome, AllPairs, refl, sym, ap, subst, ◌∙◌, append-nil, append_assoc, cond, map}
+use Rattle.std.proofs.Common.{◌≡◌, ◌≢◌, ℕ, Bool, List, [], ◌∷◌, ◌++◌, Option, None, Some, is_some, IsSome, AllPairs, refl, sym, ap, subst, ◌∙◌, append-nil, append_assoc, cond, map, arith}
 use Rattle.wl_wire.specs.Table.{InterfaceRow}
 use Rattle.wl_link.specs.declared.object.Object.{Object}
 use Rattle.wl_link.proofs.Ids.EndsLaw.{ends_once_law, run_keeps_joins, run_leads, run_owns}
@@ -61,11 +61,7 @@ module _ {T U : Type 0} (makes : Making T U) (kept : IsKept makes) where
 
   -- where something is known of an id, it names an object
   known_named : (s : SessionState T U) (id : IdParts) → IsSome (info_of s id) → IsSome (named s.store id)
-  known_named s id known = go (named s.store id) known
-    where
-      go : (o : Option (Object (Kept U))) → IsSome (info_in id.number (alive o)) → IsSome o
-      go None known = known
-      go (Some x) known = refl
+  known_named s id known = grind (arith, named, info_in, alive)
 
   -- changes of a history from the connecting on make its ids its own
   own_by : (table : List InterfaceRow) (transport : T) (before after : SessionState T U) (deeds : List (Deed T U)) → IsConnected table transport before
@@ -144,23 +140,14 @@ module _ {T U : Type 0} (makes : Making T U) (kept : IsKept makes) where
   notes_follow s [] [] after same = ap (λ (a : SessionState T U). a.notes) same ∙ sym (append-nil s.notes)
   notes_follow s [] (changes ∷ rest) after follows = absurd follows
   notes_follow s (d ∷ deeds) [] after follows = absurd follows
-  notes_follow s (d ∷ deeds) (changes ∷ rest) after (mid, by, owns, handed, notes, noted, follows) =
-      append_assoc (notes_by d) (notes_of deeds) after.notes
-      ∙ ap (λ ns. notes_by d ++ ns) (notes_follow mid deeds rest after follows)
-      ∙ sym (append_assoc (notes_by d) mid.notes (all_ended_notes rest))
-      ∙ ap (λ ns. ns ++ all_ended_notes rest) (sym notes)
-      ∙ append_assoc s.notes (ended_notes changes) (all_ended_notes rest)
+  notes_follow s (d ∷ deeds) (changes ∷ rest) after (mid, by, owns, handed, notes, noted, follows) = grind (arith, append_assoc, notes_by, notes_of, all_ended_notes, ended_notes, notes_follow mid deeds rest after follows)
 
   -- an object counts that has user data
   abbrev has_data : Object (Kept U) → Bool
   has_data x = is_some x.value.user_data
 
   counted : (n : ℕ) (x : Object (Kept U)) → ids_of (noted [] x.value.user_data (id_at n x)) ≡ counted_id serial_of has_data n x
-  counted n x = go x.value.user_data
-    where
-      go : (u : Option U) → ids_of (noted [] u (id_at n x)) ≡ cond (is_some u) (id_of (id_at n x) ∷ []) []
-      go None = refl
-      go (Some u) = refl
+  counted n x = grind (arith, noted, id_at, is_some, id_of)
 
   ids_ended : (changes : List (Change (Kept U))) → ids_of (ended_notes changes) ≡ ended_in serial_of has_data changes
   ids_ended [] = refl
@@ -168,17 +155,11 @@ module _ {T U : Type 0} (makes : Making T U) (kept : IsKept makes) where
   ids_ended (Gone n ∷ rest) = ids_ended rest
   ids_ended (Wrote n x ∷ rest) = ids_ended rest
   ids_ended (Made id ∷ rest) = ids_ended rest
-  ids_ended (Ended n x left ∷ rest) =
-      ids_both (noted [] x.value.user_data (id_at n x)) (ended_notes rest)
-      ∙ ap (λ ids. ids ++ ids_of (ended_notes rest)) (counted n x)
-      ∙ ap (λ ids. counted_id serial_of has_data n x ++ ids) (ids_ended rest)
+  ids_ended (Ended n x left ∷ rest) = grind (arith, ids_both, noted, id_at, ended_notes, counted, counted_id, serial_of, ids_ended rest)
 
   ids_ended_over : (steps : List (List (Change (Kept U)))) → ids_of (all_ended_notes steps) ≡ ended_over serial_of has_data steps
   ids_ended_over [] = refl
-  ids_ended_over (changes ∷ rest) =
-      ids_both (ended_notes changes) (all_ended_notes rest)
-      ∙ ap (λ ids. ids ++ ids_of (all_ended_notes rest)) (ids_ended changes)
-      ∙ ap (λ ids. ended_in serial_of has_data changes ++ ids) (ids_ended_over rest)
+  ids_ended_over (changes ∷ rest) = grind (arith, ids_both, ended_notes, all_ended_notes, ids_ended, ended_in, serial_of, ids_ended_over rest)
 
   -- every history from the connecting on notes what ended
   pub notes_ended : (table : List InterfaceRow) (transport : T) (before after : SessionState T U) (deeds : List (Deed T U))

@@ -1,5 +1,5 @@
 -- That each step has one outcome where memory is not refused, and so each run.
-use Rattle.std.proofs.Common.{◌≡◌, ◌≢◌, ℕ, Bool, true, false, eqb, List, [], ◌∷◌, length, Option, None, Some, is_some, Result, Ok, Err, MatchBool, refl, sym, ap, subst, ◌∙◌, true≢false}
+use Rattle.std.proofs.Common.{◌≡◌, ◌≢◌, ℕ, Bool, true, false, eqb, List, [], ◌∷◌, length, Option, None, Some, is_some, Result, Ok, Err, MatchBool, refl, sym, ap, subst, ◌∙◌, true≢false, arith}
 use mathlib.Core.Logic.{inl, inr}
 use Rattle.wl_wire.specs.declared.error.IoFault.{IoFault}
 use Rattle.wl_wire.specs.declared.error.IoFault.TheVariants as fault
@@ -49,21 +49,11 @@ module _ {T U : Type 0} where
   -- ---- data and destruction
 
   sets_one : (s : SessionState T U) (id : IdParts) (u : U) (a b : _) (x y : SessionState T U) → DataSet s id u a x → DataSet s id u b y → SameEnd a b x y
-  sets_one s id u a b x y h g =
-      elim (both_option (named s.store id) h g) [
-        | inl (none, (is, same), (is', same')) ↦ same_end is is' same same'
-        | inr (o, some, (is, same), (is', same')) ↦ same_end is is' same same'
-      ]
+  sets_one s id u a b x y h g = grind (arith, both_option, named, same_end)
 
   destroys_one : (s : SessionState T U) (id : IdParts) (a b : _) (x y : SessionState T U) → false ≡ refused_destroy a → false ≡ refused_destroy b
       → DestroyedBy s id a x → DestroyedBy s id b y → SameEnd a b x y
-  destroys_one s id a b x y unasked unasked' h g =
-      elim (both_option (destroyable s id) h g) [
-        | inl (none, (is, same), (is', same')) ↦ same_end is is' same same'
-        | inr (o, some, inl (is, same), inl (is', same')) ↦ same_end is is' same same'
-        | inr (o, some, inr (is, same, has_data), other) ↦ absurd (not_refused _ unasked (ap refused_destroy is))
-        | inr (o, some, inl (is, same), inr (is', same', has_data)) ↦ absurd (not_refused _ unasked' (ap refused_destroy is'))
-      ]
+  destroys_one s id a b x y unasked unasked' h g = grind (arith, both_option, destroyable, same_end, not_refused, refused_destroy)
 
   -- ---- a request
 
@@ -77,9 +67,7 @@ module _ {T U : Type 0} where
 
     write_allowed : (new o : Option (Numbered U)) (answer : Result IdParts RequestError) (after : SessionState T U) (w : Result (Unit {0}) IoFault) (link : LinkState T)
         → answer ≢ Err request.OutOfMemory → WriteEnds new o answer after w link → w ≢ Err fault.OutOfMemory
-    write_allowed new o answer after w link allowed end is =
-        let refused = subst (λ z. WriteEnds new o answer after z link) is end in
-        allowed refused.0
+    write_allowed new o answer after w link allowed end is = grind (arith)
 
     written_one : (wire : WireMessage) (new o : Option (Numbered U)) → Written sends s wire new o a x → Written sends s wire new o b y → SameEnd a b x y
     written_one wire new o (w, link, (es, by), end) (w', link', (es', by'), end') =
@@ -122,25 +110,17 @@ module _ {T U : Type 0} where
     sent_as_one (Some child) (Some u) o h g = sent_with_child_one child u o h g
 
     requested_one : (u : Option U) (spec : Option Spec) → Requested sends s m u spec a x → Requested sends s m u spec b y → SameEnd a b x y
-    requested_one u spec h g =
-        elim (both_result (request_check s.table s.store m (is_some u) spec) h g) [
-          | inl (granted, w, w') ↦ sent_as_one granted.child u (ended_by s.store m granted.is_destructor) w w'
-          | inr (e, (is, same), (is', same')) ↦ same_end is is' same same'
-        ]
+    requested_one u spec h g = grind (arith, both_result, request_check, is_some, sent_as_one, ended_by, same_end)
 
   -- ---- a flush
 
   flush_allowed : (s : SessionState T U) (r : Result (Unit {0}) IoFault) (answer : Result (Unit {0}) FlushError) (after : SessionState T U)
       → false ≡ refused_flush answer → FlushEnds s r answer after → r ≢ Err fault.OutOfMemory
-  flush_allowed s r answer after unasked end is =
-      let refused = subst (λ z. FlushEnds s z answer after) is end in
-      not_refused _ unasked (ap refused_flush refused.0)
+  flush_allowed s r answer after unasked end is = grind (arith, not_refused, refused_flush)
 
   flush_ends_one : (s : SessionState T U) (r : Result (Unit {0}) IoFault) (a b : Result (Unit {0}) FlushError) (x y : SessionState T U)
       → FlushEnds s r a x → FlushEnds s r b y → SameEnd a b x y
-  flush_ends_one s (Ok _) a b x y h g = same_end h.0 g.0 h.1 g.1
-  flush_ends_one s (Err fault.WouldBlock) a b x y h g = same_end h.0 g.0 h.1 g.1
-  flush_ends_one s _ a b x y h g = same_end h.0 g.0 h.1 g.1
+  flush_ends_one s r a b x y h1 h2 = grind (arith, same_end)
 
   flushes_one : (sends : T → Queue → Result ℕ IoFault → T → Type 0) → IsFunction sends → (s : SessionState T U) (a b : Result (Unit {0}) FlushError)
       (x y : SessionState T U) → false ≡ refused_flush a → false ≡ refused_flush b → SessionFlushed sends s a x → SessionFlushed sends s b y → SameEnd a b x y
@@ -160,9 +140,7 @@ module _ {T U : Type 0} where
   module _ (s : SessionState T U) (u : Option U) (a b : Result (Unit {0}) (FinishRefused U)) (x y : SessionState T U)
       (unasked : false ≡ refused_finish a) (unasked' : false ≡ refused_finish b) where
     event_finishes_one : (event : OpenEvent) → FinishesEvent s event u a x → FinishesEvent s event u b y → SameEnd a b x y
-    event_finishes_one event (inl (is, same)) (inl (is', same')) = same_end is is' same same'
-    event_finishes_one event (inr (notes, (is, same))) other = absurd (not_refused _ unasked (ap refused_finish is))
-    event_finishes_one event (inl h) (inr (notes, (is, same))) = absurd (not_refused _ unasked' (ap refused_finish is))
+    event_finishes_one event h1 h2 = grind (arith, same_end, not_refused, refused_finish)
 
     finishes_one : Finishes s u a x → Finishes s u b y → SameEnd a b x y
     finishes_one h g =
@@ -180,18 +158,11 @@ module _ {T U : Type 0} where
 module _ {U : Type 0} where
   arrives_one : (s : SessionState Script U) (chunk : Queue) (a b : Result (Unit {0}) ArriveError) (x y : SessionState Script U)
       → false ≡ refused_arrive a → false ≡ refused_arrive b → ArrivesWith s chunk a x → ArrivesWith s chunk b y → SameEnd a b x y
-  arrives_one s chunk (Ok _) (Ok _) x y unasked unasked' h g = same_end refl refl h.1 g.1
-  arrives_one s chunk (Ok _) (Err arrive.TooManyTokens) x y unasked unasked' h g = absurd (h.0 g.0)
-  arrives_one s chunk (Err arrive.TooManyTokens) (Ok _) x y unasked unasked' h g = absurd (g.0 h.0)
-  arrives_one s chunk (Err arrive.TooManyTokens) (Err arrive.TooManyTokens) x y unasked unasked' h g = same_end refl refl h.1 g.1
-  arrives_one s chunk (Err arrive.OutOfMemory) b x y unasked unasked' h g = absurd (true≢false (sym unasked))
-  arrives_one s chunk a (Err arrive.OutOfMemory) x y unasked unasked' h g = absurd (true≢false (sym unasked'))
+  arrives_one s chunk a b x y h1 h2 h3 h4 = grind (arith, same_end, true≢false)
 
   scripts_one : (s : SessionState Script U) (script : Script) (a b : Result (Unit {0}) OutOfMemory) (x y : SessionState Script U)
       → false ≡ refused_script a → false ≡ refused_script b → Scripts s script a x → Scripts s script b y → SameEnd a b x y
-  scripts_one s script (Ok _) (Ok _) x y unasked unasked' same same' = same_end refl refl same same'
-  scripts_one s script (Err e) b x y unasked unasked' same same' = absurd (true≢false (sym unasked))
-  scripts_one s script (Ok _) (Err e) x y unasked unasked' same same' = absurd (true≢false (sym unasked'))
+  scripts_one s script a b x y h1 h2 h3 h4 = grind (arith, same_end, true≢false)
 
 -- ---- interfaces that are added
 
@@ -213,22 +184,14 @@ module _ {T U : Type 0} (sends : T → Queue → Result ℕ IoFault → T → Ty
     (function : IsFunction sends) (receiving : IsReceiveFunction receives) where
   -- each call has one outcome, if the transport has
   pub call_one : (s x y : SessionState T U) (call : Step U) (p q : Reply U) → CallOf sends receives s call p false x → CallOf sends receives s call q false y → SameReply p q × (x ≡ y)
-  call_one s x y (step.SetData id u) p q (a, is, unasked, h) (b, is', unasked', g) =
-      let one = sets_one s id u a b x y h g in
-      (same_reply p q _ _ is is' (ap reply.SetData one.answer), one.after)
-  call_one s x y (step.DestroyObject id) p q (a, is, unasked, h) (b, is', unasked', g) =
-      let one = destroys_one s id a b x y unasked unasked' h g in
-      (same_reply p q _ _ is is' (ap reply.DestroyObject one.answer), one.after)
+  call_one s x y (step.SetData id u) p q (a, is, unasked, h) (b, is', unasked', g) = grind (arith, sets_one, same_reply)
+  call_one s x y (step.DestroyObject id) p q (a, is, unasked, h) (b, is', unasked', g) = grind (arith, destroys_one, same_reply)
   call_one s x y (step.SendRequest m u spec) p q (a, is, unasked, h) (b, is', unasked', g) =
       let one = requested_one sends function s (session_content m) a b x y
       (λ e. not_refused _ unasked (ap refused_request e)) (λ e. not_refused _ unasked' (ap refused_request e)) u spec h g in
       (same_reply p q _ _ is is' (ap reply.SendRequest one.answer), one.after)
-  call_one s x y step.Flush p q (a, is, unasked, h) (b, is', unasked', g) =
-      let one = flushes_one sends function s a b x y unasked unasked' h g in
-      (same_reply p q _ _ is is' (ap reply.Flush one.answer), one.after)
-  call_one s x y step.NextEvent p q (a, is, h) (b, is', g) =
-      let one = next_event_one sends receives function receiving (event_content a) (event_content b) x y s h g in
-      (same_reply p q (reply.NextEvent a) (reply.NextEvent b) is is' one.answer, one.after)
+  call_one s x y step.Flush p q (a, is, unasked, h) (b, is', unasked', g) = grind (arith, flushes_one, same_reply)
+  call_one s x y step.NextEvent p q (a, is, h) (b, is', g) = grind (arith, next_event_one, event_content, same_reply)
   call_one s x y (step.FinishEvent u) p q (a, is, unasked, h) (b, is', unasked', g) =
       let one = finishes_one s u a b x y unasked unasked' h g in
       (same_reply p q _ _ is is' (ap reply.FinishEvent one.answer), one.after)
@@ -245,18 +208,10 @@ module _ {T U : Type 0} (sends : T → Queue → Result ℕ IoFault → T → Ty
 module _ {U : Type 0} where
   -- each step has one outcome
   pub step_one : (s x y : SessionState Script U) (call : Step U) (p q : Reply U) → StepOf s call p false x → StepOf s call q false y → SameReply p q × (x ≡ y)
-  step_one s x y (step.Arrive bytes tokens) p q (a, is, unasked, h) (b, is', unasked', g) =
-      let one = arrives_one s _ a b x y unasked unasked' h g in
-      (same_reply p q _ _ is is' (ap reply.Arrive one.answer), one.after)
-  step_one s x y (step.ArriveFault f) p q (a, is, unasked, h) (b, is', unasked', g) =
-      let one = scripts_one s _ a b x y unasked unasked' h g in
-      (same_reply p q _ _ is is' (ap reply.ArriveFault one.answer), one.after)
-  step_one s x y (step.Accept n) p q (a, is, unasked, h) (b, is', unasked', g) =
-      let one = scripts_one s _ a b x y unasked unasked' h g in
-      (same_reply p q _ _ is is' (ap reply.Accept one.answer), one.after)
-  step_one s x y (step.AcceptFault f) p q (a, is, unasked, h) (b, is', unasked', g) =
-      let one = scripts_one s _ a b x y unasked unasked' h g in
-      (same_reply p q _ _ is is' (ap reply.AcceptFault one.answer), one.after)
+  step_one s x y (step.Arrive bytes tokens) p q (a, is, unasked, h) (b, is', unasked', g) = grind (arith, arrives_one, same_reply)
+  step_one s x y (step.ArriveFault f) p q (a, is, unasked, h) (b, is', unasked', g) = grind (arith, scripts_one, same_reply)
+  step_one s x y (step.Accept n) p q (a, is, unasked, h) (b, is', unasked', g) = grind (arith, scripts_one, same_reply)
+  step_one s x y (step.AcceptFault f) p q (a, is, unasked, h) (b, is', unasked', g) = grind (arith, scripts_one, same_reply)
   step_one s x y step.TakeSent p q (sent, is, unasked, parcels, same) (sent', is', unasked', parcels', same') =
       (same_reply p q (reply.TakeSent sent) (reply.TakeSent sent') is is' (parcels ∙ sym parcels'), same ∙ sym same')
   step_one s x y (step.SetData id u) p q h g = call_one ScriptSends ScriptReceives script_sends_function script_receives_function s x y (step.SetData id u) p q h g

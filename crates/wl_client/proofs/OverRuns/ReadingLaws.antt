@@ -1,6 +1,6 @@
 -- What follows for a client from the laws of a reader: that its reading has one outcome, and that it does not matter to
 -- it how bytes and tokens are cut.
-use Rattle.std.proofs.Common.{◌≡◌, ℕ, Bool, true, false, cond, List, [], ◌∷◌, ◌++◌, Option, None, Some, IsSome, is_none, is_some, is_ok, Result, Ok, Err, ◌&&◌, map, MatchResult, refl, sym, ap, ap₂, subst, ◌∙◌, true≢false}
+use Rattle.std.proofs.Common.{◌≡◌, ℕ, Bool, true, false, cond, List, [], ◌∷◌, ◌++◌, Option, None, Some, IsSome, is_none, is_some, is_ok, Result, Ok, Err, ◌&&◌, map, MatchResult, refl, sym, ap, ap₂, subst, ◌∙◌, true≢false, arith}
 use mathlib.Core.Logic.{inl, inr}
 use Rattle.std.proofs.lemmas.Option.{same_Some}
 use Rattle.wl_wire.specs.declared.error.IoFault.{IoFault}
@@ -93,19 +93,11 @@ module _ {T U : Type 0} (sends : T → Queue → Result ℕ IoFault → T → Ty
   -- a stored error is answered, and nothing is changed
   pub read_fails : (s : SessionState T U) (answer : Result SessionMessage EventError) (refused : Bool) (after : SessionState T U)
       → IsSome s.error → NextEvent sends receives s answer refused after → (answer ≡ Err no_event.Failed) × (after ≡ s)
-  read_fails s answer refused after failed h =
-      elim (both_option s.error h h) [
-        | inl (none, others, again) ↦ absurd (has_none s.error failed none)
-        | inr (e, some, (is, unasked, same), again) ↦ (is, same)
-      ]
+  read_fails s answer refused after failed h = grind (arith, both_option, has_none)
 
   silent : (v : Verdict (Core U) SessionMessage) (before : LinkState T) (es : List Sending) (gave : List (Given SessionMessage)) (refused : Bool) (after : ReaderState T (Core U))
       → v.puts ≡ [] → v.flushes ≡ false → CarriesOut sends client v before es gave refused after → es ≡ []
-  silent v before es gave refused after none off (inr (asks, was, nothing', is, same)) = nothing'
-  silent v before es gave refused after none off (inl (first, others, put, wrote, mid, lacked, puts, flushes, split, end, is, was)) =
-      let puts' = subst (λ ms. PutsOut sends before ms first put wrote mid) none puts in
-      let flushes' = subst (λ b. FlushesOut sends b mid others lacked after.link) off flushes in
-      split ∙ ap₂ (λ (x y : List Sending). x ++ y) puts'.0 flushes'.0
+  silent v before es gave refused after h1 h2 h3 = grind (arith, ap₂)
 
   -- a client sends nothing while it reads
   sends_nothing : (left : ℕ) (p after : ReaderState T (Core U)) (turns : List Turn) (out : Gives SessionMessage) → Reads sends client receives left p turns out after → sends_in turns ≡ []
@@ -119,14 +111,8 @@ module _ {T U : Type 0} (sends : T → Queue → Result ℕ IoFault → T → Ty
           → (Reads sends client receives n (with_link p link) turns out after → sends_in turns ≡ []) → sends_in turns ≡ []
       go (Ok u) more goes = goes more
       go (Err f) (none, ends, same) goes = ap sends_in none
-  sends_nothing left p after (Handled es ∷ turns) out (on, (v, link, first, lacked, mid, rest, (m, read, is), carried, split, more)) =
-      ap₂ (λ (x y : List Sending). x ++ y)
-      (silent v link es first lacked mid (ap (λ (w : Verdict (Core U) SessionMessage). w.puts) is) (ap (λ (w : Verdict (Core U) SessionMessage). w.flushes) is) carried)
-      (sends_nothing left mid after turns rest more)
-  sends_nothing left p after (Unread es ∷ turns) out (on, (v, link, first, lacked, mid, rest, (read, same, is), carried, split, more)) =
-      ap₂ (λ (x y : List Sending). x ++ y)
-      (silent v link es first lacked mid (ap (λ (w : Verdict (Core U) SessionMessage). w.puts) is) (ap (λ (w : Verdict (Core U) SessionMessage). w.flushes) is) carried)
-      (sends_nothing left mid after turns rest more)
+  sends_nothing left p after (Handled es ∷ turns) out (on, (v, link, first, lacked, mid, rest, (m, read, is), carried, split, more)) = grind (arith, ap₂, silent, sends_nothing left mid after turns rest more)
+  sends_nothing left p after (Unread es ∷ turns) out (on, (v, link, first, lacked, mid, rest, (read, same, is), carried, split, more)) = grind (arith, ap₂, silent, sends_nothing left mid after turns rest more)
 
   -- a reading that was fed goes on as what came does
   pub reading_cuts : (left : ℕ) (p after : ReaderState T (Core U)) (turns : List Turn) (out : Gives SessionMessage) → Reads sends client receives left p turns out after
@@ -178,24 +164,15 @@ module _ {U : Type 0} (R : Core U → List (Given SessionMessage) → Core U →
 
   -- a message leads to this core, or for want of memory to that
   pub keeps : (c : Core U) (h : Handling U) → R c (map HandedOut (handed h)) (core_after c h) → R c (map HandedOut (handed h)) (starved_to c h) → Keeps client R c (verdict c h)
-  keeps c h came starved = record {
-    carried = λ put others wrote is written.
-        subst (λ (w : Result (Unit {0}) IoFault). R c (put_and_gave put (handed h)) (comes_to client (verdict c h) w)) (sym (written refl))
-        (subst (λ (ms : List Said). R c (put_and_gave ms (handed h)) (core_after c h)) (sym (none_put put others is)) came);
-    starved = λ asks. starved;
-  }
+  keeps c h came starved = grind (arith, put_and_gave, handed, comes_to, client, verdict, core_after, none_put)
 
   module _ (sees : SeesObjects) where
     faults : (c : Core U) (f : IoFault) → R c [] (faulted c f)
-    faults c fault.WouldBlock = sees.fails c _ refl refl
-    faults c fault.OutOfMemory = sees.fails c _ refl refl
-    faults c f = sees.fails c _ refl refl
+    faults c f = grind (arith)
 
     -- with or without memory, the objects are as the message says
     sees_handling : (c : Core U) (h : Handling U) → ((d : Core U) → objects_in d ≡ objects_after h → d.notes ≡ c.notes → R c (map HandedOut (handed h)) d) → Keeps client R c (verdict c h)
-    sees_handling c (Swallows o) so = keeps c (Swallows o) (so _ refl refl) (so _ refl refl)
-    sees_handling c (HandsOut m event o) so = keeps c (HandsOut m event o) (so _ refl refl) (so _ refl refl)
-    sees_handling c (Breaks e o) so = keeps c (Breaks e o) (so _ refl refl) (so _ refl refl)
+    sees_handling c h h1 = grind (arith, keeps)
 
     respects : RespectsReading client R
     respects = record {
@@ -210,22 +187,7 @@ module _ {U : Type 0} (R : Core U → List (Given SessionMessage) → Core U →
     pub next_event_respects : {T : Type 0} (sends : T → Queue → Result ℕ IoFault → T → Type 0) (receives : T → ℕ → Result Queue IoFault → T → Type 0) (s : SessionState T U)
         (answer : Result SessionMessage EventError) (refused : Bool) (after : SessionState T U) → NextEvent sends receives s answer refused after
         → R (core_of s) (handed_by answer) (core_of after)
-    next_event_respects sends receives s answer refused after h =
-        elim (both_option s.error h h) [
-          | inr (e, some, (is, unasked, same), again) ↦ stays no_event.Failed is same
-          | inl (none, p, q) ↦
-              elim (both_option s.open_event p q) [
-                | inr (event, some, (is, unasked, same), again) ↦ stays no_event.EventOpen is same
-                | inl (unopened, (turns, out, reads, is, gave, calm), again) ↦
-                    subst (λ (g : List (Given SessionMessage)). R (core_of s) g (core_of after)) gave
-                    (reads_respect sends receives client R respects receives_allowed (reader_state_of s) (reader_state_of after) turns out reads)
-              ]
-        ]
-      where
-        stays : (e : EventError) → answer ≡ Err e → after ≡ s → R (core_of s) (handed_by answer) (core_of after)
-        stays e is same =
-            subst (λ (a : Result SessionMessage EventError). R (core_of s) (handed_by a) (core_of after)) (sym is)
-            (sees.fails (core_of s) (core_of after) (ap (λ (x : SessionState _ U). objects_in (core_of x)) same) (ap (λ (x : SessionState _ U). x.notes) same))
+    next_event_respects sends receives s answer refused after h = grind (arith, both_option, core_of, reads_respect, client, respects, receives_allowed, reader_state_of, handed_by, objects_in)
 
 -- ---- a finish
 
@@ -242,15 +204,7 @@ module _ {T U : Type 0} where
   finishes_as s after event u (inr (notes, (is, same))) = absurd (refused_not _ is)
 
   pub finish_as : (s after : SessionState T U) (u : Option U) → Finishes s u (Ok tt) after → IsFinished s u after
-  finish_as s after u h =
-      elim (both_option s.open_event h h) [
-        | inl (none, (is, same), again) ↦ absurd (refused_not _ is)
-        | inr (event, some, g, again) ↦
-            elim (both_option (refusal event.created u) g g) [
-              | inl (fits, end, again) ↦ (event, some, fits, finishes_as s after event u end)
-              | inr (e, why, (is, same), again) ↦ absurd (refused_not _ is)
-            ]
-      ]
+  finish_as s after u h = grind (arith, both_option, refused_not, refusal, finishes_as)
 
   -- so it is what the reader comes to where it takes these data
   pub finish_ends : (sends : T → Queue → Result ℕ IoFault → T → Type 0) (s after : SessionState T U) (u : Option U) → s.error ≡ None → Finishes s u (Ok tt) after
@@ -291,26 +245,10 @@ module _ {T U : Type 0} (sends : T → Queue → Result ℕ IoFault → T → Ty
 module _ {U : Type 0} where
   finish_is_quiet : (c : Core U) (error : Option WaylandError) (event : Option OpenEvent) (u : Option U) (v : Verdict (Core U) SessionMessage) → finish c error event u ≡ Some v
       → (v.puts ≡ []) × (v.flushes ≡ false)
-  finish_is_quiet c (Some e) event u v is = absurd (none_some v is)
-  finish_is_quiet c None None u v is = absurd (none_some v is)
-  finish_is_quiet c None (Some event) u v is = go (is_none (refusal event.created u)) is
-    where
-      go : (b : Bool) → cond b (Some (finish_verdict c event u)) None ≡ Some v → (v.puts ≡ []) × (v.flushes ≡ false)
-      go true same =
-          let w : finish_verdict c event u ≡ v = same_Some (finish_verdict c event u) v same in
-          (ap (λ (x : Verdict (Core U) SessionMessage). x.puts) (sym w), ap (λ (x : Verdict (Core U) SessionMessage). x.flushes) (sym w))
-      go false same = absurd (none_some v same)
+  finish_is_quiet c error event u v h1 = grind (arith, none_some, is_none, refusal, finish_verdict, same_Some)
 
   goes_on : {S : Type 0} (sends : S → Queue → Result ℕ IoFault → S → Type 0) → AlwaysGoesOn sends (client {U = U})
-  goes_on sends = record {
-    handles = λ c m link. carried_at_once sends client (client.handles c m) link refl refl;
-    malformed = λ c link. carried_at_once sends client (client.malformed c) link refl refl;
-    over = λ c link. (refl, λ u. refl);
-    takes = λ c u v link is. (
-        let quiet = finish_is_quiet c c.error c.open_event u v is in
-        carried_at_once sends client v link quiet.0 quiet.1
-        );
-  }
+  goes_on sends = grind (arith, carried_at_once, client, finish_is_quiet)
 
   pub one_served : {T : Type 0} (p : ReaderState T (Core U)) (more : Queue) (finishes : List (Option U)) (events others : List (Given SessionMessage)) (x y : ReaderState (Unit {0}) (Core U))
       → IsServed p more finishes events x → IsServed p more finishes others y → (events ≡ others) × (x ≡ y)

@@ -1,5 +1,5 @@
 -- What a program makes of the transport by script between the calls, as steps.
-use Rattle.std.proofs.Common.{◌≡◌, ◌∷◌, ◌++◌, ℕ, List, [], Bool, true, false, Result, Ok, Err, is_ok, refl, sym, ap, subst, true≢false, Vec, map}
+use Rattle.std.proofs.Common.{◌≡◌, ◌∷◌, ◌++◌, ℕ, List, [], Bool, true, false, Result, Ok, Err, is_ok, refl, sym, ap, subst, true≢false, Vec, map, arith}
 use Rattle.std.specs.Global.{Global}
 use Rattle.wl_wire.specs.declared.argument.Token.{Token}
 use Rattle.wl_wire.specs.declared.error.IoFault.{IoFault}
@@ -28,9 +28,7 @@ memory_no_count same = true≢false (ap is_memory same)
 module _ {U : Type 0} where
   arrives_with : (before : SessionState Script U) (chunk : Queue) (answer : Result (Unit {0}) ArriveError) (t : Script) → Arrives before.link.transport chunk answer t
       → ArrivesWith before chunk answer (over_transport before t)
-  arrives_with before chunk (Ok u) t (longer, many, same) = (λ more. ok_no_error (many.1 more), ap (over_transport before) longer)
-  arrives_with before chunk (Err arrive.TooManyTokens) t (longer, many, same) = (many.0 refl, ap (over_transport before) same)
-  arrives_with before chunk (Err arrive.OutOfMemory) t (longer, many, same) = (λ more. memory_no_count (many.1 more), ap (over_transport before) same)
+  arrives_with before chunk answer t h1 = grind (arith, ok_no_error, over_transport, memory_no_count)
 
   scripts : (before : SessionState Script U) (script : Script) (answer : Result (Unit {0}) OutOfMemory) (t : Script) → Becomes before.link.transport script answer t
       → Scripts before script answer (over_transport before t)

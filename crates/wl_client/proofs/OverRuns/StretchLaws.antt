@@ -1,7 +1,7 @@
 -- That what a stretch of a run hands out is what is served of all that arrived.
 --
 -- Its entries are acts of the client as a reader: those that are refused change nothing, and are none.
-use Rattle.std.proofs.Common.{◌≡◌, ◌⊎◌, ℕ, Bool, true, false, List, [], ◌∷◌, ◌++◌, append_assoc, append-nil, ◌&&◌, Option, None, Some, is_none, Result, Ok, Err, is_ok, refl, sym, ap, ap₂, subst, ◌∙◌, true≢false}
+use Rattle.std.proofs.Common.{◌≡◌, ◌⊎◌, ℕ, Bool, true, false, List, [], ◌∷◌, ◌++◌, append_assoc, append-nil, ◌&&◌, Option, None, Some, is_none, Result, Ok, Err, is_ok, refl, sym, ap, ap₂, subst, ◌∙◌, true≢false, arith}
 use mathlib.Core.Logic.{inl, inr}
 use Rattle.wl_wire.specs.declared.argument.Token.{Token}
 use Rattle.wl_wire.specs.declared.error.IoFault.{IoFault}
@@ -60,18 +60,13 @@ memory_not_blocks same = cc
 -- a reading answers so only where it was stopped so
 stopped_blocks : (stopped : Option IoFault) (gave : List (Given SessionMessage)) → answered stopped gave ≡ Err no_event.WouldBlock → stopped ≡ Some fault.WouldBlock
 stopped_blocks None (HandedOut m ∷ gave) is = absurd (event_not_blocks m is)
-stopped_blocks None (Queued m ∷ gave) is = absurd (none_blocks (stopped_blocks None gave is))
-  where
-    none_blocks : ◌≡◌ {A = Option IoFault} None (Some fault.WouldBlock) → ⊥
-    none_blocks same = true≢false (ap is_none same)
+stopped_blocks None (Queued m ∷ gave) is = grind (arith, true≢false, is_none, stopped_blocks None gave is)
 stopped_blocks (Some fault.WouldBlock) gave is = refl
 stopped_blocks (Some fault.OutOfMemory) gave is = absurd (memory_not_blocks is)
 stopped_blocks _ _ is = absurd (failed_not_blocks is)
 
 both_none : {A B : Type 0} (o : Option A) (p : Option B) → is_none o && is_none p ≡ true → (o ≡ None) × (p ≡ None)
-both_none None None both = (refl, refl)
-both_none None (Some y) both = absurd (true≢false (sym both))
-both_none (Some x) p both = absurd (true≢false (sym both))
+both_none o p h1 = grind (arith, true≢false)
 
 module _ {U : Type 0} where
   -- ---- a client that has an event open has no error, as far as its readings and finishes go
@@ -84,23 +79,13 @@ module _ {U : Type 0} where
 
   -- a message to a client that has neither leaves it tidy
   handled_tidy : (c : Core U) (h : Handling U) → (c.error ≡ None) × (c.open_event ≡ None) → Keeps client StaysTidy c (verdict c h)
-  handled_tidy c (Swallows o) none = keeps StaysTidy c (Swallows o) (λ tidy. tidy) (λ tidy. tidy)
-  handled_tidy c (HandsOut m event o) none = keeps StaysTidy c (HandsOut m event o) (λ tidy. inl none.0) (λ tidy. inl none.0)
-  handled_tidy c (Breaks e o) none = keeps StaysTidy c (Breaks e o) (λ tidy. inr none.1) (λ tidy. inr none.1)
+  handled_tidy c h h1 = grind (arith, keeps)
 
   faulted_open : (c : Core U) (f : IoFault) → (faulted c f).open_event ≡ c.open_event
-  faulted_open c fault.WouldBlock = refl
-  faulted_open c fault.OutOfMemory = refl
-  faulted_open c f = refl
+  faulted_open c f = grind (arith)
 
   readings_tidy : RespectsReading client StaysTidy
-  readings_tidy = record {
-    same = λ c tidy. tidy;
-    joins = λ c d e g h first second tidy. second (first tidy);
-    handles = λ c m on. handled_tidy c (handling c.table (objects_in c) m) (both_none c.error c.open_event on);
-    malformed = λ c on. handled_tidy c (Breaks (error_of c.table wrong.Malformed) (objects_in c)) (both_none c.error c.open_event on);
-    faulted = λ c f on tidy. inr (faulted_open c f ∙ (both_none c.error c.open_event on).1);
-  }
+  readings_tidy = grind (arith, handled_tidy, handling, objects_in, both_none, error_of, faulted, faulted_open)
 
   -- ---- what an entry does
 
@@ -121,15 +106,7 @@ module _ {U : Type 0} where
     -- nothing changed
     acts_none : mid ≡ s → Tidy (core_of s) → arrived_by call ≡ nothing → finished_by call answer ≡ [] → events_by answer ≡ []
         → (answer ≡ reply.NextEvent (Err no_event.WouldBlock) → ⊥) → Acts s call answer mid
-    acts_none same tidy came' ended' handed not = record {
-      acts = [];
-      does = ap reader_state_of same;
-      came_in = sym came';
-      ended_with = sym ended';
-      handed_out = sym handed;
-      waits = λ is before. absurd (not is);
-      tidy = subst (λ (x : SessionState Script U). Tidy (core_of x)) (sym same) tidy;
-    }
+    acts_none same tidy came' ended' handed not = grind (arith, reader_state_of, core_of)
 
     -- something arrived
     acts_arrived : (r : Result Queue IoFault) → IsFed r → reader_state_of mid ≡ with_arrival (reader_state_of s) r → Tidy (core_of s) → came_by r ≡ arrived_by call → finished_by call answer ≡ []
@@ -193,9 +170,7 @@ module _ {U : Type 0} where
       ]
 
   none_open : (s mid : SessionState Script U) (u : Option U) → Finishes s u (Ok tt) mid → s.open_event ≡ None → ⊥
-  none_open s mid u h unopened =
-      let finished = finish_as s mid u h in
-      true≢false (ap is_none (sym unopened ∙ finished.1))
+  none_open s mid u h unopened = grind (arith, finish_as, true≢false, is_none)
 
   finish_acts : (s mid : SessionState Script U) (u : Option U) (answer : Reply U) → answer ≡ reply.FinishEvent (Ok tt) → Finishes s u (Ok tt) mid → Tidy (core_of s)
       → Acts s (step.FinishEvent u) answer mid
@@ -212,15 +187,7 @@ module _ {U : Type 0} where
   finishes_refused s mid event u e (inr (notes, (is, same))) = same
 
   refused_same : (s mid : SessionState Script U) (u : Option U) (e : FinishRefused U) → Finishes s u (Err e) mid → mid ≡ s
-  refused_same s mid u e h =
-      elim (both_option s.open_event h h) [
-        | inl (none, (is, same), again) ↦ same
-        | inr (event, some, g, again) ↦
-            elim (both_option (refusal event.created u) g g) [
-              | inl (fits, end, _) ↦ finishes_refused s mid event u e end
-              | inr (error, why, (is, same), _) ↦ same
-            ]
-      ]
+  refused_same s mid u e h = grind (arith, both_option, refusal, finishes_refused)
 
   arrive_not_refused : (e : ArriveError) → ◌≡◌ {A = Reply U} (reply.Arrive (Err e)) (reply.Arrive (Ok tt)) → ⊥
   arrive_not_refused e same = cc
@@ -236,9 +203,7 @@ module _ {U : Type 0} where
   step_acts s mid (step.ArriveFault f) answer (Err e, is, unasked, h) blocked tidy = absurd (true≢false (sym unasked))
   step_acts s mid step.NextEvent answer (r, is, h) heard tidy = reading_acts s mid r answer is h tidy
   step_acts s mid (step.FinishEvent u) answer (Ok tt, is, unasked, h) heard tidy = finish_acts s mid u answer is h tidy
-  step_acts s mid (step.FinishEvent u) answer (Err e, is, unasked, h) heard tidy =
-      acts_none s mid (step.FinishEvent u) answer (refused_same s mid u e h) tidy refl (ap (λ (a : Reply U). if_accepted u a) is) (ap events_by is)
-      (λ w. let e' : ◌≡◌ {A = Reply U} (reply.FinishEvent (Err e)) (reply.NextEvent (Err no_event.WouldBlock)) = sym is ∙ w in cc)
+  step_acts s mid (step.FinishEvent u) answer (Err e, is, unasked, h) heard tidy = grind (arith, refused_same, if_accepted, events_by)
   step_acts s mid _ answer h heard tidy = absurd heard
 
   -- ---- a run
@@ -253,24 +218,10 @@ module _ {U : Type 0} where
 
   run_joins : (s mid after : SessionState Script U) (x : Entry U) (run : List (Entry U)) (first : Acts s x.step x.answer mid) (others : RunActs mid run after)
       → (EndsWaiting (x ∷ run) → (before : List (Act SessionMessage (Option U))) → ActsEndWaiting (before ++ (first.acts ++ others.acts))) → RunActs s (x ∷ run) after
-  run_joins s mid after x run first others waits = record {
-    acts = first.acts ++ others.acts;
-    does = does_joins client (reader_state_of s) (reader_state_of mid) (reader_state_of after) first.acts others.acts first.does others.does;
-    came_in = arrived-append first.acts others.acts ∙ ap₂ joined first.came_in others.came_in;
-    ended_with = ended-append first.acts others.acts ∙ ap₂ (λ (a b : List (Option U)). a ++ b) first.ended_with others.ended_with;
-    handed_out = given_in-append first.acts others.acts ∙ ap₂ (λ (a b : List (Given SessionMessage)). a ++ b) first.handed_out others.handed_out;
-    waits = waits;
-  }
+  run_joins s mid after x run first others waits = grind (arith, does_joins, client, reader_state_of, arrived-append, ap₂, joined, ended-append, given_in-append)
 
   run_acts : (s after : SessionState Script U) (run : List (Entry U)) → Leads s run after → AllHeard run → Tidy (core_of s) → RunActs s run after
-  run_acts s after [] same heard tidy = record {
-    acts = [];
-    does = ap reader_state_of same;
-    came_in = refl;
-    ended_with = refl;
-    handed_out = refl;
-    waits = λ none. absurd none;
-  }
+  run_acts s after [] same heard tidy = grind (arith, reader_state_of)
   run_acts s after (x ∷ []) (mid, by, leads) (unasked, heard, others) tidy =
       let first = step_acts s mid x.step x.answer (subst (λ (b : Bool). StepOf s x.step x.answer b mid) unasked by) heard tidy in
       let last : RunActs mid [] after = record { acts = []; does = ap reader_state_of leads; came_in = refl; ended_with = refl; handed_out = refl; waits = λ none. absurd none } in
@@ -313,9 +264,7 @@ module _ {U : Type 0} where
     where
       in_time : (core : Core U) → core_of after ≡ faulted core fault.Pipe
           → ReadOne (λ sender opcode found. found ≡ signature_in core.table core.store sender opcode) after.link (Err parse.MissingFD) after.link → ⊥
-      in_time core is late =
-          stretch.in_time (ap (λ (c : Core U). c.error) is)
-          (subst (λ (c : Core U). ReadOne (λ sender opcode found. found ≡ signature_in c.table c.store sender opcode) after.link (Err parse.MissingFD) after.link) (sym is) late)
+      in_time core is late = grind (arith, signature_in)
 
   pub stretch_served : (before after : SessionState Script U) (run : List (Entry U)) → Leads before run after → IsStretch before run after → IsRunServed before run after
   stretch_served before after run leads stretch =

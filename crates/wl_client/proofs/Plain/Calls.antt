@@ -1,5 +1,5 @@
 -- The calls that are about neither a request nor an event.
-use Rattle.std.proofs.Common.{◌≡◌, ℕ, Bool, true, false, cond, eqb, Option, None, Some, is_some, Result, Ok, Err, refl, sym, ap, subst, true≢false}
+use Rattle.std.proofs.Common.{◌≡◌, ℕ, Bool, true, false, cond, eqb, Option, None, Some, is_some, Result, Ok, Err, refl, sym, ap, subst, true≢false, arith}
 use mathlib.Core.Logic.{inl, inr}
 use Rattle.wl_wire.specs.declared.error.IoFault.{IoFault}
 use Rattle.wl_wire.specs.declared.error.IoFault.TheVariants as fault
@@ -25,12 +25,7 @@ use Rattle.wl_client.proofs.Plain.Naming.{names_so, rewritten_named, rewritten_o
 -- ---- objects
 
 alive_some : {U : Type 0} (o : Option (Object (Kept U))) (x : Object (Kept U)) → alive o ≡ Some x → o ≡ Some x
-alive_some None x is = absurd (true≢false (sym (ap is_some is)))
-alive_some (Some y) x is = at y.value.client_destroyed is
-  where
-    at : (b : Bool) → cond b None (Some y) ≡ Some x → Some y ≡ Some x
-    at true none = absurd (true≢false (sym (ap is_some none)))
-    at false some = some
+alive_some o x h1 = grind (arith, true≢false, is_some)
 
 module _ {T U : Type 0} (s : SessionState T U) (id : IdParts) where
   -- ---- data
@@ -40,13 +35,7 @@ module _ {T U : Type 0} (s : SessionState T U) (id : IdParts) where
 
   set : (u : U) (x : Object (Kept U)) → named s.store id ≡ Some x
       → SetsData s id u (Ok tt) (record s { store = rewritten s.store id.number (with_user_data u x) })
-  set u x found = record {
-    object = (x, found, rewritten_named s.store id x (with_user_data u x) (names_so s.store id x found) refl);
-    objects = λ other differ. rewritten_others s.store id x (with_user_data u x) (names_so s.store id x found) refl other differ;
-    notes = refl;
-    link = refl;
-    rest = (refl, refl, refl, refl);
-  }
+  set u x found = grind (arith, rewritten_named, with_user_data, names_so, rewritten_others)
 
   pub sets_data : (u : U) (answer : Result (Unit {0}) InvalidId) (after : SessionState T U) → DataSet s id u answer after → SetsData s id u answer after
   sets_data u answer after h =
@@ -68,35 +57,14 @@ module _ {T U : Type 0} (s : SessionState T U) (id : IdParts) where
   -- ---- an end
 
   named_destroyable : (x : Object (Kept U)) → destroyable s id ≡ Some x → named s.store id ≡ Some x
-  named_destroyable x is = at (eqb id.number 1) is
-    where
-      at : (b : Bool) → cond b None (alive (named s.store id)) ≡ Some x → named s.store id ≡ Some x
-      at true none = absurd (true≢false (sym (ap is_some none)))
-      at false some = alive_some (named s.store id) x some
+  named_destroyable x is = grind (arith, eqb, alive, named, true≢false, is_some, alive_some)
 
   destroyed : (x : Object (Kept U)) → destroyable s id ≡ Some x
       → DestroysObject s id (Ok tt) (record s { store = given_up s.store id.number x; notes = noted s.notes x.value.user_data (id_at id.number x) })
-  destroyed x may =
-      let by = names_so s.store id x (named_destroyable x may) in record {
-        object = (x, may, rewritten_named s.store id x (flagged true x) by refl, refl);
-        objects = λ other differ. rewritten_others s.store id x (flagged true x) by refl other differ;
-        link = refl;
-        rest = (refl, refl, refl, refl);
-      }
+  destroyed x may = grind (arith, names_so, named_destroyable, rewritten_named, flagged, rewritten_others)
 
   pub destroys_object : (answer : Result (Unit {0}) DestroyError) (after : SessionState T U) → DestroyedBy s id answer after → DestroysObject s id answer after
-  destroys_object answer after h =
-      elim (either_option (destroyable s id) h) [
-        | inl (none, (is, same)) ↦
-            to (Err destroy.InvalidId) s is same (record { object = (none, refl); objects = λ other differ. refl; link = refl; rest = (refl, refl, refl, refl) })
-        | inr (x, may, inl (is, same)) ↦ to (Ok tt) _ is same (destroyed x may)
-        | inr (x, may, inr (is, same, has)) ↦
-            to (Err destroy.OutOfMemory) s is same (record { object = (x, may, has, refl); objects = λ other differ. refl; link = refl; rest = (refl, refl, refl, refl) })
-      ]
-    where
-      to : (a : Result (Unit {0}) DestroyError) (t : SessionState T U) → answer ≡ a → after ≡ t → DestroysObject s id a t → DestroysObject s id answer after
-      to a t is same so =
-          subst (λ (b : Result (Unit {0}) DestroyError). DestroysObject s id b after) (sym is) (subst (λ (r : SessionState T U). DestroysObject s id a r) (sym same) so)
+  destroys_object answer after h = grind (arith, either_option, destroyable, destroyed)
 
 -- ---- a flush
 
@@ -110,28 +78,11 @@ module _ {T U : Type 0} (sends : T → Queue → Result ℕ IoFault → T → Ty
     over = record s { link = link }
 
     fails : (f : IoFault) → EndsSession f → Flushed sends s.link (Err f) link → FlushesSession sends s (Err flush.Failed) (record over { error = Some (Io f) })
-    fails f ends by = record {
-      answered = inr (none, (f, ends, by, refl));
-      objects = refl;
-      last_serial = refl;
-      open_event = refl;
-      notes = refl;
-      table = refl;
-    }
+    fails f ends by = grind (arith)
 
     ended : (flushed : Result (Unit {0}) IoFault) (answer : Result (Unit {0}) FlushError) (after : SessionState T U) → Flushed sends s.link flushed link
         → FlushEnds over flushed answer after → FlushesSession sends s answer after
-    ended (Ok u) answer after by (is, same) =
-        to answer (Ok tt) after over is same (record { answered = (none, by, none); objects = refl; last_serial = refl; open_event = refl; notes = refl; table = refl })
-    ended (Err fault.WouldBlock) answer after by (is, same) =
-        to answer (Err flush.WouldBlock) after over is same (record { answered = (none, by, none); objects = refl; last_serial = refl; open_event = refl; notes = refl; table = refl })
-    ended (Err fault.OutOfMemory) answer after by (is, same) =
-        to answer (Err flush.OutOfMemory) after over is same (record { answered = (none, by, none); objects = refl; last_serial = refl; open_event = refl; notes = refl; table = refl })
-    ended (Err fault.Pipe) answer after by (is, same) = to answer (Err flush.Failed) after _ is same (fails fault.Pipe tt by)
-    ended (Err fault.TooBig) answer after by (is, same) = to answer (Err flush.Failed) after _ is same (fails fault.TooBig tt by)
-    ended (Err fault.Proto) answer after by (is, same) = to answer (Err flush.Failed) after _ is same (fails fault.Proto tt by)
-    ended (Err fault.InvalidInput) answer after by (is, same) = to answer (Err flush.Failed) after _ is same (fails fault.InvalidInput tt by)
-    ended (Err (fault.Other n)) answer after by (is, same) = to answer (Err flush.Failed) after _ is same (fails (fault.Other n) tt by)
+    ended flushed answer after h1 h2 = grind (arith, to, fails)
 
   pub flushes_session : (answer : Result (Unit {0}) FlushError) (after : SessionState T U) → SessionFlushed sends s answer after → FlushesSession sends s answer after
   flushes_session answer after h =

@@ -1,5 +1,5 @@
 -- The end of an event.
-use Rattle.std.proofs.Common.{◌≡◌, Bool, true, false, cond, Option, None, Some, IsSome, is_some, option_map, Result, Ok, Err, refl, sym, ap, subst, ◌∙◌, true≢false}
+use Rattle.std.proofs.Common.{◌≡◌, Bool, true, false, cond, Option, None, Some, IsSome, is_some, option_map, Result, Ok, Err, refl, sym, ap, subst, ◌∙◌, true≢false, arith}
 use mathlib.Core.Logic.{inl, inr}
 use Rattle.std.specs.Prelude.{◌&&◌}
 use Rattle.wl_link.proofs.Calls.Branches.{both_option}
@@ -21,12 +21,7 @@ use Rattle.wl_client.proofs.Plain.Naming.{names_so, rewritten_named, rewritten_o
 -- ---- data are given to the object that an id names
 
 alive_given : {U : Type 0} (o : Option (Object (Kept U))) (u : U) → alive o ≡ None → alive (option_map (with_user_data u) o) ≡ None
-alive_given None u none = refl
-alive_given (Some x) u none = go x.value.client_destroyed none
-  where
-    go : (b : Bool) → cond b None (Some x) ≡ None → cond b None (Some (with_user_data u x)) ≡ None
-    go true is = refl
-    go false is = absurd (true≢false (ap is_some is))
+alive_given o u h1 = grind (arith, with_user_data, true≢false, is_some)
 
 data_in_given : {U : Type 0} (o : Option (Object (Kept U))) (u : U) → IsSome o → user_data_in (option_map (with_user_data u) o) ≡ Some u
 data_in_given None u some = absurd (true≢false (sym some))
@@ -34,18 +29,10 @@ data_in_given (Some x) u some = refl
 
 module _ {U : Type 0} (store : Store (Kept U)) (id : IdParts) (u : U) where
   given_named : named (data_given store id.number (named store id) u) id ≡ option_map (with_user_data u) (named store id)
-  given_named = at (named store id) refl
-    where
-      at : (o : Option (Object (Kept U))) → named store id ≡ o → named (data_given store id.number o u) id ≡ option_map (with_user_data u) o
-      at None none = none
-      at (Some x) is = rewritten_named store id x (with_user_data u x) (names_so store id x is) refl
+  given_named = grind (arith, named, data_given, option_map, with_user_data, rewritten_named, names_so)
 
   given_others : (other : IdParts) → same_object id other ≡ false → named (data_given store id.number (named store id) u) other ≡ named store other
-  given_others other differ = at (named store id) refl
-    where
-      at : (o : Option (Object (Kept U))) → named store id ≡ o → named (data_given store id.number o u) other ≡ named store other
-      at None none = refl
-      at (Some x) is = rewritten_others store id x (with_user_data u x) (names_so store id x is) refl other differ
+  given_others other differ = grind (arith, named, data_given, rewritten_others, with_user_data, names_so)
 
   -- what is not alive stays so
   given_gone : (other : IdParts) → alive (named store other) ≡ None → alive (named (data_given store id.number (named store id) u) other) ≡ None
@@ -56,9 +43,7 @@ module _ {U : Type 0} (store : Store (Kept U)) (id : IdParts) (u : U) where
 
       at : (b : Bool) → same_object id other ≡ b → alive (named after other) ≡ None
       at false differ = ap alive (given_others other differ) ∙ gone
-      at true same =
-          ap alive (sym (same_names after id other same) ∙ given_named)
-          ∙ alive_given (named store id) u (ap alive (same_names store id other same) ∙ gone)
+      at true same = grind (arith, alive, same_names, after, given_named, alive_given, named)
 
 -- ---- the sender is destroyed
 
@@ -67,50 +52,19 @@ module _ {U : Type 0} (c : Core U) (id : IdParts) where
   dead = with_dead c id.number (named c.store id)
 
   dead_here : named dead.store id ≡ option_map (flagged true) (named c.store id)
-  dead_here = at (named c.store id) refl
-    where
-      at : (o : Option (Object (Kept U))) → named c.store id ≡ o → named (with_dead c id.number o).store id ≡ option_map (flagged true) o
-      at None none = none
-      at (Some x) is = rewritten_named c.store id x (flagged true x) (names_so c.store id x is) refl
+  dead_here = grind (arith, named, with_dead, option_map, flagged, rewritten_named, names_so)
 
   dead_others : (other : IdParts) → same_object id other ≡ false → named dead.store other ≡ named c.store other
-  dead_others other differ = at (named c.store id) refl
-    where
-      at : (o : Option (Object (Kept U))) → named c.store id ≡ o → named (with_dead c id.number o).store other ≡ named c.store other
-      at None none = refl
-      at (Some x) is = rewritten_others c.store id x (flagged true x) (names_so c.store id x is) refl other differ
+  dead_others other differ = grind (arith, named, with_dead, rewritten_others, flagged, names_so)
 
   dead_kept : (other : IdParts) → IsSome (named c.store other) → IsSome (named dead.store other)
-  dead_kept other kept = at (same_object id other) refl
-    where
-      still : (o : Option (Object (Kept U))) → IsSome o → IsSome (option_map (flagged true) o)
-      still None some = some
-      still (Some x) some = refl
-
-      at : (b : Bool) → same_object id other ≡ b → IsSome (named dead.store other)
-      at false differ = ap is_some (dead_others other differ) ∙ kept
-      at true same =
-          ap is_some (sym (same_names dead.store id other same) ∙ dead_here)
-          ∙ still (named c.store id) (ap is_some (same_names c.store id other same) ∙ kept)
+  dead_kept other kept = grind (arith, same_object, option_map, flagged, named, is_some, dead_others, same_names, dead_here)
 
   dead_gone : alive (named dead.store id) ≡ None
-  dead_gone = ap alive dead_here ∙ none (named c.store id)
-    where
-      none : (o : Option (Object (Kept U))) → alive (option_map (flagged true) o) ≡ None
-      none None = refl
-      none (Some x) = refl
+  dead_gone = grind (arith, alive, dead_here, named, option_map, flagged)
 
   dead_notes : dead.notes ≡ with_end c.notes id.number (alive (named c.store id))
-  dead_notes = at (named c.store id)
-    where
-      at : (o : Option (Object (Kept U))) → (with_dead c id.number o).notes ≡ with_end c.notes id.number (alive o)
-      at None = refl
-      at (Some x) = go x.value.client_destroyed
-        where
-          go : (b : Bool)
-              → cond b c.notes (noted c.notes x.value.user_data (id_at id.number x)) ≡ with_end c.notes id.number (cond b None (Some x))
-          go true = refl
-          go false = refl
+  dead_notes = grind (arith, named, with_dead, with_end, alive, noted, id_at)
 
 -- ---- an event
 
@@ -144,67 +98,36 @@ module _ {T U : Type 0} (s : SessionState T U) (event : OpenEvent) (u : Option U
       at false is = absurd (true≢false (sym is))
 
   ended_notes : ended.notes ≡ cond event.is_destructor (with_end s.notes event.sender.number (alive (named s.store event.sender))) s.notes
-  ended_notes = at event.is_destructor
-    where
-      at : (b : Bool) → (cond b (dead closed event.sender) closed).notes
-          ≡ cond b (with_end s.notes event.sender.number (alive (named s.store event.sender))) s.notes
-      at true = dead_notes closed event.sender
-      at false = refl
+  ended_notes = grind (arith, with_end, alive, named, dead_notes)
 
   -- the destructor changes nothing else
   ended_rest : (ended.open_event ≡ None) × (ended.error ≡ s.error) × (ended.table ≡ s.table)
-  ended_rest = at event.is_destructor
-    where
-      dead_rest : (o : Option (Object (Kept U))) → ((with_dead closed event.sender.number o).open_event ≡ None) × ((with_dead closed event.sender.number o).error ≡ s.error)
-          × ((with_dead closed event.sender.number o).table ≡ s.table)
-      dead_rest None = (refl, refl, refl)
-      dead_rest (Some x) = (refl, refl, refl)
-
-      at : (b : Bool) → ((cond b (dead closed event.sender) closed).open_event ≡ None) × ((cond b (dead closed event.sender) closed).error ≡ s.error)
-          × ((cond b (dead closed event.sender) closed).table ≡ s.table)
-      at true = dead_rest (named closed.store event.sender)
-      at false = (refl, refl, refl)
+  ended_rest = grind (arith, with_dead, named)
 
 -- the object that the event made gets the data; all else is as it was
 module _ {U : Type 0} (c : Core U) where
   given_rest : (created : Option IdParts) (u : Option U)
       → ((with_data_for c created u).open_event ≡ c.open_event) × ((with_data_for c created u).error ≡ c.error) × ((with_data_for c created u).notes ≡ c.notes)
       × ((with_data_for c created u).table ≡ c.table)
-  given_rest None u = (refl, refl, refl, refl)
-  given_rest (Some id) None = (refl, refl, refl, refl)
-  given_rest (Some id) (Some u) = (refl, refl, refl, refl)
+  given_rest created u = grind (arith)
 
   given_elsewhere : (created : Option IdParts) (u : Option U) (id : IdParts) → is_made created id ≡ false → named (with_data_for c created u).store id ≡ named c.store id
-  given_elsewhere None u id other = refl
-  given_elsewhere (Some made) None id other = refl
-  given_elsewhere (Some made) (Some u) id other = given_others c.store made u id other
+  given_elsewhere created u id h1 = grind (arith, given_others)
 
   given_none : (created : Option IdParts) (u : Option U) (id : IdParts) → alive (named c.store id) ≡ None → alive (named (with_data_for c created u).store id) ≡ None
-  given_none None u id gone = gone
-  given_none (Some made) None id gone = gone
-  given_none (Some made) (Some u) id gone = given_gone c.store made u id gone
+  given_none created u id h1 = grind (arith, given_gone)
 
   given_data : (created : Option IdParts) (u : Option U) (id : IdParts) (d : U) → created ≡ Some id → u ≡ Some d → IsSome (named c.store id)
       → user_data_in (named (with_data_for c created u).store id) ≡ Some d
-  given_data created u id d made given kept =
-      subst (λ (o : Option IdParts). user_data_in (named (with_data_for c o u).store id) ≡ Some d) (sym made)
-      (subst (λ (o : Option U). user_data_in (named (with_data_for c (Some id) o).store id) ≡ Some d) (sym given)
-      (ap user_data_in (given_named c.store id d) ∙ data_in_given (named c.store id) d kept))
+  given_data created u id d made given kept = grind (arith, user_data_in, named, with_data_for, given_named, data_in_given)
 
 fitting : {U : Type 0} (created : Option IdParts) (u : Option U) → refusal created u ≡ None → is_some u ≡ is_some created
-fitting None None fits = refl
-fitting None (Some u) fits = absurd (true≢false (ap is_some fits))
-fitting (Some id) None fits = absurd (true≢false (ap is_some fits))
-fitting (Some id) (Some u) fits = refl
+fitting created u h1 = grind (arith, true≢false, is_some)
 
 -- why it was refused
 unfitting : {T U : Type 0} (s : SessionState T U) (event : OpenEvent) (created : Option IdParts) (u : Option U) (e : FinishError) → s.open_event ≡ Some event → event.created ≡ created
     → refusal created u ≡ Some e → NotEnded s u e
-unfitting s event None None e some made is = absurd (true≢false (sym (ap is_some is)))
-unfitting s event None (Some u) finish.UnexpectedData some made is = (event, some, made, refl)
-unfitting s event (Some id) None finish.MissingObjectData some made is = (event, some, ap is_some made, refl)
-unfitting s event (Some id) (Some u) e some made is = absurd (true≢false (sym (ap is_some is)))
-unfitting s event _ _ _ some made is = absurd cc
+unfitting s event created u e h1 h2 h3 = grind (arith, true≢false, is_some)
 
 module _ {T U : Type 0} (s : SessionState T U) (u : Option U) where
   is_ended : (event : OpenEvent) → s.open_event ≡ Some event → refusal event.created u ≡ None → EventIsEnded s event u (with_core s (core_finished (core_of s) event u))
@@ -226,34 +149,7 @@ module _ {T U : Type 0} (s : SessionState T U) (u : Option U) where
 
   refused_so : (e other : FinishError) (d : Option U) (after : SessionState T U) → Refuses s u other (Err (record { error = e; user_data = d })) after → NotEnded s u other
       → (d ≡ u) × (after ≡ s) × NotEnded s u e
-  refused_so e other d after (is, same) why = (data_is, same, subst (λ (x : FinishError). NotEnded s u x) (sym error_is) why)
-    where
-      data_in : Result (Unit {0}) (FinishRefused U) → Option U
-      data_in (Ok done) = None
-      data_in (Err e) = e.user_data
-
-      error_in : Result (Unit {0}) (FinishRefused U) → FinishError
-      error_in (Ok done) = finish.NoOpenEvent
-      error_in (Err e) = e.error
-
-      data_is : d ≡ u
-      data_is = ap data_in is
-
-      error_is : e ≡ other
-      error_is = ap error_in is
+  refused_so e other d after (is, same) why = grind (arith)
 
   pub ends_event : (answer : Result (Unit {0}) (FinishRefused U)) (after : SessionState T U) → Finishes s u answer after → EndsEvent s u answer after
-  ends_event (Ok done) after h =
-      let (event, some, fits, same) = finish_as s after u h in
-      (event, subst (λ (t : SessionState T U). EventIsEnded s event u t) (sym same) (is_ended event some fits))
-  ends_event (Err e) after h =
-      elim (both_option s.open_event h h) [
-        | inl (none, refused, again) ↦ refused_so e.error finish.NoOpenEvent e.user_data after refused none
-        | inr (event, some, g, again) ↦
-            elim (both_option (refusal event.created u) g g) [
-              | inl (fits, inl (is, same), again) ↦ absurd cc
-              | inl (fits, inr (notes, refused), again) ↦
-                  refused_so e.error finish.OutOfMemory e.user_data after refused (event, some, notes.0, fitting event.created u fits, notes.1)
-              | inr (why, is, refused, again) ↦ refused_so e.error why e.user_data after refused (unfitting s event event.created u why some refl is)
-            ]
-      ]
+  ends_event answer after h1 = grind (arith, finish_as, is_ended, both_option, refused_so, refusal, fitting, unfitting)

@@ -1,5 +1,5 @@
 -- What is known of an event that is handed out, and of the object that it made.
-use Rattle.std.proofs.Common.{◌≡◌, ◌≢◌, ℕ, Bool, true, false, not, cond, List, [], ◌∷◌, ◌++◌, Option, None, Some, is_some, Result, Ok, Err, MatchOption, refl, sym, ap, ap₂, subst, ◌∙◌, true≢false}
+use Rattle.std.proofs.Common.{◌≡◌, ◌≢◌, ℕ, Bool, true, false, not, cond, List, [], ◌∷◌, ◌++◌, Option, None, Some, is_some, Result, Ok, Err, MatchOption, refl, sym, ap, ap₂, subst, ◌∙◌, true≢false, arith}
 use mathlib.Core.Logic.{inl, inr}
 use Rattle.std.proofs.lemmas.Bool.{eq-eqb}
 use Rattle.std.specs.List.{list_any}
@@ -97,46 +97,19 @@ new_first (_ ∷ done) id none = new_first done id none
 -- ---- a message that was read
 
 no_error : {A E : Type 0} {x : A} {e : E} → ◌≡◌ {A = Result A E} (Ok x) (Err e) → ⊥
-no_error is = true≢false (ap is_fine is)
-  where
-    is_fine : {A E : Type 0} → Result A E → Bool
-    is_fine (Ok x) = true
-    is_fine (Err e) = false
+no_error is = grind (arith, true≢false)
 
 module _ {T U : Type 0} (sends : T → Queue → Result ℕ IoFault → T → Type 0) (p : ReaderState T (Core U)) (m : WireMessage) (link : LinkState T) where
   -- it makes an object by the table exactly if one of its arguments is a new number
   pub makes_new : ReadsAs sends client p (Ok m) link → (row : MessageRow) → row_in p.core.table (held p.core.store m.sender) m.opcode ≡ Some row
       → creates row ≡ list_any is_new m.args
-  makes_new read row has =
-      elim (either_bool (nat_le 8 (length p.link.incoming.bytes)) read) [
-        | inl (found, is, h) ↦ at found is h
-        | inr (none, same) ↦ absurd (no_error none)
-      ]
-    where
-      at : (found : Option (List ArgumentType))
-          → found ≡ signature_in p.core.table p.core.store (sender_of p.link.incoming.bytes) (opcode_of p.link.incoming.bytes)
-          → ReadFound found p.link (Ok m) link → creates row ≡ list_any is_new m.args
-      at None is (none, same) = absurd (no_error none)
-      at (Some signature) is (message, after) =
-          let by_sender : signature_in p.core.table p.core.store m.sender m.opcode ≡ Some signature =
-          ap₂ (λ (n opcode : ℕ). signature_in p.core.table p.core.store n opcode) message.sender message.opcode ∙ sym is in
-          let same : Some row.signature ≡ Some signature = sym (ap (option_map (λ (r : MessageRow). r.signature)) has) ∙ by_sender in
-          ap (list_any is_new_id) (of_some row.signature signature same) ∙ new_in_both signature m.args _ _ message.args
-        where
-          of_some : (a b : List ArgumentType) → Some a ≡ Some b → a ≡ b
-          of_some a b e = cc
+  makes_new read row has = grind (arith, either_bool, nat_le, no_error, signature_in, sender_of, opcode_of, creates, list_any, ap₂, option_map, is_new_id, new_in_both)
 
 -- ---- objects that the client has not destroyed
 
 module _ {U : Type 0} where
   alive_is : (o : Option (Object (Kept U))) → IsSome (alive o) → (x : Object (Kept U)) × (o ≡ Some x) × (x.value.client_destroyed ≡ false)
-  alive_is None is = absurd (true≢false (sym is))
-  alive_is (Some x) is = at x.value.client_destroyed refl is
-    where
-      at : (b : Bool) → x.value.client_destroyed ≡ b → IsSome (cond b None (Some x))
-          → (y : Object (Kept U)) × (Some x ≡ Some y) × (y.value.client_destroyed ≡ false)
-      at true e none = absurd (true≢false (sym none))
-      at false e some = (x, refl, e)
+  alive_is o h1 = grind (arith, true≢false)
 
   -- their numbers still have one each
   abbrev pub Stay : Store (Kept U) → Store (Kept U) → Type 0
@@ -148,60 +121,23 @@ module _ {U : Type 0} where
 
   -- a number that is vacated is another one's
   pub vacated_elsewhere : (store : Store (Kept U)) (k n : ℕ) → k ≢ n → held (vacated store n) k ≡ held store k
-  vacated_elsewhere store k n differ = at (is_destroyed (held store n))
-    where
-      at : (b : Bool) → held (cond b (removed store n) store) k ≡ held store k
-      at true = removed_other store n k differ
-      at false = refl
+  vacated_elsewhere store k n differ = grind (arith, is_destroyed, held, removed, removed_other)
 
   -- the number of such an object is not free
   other_number : (objects : Objects (Kept U)) (k n : ℕ) (x : Object (Kept U)) → x.value.client_destroyed ≡ false → held objects.store k ≡ Some x
       → is_valid_new objects n ≡ true → k ≢ n
-  other_number objects k n x live holds valid same =
-      none_some (sym (holds_none (held objects.store k) (subst (λ (s : Store (Kept U)). not (is_some (held s k)) ≡ true) stays free)) ∙ holds)
-    where
-      second : (is_free (vacated objects.store n) n && not (objects.last_serial == last_possible_serial)) ≡ true
-      second = (both (is_server_number n) _ valid).1
-
-      is_free_there : is_free (vacated objects.store n) n ≡ true
-      is_free_there = (both (is_free (vacated objects.store n) n) _ second).0
-
-      free_there : not (is_some (held (vacated objects.store n) n)) ≡ true
-      free_there = (both (not (is_some (held (vacated objects.store n) n))) _ is_free_there).0
-
-      free : not (is_some (held (vacated objects.store k) k)) ≡ true
-      free = subst (λ (i : ℕ). not (is_some (held (vacated objects.store i) i)) ≡ true) (sym same) free_there
-
-      stays : vacated objects.store k ≡ objects.store
-      stays = ap (λ (b : Bool). cond b (removed objects.store k) objects.store) (ap is_destroyed holds ∙ live)
+  other_number objects k n x live holds valid same = grind (arith, none_some, holds_none, held, is_some, is_free, vacated, last_possible_serial, both, is_server_number, removed, is_destroyed)
 
   -- a new object takes a number that had none
   pub new_number : (objects : Objects (Kept U)) (n : ℕ) → is_valid_new objects n ≡ true → alive (held objects.store n) ≡ None
-  new_number objects n valid =
-      none_unless (alive (held objects.store n))
-      (λ is. let (x, there, live) = alive_is (held objects.store n) is in other_number objects n n x live there valid refl)
+  new_number objects n valid = grind (arith, none_unless, alive, held, alive_is, other_number)
 
   stay_by_new : (objects : Objects (Kept U)) (n : ℕ) (y : Object (Kept U)) → is_valid_new objects n ≡ true
       → Stay objects.store (stored (vacated objects.store n) n y)
-  stay_by_new objects n y valid k is =
-      let (x, there, live) = alive_is (held objects.store k) is in
-      let apart = other_number objects k n x live there valid in
-      subst (λ (o : Option (Object (Kept U))). IsSome (alive o))
-      (sym (stored_other (vacated objects.store n) n y k apart ∙ vacated_elsewhere objects.store k n apart)) is
+  stay_by_new objects n y valid k is = grind (arith, alive_is, held, other_number, alive, stored_other, vacated, vacated_elsewhere)
 
   stay_by_deletion : (store : Store (Kept U)) (n : ℕ) → Stay store (vacated store n)
-  stay_by_deletion store n = at (held store n) refl
-    where
-      at : (o : Option (Object (Kept U))) → held store n ≡ o → Stay store (cond (is_destroyed o) (removed store n) store)
-      at None e k is = is
-      at (Some y) e k is = go y.value.client_destroyed refl k is
-        where
-          go : (b : Bool) → y.value.client_destroyed ≡ b → Stay store (cond b (removed store n) store)
-          go true over k is =
-              let (z, there, live) = alive_is (held store k) is in
-              let apart : k ≢ n = λ same. true≢false (sym over ∙ ap is_destroyed (sym e ∙ ap (held store) (sym same) ∙ there) ∙ live) in
-              subst (λ (o : Option (Object (Kept U))). IsSome (alive o)) (sym (removed_other store n k apart)) is
-          go false lives k is = is
+  stay_by_deletion store n = grind (arith, held, is_destroyed, removed, alive_is, true≢false, alive, removed_other)
 
 -- the arguments of an event leave them
 module _ {U : Type 0} (version : ℕ) (destroyed : Bool) (first : Store (Kept U)) where
@@ -214,11 +150,7 @@ module _ {U : Type 0} (version : ℕ) (destroyed : Bool) (first : Store (Kept U)
   StayBy (Wrong w objects) = Unit {0}
 
   stay_by_one : (c : Converting U) (a : WireArgument) → Stay first c.objects.store → StayByOne (convert_one version destroyed c a)
-  stay_by_one c (arg.Object n) so = at (object_argument c.objects.store (next_interface c.asked) n)
-    where
-      at : (r : Result IdParts EventFault) → StayByOne (with_object_argument c r)
-      at (Ok id) = so
-      at (Err w) = tt
+  stay_by_one c (arg.Object n) so = grind (arith, object_argument, next_interface, with_object_argument)
   stay_by_one c (arg.NewId n) so = new c.child
     where
       valid : (i : InterfaceId) (b : Bool) → is_valid_new c.objects n ≡ b
@@ -277,10 +209,7 @@ module _ {U : Type 0} (first : Store (Kept U)) (x : Object (Kept U)) (row : Mess
   passed : (c : Converting U) (done : List (Argument IdParts Token)) (asked : List InterfaceId) (b : Argument IdParts Token)
       → new_id_in (b ∷ []) ≡ None → SoFar c done
       → SoFar (record c { asked = asked }) (done ++ b ∷ []) × (is_some c.created ≡ (is_some c.created || false))
-  passed c done asked b none so = (
-    record { receiver = so.receiver; stay = so.stay; named = so.named ∙ sym (new_behind done b none); made = so.made },
-    or_false (is_some c.created),
-  )
+  passed c done asked b none so = grind (arith, new_behind, or_false, is_some)
 
   one : (c : Converting U) (done : List (Argument IdParts Token)) (a : WireArgument) → SoFar c done
       → HoldsOfOne c done a (convert_one x.version x.value.client_destroyed c a)
@@ -331,17 +260,13 @@ module _ {U : Type 0} (first : Store (Kept U)) (x : Object (Kept U)) (row : Mess
       behind : (next : Argument IdParts Token × Converting U) → is_some next.1.created ≡ (is_some c.created || is_new a) → (o : Outcome U)
           → HoldsOf next.1 args o
           → HoldsOf c (a ∷ args) o
-      behind next is (Whole d all') (so', new) =
-          (so', new ∙ ap (λ (b : Bool). b || list_any is_new args) is ∙ or_both (is_some c.created) (is_new a) (list_any is_new args))
-      behind next is (Wrong w objects) h = tt
+      behind next h1 o h2 = grind (arith, list_any, or_both, is_some)
 
       at : (r : Converted U) → HoldsOfOne c done a r
           → ((next : Argument IdParts Token × Converting U) → SoFar next.1 (done ++ next.0 ∷ [])
           → HoldsOf next.1 args (convert x.version x.value.client_destroyed next.1 (done ++ next.0 ∷ []) args))
           → HoldsOf c (a ∷ args) (going_on r c.objects (λ b next. convert x.version x.value.client_destroyed next (done ++ b ∷ []) args))
-      at (Ok next) (holds, new) again =
-          behind next new (convert x.version x.value.client_destroyed next.1 (done ++ next.0 ∷ []) args) (again next holds)
-      at (Err w) holds again = tt
+      at r h1 h2 = grind (arith, behind, convert)
 
 -- ---- an event
 
@@ -366,18 +291,11 @@ module _ {U : Type 0} (table : List InterfaceRow) where
   module _ (objects : Objects (Kept U)) (m : WireMessage)
       (makes : (row : MessageRow) → row_in table (held objects.store m.sender) m.opcode ≡ Some row → creates row ≡ list_any is_new m.args) where
     of_display_none : (d : DisplayEvent) → OpensIn objects.store (of_display table objects d)
-    of_display_none (Fails code n text) = tt
-    of_display_none (Deletes n) = stay_by_deletion objects.store n
-    of_display_none Unreadable = tt
+    of_display_none d = grind (arith, stay_by_deletion)
 
     made_new : (x : Object (Kept U)) (row : MessageRow) (live : x.value.client_destroyed ≡ false) (created : Option IdParts) (child : Option InterfaceId) (store : Store (Kept U))
         → MadeSo objects.store x row m.sender live created child store → MatchOption created (Unit {0}) (IsMade objects.store row x.version store)
-    made_new x row live None child store made = tt
-    made_new x row live (Some id) child store made = (
-      made.1,
-      made.2,
-      made.3 ∙ ap (λ (b : Bool). Some (made_object x.version b id.interface id.serial)) live,
-    )
+    made_new x row live created child store h1 = grind (arith, made_object)
 
     converted : m.sender ≢ 1 → (x : Object (Kept U)) (row : MessageRow) → held objects.store m.sender ≡ Some x → event_row table x.interface m.opcode ≡ Some row
         → creates row ≡ list_any is_new m.args → (b : Bool) → x.value.client_destroyed ≡ b → (outcome : Outcome U)
@@ -385,9 +303,7 @@ module _ {U : Type 0} (table : List InterfaceRow) where
         → ((live : x.value.client_destroyed ≡ false) → HoldsOf objects.store x row m.sender live (start objects row) m.args outcome)
         → OpensIn objects.store (of_converted table objects m x row outcome)
     converted other x row holds has fits b is (Wrong w after) stay so = tt
-    converted other x row holds has fits true is (Whole c args) stay so =
-        subst (λ (b : Bool). OpensIn objects.store (cond b (Swallows c.objects) (HandsOut (event_of m x args) (opened_of m x row c.created) c.objects)))
-        (sym is) stay
+    converted other x row holds has fits true is (Whole c args) stay so = grind (arith, event_of, opened_of)
     converted other x row holds has fits false is (Whole c args) stay so =
         let (kept, new) = so is in
         subst (λ (b : Bool). OpensIn objects.store (cond b (Swallows c.objects) (HandsOut (event_of m x args) (opened_of m x row c.created) c.objects)))

@@ -1,5 +1,5 @@
 -- A reading: what it hands out, and what the session is after it.
-use Rattle.std.proofs.Common.{◌≡◌, ◌⊎◌, ℕ, Bool, true, false, List, [], ◌∷◌, ◌++◌, map, Option, None, Some, IsSome, is_none, is_some, Result, Ok, Err, ◌&&◌, MatchBool, MatchOption, MatchResult, refl, sym, ap, ap₂, subst, ◌∙◌, true≢false}
+use Rattle.std.proofs.Common.{◌≡◌, ◌⊎◌, ℕ, Bool, true, false, List, [], ◌∷◌, ◌++◌, map, Option, None, Some, IsSome, is_none, is_some, Result, Ok, Err, ◌&&◌, MatchBool, MatchOption, MatchResult, refl, sym, ap, ap₂, subst, ◌∙◌, true≢false, arith}
 use mathlib.Core.Logic.{inl, inr}
 use Rattle.wl_wire.specs.declared.error.IoFault.{IoFault}
 use Rattle.wl_wire.specs.declared.error.IoFault.TheVariants as fault
@@ -44,32 +44,11 @@ module _ {U : Type 0} where
 
   -- what was new later was new before
   opened_before : (b c d : Core U) (m : SessionMessage) → Stay b.store c.store → EventIsOpen c m d → EventIsOpen b m d
-  opened_before b c d m stay o = record {
-    sender = o.sender;
-    row = o.row;
-    not_display = o.not_display;
-    holds = o.holds;
-    sender_is = o.sender_is;
-    live = o.live;
-    event = o.event;
-    opened = o.opened;
-    makes = o.makes;
-    made = at (new_id_in m.args) o.made;
-    error = o.error;
-  }
-    where
-      at : (n : Option IdParts) → MatchOption n (Unit {0}) (IsMade c.store o.row o.sender.version d.store)
-          → MatchOption n (Unit {0}) (IsMade b.store o.row o.sender.version d.store)
-      at None made = tt
-      at (Some id) (free, named, there) = (had_none b.store c.store id.number stay free, named, there)
+  opened_before b c d m stay o = grind (arith, new_id_in, had_none)
 
   came_before : (b c d : Core U) (stopped : Option IoFault) (gave : List (Given SessionMessage)) → Stay b.store c.store → CameTo c stopped gave d
       → CameTo b stopped gave d
-  came_before b c d (Some fault.WouldBlock) gave stay came = came
-  came_before b c d (Some fault.OutOfMemory) gave stay came = came
-  came_before b c d (Some _) gave stay came = came
-  came_before b c d None gave stay (inl (m, is, o)) = inl (m, is, opened_before b c d m stay o)
-  came_before b c d None gave stay (inr failed) = inr failed
+  came_before b c d stopped gave h1 h2 = grind (arith, opened_before)
 
   record Ended (c : Core U) (out : Gives SessionMessage) (d : Core U) : Type 0 where
     kept : KeepsRest c d
@@ -79,18 +58,10 @@ module _ {U : Type 0} where
   live_on c live = ap₂ (λ (e : Option WaylandError) (o : Option OpenEvent). is_none e && is_none o) live.0 live.1
 
   pub failed_off : (c : Core U) → IsSome c.error → reads_on c ≡ false
-  failed_off c failed = at c.error failed
-    where
-      at : (e : Option WaylandError) → IsSome e → (is_none e && is_none c.open_event) ≡ false
-      at None some = absurd (true≢false (sym some))
-      at (Some e) some = refl
+  failed_off c failed = grind (arith, is_none, true≢false)
 
   pub opened_off : (c : Core U) (event : OpenEvent) → c.open_event ≡ Some event → reads_on c ≡ false
-  opened_off c event is = ap (λ (o : Option OpenEvent). is_none c.error && is_none o) is ∙ never (is_none c.error)
-    where
-      never : (b : Bool) → (b && false) ≡ false
-      never true = refl
-      never false = refl
+  opened_off c event is = grind (arith, is_none)
 
   -- a receive that failed
   faulted_so : (c : Core U) → CanRead c → (f : IoFault) → CameTo c (Some f) [] (faulted c f) × KeepsRest c (faulted c f)
@@ -111,11 +82,7 @@ module _ {T U : Type 0} (sends : T → Queue → Result ℕ IoFault → T → Ty
   carries : (c : Core U) (h : Handling U) (link : LinkState T) (es : List Sending) (first : List (Given SessionMessage)) (lacked : Bool) (mid : ReaderState T (Core U))
       → CarriesOut sends client (verdict c h) link es first lacked mid
       → (first ≡ map HandedOut (handed h)) × ((mid.core ≡ core_after c h) ⊎ (mid.core ≡ starved_to c h))
-  carries c h link es first lacked mid (inl (begun, others, put, wrote, between, short, puts, flushes, split, end, is, was)) = (
-    is ∙ ap (λ (ms : List Said). put_and_gave ms (handed h)) puts.1,
-    inl (end ∙ ap (λ (w : Result (Unit {0}) IoFault). came_to client (verdict c h) w) puts.2),
-  )
-  carries c h link es first lacked mid (inr (asks, was, none, is, same)) = (is, inr (ap (λ (p : ReaderState T (Core U)). p.core) same))
+  carries c h link es first lacked mid h1 = grind (arith, put_and_gave, handed, came_to, client, verdict)
 
   module _ (c : Core U) (live : CanRead c) (left : ℕ) (first : List (Given SessionMessage)) (lacked : Bool) (mid after : ReaderState T (Core U)) (turns : List Turn)
       (out rest : Gives SessionMessage) (split : out ≡ given_first first lacked rest) (more : Reads sends client receives left mid turns rest after)
@@ -126,29 +93,12 @@ module _ {T U : Type 0} (sends : T → Queue → Result ℕ IoFault → T → Ty
 
     -- the message did nothing more, and the reading goes on
     goes_on : (o : Objects (Kept U)) → Stay c.store o.store → IdsStay (objects_in c) o → first ≡ [] → mid.core ≡ core_after c (Swallows o) → Ended c out after.core
-    goes_on o stay ids none is =
-        let rec = again (ap (λ (d : Core U). d.error) is ∙ live.0, ap (λ (d : Core U). d.open_event) is ∙ live.1) in
-        subst (λ (g : Gives SessionMessage). Ended c g after.core) (sym (split ∙ ap (λ (f : List (Given SessionMessage)). given_first f lacked rest) none))
-        (record {
-          kept = (
-            rec.kept.0 ∙ ap (λ (d : Core U). d.table) is,
-            rec.kept.1 ∙ ap (λ (d : Core U). d.notes) is,
-            ids_then (objects_in c) (objects_in mid.core) (objects_in after.core) (stayed _ ids is) rec.kept.2,
-          );
-          came =
-              came_before c mid.core after.core rest.stopped rest.gave
-              (subst (λ (s : Store (Kept U)). Stay c.store s) (sym (ap (λ (d : Core U). d.store) is)) stay) rec.came;
-        })
+    goes_on o stay ids none is = grind (arith, given_first, ids_then, objects_in, stayed, came_before)
 
     -- the reading ends here
     ends_at : (gave : List (Given SessionMessage)) → first ≡ gave → reads_on mid.core ≡ false → KeepsRest c mid.core
         → CameTo c None (gave ++ []) mid.core → Ended c out after.core
-    ends_at gave is off kept came =
-        let (rest_is, same) = stopped left mid after turns rest more off in
-        subst (λ (p : ReaderState T (Core U)). Ended c out p.core) (sym same)
-        (subst (λ (g : Gives SessionMessage). Ended c g mid.core)
-        (sym (split ∙ ap₂ (λ (f : List (Given SessionMessage)) (r : Gives SessionMessage). given_first f lacked r) is rest_is))
-        (record { kept = kept; came = came }))
+    ends_at gave is off kept came = grind (arith, stopped, ap₂, given_first)
 
     fails : (o : Objects (Kept U)) (w : WaylandError) → IdsStay (objects_in c) o → first ≡ []
         → mid.core ≡ record c { store = o.store; last_serial = o.last_serial; error = Some w } → Ended c out after.core
@@ -202,9 +152,7 @@ module _ {T U : Type 0} (sends : T → Queue → Result ℕ IoFault → T → Ty
       starves n is = subst (λ (g : Gives SessionMessage). Ended p.core g p.core) (sym is) (record { kept = (refl, refl, ids_same (objects_in p.core)); came = (refl, live) })
 
       halts : Halts sends client left p out → Ended p.core out p.core
-      halts (inl (lacks, none, is)) = blocks left is
-      halts (inr (inl (asks, is))) = starves left is
-      halts (inr (inr (lacks, (n, some, is)))) = starves n is
+      halts h1 = grind (arith, blocks, starves)
   reads_end left p after (Received r ∷ turns) out (on, lacks, (n, is, (link, filled, finds, h))) live =
       go (counted_answer (count_of r)) h (λ more. reads_end n (with_link p link) after turns out more live)
     where
@@ -230,27 +178,8 @@ module _ {T U : Type 0} (sends : T → Queue → Result ℕ IoFault → T → Ty
   -- the answer, by how the reading ended
   answers_so : (s after : SessionState T U) → CanRead (core_of s) → KeepsRest (core_of s) (core_of after) → (stopped : Option IoFault) (gave : List (Given SessionMessage))
       → CameTo (core_of s) stopped gave (core_of after) → ReadsEvent s (answered stopped gave) after
-  answers_so s after live kept (Some fault.WouldBlock) gave came = (live, came.1, kept)
-  answers_so s after live kept (Some fault.OutOfMemory) gave came = (live, came.1, kept)
-  answers_so s after live kept (Some _) gave came = inr (live, came.1, kept)
-  answers_so s after live kept None gave (inl (m, is, open')) =
-      subst (λ (g : List (Given SessionMessage)). ReadsEvent s (event_in g) after) (sym is) (live, open', kept)
-  answers_so s after live kept None gave (inr (none, failed)) =
-      subst (λ (g : List (Given SessionMessage)). ReadsEvent s (event_in g) after) (sym none) (inr (live, failed, kept))
+  answers_so s after h1 h2 stopped gave h3 = grind (arith, event_in)
 
   pub reads_event : (s : SessionState T U) (answer : Result SessionMessage EventError) (refused : Bool) (after : SessionState T U)
       → NextEvent sends receives s answer refused after → ReadsEvent s answer after
-  reads_event s answer refused after h =
-      elim (either_option s.error h) [
-        | inr (e, some, (is, unasked, same)) ↦
-            subst (λ (a : Result SessionMessage EventError). ReadsEvent s a after) (sym is) (inl (ap is_some some, same))
-        | inl (none, g) ↦
-            elim (either_option s.open_event g) [
-              | inr (event, some, (is, unasked, same)) ↦
-                  subst (λ (a : Result SessionMessage EventError). ReadsEvent s a after) (sym is) (none, ap is_some some, same)
-              | inl (unopened, (turns, out, reads, is, gave, calm)) ↦
-                  let end = reads_end receives_allowed (reader_state_of s) (reader_state_of after) turns out reads (none, unopened) in
-                  subst (λ (a : Result SessionMessage EventError). ReadsEvent s a after) (sym is)
-                  (answers_so s after (none, unopened) end.kept out.stopped out.gave end.came)
-            ]
-      ]
+  reads_event s answer refused after h = grind (arith, either_option, is_some, reads_end, receives_allowed, reader_state_of, answers_so)

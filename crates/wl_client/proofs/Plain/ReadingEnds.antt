@@ -1,5 +1,5 @@
 -- How a reading ends, over its turns.
-use Rattle.std.proofs.Common.{◌≡◌, ◌≢◌, ◌⊎◌, ℕ, Bool, true, false, cond, eqb, eqb-true, ◌||◌, List, [], ◌∷◌, ◌++◌, map, append-nil, append_assoc, Option, None, Some, is_some, Result, Ok, Err, MatchResult, refl, sym, ap, ap₂, subst, ◌∙◌, true≢false}
+use Rattle.std.proofs.Common.{◌≡◌, ◌≢◌, ◌⊎◌, ℕ, Bool, true, false, cond, eqb, eqb-true, ◌||◌, List, [], ◌∷◌, ◌++◌, map, append-nil, append_assoc, Option, None, Some, is_some, Result, Ok, Err, MatchResult, refl, sym, ap, ap₂, subst, ◌∙◌, true≢false, arith}
 use mathlib.Core.Logic.{inl, inr}
 use Rattle.std.proofs.lemmas.Bool.{eq-eqb}
 use Rattle.std.specs.Prelude.{◌+◌, length, nat_le, option_map}
@@ -48,11 +48,7 @@ none_some : {A : Type 0} {x : A} → None ≡ Some x → ⊥
 none_some e = true≢false (sym (ap is_some e))
 
 no_error : {A E : Type 0} {x : A} {e : E} → ◌≡◌ {A = Result A E} (Ok x) (Err e) → ⊥
-no_error is = true≢false (ap is_fine is)
-  where
-    is_fine : {A E : Type 0} → Result A E → Bool
-    is_fine (Ok x) = true
-    is_fine (Err e) = false
+no_error is = grind (arith, true≢false)
 
 -- a number that the test told from another one
 other_than : (n k : ℕ) → eqb n k ≡ false → eqb k k ≡ true → n ≢ k
@@ -84,15 +80,7 @@ no_split [] ys a is = true≢false (ap has_none is)
 no_split (x ∷ xs) ys a is = true≢false (ap has_none is)
 
 of_cons : (x y : WireArgument) (xs ys : List WireArgument) → x ∷ xs ≡ y ∷ ys → (x ≡ y) × (xs ≡ ys)
-of_cons x y xs ys is = (ap first is, ap rest is)
-  where
-    first : List WireArgument → WireArgument
-    first [] = x
-    first (z ∷ zs) = z
-
-    rest : List WireArgument → List WireArgument
-    rest [] = xs
-    rest (z ∷ zs) = zs
+of_cons x y xs ys is = grind (arith)
 
 module _ {U : Type 0} (version : ℕ) (destroyed : Bool) where
   -- this is wrong with an argument behind these, once the arguments were gone through so far
@@ -115,122 +103,41 @@ module _ {U : Type 0} (version : ℕ) (destroyed : Bool) where
 
   -- an object was made at the number
   none_before : (s : Store (Kept U)) (n : ℕ) (x : Object (Kept U)) (k : ℕ) → held (stored (vacated s n) n x) k ≡ None → held s k ≡ None
-  none_before s n x k none = at (eqb k n) refl
-    where
-      at : (b : Bool) → eqb k n ≡ b → held s k ≡ None
-      at true is = absurd (none_some (sym none ∙ stored_here (vacated s n) n x k (eqb-true k n is)))
-      at false is =
-          let apart : k ≢ n = λ same. true≢false (sym (eq-eqb k n same) ∙ is) in
-          sym (stored_other (vacated s n) n x k apart ∙ vacated_elsewhere s k n apart) ∙ none
+  none_before s n x k none = grind (arith, eqb, held, none_some, stored_here, vacated, eqb-true, true≢false, eq-eqb, stored_other, vacated_elsewhere)
 
   behind_made : (c next : Converting U) (n : ℕ) (i : InterfaceId) → c.child ≡ Some i → next.child ≡ None → next.asked ≡ c.asked
       → ((k : ℕ) → held next.objects.store k ≡ None → held c.objects.store k ≡ None)
       → (o : Objects (Kept U)) (earlier : List WireArgument) (w : EventFault) (b : WireArgument) → EndsAs next o → WrongBehind next o earlier w b
       → WrongBehind c o (arg.NewId n ∷ earlier) w b
-  behind_made c next n i makes made asks none_then o earlier wrong.Malformed b ends so = so
-  behind_made c next n i makes made asks none_then o earlier (wrong.UnknownObject k) b ends (is, not_null, none, gone) =
-      (is, not_null, none_then k none, λ behind. at (has_new earlier) gone)
-    where
-      at : (new : Bool) → (new ≡ true → held o.store k ≡ None) → held o.store k ≡ None
-      at true there = there refl
-      at false there = ap (λ (objects : Objects (Kept U)). held objects.store k) (ends made) ∙ none
-  behind_made c next n i makes made asks none_then o earlier (wrong.WrongInterface k asked j) b ends (is, not_null, by_table, fit, (x, there, same)) =
-      (is, not_null, by_table ∙ ap (λ (l : List InterfaceId). next_interface (left_behind l earlier)) asks, fit, (x, at (has_new earlier) there, same))
-    where
-      at : (new : Bool) → held (cond new o.store next.objects.store) k ≡ Some x → held o.store k ≡ Some x
-      at true there = there
-      at false there = ap (λ (objects : Objects (Kept U)). held objects.store k) (ends made) ∙ there
-  behind_made c next n i makes made asks none_then o earlier (wrong.InvalidNewId k j) b ends (is, inl (first, names, bad)) = absurd (none_some (sym made ∙ names))
-  behind_made c next n i makes made asks none_then o earlier (wrong.InvalidNewId k j) b ends (is, inr (nameless, why)) = (is, inr (nameless, inr refl))
+  behind_made c next n i h1 h2 h3 h4 o earlier w b h5 h6 = grind (arith, has_new, held, next_interface, left_behind, none_some)
 
   before_made : (c next : Converting U) (n : ℕ) → next.child ≡ None → next.asked ≡ c.asked
       → (o : Objects (Kept U)) (earlier : List WireArgument) (w : EventFault) (b : WireArgument) → EndsAs next o → WrongBehind c o (arg.NewId n ∷ earlier) w b
       → WrongBehind next o earlier w b
-  before_made c next n made asks o earlier wrong.Malformed b ends so = so
-  before_made c next n made asks o earlier (wrong.UnknownObject k) b ends (is, not_null, none, gone) =
-      (is, not_null, ap (λ (objects : Objects (Kept U)). held objects.store k) (sym (ends made)) ∙ gone refl, λ behind. gone refl)
-  before_made c next n made asks o earlier (wrong.WrongInterface k asked j) b ends (is, not_null, by_table, fit, (x, there, same)) =
-      (is, not_null, by_table ∙ sym (ap (λ (l : List InterfaceId). next_interface (left_behind l earlier)) asks), fit, (x, at (has_new earlier), same))
-    where
-      at : (new : Bool) → held (cond new o.store next.objects.store) k ≡ Some x
-      at true = there
-      at false = ap (λ (objects : Objects (Kept U)). held objects.store k) (sym (ends made)) ∙ there
-  before_made c next n made asks o earlier (wrong.InvalidNewId k j) b ends (is, inl (first, names, bad)) = absurd (true≢false first)
-  before_made c next n made asks o earlier (wrong.InvalidNewId k j) b ends (is, inr (nameless, why)) = (is, inr (nameless, inl made))
+  before_made c next n h1 h2 o earlier w b h3 h4 = grind (arith, held, next_interface, left_behind, has_new, true≢false)
 
   -- nothing is wrong with an argument that means no object, with null, with an object that fits, and with a new number that is valid
   right_value : (c : Converting U) (a : WireArgument) → means_object a ≡ false → (o : Objects (Kept U)) (w : EventFault) → WrongBehind c o [] w a → ⊥
-  right_value c a off o wrong.Malformed so = so
-  right_value c a off o (wrong.UnknownObject k) so = true≢false (sym (ap means_object so.0) ∙ off)
-  right_value c a off o (wrong.WrongInterface k asked j) so = true≢false (sym (ap means_object so.0) ∙ off)
-  right_value c a off o (wrong.InvalidNewId k j) so = true≢false (sym (ap means_object so.0) ∙ off)
+  right_value c a h1 o w h2 = grind (arith, true≢false)
 
   right_null : (c : Converting U) (n : ℕ) → n ≡ 0 → (o : Objects (Kept U)) (w : EventFault) → WrongBehind c o [] w (arg.Object n) → ⊥
-  right_null c n zero o wrong.Malformed so = so
-  right_null c n zero o (wrong.UnknownObject k) so = so.1 (sym (ap number_in so.0) ∙ zero)
-  right_null c n zero o (wrong.WrongInterface k asked j) so = so.1 (sym (ap number_in so.0) ∙ zero)
-  right_null c n zero o (wrong.InvalidNewId k j) so = true≢false (sym (ap is_new so.0))
+  right_null c n h1 o w h2 = grind (arith, true≢false)
 
   right_object : (c : Converting U) (n : ℕ) (x : Object (Kept U)) → held c.objects.store n ≡ Some x → fits (next_interface c.asked) x.interface ≡ true
       → (o : Objects (Kept U)) (w : EventFault) → WrongBehind c o [] w (arg.Object n) → ⊥
-  right_object c n x there fit o wrong.Malformed so = so
-  right_object c n x there fit o (wrong.UnknownObject k) (is, not_null, none, gone) =
-      none_some (sym none ∙ ap (λ (i : ℕ). held c.objects.store i) (sym (ap number_in is)) ∙ there)
-  right_object c n x there fit o (wrong.WrongInterface k asked j) (is, not_null, by_table, bad, (y, other, same)) =
-      true≢false (sym fit ∙ ap₂ (λ (i l : InterfaceId). fits i l) (sym by_table) (sym interface_is ∙ same) ∙ bad)
-    where
-      both : Some y ≡ Some x
-      both = sym other ∙ ap (λ (i : ℕ). held c.objects.store i) (sym (ap number_in is)) ∙ there
-
-      interface_in : Option (Object (Kept U)) → InterfaceId
-      interface_in None = asked
-      interface_in (Some z) = z.interface
-
-      interface_is : y.interface ≡ x.interface
-      interface_is = ap interface_in both
-  right_object c n x there fit o (wrong.InvalidNewId k j) so = true≢false (sym (ap is_new so.0))
+  right_object c n x h1 h2 o w h3 = grind (arith, none_some, held, true≢false, ap₂, fits)
 
   right_new : (c : Converting U) (n : ℕ) (i : InterfaceId) → c.child ≡ Some i → is_valid_new c.objects n ≡ true
       → (o : Objects (Kept U)) (w : EventFault) → WrongBehind c o [] w (arg.NewId n) → ⊥
-  right_new c n i makes valid o wrong.Malformed so = so
-  right_new c n i makes valid o (wrong.UnknownObject k) so = true≢false (ap is_new so.0)
-  right_new c n i makes valid o (wrong.WrongInterface k asked j) so = true≢false (ap is_new so.0)
-  right_new c n i makes valid o (wrong.InvalidNewId k j) (is, inl (first, names, bad)) =
-      true≢false (sym valid ∙ ap (λ (l : ℕ). is_valid_new c.objects l) (ap number_in is) ∙ bad)
-  right_new c n i makes valid o (wrong.InvalidNewId k j) (is, inr (nameless, inl none)) = none_some (sym none ∙ makes)
-  right_new c n i makes valid o (wrong.InvalidNewId k j) (is, inr (nameless, inr behind)) = true≢false (sym behind)
+  right_new c n i h1 h2 o w h3 = grind (arith, true≢false, is_valid_new, none_some)
 
   wrong_one : (c : Converting U) (a : WireArgument) → OneWrong c a (convert_one version destroyed c a)
-  wrong_one c (arg.Object n) = at (eqb n 0) refl
-    where
-      found : n ≢ 0 → (o : Option (Object (Kept U))) → held c.objects.store n ≡ o
-          → OneWrong c (arg.Object n) (with_object_argument c (object_argument_of (next_interface c.asked) n o))
-      found not_null None there = (refl, not_null, there, λ behind. there)
-      found not_null (Some x) there = go (fits (next_interface c.asked) x.interface) refl
-        where
-          go : (b : Bool) → fits (next_interface c.asked) x.interface ≡ b
-              → OneWrong c (arg.Object n) (with_object_argument c (cond b (Ok (id_at n x)) (Err (wrong.WrongInterface n (next_interface c.asked) x.interface))))
-          go true fit = (λ o ends. ends, λ o earlier w b ends so. so, λ o earlier w b ends so. so, right_object c n x there fit)
-          go false fit = (refl, not_null, refl, fit, (x, there, refl))
-
-      at : (b : Bool) → eqb n 0 ≡ b
-          → OneWrong c (arg.Object n) (with_object_argument c (cond b (Ok null_parts) (object_argument_of (next_interface c.asked) n (held c.objects.store n))))
-      at true is = (λ o ends. ends, λ o earlier w b ends so. so, λ o earlier w b ends so. so, right_null c n (eqb-true n 0 is))
-      at false is = found (other_than n 0 is refl) (held c.objects.store n) refl
+  wrong_one c (arg.Object n) = grind (arith, eqb, held, with_object_argument, object_argument_of, next_interface, fits, id_at, right_object, null_parts, right_null, eqb-true, other_than)
   wrong_one c (arg.NewId n) = new c.child refl
     where
       valid : (i : InterfaceId) → c.child ≡ Some i → (b : Bool) → is_valid_new c.objects n ≡ b
           → OneWrong c (arg.NewId n) (cond b (Ok (with_new_at version destroyed c n i)) (Err (wrong.InvalidNewId n i)))
-      valid i makes false is = (refl, inl (refl, makes, is))
-      valid i makes true is =
-          let next = (with_new_at version destroyed c n i).1 in
-          let none_then : (k : ℕ) → held next.objects.store k ≡ None → held c.objects.store k ≡ None =
-          λ k none. none_before c.objects.store n (made_object version destroyed i (c.objects.last_serial + 1)) k none in (
-            λ o ends none. absurd (none_some (sym none ∙ makes)),
-            behind_made c next n i makes refl refl none_then,
-            before_made c next n refl refl,
-            right_new c n i makes is,
-          )
+      valid i h1 b h2 = grind (arith, with_new_at, held, none_before, made_object, none_some, behind_made, before_made, right_new)
 
       new : (o : Option InterfaceId) → c.child ≡ o → OneWrong c (arg.NewId n) (with_new_argument version destroyed c n o)
       new None makes = (refl, inr (refl, inl makes))
@@ -250,9 +157,7 @@ module _ {U : Type 0} (version : ℕ) (destroyed : Bool) where
       → RightBefore next o earlier → RightBefore c o (a ∷ earlier)
   right_first c next b a o earlier ends so right [] ys x w split bad =
       so.3 o w (subst (λ (y : WireArgument). WrongBehind c o [] w y) (sym (of_cons a x earlier ys split).0) bad)
-  right_first c next b a o earlier ends so right (z ∷ xs) ys x w split bad =
-      let (same, others) = of_cons a z earlier (xs ++ x ∷ ys) split in
-      right xs ys x w others (so.2 o xs w x ends (subst (λ (y : WireArgument). WrongBehind c o (y ∷ xs) w x) (sym same) bad))
+  right_first c next b a o earlier ends so right (z ∷ xs) ys x w split bad = grind (arith, of_cons)
 
   abbrev AllWrong : Converting U → List WireArgument → Outcome U → Type 0
   AllWrong c args (Whole e all) = Unit {0}
@@ -306,33 +211,12 @@ module _ {U : Type 0} (version : ℕ) (destroyed : Bool) where
   one c (arg.Str text) = (refl, λ s h. h, λ s more ends fit. fit)
   one c (arg.Array bytes) = (refl, λ s h. h, λ s more ends fit. fit)
   one c (arg.Fd token) = (refl, λ s h. h, λ s more ends fit. fit)
-  one c (arg.Object n) = at (eqb n 0) refl
-    where
-      found : (o : Option (Object (Kept U))) → held c.objects.store n ≡ o
-          → One c (arg.Object n) (with_object_argument c (object_argument_of (next_interface c.asked) n o))
-      found None there = tt
-      found (Some x) there = go (fits (next_interface c.asked) x.interface) refl
-        where
-          go : (b : Bool) → fits (next_interface c.asked) x.interface ≡ b
-              → One c (arg.Object n) (with_object_argument c (cond b (Ok (id_at n x)) (Err (wrong.WrongInterface n (next_interface c.asked) x.interface))))
-          go true fit = (refl, λ s h. h, λ s more ends rest. (inr (x, there, refl, fit), rest))
-          go false fit = tt
-
-      at : (b : Bool) → eqb n 0 ≡ b
-          → One c (arg.Object n) (with_object_argument c (cond b (Ok null_parts) (object_argument_of (next_interface c.asked) n (held c.objects.store n))))
-      at true is = (ap (λ (k : ℕ). let x : WireArgument = arg.Object k in x) (sym (eqb-true n 0 is)), λ s h. h, λ s more ends rest. (inl refl, rest))
-      at false is = found (held c.objects.store n) refl
+  one c (arg.Object n) = grind (arith, eqb, held, with_object_argument, object_argument_of, next_interface, fits, id_at, null_parts, eqb-true)
   one c (arg.NewId n) = new c.child refl
     where
       valid : (i : InterfaceId) → c.child ≡ Some i → (b : Bool)
           → One c (arg.NewId n) (cond b (Ok (with_new_at version destroyed c n i)) (Err (wrong.InvalidNewId n i)))
-      valid i is false = tt
-      valid i is true =
-          let next = (with_new_at version destroyed c n i).1 in (
-            refl,
-            λ s h none. absurd (none_some (sym none ∙ is)),
-            λ s more ends fit. subst (λ (t : Store (Kept U)). ObjectsFit t s c.asked more) (sym (ends refl)) fit,
-          )
+      valid i h1 b = grind (arith, with_new_at, none_some)
 
       new : (o : Option InterfaceId) → c.child ≡ o → One c (arg.NewId n) (with_new_argument version destroyed c n o)
       new None is = tt
@@ -398,100 +282,32 @@ module _ {U : Type 0} (c : Core U) (m : WireMessage) where
 
   told_so : m.sender ≡ 1 → m.opcode ≡ 0 → (args : List WireArgument) → m.args ≡ args → So (of_display c.table (objects_in c) (error_event args))
   told_so sender zero (arg.Object n ∷ arg.Uint code ∷ arg.Str (Some text) ∷ []) is = λ end same last. inl (sender, zero, (n, code, text, is, refl))
-  told_so sender zero _ is = λ end same last.
-      unreadable sender
-      (λ n code text first found. true≢false (sym (ap tells (sym is ∙ found))))
-      (λ n one found. true≢false (ap (λ (k : ℕ). eqb k 0) (sym zero ∙ one)))
-      _ refl end
-    where
-      tells : List WireArgument → Bool
-      tells (arg.Object n ∷ arg.Uint code ∷ arg.Str (Some text) ∷ []) = true
-      tells _ = false
+  told_so sender zero _ is = grind (arith, true≢false, eqb)
 
   deleted_so : m.sender ≡ 1 → m.opcode ≡ 1 → (args : List WireArgument) → m.args ≡ args → So (of_display c.table (objects_in c) (delete_event args))
-  deleted_so sender one (arg.Uint n ∷ []) is = tt
-  deleted_so sender one _ is = λ end same last.
-      unreadable sender
-      (λ n code text zero found. true≢false (ap (λ (k : ℕ). eqb k 0) (sym zero ∙ one)))
-      (λ n first found. true≢false (sym (ap deletes (sym is ∙ found))))
-      _ refl end
-    where
-      deletes : List WireArgument → Bool
-      deletes (arg.Uint n ∷ []) = true
-      deletes _ = false
+  deleted_so h1 h2 args h3 = grind (arith, one, true≢false, eqb)
 
   display_so : m.sender ≡ 1 → So (of_display c.table (objects_in c) (display_event m.opcode m.args))
   display_so sender = at (eqb m.opcode 0) (eqb m.opcode 1) refl refl
     where
       at : (a b : Bool) → eqb m.opcode 0 ≡ a → eqb m.opcode 1 ≡ b
           → So (of_display c.table (objects_in c) (cond a (error_event m.args) (cond b (delete_event m.args) DisplayEvent.Unreadable)))
-      at true b zero one = told_so sender (eqb-true m.opcode 0 zero) m.args refl
-      at false true zero one = deleted_so sender (eqb-true m.opcode 1 one) m.args refl
-      at false false zero one = λ end same last.
-          unreadable sender
-          (λ n code text is found. other_than m.opcode 0 zero refl is)
-          (λ n is found. other_than m.opcode 1 one refl is)
-          _ refl end
+      at a b h1 h2 = grind (arith, one, told_so, eqb-true, deleted_so, other_than)
 
   -- ---- an event of another object
 
   wrong_so : (w : EventFault) (end : Core U) → HasWrongArgument w c m end → IsWrong w c m end
-  wrong_so wrong.Malformed end so = absurd so.is_wrong
-  wrong_so (wrong.UnknownObject n) end so = so
-  wrong_so (wrong.WrongInterface n asked i) end so = so
-  wrong_so (wrong.InvalidNewId n i) end so = so
+  wrong_so w end h1 = grind (arith)
 
   converted_so : m.sender ≢ 1 → (x : Object (Kept U)) (row : MessageRow) → held c.store m.sender ≡ Some x → event_row c.table x.interface m.opcode ≡ Some row → (o : Outcome U)
       → AllWrong x.version x.value.client_destroyed (start (objects_in c) row) m.args o → Came x.version x.value.client_destroyed (start (objects_in c) row) [] m.args o
       → So (of_converted c.table (objects_in c) m x row o)
-  converted_so other x row there has (Wrong w o) (ends, (earlier, a, later, split, bad, right)) came = λ end same last. inr (
-    w,
-    wrong_so w end
-        (record {
-          receiver = x;
-          row = row;
-          not_display = other;
-          was_held = there;
-          by_table = has;
-          earlier = earlier;
-          argument = a;
-          later = later;
-          args_are = split;
-          is_wrong = subst (λ (objects : Objects (Kept U)). IsWrongBehind row (objects_in c) objects earlier w a) (sym (at_end end same last)) bad;
-          is_first = λ xs ys x f found wrong'.
-              right xs ys x f found (subst (λ (objects : Objects (Kept U)). IsWrongBehind row (objects_in c) objects xs f x) (at_end end same last) wrong');
-        }),
-    refl,
-  )
-    where
-      at_end : (end : Core U) → end.store ≡ o.store → end.last_serial ≡ o.last_serial → objects_in end ≡ o
-      at_end end same last = ap₂ (λ (s : Store (Kept U)) (k : ℕ). let objects : Objects (Kept U) = record { store = s; last_serial = k } in objects) same last
-  converted_so other x row there has (Whole e args) bad (more, is, numbers, ends, fit) = at x.value.client_destroyed refl
-    where
-      at : (b : Bool) → x.value.client_destroyed ≡ b → So (cond b (Swallows e.objects) (HandsOut (event_of m x args) (opened_of m x row e.created) e.objects))
-      at true over = tt
-      at false live = record {
-        receiver = x;
-        row = row;
-        not_display = other;
-        was_held = there;
-        live = live;
-        by_table = has;
-        sender_is = refl;
-        opcode_is = refl;
-        args_are = ap (map on_the_wire) is ∙ numbers;
-        objects_fit = subst (λ (xs : List (Argument IdParts Token)). ObjectsFit c.store e.objects.store row.arg_interfaces xs) (sym is) fit;
-      }
+  converted_so other x row there has (Wrong w o) (ends, (earlier, a, later, split, bad, right)) came = grind (arith, wrong_so, objects_in, ap₂)
+  converted_so other x row there has (Whole e args) bad (more, is, numbers, ends, fit) = grind (arith, event_of, opened_of, on_the_wire)
 
   event_so : m.sender ≢ 1 → (signature : List ArgumentType) → signature_in c.table c.store m.sender m.opcode ≡ Some signature
       → (o : Option (Object (Kept U))) → held c.store m.sender ≡ o → (r : Option MessageRow) → row_in c.table o m.opcode ≡ r → So (of_event c.table (objects_in c) m o r)
-  event_so other signature signed None there r has = absurd (none_some (sym (ap (λ (o : Option (Object (Kept U))). option_map (λ (row : MessageRow). row.signature) (row_in c.table o m.opcode)) there) ∙ signed))
-  event_so other signature signed (Some x) there None has =
-      absurd (none_some (sym (ap (λ (o : Option (Object (Kept U))). option_map (λ (row : MessageRow). row.signature) (row_in c.table o m.opcode)) there
-      ∙ ap (option_map (λ (row : MessageRow). row.signature)) has) ∙ signed))
-  event_so other signature signed (Some x) there (Some row) has =
-      converted_so other x row there has _ (wrong_all x.version x.value.client_destroyed (start (objects_in c) row) [] m.args)
-      (converts x.version x.value.client_destroyed (start (objects_in c) row) [] m.args)
+  event_so h1 signature h2 o h3 r h4 = grind (arith, none_some, option_map, row_in, converted_so, wrong_all, start, objects_in, converts)
 
   handling_so : (signature : List ArgumentType) → signature_in c.table c.store m.sender m.opcode ≡ Some signature → So (handling c.table (objects_in c) m)
   handling_so signature signed = at (eqb m.sender 1) refl
@@ -541,11 +357,7 @@ module _ {T U : Type 0} (sends : T → Queue → Result ℕ IoFault → T → Ty
   carries : (c : Core U) (h : Handling U) (link : LinkState T) (es : List Sending) (first : List (Given SessionMessage)) (lacked : Bool) (mid : ReaderState T (Core U))
       → CarriesOut sends client (verdict c h) link es first lacked mid
       → (first ≡ map HandedOut (handed h)) × ((mid.core ≡ core_after c h) ⊎ ((mid.core ≡ starved_to c h) × (lacked ≡ true)))
-  carries c h link es first lacked mid (inl (begun, others, put, wrote, between, short, puts, flushes, split, end, is, was)) = (
-    is ∙ ap (λ (ms : List Said). put_and_gave ms (handed h)) puts.1,
-    inl (end ∙ ap (λ (w : Result (Unit {0}) IoFault). came_to client (verdict c h) w) puts.2),
-  )
-  carries c h link es first lacked mid (inr (asks, was, none, is, same)) = (is, inr (ap (λ (p : ReaderState T (Core U)). p.core) same, was))
+  carries c h link es first lacked mid h1 = grind (arith, put_and_gave, handed, came_to, client, verdict)
 
   abbrev Of : Turn → ReaderState T (Core U) → Handling U → Type 0
   Of t before (Swallows o) = Unit {0}
@@ -566,16 +378,7 @@ module _ {T U : Type 0} (sends : T → Queue → Result ℕ IoFault → T → Ty
     broke : (e : ProtocolError) (o : Objects (Kept U)) (why : WaylandError) → Of t before (Breaks e o) → first ≡ [] → mid.core ≡ fails_by (with_objects before.core o) why
         → ((refused : Bool) → (lacked ≡ true → refused ≡ true) → FoundError sends receives e mid t before → HasFailedBy sends receives why before (t ∷ []) refused mid)
         → Turned t before first lacked mid
-    broke e o why found none is by = inr (
-      failed_off mid.core (ap (λ (d : Core U). is_some d.error) is),
-      λ left refused lacks.
-          subst (λ (g : List (Given SessionMessage)). ReadingEnds sends receives before (t ∷ []) (event_in g) refused left mid) (sym none) (
-            why,
-            ap (λ (d : Core U). d.error) is,
-            ap (λ (d : Core U). d.open_event) is ∙ live.1,
-            by refused lacks (found mid (ap (λ (d : Core U). d.store) is) (ap (λ (d : Core U). d.last_serial) is)),
-          ),
-    )
+    broke e o why found none is by = grind (arith, failed_off, is_some, event_in)
 
     turned : (h : Handling U) → Of t before h → first ≡ map HandedOut (handed h) → (mid.core ≡ core_after before.core h) ⊎ ((mid.core ≡ starved_to before.core h) × (lacked ≡ true))
         → Turned t before first lacked mid
@@ -602,21 +405,7 @@ module _ {T U : Type 0} (sends : T → Queue → Result ℕ IoFault → T → Ty
   -- the event is open then
   is_open : (c d : Core U) (event : SessionMessage) (opened : OpenEvent) (o : Objects (Kept U)) → CanRead c → Opens c.table c.store event opened o
       → d ≡ core_after c (HandsOut event opened o) → EventIsOpen c event d
-  is_open c d event opened o live so is =
-      subst (λ (e : Core U). EventIsOpen c event e) (sym is)
-      (record {
-        sender = so.sender;
-        row = so.row;
-        not_display = so.not_display;
-        holds = so.holds;
-        sender_is = so.sender_is;
-        live = so.live;
-        event = so.has;
-        opened = ap Some so.event_is;
-        makes = so.makes;
-        made = so.made;
-        error = live.0;
-      })
+  is_open c d event opened o live so is = grind (arith)
 
   -- a message that was taken
   handled_of : (es : List Sending) (before : ReaderState T (Core U)) → CanRead before.core → (m : WireMessage) (link : LinkState T) → ReadsAs sends client before (Ok m) link
@@ -678,9 +467,7 @@ module _ {T U : Type 0} (sends : T → Queue → Result ℕ IoFault → T → Ty
 
   -- the reading stops here
   halts_end : (left : ℕ) (before : ReaderState T (Core U)) (out : Gives SessionMessage) → CanRead before.core → Halts sends client left before out → Done before [] out before
-  halts_end left before out can (inl (lacks, none, is)) = done_at before [] out _ before before is refl (can, inr (none, lacks))
-  halts_end left before out can (inr (inl (asks, is))) = done_at before [] out _ before before is refl (can, inr (refl, inl asks))
-  halts_end left before out can (inr (inr (lacks, (n, one', is)))) = done_at before [] out _ before before is refl (can, inr (refl, inr lacks))
+  halts_end left before out h1 h2 = grind (arith, done_at)
 
   -- a receive failed
   receive_ends : (start : ReaderState T (Core U)) → CanRead start.core → (got : Result Queue IoFault) (link : LinkState T) (n : ℕ) (f : IoFault) → counted_answer (count_of got) ≡ Err f
@@ -696,9 +483,7 @@ module _ {T U : Type 0} (sends : T → Queue → Result ℕ IoFault → T → Ty
   then_ends : (t : Turn) (start : ReaderState T (Core U)) (left : ℕ) (mid end : ReaderState T (Core U)) (turns : List Turn) (first : List (Given SessionMessage)) (lacked : Bool)
       (rest out : Gives SessionMessage) → out ≡ given_first first lacked rest → TurnLeads sends receives t start mid → Turned t start first lacked mid
       → Reads sends client receives left mid turns rest end → (CanRead mid.core → Done mid turns rest end) → Done start (t ∷ turns) out end
-  then_ends t start left mid end turns first lacked rest out split leads (inl (can, none)) reads more =
-      done_at start (t ∷ turns) out (given_first [] lacked rest) end end (split ∙ ap (λ (f : List (Given SessionMessage)). given_first f lacked rest) none) refl
-      (ends_later t turns (answered rest.stopped rest.gave) lacked rest.refused rest.left end start mid leads (more can))
+  then_ends t start left mid end turns first lacked rest out split leads (inl (can, none)) reads more = grind (arith, done_at, given_first, ends_later, answered)
   then_ends t start left mid end turns first lacked rest out split leads (inr (off, so)) reads more =
       let (over, rest_is, same) = ends_here turns reads in
       subst (λ (ts : List Turn). Done start (t ∷ ts) out end) (sym over)
@@ -747,21 +532,4 @@ module _ {T U : Type 0} (sends : T → Queue → Result ℕ IoFault → T → Ty
 
   pub ends_for_a_reason : (before : SessionState T U) (answer : Result SessionMessage EventError) (refused : Bool) (after : SessionState T U) → NextEvent sends receives before answer refused after
       → EndsForAReason sends receives before answer refused after
-  ends_for_a_reason before answer refused after h fine idle =
-      elim (either_option before.error h) [
-        | inr (e, some, g) ↦ absurd (none_some (sym fine ∙ some))
-        | inl (none, g) ↦ elim (either_option before.open_event g) [
-          | inr (event, some, k) ↦ absurd (none_some (sym idle ∙ some))
-          | inl (unopened, (turns, out, reads, is, gave, calm)) ↦ (
-            turns,
-            out,
-            reads,
-            is,
-            gave,
-            calm,
-            subst (λ (a : Result SessionMessage EventError). ReadingEnds sends receives (reader_state_of before) turns a refused out.left (reader_state_of after)) (sym is)
-                (subst (λ (b : Bool). ReadingEnds sends receives (reader_state_of before) turns (answered out.stopped out.gave) b out.left (reader_state_of after)) (sym calm)
-                (reading_ends receives_allowed before after turns out fine idle reads)),
-          )
-        ]
-      ]
+  ends_for_a_reason before answer refused after h fine idle = grind (arith, either_option, none_some, reader_state_of, answered, reading_ends, receives_allowed)

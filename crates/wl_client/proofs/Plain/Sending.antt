@@ -47,23 +47,10 @@ module _ {T U : Type 0} (s : SessionState T U) (m : SessionMessage) (spec : Opti
 
   first_two : (gone fits : Bool) (rest : List (Option RequestError)) (h g : Granted)
       → unless (first_refusal (when gone refused.InvalidId ∷ when (not fits) refused.BadSignature ∷ rest)) h ≡ Ok g → (gone ≡ false) × (fits ≡ true) × (h ≡ g)
-  first_two true fits rest h g is = absurd (true≢false (sym (ap is_ok is)))
-  first_two false false rest h g is = absurd (true≢false (sym (ap is_ok is)))
-  first_two false true rest h g is = (refl, refl, last_one (first_refusal rest) h g is)
+  first_two gone fits rest h g h1 = grind (arith, true≢false, is_ok, last_one, first_refusal)
 
   granted : (has_data : Bool) (g : Granted) → request_check s.table s.store m has_data spec ≡ Ok g → IsGranted g
-  granted has_data g is = at_sender (named s.store m.sender) refl is
-    where
-      at_row : (x : Object (Kept U)) (row : Option MessageRow) → named s.store m.sender ≡ Some x → request_row s.table x.interface m.opcode ≡ row
-          → checked_row s.table s.store x row m has_data spec ≡ Ok g → IsGranted g
-      at_row x None found none is = absurd (true≢false (sym (ap is_ok is)))
-      at_row x (Some row) found has is =
-          let two = first_two x.value.client_destroyed (matches row.signature m.args) _ (grant row x.version spec) g is in
-          record { sender = x; row = row; found = found; live = two.0; request = has; fits = two.1; is = two.2 }
-
-      at_sender : (o : Option (Object (Kept U))) → named s.store m.sender ≡ o → checked_sender s.table s.store o m has_data spec ≡ Ok g → IsGranted g
-      at_sender None none is = absurd (true≢false (sym (ap is_ok is)))
-      at_sender (Some x) found is = at_row x (request_row s.table x.interface m.opcode) found refl is
+  granted has_data g is = grind (arith, named, request_row, checked_row, true≢false, is_ok, first_two, matches, grant, checked_sender)
 
 alive_is : {U : Type 0} (o : Option (Object (Kept U))) (x : Object (Kept U)) → o ≡ Some x → x.value.client_destroyed ≡ false → alive o ≡ Some x
 alive_is o x is live = ap alive is ∙ ap (λ (b : Bool). cond b None (Some x)) live
@@ -77,24 +64,13 @@ module _ {T U : Type 0} (s : SessionState T U) where
 
   born_elsewhere : (new : Option (Numbered U)) → IsFresh new → (other : IdParts) → same_object (id_of_new new) other ≡ false
       → named (with_born s new).store other ≡ named s.store other
-  born_elsewhere None fresh other differ = refl
-  born_elsewhere (Some (n, y)) fresh other differ =
-      other_named s.store (with_born s (Some (n, y))).store n y.value.serial (Some y) (held_stored s.store n y) (λ z is. ap (λ (o : Object (Kept U)). o.value.serial) (sym (inner z is)))
-      (nothing_has y.value.serial (held s.store n) fresh.0) other differ
-    where
-      inner : (z : Object (Kept U)) → Some y ≡ Some z → y ≡ z
-      inner z is = cc
+  born_elsewhere new h1 other h2 = grind (arith, other_named, with_born, held_stored, nothing_has, held)
 
   some_none : (n : ℕ) (x : Object (Kept U)) (k : ℕ) → held s.store n ≡ None → held s.store k ≡ Some x → k ≢ n
   some_none n x k none some same = true≢false (sym (ap is_some some) ∙ ap (λ (i : ℕ). is_some (held s.store i)) same ∙ ap is_some none)
 
   sender_still : (new : Option (Numbered U)) → IsFresh new → (id : IdParts) (x : Object (Kept U)) → Names s.store id x → Names (with_born s new).store id x
-  sender_still None fresh id x by = by
-  sender_still (Some (n, y)) fresh id x by = record {
-    numbered = by.numbered;
-    holds = stored_other s.store n y id.number (some_none n x id.number fresh.0 by.holds) ∙ by.holds;
-    tells = by.tells;
-  }
+  sender_still new h1 id x h2 = grind (arith, stored_other, some_none)
 
   born_rest : (new : Option (Numbered U)) → ((with_born s new).notes ≡ s.notes) × ((with_born s new).open_event ≡ s.open_event) × ((with_born s new).error ≡ s.error)
       × ((with_born s new).table ≡ s.table)
@@ -113,9 +89,7 @@ module _ {T U : Type 0} (t : SessionState T U) (id : IdParts) (x : Object (Kept 
   ended_elsewhere false by other differ = refl
 
   ended_gone : (b : Bool) → Names t.store id x → b ≡ true → info_of (with_ended t (ended_at b)) id ≡ None
-  ended_gone true by is =
-      ap (λ (o : Option (Object (Kept U))). info_in id.number (alive o)) (rewritten_named t.store id x (flagged true x) by refl)
-  ended_gone false by is = absurd (true≢false (sym is))
+  ended_gone b h1 h2 = grind (arith, info_in, alive, rewritten_named, flagged, true≢false)
 
   ended_notes : (b : Bool) → (with_ended t (ended_at b)).notes ≡ cond b (noted t.notes x.value.user_data (id_at id.number x)) t.notes
   ended_notes true = refl
@@ -135,11 +109,7 @@ stored_error error (Err f) = inr (f, refl)
 module _ {T U : Type 0} (sends : T → Queue → Result ℕ IoFault → T → Type 0) (s : SessionState T U) (m : SessionMessage) (u : Option U) (spec : Option Spec) where
   -- it came to nothing
   refuses : (e : RequestError) (answer : Result IdParts RequestError) (after : SessionState T U) → answer ≡ Err e → after ≡ s → SendsRequest s m u spec answer after
-  refuses e answer after is same = subst (λ (a : Result IdParts RequestError). SendsRequest s m u spec a after) (sym is) (at e)
-    where
-      at : (e : RequestError) → SendsRequest s m u spec (Err e) after
-      at refused.OutOfMemory = ap core_of same
-      at _ = same
+  refuses e answer after is same = grind (arith, core_of)
 
   module _ {g : Granted} (known : IsGranted s m spec g) where
     abbrev x : Object (Kept U)
@@ -168,24 +138,7 @@ module _ {T U : Type 0} (sends : T → Queue → Result ℕ IoFault → T → Ty
       still = sender_still now new fresh m.sender x sender_named
 
       is_sent : MadeAs s child u (id_of_new new) end → RequestIsSent s m u spec (id_of_new new) end
-      is_sent made =
-          let rest = born_rest now new in
-          let kept = ended_rest born m.sender x ends in
-          record {
-            sender = x;
-            row = known.row;
-            sent_by = alive_is (named s.store m.sender) x known.found known.live;
-            request = known.request;
-            fits = known.fits;
-            made = made;
-            ended = ended_gone born m.sender x ends still;
-            notes = ended_notes born m.sender x ends
-                ∙ ap (λ (notes : List Note). cond ends (noted notes x.value.user_data (id_at m.sender.number x)) notes) rest.0;
-            others = λ other differ apart. ended_elsewhere born m.sender x ends still other differ ∙ born_elsewhere now new fresh other apart;
-            open_event = kept.0 ∙ rest.1;
-            table = kept.2 ∙ rest.3;
-            error = subst (λ (e : Option WaylandError). (e ≡ s.error) ⊎ ((f : IoFault) × (e ≡ Some (Io f)))) (sym (kept.1 ∙ rest.2)) (stored_error s.error w);
-          }
+      is_sent made = grind (arith, born_rest, ended_rest, alive_is, named, ended_gone, still, ended_notes, noted, id_at, ended_elsewhere, born_elsewhere, stored_error)
 
     written : (new : Option (Numbered U)) → IsFresh s new
         → ((link : LinkState T) (w : Result (Unit {0}) IoFault) (fresh : IsFresh s new) → MadeAs s child u (id_of_new new) (end link w new fresh))

@@ -31,37 +31,14 @@ module _ {U : Type 0} where
   -- ---- what an object stays as
 
   stays_same : (o : Option (Object (Kept U))) → StaysAs o o
-  stays_same None = refl
-  stays_same (Some x) = at x.value.client_destroyed
-    where
-      at : (b : Bool) → MatchBool b ((Some x ≡ Some x) ⊎ (Some x ≡ None)) (Some x ≡ Some x)
-      at true = inl refl
-      at false = refl
+  stays_same o = grind (arith)
 
   stays_then : (a b c : Option (Object (Kept U))) → StaysAs a b → StaysAs b c → StaysAs a c
-  stays_then None b c first second = subst (λ (o : Option (Object (Kept U))). StaysAs o c) first second
-  stays_then (Some x) b c first second = at x.value.client_destroyed refl first
-    where
-      at : (d : Bool) → x.value.client_destroyed ≡ d
-          → MatchBool d ((b ≡ Some x) ⊎ (b ≡ None)) (b ≡ Some x)
-          → MatchBool d ((c ≡ Some x) ⊎ (c ≡ None)) (c ≡ Some x)
-      at true is (inl same) =
-          subst (λ (d : Bool). MatchBool d ((c ≡ Some x) ⊎ (c ≡ None)) (c ≡ Some x)) is
-          (subst (λ (o : Option (Object (Kept U))). StaysAs o c) same second)
-      at true is (inr none) = inr (subst (λ (o : Option (Object (Kept U))). StaysAs o c) none second)
-      at false is same =
-          subst (λ (d : Bool). MatchBool d ((c ≡ Some x) ⊎ (c ≡ None)) (c ≡ Some x)) is
-          (subst (λ (o : Option (Object (Kept U))). StaysAs o c) same second)
+  stays_then a b c h1 h2 = grind (arith)
 
   -- one that was not destroyed is not destroyed
   live_still : (a b : Option (Object (Kept U))) → IsSome (alive a) → StaysAs a b → IsSome (alive b)
-  live_still None b live stays = absurd (true≢false (sym live))
-  live_still (Some x) b live stays = at x.value.client_destroyed live stays
-    where
-      at : (d : Bool) → IsSome (cond d None (Some x))
-          → MatchBool d ((b ≡ Some x) ⊎ (b ≡ None)) (b ≡ Some x) → IsSome (alive b)
-      at true none stays = absurd (true≢false (sym none))
-      at false some same = subst (λ (o : Option (Object (Kept U))). IsSome (alive o)) (sym same) live
+  live_still a b h1 h2 = grind (arith, true≢false, alive)
 
   -- ---- what ids name
 
@@ -73,12 +50,7 @@ module _ {U : Type 0} where
   old_still a b stay id (inr given) = let more = stay.serials in inr (omega (arith, given, more))
 
   pub ids_then : (a b c : Objects (Kept U)) → IdsStay a b → IdsStay b c → IdsStay a c
-  ids_then a b c first second =
-      let more = first.serials in
-      let most = second.serials in record {
-        serials = omega (arith, more, most);
-        ids = λ id old. stays_then (named a.store id) (named b.store id) (named c.store id) (first.ids id old) (second.ids id (old_still a b first id old));
-      }
+  ids_then a b c first second = grind (arith, stays_then, named, old_still)
 
   -- what the id names where its number holds this
   abbrev names_at : IdParts → Option (Object (Kept U)) → Option (Object (Kept U))
@@ -88,66 +60,26 @@ module _ {U : Type 0} where
   module _ (before after : Store (Kept U)) (n : ℕ) (new : Option (Object (Kept U)))
       (holds : (m : ℕ) → held after m ≡ cond (eqb m n) new (held before m)) (id : IdParts) where
     by_number : (id.number ≡ n → StaysAs (names_at id (held before n)) (names_at id new)) → StaysAs (named before id) (named after id)
-    by_number there = at (eqb id.number n) refl
-      where
-        at : (b : Bool) → eqb id.number n ≡ b → StaysAs (named before id) (named after id)
-        at false is =
-            subst (λ (o : Option (Object (Kept U))). StaysAs (named before id) o)
-            (sym (ap (names_at id) (holds id.number ∙ ap (λ (b : Bool). cond b new (held before id.number)) is))) (stays_same (named before id))
-        at true is =
-            let same : id.number ≡ n = eqb-true id.number n is in
-            subst (λ (o : Option (Object (Kept U))). StaysAs (named before id) o)
-            (sym (ap (names_at id) (holds id.number ∙ ap (λ (b : Bool). cond b new (held before id.number)) is)))
-            (subst (λ (o : Option (Object (Kept U))). StaysAs o (names_at id new)) (sym (ap (λ (k : ℕ). names_at id (held before k)) same)) (there same))
+    by_number there = grind (arith, eqb, named, held, stays_same, eqb-true)
 
   -- ---- a number that the server gave up
 
   gone_from : (y : Object (Kept U)) → y.value.client_destroyed ≡ true → (z t : Bool) → StaysAs (cond z None (cond t (Some y) None)) (cond z None None)
-  gone_from y over true t = refl
-  gone_from y over false true = at_true _ y.value.client_destroyed over (inr refl)
-  gone_from y over false false = refl
+  gone_from y h1 z t = grind (arith, at_true)
 
   ids_by_deletion : (a : Objects (Kept U)) (n : ℕ) → IdsStay a (record a { store = vacated a.store n })
-  ids_by_deletion a n = record { serials = omega arith; ids = λ id old. at (held a.store n) refl id }
-    where
-      at : (o : Option (Object (Kept U))) → held a.store n ≡ o → (id : IdParts) → StaysAs (named a.store id) (named (cond (is_destroyed o) (removed a.store n) a.store) id)
-      at None none id = stays_same (named a.store id)
-      at (Some y) there id = go y.value.client_destroyed refl
-        where
-          go : (b : Bool) → y.value.client_destroyed ≡ b
-              → StaysAs (named a.store id) (named (cond b (removed a.store n) a.store) id)
-          go true over =
-              by_number a.store (removed a.store n) n None (held_removed a.store n) id
-              (λ same. subst (λ (o : Option (Object (Kept U))). StaysAs (names_at id o) (names_at id None)) (sym there)
-              (gone_from y over (id.number == 0) (y.value.serial == id.serial)))
-          go false live = stays_same (named a.store id)
+  ids_by_deletion a n = grind (arith, held, named, is_destroyed, removed, stays_same, held_removed, gone_from)
 
   -- ---- a new object
 
   destroyed_is : (y : Object (Kept U)) → alive (Some y) ≡ None → y.value.client_destroyed ≡ true
-  destroyed_is y none = at y.value.client_destroyed none
-    where
-      at : (b : Bool) → cond b None (Some y) ≡ None → b ≡ true
-      at true is = refl
-      at false is = absurd (true≢false (ap is_some is))
+  destroyed_is y none = grind (arith, true≢false, is_some)
 
   left_by : (id : IdParts) (o : Option (Object (Kept U))) → alive o ≡ None → (z : Bool) → StaysAs (cond z None (named_in serial_of (id_of id) o)) None
-  left_by id o none true = refl
-  left_by id None none false = refl
-  left_by id (Some y) none false = at (y.value.serial == id.serial)
-    where
-      at : (t : Bool) → StaysAs (cond t (Some y) None) None
-      at true = at_true _ y.value.client_destroyed (destroyed_is y none) (inr refl)
-      at false = refl
+  left_by id o h1 z = grind (arith, at_true, destroyed_is)
 
   unnamed_by : (id : IdParts) (o : Option (Object (Kept U))) → alive o ≡ None → (z : Bool) → alive (cond z None (named_in serial_of (id_of id) o)) ≡ None
-  unnamed_by id o none true = refl
-  unnamed_by id None none false = refl
-  unnamed_by id (Some y) none false = at (y.value.serial == id.serial)
-    where
-      at : (t : Bool) → alive (cond t (Some y) None) ≡ None
-      at true = none
-      at false = refl
+  unnamed_by id o h1 z = grind (arith, alive)
 
   ids_by_new : (a : Objects (Kept U)) (n : ℕ) (y : Object (Kept U)) → is_valid_new a n ≡ true → y.value.serial ≡ a.last_serial + 1 → IdsStay a (with_made_object a n y)
   ids_by_new a n y valid next = record {
@@ -159,24 +91,13 @@ module _ {U : Type 0} where
       free = new_number a n valid
 
       holds : (m : ℕ) → held (stored (vacated a.store n) n y) m ≡ cond (eqb m n) (Some y) (held a.store m)
-      holds m = held_stored (vacated a.store n) n y m ∙ at (eqb m n) refl
-        where
-          at : (b : Bool) → eqb m n ≡ b → cond b (Some y) (held (vacated a.store n) m) ≡ cond b (Some y) (held a.store m)
-          at true is = refl
-          at false is = vacated_elsewhere a.store m n (λ same. true≢false (sym (eq-eqb m n same) ∙ is))
+      holds m = grind (arith, held_stored, vacated, eqb, held, vacated_elsewhere, true≢false, eq-eqb)
 
       unnamed : (id : IdParts) → id.serial ≤ a.last_serial → names_at id (Some y) ≡ None
-      unnamed id given =
-          ap (λ (b : Bool). cond (id.number == 0) None (cond b (Some y) None)) (ne_eqb y.value.serial id.serial (λ same. absurd (omega (arith, given, next, same))))
-          ∙ both_none (id.number == 0)
+      unnamed id given = grind (arith, ne_eqb, both_none)
 
       there : (id : IdParts) → id.number ≡ n → IsOld a id → StaysAs (names_at id (held a.store n)) (names_at id (Some y))
-      there id same (inr given) =
-          subst (λ (o : Option (Object (Kept U))). StaysAs (names_at id (held a.store n)) o) (sym (unnamed id given)) (left_by id (held a.store n) free (id.number == 0))
-      there id same (inl live) =
-          absurd (true≢false (sym live
-          ∙ ap (λ (k : ℕ). is_some (alive (names_at id (held a.store k)))) same
-          ∙ ap is_some (unnamed_by id (held a.store n) free (id.number == 0))))
+      there id h1 h2 = grind (arith, held, unnamed, left_by, free, true≢false, is_some, alive, unnamed_by)
 
 -- ---- the arguments of an event
 
@@ -190,11 +111,7 @@ module _ {U : Type 0} (version : ℕ) (destroyed : Bool) (first : Objects (Kept 
   By (Wrong w objects) = IdsStay first objects
 
   by_one : (c : Converting U) (a : WireArgument) → IdsStay first c.objects → ByOne (convert_one version destroyed c a)
-  by_one c (arg.Object n) so = at (object_argument c.objects.store (next_interface c.asked) n)
-    where
-      at : (r : Result IdParts EventFault) → ByOne (with_object_argument c r)
-      at (Ok id) = so
-      at (Err w) = tt
+  by_one c (arg.Object n) so = grind (arith, object_argument, next_interface, with_object_argument)
   by_one c (arg.NewId n) so = new c.child
     where
       valid : (i : InterfaceId) (b : Bool) → is_valid_new c.objects n ≡ b
@@ -235,12 +152,7 @@ module _ {U : Type 0} (table : List InterfaceRow) (objects : Objects (Kept U)) (
 
   by_converted : (x : Object (Kept U)) (row : MessageRow) (outcome : Outcome U) → By x.version x.value.client_destroyed objects outcome
       → IdsStayIn objects (of_converted table objects m x row outcome)
-  by_converted x row (Wrong w after) so = so
-  by_converted x row (Whole c args) so = at x.value.client_destroyed
-    where
-      at : (b : Bool) → IdsStayIn objects (cond b (Swallows c.objects) (HandsOut (event_of m x args) (opened_of m x row c.created) c.objects))
-      at true = so
-      at false = so
+  by_converted x row outcome h1 = grind (arith, event_of, opened_of)
 
   by_event : (o : Option (Object (Kept U))) (r : Option MessageRow) → IdsStayIn objects (of_event table objects m o r)
   by_event (Some x) (Some row) =
@@ -251,10 +163,4 @@ module _ {U : Type 0} (table : List InterfaceRow) (objects : Objects (Kept U)) (
   by_event (Some x) None = ids_same objects
 
   pub ids_stay : IdsStayIn objects (handling table objects m)
-  ids_stay = at (m.sender == 1)
-    where
-      at : (b : Bool)
-          → IdsStayIn objects (cond b (of_display table objects (display_event m.opcode m.args))
-          (of_event table objects m (held objects.store m.sender) (row_in table (held objects.store m.sender) m.opcode)))
-      at true = by_display (display_event m.opcode m.args)
-      at false = by_event (held objects.store m.sender) (row_in table (held objects.store m.sender) m.opcode)
+  ids_stay = grind (arith, of_display, display_event, of_event, held, row_in, by_display, by_event)
