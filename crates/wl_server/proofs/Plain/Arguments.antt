@@ -196,14 +196,9 @@ module _ {U : Type 0} (client : ClientParts) (version : ℕ) where
       go false valid = tt
 
   one : (d : Converting U) (x : WireArgument) → One d x (convert_one client version d x)
-  one d (arg.Int z) = (refl, λ k y there. there, λ s more grown rest. rest, λ e more grown made. made)
-  one d (arg.Uint n) = (refl, λ k y there. there, λ s more grown rest. rest, λ e more grown made. made)
-  one d (arg.Fixed z) = (refl, λ k y there. there, λ s more grown rest. rest, λ e more grown made. made)
-  one d (arg.Str text) = (refl, λ k y there. there, λ s more grown rest. rest, λ e more grown made. made)
   one d (arg.Object n) = one_object d n (allows_null d.kinds) (eqb n 0) refl refl
   one d (arg.NewId n) = one_new d n d.child refl
-  one d (arg.Array bytes) = (refl, λ k y there. there, λ s more grown rest. rest, λ e more grown made. made)
-  one d (arg.Fd token) = (refl, λ k y there. there, λ s more grown rest. rest, λ e more grown made. made)
+  one d _ = (refl, λ k y there. there, λ s more grown rest. rest, λ e more grown made. made)
 
   -- what the arguments became: behind those that were gone through stand theirs
   abbrev pub Came : Converting U → List (Argument IdParts Token) → List WireArgument → Outcome U → Type 0

@@ -572,11 +572,7 @@ module _ {H T U G C : Type 0} (w : World T G C) (answers : Answering H T U G C) 
           blocked : (b : Bool) → ◌≡◌ {A = Result ℕ IoFault} (cond b (Err fault.WouldBlock) (Ok read)) (Err fault.OutOfMemory) → ⊥
           blocked true is = absurd cc
           blocked false is = absurd cc
-      of_fault fault.InvalidInput read is = absurd cc
-      of_fault fault.Pipe read is = absurd cc
-      of_fault fault.TooBig read is = absurd cc
-      of_fault fault.Proto read is = absurd cc
-      of_fault (fault.Other n) read is = absurd cc
+      of_fault _ read is = absurd cc
 
       at : (r : Result (Vec (ClientParts × T) Global) OutOfMemory) → ends.out ≡ reply.Cleanup r
           → CleanedAs w id mid.offer r (seen id mid) (ends.cleanup.lacks id) (ends.cleanup.did id) (seen id after.server) → EndedBy rounds.fault (seen id mid).part

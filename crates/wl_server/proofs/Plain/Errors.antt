@@ -64,12 +64,7 @@ module _ {T U C : Type 0} (sends : T → Queue → Result ℕ IoFault → T → 
   came : (c : Core U C) (wrote : Result (Unit {0}) IoFault) → Dies c (came_to speaker (posts table c id code text) wrote)
   came c (Ok u) = record { for = BrokeProtocol (error_of table id code text); right = inl refl; core = refl }
   came c (Err fault.OutOfMemory) = closes c
-  came c (Err fault.WouldBlock) = closed_first c
-  came c (Err fault.Pipe) = closed_first c
-  came c (Err fault.TooBig) = closed_first c
-  came c (Err fault.Proto) = closed_first c
-  came c (Err fault.InvalidInput) = closed_first c
-  came c (Err (fault.Other n)) = closed_first c
+  came c _ = closed_first c
 
   ends : (p q : Part T U C) (lacked : Bool) (did : List (Deed U)) → Tells sends (verdict p) p.link lacked did q → IsEnded p did q
   ends p q lacked did (es, gave, end, carries, did_so, same) = carried carries

@@ -292,13 +292,7 @@ module _ {T U C : Type 0} (client : ClientParts) (p : Part T U C) (m : SessionMe
         at true = removed_others p.store m.sender x (names_so p.store m.sender x name) other differ
         at false = refl
     come_others ends (Err refused.OutOfMemory) did q name other differ kept = ap (λ (c : Core U C). named c.store other) kept.core_is
-    come_others ends (Err refused.InvalidId) did q name other differ h = absurd h
-    come_others ends (Err refused.UnknownOpcode) did q name other differ h = absurd h
-    come_others ends (Err refused.BadSignature) did q name other differ h = absurd h
-    come_others ends (Err refused.NullObject) did q name other differ h = absurd h
-    come_others ends (Err refused.NullNewId) did q name other differ h = absurd h
-    come_others ends (Err refused.ForeignObject) did q name other differ h = absurd h
-    come_others ends (Err refused.WrongInterface) did q name other differ h = absurd h
+    come_others ends _ did q name other differ h = absurd h
 
 same_error : (a b : EventError) → ◌≡◌ {A = Result (Unit {0}) EventError} (Err a) (Err b) → a ≡ b
 same_error a b is = cc
@@ -656,13 +650,7 @@ module _ {T U G C : Type 0} (w : World T G C) (before after : BackendState T U G
     -- whether memory was refused
     error_memory : (e : EventError) → (e ≡ refused.OutOfMemory → ⊥) → after.refused ≡ false → EventMemory before client (Err e) after
     error_memory refused.OutOfMemory never calm = absurd (never refl)
-    error_memory refused.InvalidId never calm = calm
-    error_memory refused.UnknownOpcode never calm = calm
-    error_memory refused.BadSignature never calm = calm
-    error_memory refused.NullObject never calm = calm
-    error_memory refused.NullNewId never calm = calm
-    error_memory refused.ForeignObject never calm = calm
-    error_memory refused.WrongInterface never calm = calm
+    error_memory _ never calm = calm
 
     memory_by : (p q : Part T U C) → killed_in before client ≡ Some p.is_killed → killed_in after client ≡ Some q.is_killed → MemoryBy p q answer after.refused
         → EventMemory before client answer after

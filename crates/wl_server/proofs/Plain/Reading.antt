@@ -180,14 +180,7 @@ module _ {T U G C : Type 0} (w : World T G C) (before after : BackendState T U G
   memory_by : (answer : Result Handed ActionError) → MemoryOf answer after.refused
       → (answer ≡ Err (Io fault.Pipe) → after.refused ≡ true → (killed_in before id ≡ Some false) × (killed_in after id ≡ Some true)) → ReadingMemory before id answer after
   memory_by (Err (Io fault.Pipe)) memory pipe = pipe refl
-  memory_by (Err (Io fault.OutOfMemory)) memory pipe = memory
-  memory_by (Err (Io fault.WouldBlock)) memory pipe = memory
-  memory_by (Err (Io fault.TooBig)) memory pipe = memory
-  memory_by (Err (Io fault.Proto)) memory pipe = memory
-  memory_by (Err (Io fault.InvalidInput)) memory pipe = memory
-  memory_by (Err (Io (fault.Other n))) memory pipe = memory
-  memory_by (Err ActionOpen) memory pipe = memory
-  memory_by (Ok h) memory pipe = memory
+  memory_by _ memory pipe = memory
 
   memory_as : (r r' : Reading) (answer : Result Handed ActionError) (did : List (Deed U))
       → ReadsFor w id before.server.offer id r answer r' (seen id before.server) after.refused did (seen id after.server) → ReadingMemory before id answer after

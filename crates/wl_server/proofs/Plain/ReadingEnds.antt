@@ -159,14 +159,9 @@ module _ {T U G C : Type 0} (sends : T → Queue → Result ℕ IoFault → T �
   answers_end : (t : Turn) (before : ReaderState T (Core U C)) (refused : Bool) (left : ℕ) (answer : Result Handed ActionError) (end : ReaderState T (Core U C)) → Answers t before answer end
       → ReadingEnds sends receives a before (t ∷ []) answer refused left end
   answers_end t before refused left (Ok h) end (live, fresh, (es, is), comes) = (live, fresh, ([], es, before, ap (λ (u : Turn). u ∷ []) is, refl, comes))
-  answers_end t before refused left (Err ActionOpen) end so = absurd so
   answers_end t before refused left (Err (Io fault.Proto)) end (found, is, leaves) = (inr (([], t, before, refl, refl, found), is), leaves)
   answers_end t before refused left (Err (Io fault.Pipe)) end (took, is, leaves) = (inr (([], t, before, refl, refl, took), is), leaves)
-  answers_end t before refused left (Err (Io fault.WouldBlock)) end so = absurd so
-  answers_end t before refused left (Err (Io fault.OutOfMemory)) end so = absurd so
-  answers_end t before refused left (Err (Io fault.TooBig)) end so = absurd so
-  answers_end t before refused left (Err (Io fault.InvalidInput)) end so = absurd so
-  answers_end t before refused left (Err (Io (fault.Other n))) end so = absurd so
+  answers_end t before refused left _ end so = absurd so
 
   -- what a verdict came to: the client is read on, and nothing is answered; or this is answered
   abbrev pub Turned : Turn → ReaderState T (Core U C) → List (Given (Told U)) → ReaderState T (Core U C) → Type 0
@@ -189,12 +184,7 @@ module _ {T U G C : Type 0} (sends : T → Queue → Result ℕ IoFault → T �
   garbled_came : (c : Core U C) → IsRead c → (wrote : Result (Unit {0}) IoFault) → Closed c (came_to (server a) (garbled c) wrote)
   garbled_came c r (Ok u) = (refl, reason_if c.is_killed c.ended ConnectionClosed r.live, r.idle)
   garbled_came c r (Err fault.OutOfMemory) = (refl, reason_if c.is_killed c.ended ConnectionClosed r.live, r.idle)
-  garbled_came c r (Err fault.WouldBlock) = (refl, reason_if c.is_killed c.ended ConnectionClosed r.live, r.idle)
-  garbled_came c r (Err fault.Pipe) = (refl, reason_if c.is_killed c.ended ConnectionClosed r.live, r.idle)
-  garbled_came c r (Err fault.TooBig) = (refl, reason_if c.is_killed c.ended ConnectionClosed r.live, r.idle)
-  garbled_came c r (Err fault.Proto) = (refl, reason_if c.is_killed c.ended ConnectionClosed r.live, r.idle)
-  garbled_came c r (Err fault.InvalidInput) = (refl, reason_if c.is_killed c.ended ConnectionClosed r.live, r.idle)
-  garbled_came c r (Err (fault.Other n)) = (refl, reason_if c.is_killed c.ended ConnectionClosed r.live, r.idle)
+  garbled_came c r _ = (refl, reason_if c.is_killed c.ended ConnectionClosed r.live, r.idle)
 
   pub garbled_turns : (turn : List Sending → Turn) (before : ReaderState T (Core U C)) (c : Core U C) → IsRead c → ((es : List Sending) → FoundNoMessage sends a (turn es) before)
       → (link : LinkState T) → Turns turn before (garbled c) link
@@ -214,12 +204,7 @@ module _ {T U G C : Type 0} (sends : T → Queue → Result ℕ IoFault → T �
   breaks_came : (m : Core U C) (code : ℕ) (text : List ℕ) → IsRead m → (wrote : Result (Unit {0}) IoFault) → Ended (came_to (server a) (breaks a m code text) wrote)
   breaks_came m code text r (Ok u) = (refl, some_is _ _ (reason_if m.is_killed m.ended _ r.live), r.idle)
   breaks_came m code text r (Err fault.OutOfMemory) = (refl, some_is _ _ (reason_if m.is_killed m.ended _ r.live), r.idle)
-  breaks_came m code text r (Err fault.WouldBlock) = (refl, some_is _ _ (reason_if m.is_killed m.ended _ r.live), r.idle)
-  breaks_came m code text r (Err fault.Pipe) = (refl, some_is _ _ (reason_if m.is_killed m.ended _ r.live), r.idle)
-  breaks_came m code text r (Err fault.TooBig) = (refl, some_is _ _ (reason_if m.is_killed m.ended _ r.live), r.idle)
-  breaks_came m code text r (Err fault.Proto) = (refl, some_is _ _ (reason_if m.is_killed m.ended _ r.live), r.idle)
-  breaks_came m code text r (Err fault.InvalidInput) = (refl, some_is _ _ (reason_if m.is_killed m.ended _ r.live), r.idle)
-  breaks_came m code text r (Err (fault.Other n)) = (refl, some_is _ _ (reason_if m.is_killed m.ended _ r.live), r.idle)
+  breaks_came m code text r _ = (refl, some_is _ _ (reason_if m.is_killed m.ended _ r.live), r.idle)
 
   ended_turned : (t : Turn) (before : ReaderState T (Core U C)) (first : List (Given (Told U))) (mid : ReaderState T (Core U C)) → TookMessage sends a t before
       → action_in first ≡ Err (Io fault.Pipe) → Ended mid.core → Turned t before first mid
@@ -426,13 +411,10 @@ module _ {T U G C : Type 0} (sends : T → Queue → Result ℕ IoFault → T �
 
   itself_later : (f : IoFault) (t : Turn) (turns : List Turn) (lacked refused : Bool) (left : ℕ) (end start mid : ReaderState T (Core U C)) → TurnLeads sends receives a t start mid
       → StopsItself sends receives a f mid turns refused left end → StopsItself sends receives a f start (t ∷ turns) (lacked || refused) left end
-  itself_later fault.WouldBlock t turns lacked refused left end start mid leads so = so
   itself_later fault.OutOfMemory t turns lacked refused left end start mid leads (so, asks) = (or_true lacked refused so, asks)
   itself_later fault.Proto t turns lacked refused left end start mid leads (found, so) = (last_later (FoundNoMessage sends a) t turns start mid leads found, so)
   itself_later fault.Pipe t turns lacked refused left end start mid leads (took, so) = (last_later (TookMessage sends a) t turns start mid leads took, so)
-  itself_later fault.TooBig t turns lacked refused left end start mid leads so = so
-  itself_later fault.InvalidInput t turns lacked refused left end start mid leads so = so
-  itself_later (fault.Other n) t turns lacked refused left end start mid leads so = so
+  itself_later _ t turns lacked refused left end start mid leads so = so
 
   -- another turn stands before
   ends_later : (t : Turn) (turns : List Turn) (answer : Result Handed ActionError) (lacked refused : Bool) (left : ℕ) (end : ReaderState T (Core U C))
@@ -459,11 +441,7 @@ module _ {T U G C : Type 0} (sends : T → Queue → Result ℕ IoFault → T �
   faulted_leaves : (c : Core U C) → IsRead c → (f : IoFault) → LeavesClient f (faulted c f)
   faulted_leaves c r fault.WouldBlock = (r.live, r.fresh, r.idle)
   faulted_leaves c r fault.OutOfMemory = (r.live, r.fresh, r.idle)
-  faulted_leaves c r fault.Pipe = (refl, some_is _ _ (reason_if c.is_killed c.ended ConnectionClosed r.live), r.idle)
-  faulted_leaves c r fault.TooBig = (refl, some_is _ _ (reason_if c.is_killed c.ended ConnectionClosed r.live), r.idle)
-  faulted_leaves c r fault.Proto = (refl, some_is _ _ (reason_if c.is_killed c.ended ConnectionClosed r.live), r.idle)
-  faulted_leaves c r fault.InvalidInput = (refl, some_is _ _ (reason_if c.is_killed c.ended ConnectionClosed r.live), r.idle)
-  faulted_leaves c r (fault.Other n) = (refl, some_is _ _ (reason_if c.is_killed c.ended ConnectionClosed r.live), r.idle)
+  faulted_leaves c r _ = (refl, some_is _ _ (reason_if c.is_killed c.ended ConnectionClosed r.live), r.idle)
 
   -- the reading stops here
   halts_end : (left : ℕ) (before : ReaderState T (Core U C)) (out : Gives (Told U)) → IsRead before.core → Halts sends (server a) left before out → Done before [] out before

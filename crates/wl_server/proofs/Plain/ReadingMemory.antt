@@ -34,13 +34,8 @@ MemoryOf (Err (Io fault.Pipe)) refused = Unit {0}
 MemoryOf _ refused = refused ≡ false
 
 fault_memory : (f : IoFault) → MemoryOf (Err (Io f)) (lacks_memory (Err f))
-fault_memory fault.OutOfMemory = refl
 fault_memory fault.Pipe = tt
-fault_memory fault.WouldBlock = refl
-fault_memory fault.TooBig = refl
-fault_memory fault.Proto = refl
-fault_memory fault.InvalidInput = refl
-fault_memory (fault.Other n) = refl
+fault_memory _ = refl
 
 or_false : (b : Bool) → (b || false) ≡ b
 or_false true = refl
@@ -130,12 +125,7 @@ module _ {T U G C : Type 0} (sends : T → Queue → Result ℕ IoFault → T �
     where
       never : ◌≡◌ {A = Result Handed ActionError} (Err (Io fault.Proto)) (Err (Io fault.Pipe)) → ⊥
       never is = absurd cc
-  last_memory t before mid (Err ActionOpen) lacked answers pipe = absurd answers
-  last_memory t before mid (Err (Io fault.WouldBlock)) lacked answers pipe = absurd answers
-  last_memory t before mid (Err (Io fault.OutOfMemory)) lacked answers pipe = absurd answers
-  last_memory t before mid (Err (Io fault.TooBig)) lacked answers pipe = absurd answers
-  last_memory t before mid (Err (Io fault.InvalidInput)) lacked answers pipe = absurd answers
-  last_memory t before mid (Err (Io (fault.Other n))) lacked answers pipe = absurd answers
+  last_memory t before mid _ lacked answers pipe = absurd answers
 
   halts_memory : (left : ℕ) (before : ReaderState T (Core U C)) (out : Gives (Told U)) → Halts sends (server a) left before out → MemoryAt out
   halts_memory left before out (inl (lacks, none, is)) = subst MemoryAt (sym is) refl

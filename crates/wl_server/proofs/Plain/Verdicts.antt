@@ -17,13 +17,7 @@ use Rattle.wl_server.proofs.Readings.Notes.{notes_told}
 -- an answer that lacks memory
 pub lacking : (a : Result (Unit {0}) IoFault) → lacks_memory a ≡ true → a ≡ Err fault.OutOfMemory
 lacking (Err fault.OutOfMemory) is = refl
-lacking (Ok u) is = absurd (true≢false (sym is))
-lacking (Err fault.WouldBlock) is = absurd (true≢false (sym is))
-lacking (Err fault.Pipe) is = absurd (true≢false (sym is))
-lacking (Err fault.TooBig) is = absurd (true≢false (sym is))
-lacking (Err fault.Proto) is = absurd (true≢false (sym is))
-lacking (Err fault.InvalidInput) is = absurd (true≢false (sym is))
-lacking (Err (fault.Other n)) is = absurd (true≢false (sym is))
+lacking _ is = absurd (true≢false (sym is))
 
 pub no_flush : {T : Type 0} (sends : T → Queue → Result ℕ IoFault → T → Type 0) (flushes : Bool) (mid : LinkState T) (es : List Sending) (lacked : Bool) (after : LinkState T)
     → flushes ≡ false → FlushesOut sends flushes mid es lacked after → lacked ≡ false

@@ -147,10 +147,7 @@ module _ {U : Type 0} (client : ClientParts) (version : ℕ) (objects : Objects 
       before (kind.Object null) kinds asked bytes (take 4 bytes) (drop 4 bytes) fds done handed (arg.Object (first_word bytes)) (word_of (kind.Object null) bytes)
       (sym (take-append-drop 4 bytes)) refl refl (a_word bytes long)
       (ap (with_object_argument (at (kind.Object null ∷ kinds) asked)) (object_is null kinds (next_interface asked) (first_word bytes) fit)) rest
-  one_word (kind.Str _) kinds asked bytes fds done handed long fit rest = absurd (true≢false (sym fit))
-  one_word kind.NewId kinds asked bytes fds done handed long fit rest = absurd (true≢false (sym fit))
-  one_word kind.Array kinds asked bytes fds done handed long fit rest = absurd (true≢false (sym fit))
-  one_word kind.Fd kinds asked bytes fds done handed long fit rest = absurd (true≢false (sym fit))
+  one_word _ kinds asked bytes fds done handed long fit rest = absurd (true≢false (sym fit))
 
   words_convert : (kinds : List ArgumentType) (asked : List InterfaceId) (bytes : List ℕ) (fds : List Token) (done : List (Argument IdParts Token))
       → words_fit objects.store kinds asked bytes ≡ true → Converts kinds asked bytes fds done (done ++ handed_words client objects.store kinds bytes)

@@ -231,12 +231,9 @@ module _ {T U G C : Type 0} where
   -- the last serial of a global never falls
   last_grows : (offer : Offer G) (call : Call T U G C) → AnswersShared offer call → offer.globals.last_serial ≤ (offer_after offer call).globals.last_serial
   last_grows offer (Asked (step.CreateGlobal i version handler) (reply.CreateGlobal (Ok g))) by = (let next = (next_in offer i version g by).2 in omega (arith, next))
-  last_grows offer (Asked (step.CreateGlobal i version handler) answer) by = omega arith
   last_grows offer (Asked (step.DisableGlobal g) answer) by = (let same = disabled_last offer.globals g.name (global_of offer.globals g) in omega (arith, same))
   last_grows offer (Asked (step.RemoveGlobal g) answer) by = (let same = freed_last offer.globals g.name (global_of offer.globals g) in omega (arith, same))
-  last_grows offer (Asked call answer) by = omega arith
-  last_grows offer (Changed target t) by = omega arith
-  last_grows offer (Grown rows answer) by = omega arith
+  last_grows offer _ by = omega arith
 
   -- what the id of a global that was given before names after a call
   named_by : (offer : Offer G) (call : Call T U G C) (g : GlobalParts) → AnswersShared offer call → g.serial ≤ offer.globals.last_serial
@@ -244,12 +241,9 @@ module _ {T U G C : Type 0} where
   named_by offer (Asked (step.CreateGlobal i version handler) (reply.CreateGlobal (Ok new))) g by given =
       let next = next_in offer i version new by in
       created_other offer.globals i version handler new next new.serial g (λ same. let serial = next.2 in omega (arith, same, serial, given))
-  named_by offer (Asked (step.CreateGlobal i version handler) answer) g by given = refl
   named_by offer (Asked (step.DisableGlobal target) answer) g by given = disabled_changes offer.globals target g
   named_by offer (Asked (step.RemoveGlobal target) answer) g by given = freed_changes offer.globals target g
-  named_by offer (Asked call answer) g by given = refl
-  named_by offer (Changed target t) g by given = refl
-  named_by offer (Grown rows answer) g by given = refl
+  named_by offer _ g by given = refl
 
   -- an id names after a call what it named before, or the global that the call creates
   named_before : (offer : Offer G) (call : Call T U G C) (g : GlobalParts) → AnswersShared offer call → IsSome (global_of (offer_after offer call).globals g)
@@ -264,14 +258,11 @@ module _ {T U G C : Type 0} where
               | inr other ↦ inl (subst IsSome (ap (named_at g) (stored_other offer.globals.store new.name (new_global i version new.serial handler) g.name other)) some)
             ]
       ]
-  named_before offer (Asked (step.CreateGlobal i version handler) answer) g by some = inl some
   named_before offer (Asked (step.DisableGlobal target) answer) g by some =
       inl (some_left (option_map as_disabled) refl (same_global target g) (global_of offer.globals g) (subst IsSome (disabled_changes offer.globals target g) some))
   named_before offer (Asked (step.RemoveGlobal target) answer) g by some =
       inl (some_left (λ o. None) refl (same_global target g) (global_of offer.globals g) (subst IsSome (freed_changes offer.globals target g) some))
-  named_before offer (Asked call answer) g by some = inl some
-  named_before offer (Changed target t) g by some = inl some
-  named_before offer (Grown rows answer) g by some = inl some
+  named_before offer _ g by some = inl some
 
   -- ---- a run of the shared calls
 

@@ -125,12 +125,7 @@ module _ {T U G C : Type 0} where
     shared_call (Changed target t) (Changed target' t') same own ample ample' n n' h g = (tt, refl)
     shared_call (Grown rows p) (Grown rows' q) same own ample ample' n n' h g =
         let answers = growth_same T U G C offer rows rows' p q same ample ample' n n' in (answers, growth_offer offer rows rows' p q same answers)
-    shared_call (Asked s p) (Changed target t) same own ample ample' n n' h g = absurd same
-    shared_call (Asked s p) (Grown rows q) same own ample ample' n n' h g = absurd same
-    shared_call (Changed target t) (Asked s p) same own ample ample' n n' h g = absurd same
-    shared_call (Changed target t) (Grown rows q) same own ample ample' n n' h g = absurd same
-    shared_call (Grown rows p) (Asked s q) same own ample ample' n n' h g = absurd same
-    shared_call (Grown rows p) (Changed target t) same own ample ample' n n' h g = absurd same
+    shared_call _ _ same own ample ample' n n' h g = absurd same
 
   -- ---- a run
 

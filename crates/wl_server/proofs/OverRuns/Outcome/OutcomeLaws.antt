@@ -308,12 +308,7 @@ module _ {T U G C : Type 0} (w : World T G C) (known : IsDetermined w) (id : Cli
       let one = of_one before d e x y (same_client target id) _ _ _ _ (λ _ _. tt) (λ s q q' f f'. with_none (changes_one s t d e q q' f.1 f'.1 f.2 f'.2)) h here in
       (λ own. tt, one.0)
   call_one (Grown rows p) (Grown rows' q) same ample ample' shared h g = (λ own. shared, unfelt_one before d e x y h g)
-  call_one (Asked s p) (Changed target t) same ample ample' shared h g = absurd same
-  call_one (Asked s p) (Grown rows q) same ample ample' shared h g = absurd same
-  call_one (Changed target t) (Asked s p) same ample ample' shared h g = absurd same
-  call_one (Changed target t) (Grown rows q) same ample ample' shared h g = absurd same
-  call_one (Grown rows p) (Asked s q) same ample ample' shared h g = absurd same
-  call_one (Grown rows p) (Changed target t) same ample ample' shared h g = absurd same
+  call_one _ _ same ample ample' shared h g = absurd same
 
   pub same_call_one : (call call' : Call T U G C) → SameCall call call' → lacks_growth call ≡ false → lacks_growth call' ≡ false → SharedAnswer call call'
       → PartCall w id offer call before false d x → PartCall w id offer call' before false e y → SameOutcome id call call' d e x y

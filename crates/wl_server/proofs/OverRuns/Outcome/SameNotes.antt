@@ -656,12 +656,7 @@ module _ {T U G C : Type 0} where
   call_kinds (Asked s p) (Asked s' q) same = step_kinds s s' same
   call_kinds (Changed target t) (Changed target' t') same = refl
   call_kinds (Grown rows p) (Grown rows' q) same = refl
-  call_kinds (Asked s p) (Changed target t) same = absurd same
-  call_kinds (Asked s p) (Grown rows q) same = absurd same
-  call_kinds (Changed target t) (Asked s p) same = absurd same
-  call_kinds (Changed target t) (Grown rows q) same = absurd same
-  call_kinds (Grown rows p) (Asked s q) same = absurd same
-  call_kinds (Grown rows p) (Changed target t) same = absurd same
+  call_kinds _ _ same = absurd same
 
   -- the notes were handed out, or gathered, or none was moved
   abbrev MovesSo : ServerState T U G C → Entry T U G C → ServerState T U G C → Type 0

@@ -61,23 +61,13 @@ module _ {T U G C : Type 0} where
   call_offer offer (Asked s p) (Asked s' q) same shared = offer_one offer s p q shared ∙ offer_as offer s s' q same
   call_offer offer (Changed target t) (Changed target' t') same shared = refl
   call_offer offer (Grown rows p) (Grown rows' q) same shared = growth_offer offer rows rows' p q same shared
-  call_offer offer (Asked s p) (Changed target t) same shared = absurd same
-  call_offer offer (Asked s p) (Grown rows q) same shared = absurd same
-  call_offer offer (Changed target t) (Asked s p) same shared = absurd same
-  call_offer offer (Changed target t) (Grown rows q) same shared = absurd same
-  call_offer offer (Grown rows p) (Asked s q) same shared = absurd same
-  call_offer offer (Grown rows p) (Changed target t) same shared = absurd same
+  call_offer offer _ _ same shared = absurd same
 
   call_inserted : (call call' : Call T U G C) → SameCall call call' → SharedAnswer call call' → inserted_by call ≡ inserted_by call'
   call_inserted (Asked s p) (Asked s' q) same shared = inserted_one s p q shared ∙ inserted_as s s' q same
   call_inserted (Changed target t) (Changed target' t') same shared = refl
   call_inserted (Grown rows p) (Grown rows' q) same shared = refl
-  call_inserted (Asked s p) (Changed target t) same shared = absurd same
-  call_inserted (Asked s p) (Grown rows q) same shared = absurd same
-  call_inserted (Changed target t) (Asked s p) same shared = absurd same
-  call_inserted (Changed target t) (Grown rows q) same shared = absurd same
-  call_inserted (Grown rows p) (Asked s q) same shared = absurd same
-  call_inserted (Grown rows p) (Changed target t) same shared = absurd same
+  call_inserted _ _ same shared = absurd same
 
   -- ---- a call
 
@@ -135,12 +125,7 @@ module _ {T U G C : Type 0} where
     call_whole (Grown rows p) (Grown rows' q) same ample ample' c c' n n' rises rises' took h g =
         let answers = growth_same T U G C s.offer rows rows' p q same ample ample' n n' in
         (answers, answers, λ id. (call_one w known id s.offer (seen id s) (d id) (e id) (x id) (y id) (Grown rows p) (Grown rows' q) same ample ample' answers (h id) (g id)).1)
-    call_whole (Asked k p) (Changed target v) same ample ample' c c' n n' rises rises' took h g = absurd same
-    call_whole (Asked k p) (Grown rows q) same ample ample' c c' n n' rises rises' took h g = absurd same
-    call_whole (Changed target v) (Asked k p) same ample ample' c c' n n' rises rises' took h g = absurd same
-    call_whole (Changed target v) (Grown rows q) same ample ample' c c' n n' rises rises' took h g = absurd same
-    call_whole (Grown rows p) (Asked k q) same ample ample' c c' n n' rises rises' took h g = absurd same
-    call_whole (Grown rows p) (Changed target v) same ample ample' c c' n n' rises rises' took h g = absurd same
+    call_whole _ _ same ample ample' c c' n n' rises rises' took h g = absurd same
 
   -- each call has one outcome
   pub entry_one : (w : World T G C) → IsDetermined w → (s t x y : ServerState T U G C) (e f : Entry T U G C) (ordered : Bool) → SameServer ordered s t → SameCall e.call f.call
