@@ -16,12 +16,7 @@ use Rattle.wl_server.proofs.CallSteps.Slots.{same_parts, same_self, same_serials
 
 share_append : {T : Type 0} (id : ClientParts) (a b : List (ClientParts × T)) → share_of id (a ++ b) ≡ share_of id a ++ share_of id b
 share_append id [] b = refl
-share_append id (e ∷ a) b = at (same_client e.0 id) (share_append id a b)
-  where
-    at : (c : Bool) → share_of id (a ++ b) ≡ share_of id a ++ share_of id b
-        → (if c then (e.1 ∷ share_of id (a ++ b)) else share_of id (a ++ b)) ≡ (if c then (e.1 ∷ share_of id a) else share_of id a) ++ share_of id b
-    at true more = ap (λ l. e.1 ∷ l) more
-    at false more = more
+share_append id (e ∷ a) b = grind (arith, share_append id a b) steps 400000
 
 module _ {T U C : Type 0} where
   -- ---- of what all slots give, a part that only one slot has
@@ -38,11 +33,7 @@ module _ {T U C : Type 0} where
     pub collected_at : (n k : ℕ) (clients : List (Option (Stored T U C))) → slot ≡ n + k
         → part (collected give n clients) ≡ option_map_or (λ x. part (give slot x)) (slice_get clients k) []
     collected_at n k [] at = none
-    collected_at n zero (x ∷ clients) at =
-        let here : n ≡ slot = omega (arith, at) in
-        both (give n x) (collected give (n + 1) clients)
-        ∙ (ap (λ (l : List B). part (give n x) ++ l) (collected_past (n + 1) clients (omega (arith, at)))
-        ∙ (append-nil (part (give n x)) ∙ ap (λ (m : ℕ). part (give m x)) here))
+    collected_at n zero (x ∷ clients) at = grind (arith, collected, collected_past, append-nil) steps 400000
     collected_at n (suc k) (x ∷ clients) at =
         both (give n x) (collected give (n + 1) clients)
         ∙ (ap (λ (l : List B). l ++ part (collected give (n + 1) clients)) (other n x (ne_eqb n slot (λ e. omega (arith, at, e))))
@@ -83,27 +74,10 @@ module _ {T U C : Type 0} where
   -- ---- transports
 
   other_given : (id : ClientParts) (n : ℕ) (x : Option (Stored T U C)) → (n == id.slot) ≡ false → share_of id (given_at n x) ≡ []
-  other_given id n None other = refl
-  other_given id n (Some s) other = at s.part.is_killed
-    where
-      at : (b : Bool) → share_of id (if b then ((id_in n s, s.part.link.transport) ∷ []) else []) ≡ []
-      at true = rw (same_slots (id_in n s) id other) refl
-      at false = refl
+  other_given id n x h1 = grind (arith, id_in, same_slots) steps 400000
 
   own_given : (id : ClientParts) (x : Option (Stored T U C)) → share_of id (given_at id.slot x) ≡ given_in (if_serial id.serial x)
-  own_given id None = refl
-  own_given id (Some s) = at (s.serial == id.serial) s.part.is_killed refl refl
-    where
-      at : (same killed : Bool) → (s.serial == id.serial) ≡ same → s.part.is_killed ≡ killed
-          → share_of id (if killed then ((id_in id.slot s, s.part.link.transport) ∷ []) else []) ≡ given_in (if same then Some s else None)
-      at true true same killed =
-          let are : id_in id.slot s ≡ id = same_parts (id_in id.slot s) id refl (eqb-true s.serial id.serial same) in
-          let known : same_client (id_in id.slot s) id ≡ true = subst (λ (i : ClientParts). same_client (id_in id.slot s) i ≡ true) are (same_self (id_in id.slot s)) in
-          ap (λ (b : Bool). if b then (s.part.link.transport ∷ []) else []) known ∙ rw killed refl
-      at true false same live = rw live refl
-      at false true other killed =
-          ap (λ (b : Bool). if b then (s.part.link.transport ∷ []) else []) (same_serials (id_in id.slot s) id refl other)
-      at false false other live = refl
+  own_given id x = grind (arith, id_in, given_in, same_parts, same_self, same_serials) steps 400000
 
   pub given_for : (id : ClientParts) (clients : List (Option (Stored T U C))) → share_of id (collected given_at 0 clients) ≡ given_in (client_at id clients)
   given_for id clients =
@@ -116,15 +90,7 @@ module _ {T U C : Type 0} where
   -- ---- who stays
 
   staying_if : (serial : ℕ) (x : Option (Stored T U C)) → if_serial serial (staying x) ≡ staying (if_serial serial x)
-  staying_if serial None = refl
-  staying_if serial (Some s) = at (s.serial == serial) s.part.is_killed refl refl
-    where
-      at : (same killed : Bool) → (s.serial == serial) ≡ same → s.part.is_killed ≡ killed
-          → if_serial serial (if killed then None else Some s) ≡ staying (if same then Some s else None)
-      at true true same killed = rw killed refl
-      at true false same live = rw (same, live) refl
-      at false true other killed = refl
-      at false false other live = rw other refl
+  staying_if serial x = grind (arith, if_serial, staying) steps 400000
 
   pub staying_for : (id : ClientParts) (clients : List (Option (Stored T U C))) → client_at id (all_staying clients) ≡ staying (client_at id clients)
   staying_for id clients =
@@ -149,17 +115,11 @@ module _ {T : Type 0} where
   from_more n (e ∷ first) rest a b (suc j) d below = from_more n first rest (λ i d lt. a (suc i) d (omega (arith, lt))) b j d (omega (arith, below))
 
   one_from : (n : ℕ) (i : ClientParts) (t : T) (b : Bool) → n ≡ i.slot → AreFrom n (if b then ((i, t) ∷ []) else [])
-  one_from n i t true is zero d below = omega (arith, is)
-  one_from n i t true is (suc j) d below = absurd (omega (arith, below))
-  one_from n i t false is j d below = absurd (omega (arith, below))
+  one_from n i t b h1 = grind (arith) steps 400000
 
   one_rises : (n : ℕ) (i : ClientParts) (t : T) (c : Bool) (rest : List (ClientParts × T)) → n ≡ i.slot → AreFrom (n + 1) rest → Rises rest
       → Rises ((if c then ((i, t) ∷ []) else []) ++ rest)
-  one_rises n i t true rest is from rises zero zero d less below = absurd (omega (arith, less))
-  one_rises n i t true rest is from rises zero (suc j) d less below = let later = from j d (omega (arith, below)) in omega (arith, later, is)
-  one_rises n i t true rest is from rises (suc k) zero d less below = absurd (omega (arith, less))
-  one_rises n i t true rest is from rises (suc k) (suc j) d less below = rises k j d (omega (arith, less)) (omega (arith, below))
-  one_rises n i t false rest is from rises k j d less below = rises k j d less below
+  one_rises n i t c rest h1 h2 h3 = grind (arith) steps 400000
 
 module _ {T U C : Type 0} where
   given_from : (n : ℕ) (x : Option (Stored T U C)) → AreFrom n (given_at n x)

@@ -73,9 +73,7 @@ module _ {T U C : Type 0} (R : Kind T U C) where
           subst (λ (m : ℕ). FeltAt R m (slice_get start m) lacked (slice_get (slice_set now slot place') m)) (sym (eqb-true k slot is))
           (subst (λ (x : Option (Option (Stored T U C))). FeltAt R slot x lacked (slice_get (slice_set now slot place') slot))
           (sym here ∙ all.rest slot (omega arith)) (place', feels, get_set_same now slot place place' here))
-      at k false is below =
-          subst (λ (x : Option (Option (Stored T U C))). FeltAt R k (slice_get start k) (all.lacks k) x)
-          (sym (get_set_other now slot k place' (λ e. other_of k slot is (sym e)))) (all.felt k (less k is below))
+      at k false is below = grind (arith, slice_get, get_set_other, other_of, less) steps 400000
 
       either : (r : Bool) → lacked ≡ true → (r || lacked) ≡ true
       either true h = refl
@@ -94,9 +92,7 @@ module _ {T U C : Type 0} (R : Kind T U C) where
       there_lacks k false is below h = h
 
       blames : (r l : Bool) → refused ≡ r → lacked ≡ l → (r || l) ≡ true → (k : ℕ) × (k < slot + 1) × (now_lacks k ≡ true)
-      blames true l was is h =
-          let (k, below, lacks) = all.blame was in
-          (k, omega (arith, below), there_lacks k (k == slot) refl below lacks)
+      blames true l was is h = grind (arith, there_lacks) steps 400000
       blames false true was is h = (slot, omega arith, here_lacks (slot == slot) refl is)
       blames false false was is h = absurd (false≢true h)
 
@@ -139,9 +135,7 @@ module _ {T U C : Type 0} (R : Kind T U C) where
           subst (λ (i : ClientParts). R i s.part lacked did q) (same_parts (record { slot = id.slot; serial = s.serial }) id refl (eqb-true s.serial id.serial same)) feels in
           let as_now : (s'.serial == id.serial) ≡ true = rw serial' same in
           subst (λ (b : Bool). FeltIf id gathered lacked s s' true b) (sym as_now) (did, on_part gathered s s' (λ p d r. R id p lacked d r) (Unit {0}) lacked did q here made)
-      at false other =
-          let as_now : (s'.serial == id.serial) ≡ false = rw serial' other in
-          subst (λ (b : Bool). FeltIf id gathered lacked s s' false b) (sym as_now) ([], (tt, (refl, refl, refl)))
+      at false other = grind (arith, serial') steps 400000
 
   module _ (refused : Bool) (start now : List (Option (Stored T U C))) (all : AllFeel R refused (length start) start now) where
     -- whether memory was refused to the client of an id
@@ -152,12 +146,7 @@ module _ {T U C : Type 0} (R : Kind T U C) where
     each_felt gathered id = at (nat_lt id.slot (length start)) refl
       where
         at : (b : Bool) → nat_lt id.slot (length start) ≡ b → FeltBy id gathered (all.lacks id.slot) (slice_get start id.slot) (slice_get now id.slot)
-        at true below = felt_by id gathered (all.lacks id.slot) _ _ (all.felt id.slot (ltb-true id.slot (length start) below))
-        at false past =
-            let far : length start ≤ id.slot = ltb-false id.slot (length start) past in
-            let none = slice_get_past start id.slot far in
-            subst (λ (x : Option (Option (Stored T U C))). FeltBy id gathered (all.lacks id.slot) (slice_get start id.slot) x) (sym (all.rest id.slot far))
-            (subst (λ (x : Option (Option (Stored T U C))). FeltBy id gathered (all.lacks id.slot) x x) (sym none) ([], (tt, (refl, refl, refl))))
+        at b h1 = grind (arith, felt_by, slice_get_past, slice_get) steps 400000
 
     pub some_lacks : refused ≡ true → (id : ClientParts) × (lacks_of id ≡ true)
     some_lacks is =

@@ -91,37 +91,19 @@ pub record GivesWithin (ns : List ℕ) (next : ℕ) (ns' : List ℕ) (next' : �
   pub rise : next' < last_number → RiseWithin next more next'
 
 within : (ns : List ℕ) (next : ℕ) (ns' : List ℕ) (next' : ℕ) → GivesNumbers ns next ns' next' → GivesWithin ns next ns' next'
-within ns next ns' next' gives = record {
-  more = gives.more;
-  behind = gives.behind;
-  rise = λ below.
-      subst (λ (l : List ℕ). RiseWithin next l next') (sym gives.given)
-      (subst (λ (n : ℕ). RiseWithin next (numbers_from next (length gives.more)) n) (sym gives.past)
-      (rise_from next (length gives.more) (subst (λ (n : ℕ). n < last_number) gives.past below)));
-}
+within ns next ns' next' gives = grind (arith, numbers_from, rise_from, last_number) steps 400000
 
 pub within_none : (ns : List ℕ) (next next' : ℕ) → (next' < last_number → next ≤ next') → GivesWithin ns next ns next'
 within_none ns next next' up = record { more = []; behind = sym (append-nil ns); rise = up }
 
 pub within_both : (ns ms ks : List ℕ) (a b c : ℕ) → GivesWithin ns a ms b → GivesWithin ms b ks c → GivesWithin ns a ks c
-within_both ns ms ks a b c one two = record {
-  more = one.more ++ two.more;
-  behind = two.behind ∙ (ap (λ (l : List ℕ). l ++ two.more) one.behind ∙ append_assoc ns one.more two.more);
-  rise = λ below.
-      let second = two.rise below in
-      let up = rise_up b two.more c second in
-      rise_append a one.more b two.more c (one.rise (omega (arith, up, below))) second;
-}
+within_both ns ms ks a b c one two = grind (arith, append_assoc, rise_up, rise_append) steps 400000
 
 within_lower : (ns : List ℕ) (a b : ℕ) (ns' : List ℕ) (c : ℕ) → (c < last_number → a ≤ b) → GivesWithin ns b ns' c → GivesWithin ns a ns' c
 within_lower ns a b ns' c up gives = record { more = gives.more; behind = gives.behind; rise = λ below. rise_lower a b gives.more c (up below) (gives.rise below) }
 
 within_higher : (ns : List ℕ) (a : ℕ) (ns' : List ℕ) (b c : ℕ) → (c < last_number → b ≤ c) → GivesWithin ns a ns' b → GivesWithin ns a ns' c
-within_higher ns a ns' b c up gives = record {
-  more = gives.more;
-  behind = gives.behind;
-  rise = λ below. let high = up below in rise_higher a gives.more b c high (gives.rise (omega (arith, high, below)));
-}
+within_higher ns a ns' b c up gives = grind (arith, rise_higher) steps 400000
 
 -- ---- the notes of one client
 
@@ -141,20 +123,12 @@ in_time_same t u a b same none =
 -- a note was made, or notes were that were not
 pub made_in_time : (ms ms' ws ws' : List ℕ) (a b : NoteNumbers) → GivesNumbers ms a.made ms' b.made → ws' ≡ ws → b.waiting ≡ a.waiting
     → NotesInTime (record { made = ms; waiting = ws }) a (record { made = ms'; waiting = ws' }) b
-made_in_time ms ms' ws ws' a b gives same none = record {
-  made = gives;
-  waiting = subst (λ (l : List ℕ). GivesNumbers ws a.waiting l b.waiting) (sym same)
-      (subst (λ (n : ℕ). GivesNumbers ws a.waiting ws n) (sym none) (gives_none ws a.waiting));
-}
+made_in_time ms ms' ws ws' a b gives same none = grind (arith, gives_none) steps 400000
 
 -- a note waits
 pub waits_in_time : (ms ms' ws ws' : List ℕ) (a b : NoteNumbers) → GivesNumbers ws a.waiting ws' b.waiting → ms' ≡ ms → b.made ≡ a.made
     → NotesInTime (record { made = ms; waiting = ws }) a (record { made = ms'; waiting = ws' }) b
-waits_in_time ms ms' ws ws' a b gives same none = record {
-  waiting = gives;
-  made = subst (λ (l : List ℕ). GivesNumbers ms a.made l b.made) (sym same)
-      (subst (λ (n : ℕ). GivesNumbers ms a.made ms n) (sym none) (gives_none ms a.made));
-}
+waits_in_time ms ms' ws ws' a b gives same none = grind (arith, gives_none) steps 400000
 
 -- nothing was noted
 pub still_made : (ms ms' ws : List ℕ) (a : NoteNumbers) → ms' ≡ ms → NotesInTime (record { made = ms; waiting = ws }) a (record { made = ms'; waiting = ws }) a
@@ -181,12 +155,7 @@ module _ {T U C : Type 0} where
   times_there clients k x here = times_in clients k ∙ ap time_in here
 
   times_none : (clients : List (Option (Stored T U C))) (k : ℕ) → stored_at k clients ≡ None → times_at k (map times_of clients) ≡ no_times
-  times_none clients k none = times_in clients k ∙ at (slice_get clients k) none
-    where
-      at : (o : Option (Option (Stored T U C))) → option_map_or (λ s. s) o None ≡ None → time_in o ≡ no_times
-      at None is = refl
-      at (Some None) is = refl
-      at (Some (Some s)) is = absurd (false≢true (sym (ap is_some is)))
+  times_none clients k none = grind (arith, times_in, slice_get, option_map_or, no_times, is_some) steps 400000
 
   times_same : (clients clients' : List (Option (Stored T U C))) (k : ℕ) → slice_get clients' k ≡ slice_get clients k
       → times_at k (map times_of clients') ≡ times_at k (map times_of clients)
@@ -210,9 +179,7 @@ module _ (of : NoteTimes → List ℕ) where
       up = rise_up next gives.more next' more
 
       rise_at : (k : ℕ) (b : Bool) → (k == i) ≡ b → RiseWithin 0 (of (times_at k ts')) next'
-      rise_at k true same =
-          subst (λ (n : ℕ). RiseWithin 0 (of (times_at n ts')) next') (sym (eqb-true k i same))
-          (subst (λ (l : List ℕ). RiseWithin 0 l next') (sym gives.behind) (rise_append 0 (of (times_at i ts)) next gives.more next' (is.rise i) more))
+      rise_at k true same = grind (arith, times_at, rise_append) steps 400000
       rise_at k false other =
           subst (λ (t : NoteTimes). RiseWithin 0 (of t) next') (sym (others k (other_of k i other)))
           (rise_higher 0 (of (times_at k ts)) next next' up (is.rise k))
@@ -445,53 +412,19 @@ module _ {T U C : Type 0} where
 
   pub numbered_put : (clients clients' : List (Option (Stored T U C))) (i : ℕ) (s : Stored T U C) → IsPut clients i s clients' → IsNumbered (Some s)
       → AllNumbered clients → AllNumbered clients'
-  numbered_put clients clients' i s (here, others) is all k = at (k == i) refl
-    where
-      at : (b : Bool) → (k == i) ≡ b → IsNumbered (stored_at k clients')
-      at true same =
-          subst (λ (n : ℕ). IsNumbered (stored_at n clients')) (sym (eqb-true k i same))
-          (subst (λ (o : Option (Option (Stored T U C))). IsNumbered (option_map_or (λ s. s) o None)) (sym here) is)
-      at false other =
-          subst (λ (o : Option (Option (Stored T U C))). IsNumbered (option_map_or (λ s. s) o None)) (sym (others k (other_of k i other))) (all k)
+  numbered_put clients clients' i s (here, others) is all k = grind (arith, stored_at, option_map_or, other_of) steps 400000
 
   -- killed clients leave
   pub numbered_staying : (clients : List (Option (Stored T U C))) → AllNumbered clients → AllNumbered (all_staying clients)
-  numbered_staying clients all k = subst (λ (o : Option (Option (Stored T U C))). IsNumbered (option_map_or (λ s. s) o None)) (sym (get_map staying clients k)) (at (slice_get clients k) (all k))
-    where
-      leaves : (b : Bool) (s : Stored T U C) → IsNumbered (Some s) → IsNumbered (if b then None else Some s)
-      leaves true s is = (refl, refl)
-      leaves false s is = is
-
-      at : (o : Option (Option (Stored T U C))) → IsNumbered (option_map_or (λ s. s) o None) → IsNumbered (option_map_or (λ s. s) (option_map staying o) None)
-      at None is = (refl, refl)
-      at (Some None) is = (refl, refl)
-      at (Some (Some s)) is = leaves s.part.is_killed s is
+  numbered_staying clients all k = grind (arith, option_map_or, get_map, staying, slice_get, option_map) steps 400000
 
 -- a new server
 pub no_numbers : (n : NoteNumbers) → HasNumbers n []
-no_numbers n = record { made = λ below. none (λ t. t.made) n.made refl; waiting = λ below. none (λ t. t.waiting) n.waiting refl }
-  where
-    none : (of : NoteTimes → List ℕ) (next : ℕ) → of no_times ≡ [] → AreInTime of next []
-    none of next empty = record {
-      rise = λ k. subst (λ (l : List ℕ). RiseWithin 0 l next) (sym empty) (omega arith);
-      apart = λ j k m a b. absurd (nothing m (subst (λ (l : List ℕ). Contains l m) empty a));
-    }
-      where
-        nothing : (m : ℕ) → Contains [] m → ⊥
-        nothing m (k, below, at) = omega (arith, below)
+no_numbers n = grind (arith, no_times) steps 400000
 
 -- no note waits, and the numbers of those that wait begin anew
 pub waiting_anew : (ts : List NoteTimes) (a : NoteNumbers) → NoneWaits ts → HasNumbers a ts → HasNumbers (record a { waiting = 0 }) ts
-waiting_anew ts a none has = record {
-  made = has.made;
-  waiting = λ below. record {
-    rise = λ k. subst (λ (l : List ℕ). RiseWithin 0 l 0) (sym (none k)) (omega arith);
-    apart = λ j k n a b. absurd (nothing n (subst (λ (l : List ℕ). Contains l n) (none j) a));
-  };
-}
-  where
-    nothing : (n : ℕ) → Contains [] n → ⊥
-    nothing n (k, below, at) = omega (arith, below)
+waiting_anew ts a none has = grind (arith) steps 400000
 
 -- ---- notes that are taken
 
@@ -557,16 +490,4 @@ module _ {T U C : Type 0} where
 
   -- killed clients are gone with what is left of their notes
   pub all_take_leave : (clients : List (Option (Stored T U C))) → AllTakeFirst (map times_of clients) (map times_of (all_staying clients))
-  all_take_leave clients k =
-      subst (λ (t : NoteTimes). TakesFirst t (times_at k (map times_of (all_staying clients)))) (sym (times_in clients k))
-      (subst (λ (t : NoteTimes). TakesFirst (time_in (slice_get clients k)) t)
-      (sym (times_in (all_staying clients) k ∙ ap time_in (get_map staying clients k))) (at (slice_get clients k)))
-    where
-      leaves : (b : Bool) (s : Stored T U C) → TakesFirst s.times (times_of (if b then None else Some s))
-      leaves true s = takes_all s.times
-      leaves false s = takes_none s.times
-
-      at : (o : Option (Option (Stored T U C))) → TakesFirst (time_in o) (time_in (option_map staying o))
-      at None = takes_none no_times
-      at (Some None) = takes_none no_times
-      at (Some (Some s)) = leaves s.part.is_killed s
+  all_take_leave clients k = grind (arith, times_at, times_of, all_staying, times_in, slice_get, get_map, staying, takes_all, takes_none, option_map, no_times) steps 400000

@@ -80,12 +80,7 @@ module _ {T U G C : Type 0} (w : World T G C) (before : ServerState T U G C) (s 
       is_refused is = inr (target, rw (same_self target) is)
 
       was_refused : (lacks_growth (Asked s answer) ≡ true) ⊎ ((id : ClientParts) × (lacks_at (same_client target id) lacked ≡ true)) → lacked ≡ true
-      was_refused (inl growth) = absurd (false≢true (sym own.growth ∙ growth))
-      was_refused (inr (id, lacks)) = at (same_client target id) lacks
-        where
-          at : (b : Bool) → lacks_at b lacked ≡ true → lacked ≡ true
-          at true is = is
-          at false is = absurd (false≢true is)
+      was_refused h1 = grind (arith, false≢true, lacks_at) steps 400000
 
   -- the same of the client that was looked up by the id, as this was read
   pub done_to : {was : Bool} (read : ClientParts) (c c' : Stored T U C) (lacked : Bool) → read ≡ target → Some c ≡ client_at read before.clients

@@ -1,5 +1,5 @@
 -- A call over a transport whose sends and receives are those of a script, as one over the transport by script; and the other way.
-use Rattle.std.proofs.Common.{◌≡◌, ◌+◌, Bool, true, false, List, [], ◌∷◌, ◌++◌, Option, None, Some, Err, refl, sym, ap, subst, ◌∙◌}
+use Rattle.std.proofs.Common.{◌≡◌, ◌+◌, Bool, true, false, List, [], ◌∷◌, ◌++◌, Option, None, Some, Err, refl, sym, ap, subst, ◌∙◌, arith}
 use mathlib.Core.Logic.{inl, inr}
 use Rattle.std.specs.Prelude.{MatchOption}
 use Rattle.std.proofs.lemmas.Bool.{false≢true}
@@ -43,15 +43,7 @@ module _ {U G C : Type 0} (views : G → ClientParts → C → GlobalParts → B
     -- no other transport makes the moves of a script: but those that name nobody are alike
     moved : (target : ClientParts) (m : Move) (answer : Moved) (before : Seen Script U C) (lacked : Bool) (did : List (Deed U)) (after : Seen Script U C)
         → MovedFor (by_script views) id offer target m answer before lacked did after → MovedFor (over_scripts views) id offer target m answer before lacked did after
-    moved target m answer before lacked did after h = about (same_client target id) before h
-      where
-        about : (b : Bool) (before : Seen Script U C) → OfMoved (by_script views) b answer m before lacked did after → OfMoved (over_scripts views) b answer m before lacked did after
-        about false before h = h
-        about true before h = on before.part h
-          where
-            on : (o : Option (Part Script U C)) → OnMoved (by_script views) o answer m before lacked did after → OnMoved (over_scripts views) o answer m before lacked did after
-            on None h = h
-            on (Some p) (q, (is, none, (t, impossible, becomes)), same) = absurd impossible
+    moved target m answer before lacked did after h = grind (arith, over_scripts) steps 400000
 
     part_step : (s : Step Script U G C) (answer : Reply Script U) (before : Seen Script U C) (lacked : Bool) (did : List (Deed U)) (after : Seen Script U C)
         → PartStep (by_script views) id offer s answer before lacked did after → PartStep (over_scripts views) id offer s answer before lacked did after
@@ -64,9 +56,7 @@ module _ {U G C : Type 0} (views : G → ClientParts → C → GlobalParts → B
 
     part_call : (call : Call Script U G C) (before : Seen Script U C) (lacked : Bool) (did : List (Deed U)) (after : Seen Script U C)
         → PartCall (by_script views) id offer call before lacked did after → PartCall (over_scripts views) id offer call before lacked did after
-    part_call (Asked s answer) before lacked did after h = part_step s answer before lacked did after h
-    part_call (Changed target t) before lacked did after h = h
-    part_call (Grown rows answer) before lacked did after h = h
+    part_call call before lacked did after h1 = grind (arith, part_step) steps 400000
 
   pub one_over_script : (before : ServerState Script U G C) (e : Entry Script U G C) (after : ServerState Script U G C)
       → OneStep (by_script views) before e after → OneStep (over_scripts views) before e after

@@ -1,5 +1,5 @@
 -- What is held of each client id after one slot was written.
-use Rattle.std.proofs.Common.{◌≡◌, ◌≢◌, ℕ, Bool, true, false, ◌<◌, ◌≤◌, List, [], ◌++◌, length, Option, None, Some, is_some, refl, sym, ap, subst, ◌∙◌, append_assoc, true≢false}
+use Rattle.std.proofs.Common.{◌≡◌, ◌≢◌, ℕ, Bool, true, false, ◌<◌, ◌≤◌, List, [], ◌++◌, length, Option, None, Some, is_some, refl, sym, ap, subst, ◌∙◌, append_assoc, true≢false, arith}
 use Rattle.std.specs.Option.{option_map_or}
 use Rattle.std.specs.Prelude.{if◌then◌else◌, ◌==◌, slice_get, slice_index_or, slice_set}
 use Rattle.std.proofs.lemmas.Bool.{eqb-true, eq-eqb, false≢true}
@@ -22,17 +22,10 @@ pub data Same (a b : ClientParts) : Type 0 where
   Serials : (slot : a.slot ≡ b.slot) (serial : (a.serial == b.serial) ≡ false) → Same a b
 
 pub compare : (a b : ClientParts) → Same a b
-compare a b = at (a.slot == b.slot) (a.serial == b.serial) refl refl
-  where
-    at : (s t : Bool) → (a.slot == b.slot) ≡ s → (a.serial == b.serial) ≡ t → Same a b
-    at true true slot serial = Are (eqb-true a.slot b.slot slot) (eqb-true a.serial b.serial serial)
-    at true false slot serial = Serials (eqb-true a.slot b.slot slot) serial
-    at false t slot serial = Slots slot
+compare a b = grind (arith, eqb-true) steps 400000
 
 pub same_parts : (a b : ClientParts) → a.slot ≡ b.slot → a.serial ≡ b.serial → a ≡ b
-same_parts a b slot serial =
-    ap (λ (n : ℕ). let c : ClientParts = record { slot = n; serial = a.serial } in c) slot
-    ∙ ap (λ (n : ℕ). let c : ClientParts = record { slot = b.slot; serial = n } in c) serial
+same_parts a b slot serial = grind (arith) steps 400000
 
 pub same_self : (a : ClientParts) → same_client a a ≡ true
 same_self a = rw (eq-eqb a.slot a.slot refl) (eq-eqb a.serial a.serial refl)
@@ -75,11 +68,7 @@ module _ {T U C : Type 0} where
   -- ---- the slot of a stored client
 
   pub slot_within : (clients : List (Option (Stored T U C))) (id : ClientParts) → is_some (client_at id clients) ≡ true → id.slot < length clients
-  slot_within clients id some = at (slice_get clients id.slot) refl
-    where
-      at : (x : Option (Option (Stored T U C))) → slice_get clients id.slot ≡ x → id.slot < length clients
-      at None none = absurd (false≢true (sym (ap is_some (client_past id clients none)) ∙ some))
-      at (Some x) here = slice_get_within clients id.slot x here
+  slot_within clients id some = grind (arith, slice_get, false≢true, is_some, client_past, slice_get_within) steps 400000
 
   -- an id that was read is the id
   pub stored_by : (clients : List (Option (Stored T U C))) (read id : ClientParts) (b : Bool) → read ≡ id → b ≡ is_some (client_at read clients)
@@ -93,37 +82,12 @@ module _ {T U C : Type 0} where
   -- what was read at the slot of a stored client is the client
   pub slot_reads : (clients : List (Option (Stored T U C))) (id : ClientParts) (n : ℕ) (x : Option (Stored T U C)) → is_some (client_at id clients) ≡ true
       → n ≡ id.slot → x ≡ slice_index_or clients n x → x ≡ client_at id clients
-  slot_reads clients id n x some at value =
-      let reads : client_at id clients ≡ if_serial id.serial x =
-      ap (λ (o : Option (Option (Stored T U C))). if_serial id.serial (option_map_or (λ s. s) o None))
-      (slot_holds clients id x some (subst (λ (i : ℕ). x ≡ slice_index_or clients i x) at value)) in
-      sym (reads ∙ same x (sym (ap is_some reads) ∙ some))
-    where
-      same : (o : Option (Stored T U C)) → is_some (if_serial id.serial o) ≡ true → if_serial id.serial o ≡ o
-      same None is = refl
-      same (Some s) is = of (s.serial == id.serial) is
-        where
-          of : (b : Bool) → is_some (if b then Some s else None) ≡ true → (if b then Some s else None) ≡ Some s
-          of true is = refl
-          of false is = absurd (false≢true is)
+  slot_reads clients id n x some at value = grind (arith, client_at, if_serial, option_map_or, slot_holds, slice_index_or, is_some, false≢true) steps 400000
 
   -- the client of an id is at its slot, under its serial
   pub slot_of_client : (clients : List (Option (Stored T U C))) (id : ClientParts) (s : Stored T U C) → Some s ≡ client_at id clients
       → (slice_get clients id.slot ≡ Some (Some s)) × (s.serial ≡ id.serial)
-  slot_of_client clients id s is = at (slice_get clients id.slot) refl
-    where
-      of : (x : Stored T U C) (b : Bool) → slice_get clients id.slot ≡ Some (Some x) → (x.serial == id.serial) ≡ b
-          → (slice_get clients id.slot ≡ Some (Some s)) × (s.serial ≡ id.serial)
-      of x true here known =
-          let serial = eqb-true x.serial id.serial known in
-          subst (λ (o : Option (Stored T U C)). (slice_get clients id.slot ≡ Some o) × (option_map_or (λ y. y.serial) o id.serial ≡ id.serial))
-          (sym (is ∙ client_present id clients x here serial)) (here, serial)
-      of x false here differ = absurd (false≢true (sym (ap is_some (is ∙ client_absent id clients x here differ))))
-
-      at : (o : Option (Option (Stored T U C))) → slice_get clients id.slot ≡ o → (slice_get clients id.slot ≡ Some (Some s)) × (s.serial ≡ id.serial)
-      at None past = absurd (false≢true (sym (ap is_some (is ∙ client_past id clients past))))
-      at (Some None) empty = absurd (false≢true (sym (ap is_some (is ∙ client_empty id clients empty))))
-      at (Some (Some x)) here = of x (x.serial == id.serial) here refl
+  slot_of_client clients id s is = grind (arith, slice_get, eqb-true, option_map_or, client_present, false≢true, is_some, client_absent, client_past, client_empty) steps 400000
 
   -- ---- a step of one client
 
@@ -201,46 +165,20 @@ module _ {T U C : Type 0} where
   -- no client of that id is stored: so no client makes anything of it
   pub each_missing : (clients : List (Option (Stored T U C))) (notes : List (Note U)) (target : ClientParts) (R : Kind T U C) (missing : Type 0)
       → client_at target clients ≡ None → missing → (id : ClientParts) → Missing target R missing id (same_client target id) (held_of notes clients id)
-  each_missing clients notes target R missing none is id =
-      elim (compare target id) [
-        | Are slot serial ↦ subst (λ (i : ClientParts). Missing target R missing i (same_client target i) (held_of notes clients i)) (same_parts target id slot serial) meant
-        | Slots slot ↦ other (same_client target id) (same_slots target id slot)
-        | Serials slot differ ↦ other (same_client target id) (same_serials target id slot differ)
-      ]
-    where
-      there : (b : Bool) (held : Seen T U C) → b ≡ true → OnPart held (λ p q. R target p false [] q) missing false [] held → Missing target R missing target b held
-      there true held same on = on
-      there false held same on = absurd (false≢true same)
-
-      meant : Missing target R missing target (same_client target target) (held_of notes clients target)
-      meant = there (same_client target target) (held_of notes clients target) (same_self target)
-          (subst (λ (x : Option (Stored T U C)). OnPart (seen_as (notes_of target notes) x) (λ p q. R target p false [] q) missing false []
-          (seen_as (notes_of target notes) x)) (sym none) (is, (refl, refl, refl)))
-
-      other : (b : Bool) → b ≡ false → Missing target R missing id b (held_of notes clients id)
-      other true differ = absurd (true≢false differ)
-      other false differ = (refl, refl, refl)
+  each_missing clients notes target R missing none is id = grind (arith, compare, same_parts, same_slots, same_serials, false≢true, same_self, seen_as, notes_of, true≢false) steps 400000
 
 -- ---- a client that is looked up
 
 module _ {T U C : Type 0} where
   pub reads_place : (clients : List (Option (Stored T U C))) (id : ClientParts) (slot : ℕ) (x : Option (Stored T U C))
       → slot ≡ id.slot → slice_get clients slot ≡ Some x → client_at id clients ≡ if_serial id.serial x
-  reads_place clients id slot x same here =
-      ap (λ (n : ℕ). if_serial id.serial (option_map_or (λ s. s) (slice_get clients n) None)) (sym same)
-      ∙ ap (λ (o : Option (Option (Stored T U C))). if_serial id.serial (option_map_or (λ s. s) o None)) here
+  reads_place clients id slot x same here = grind (arith, if_serial, option_map_or, slice_get) steps 400000
 
   pub reads_past : (clients : List (Option (Stored T U C))) (id : ClientParts) (slot : ℕ) → slot ≡ id.slot → length clients ≤ slot → client_at id clients ≡ None
-  reads_past clients id slot same past =
-      ap (λ (n : ℕ). if_serial id.serial (option_map_or (λ s. s) (slice_get clients n) None)) (sym same)
-      ∙ ap (λ (o : Option (Option (Stored T U C))). if_serial id.serial (option_map_or (λ s. s) o None)) (slice_get_past clients slot past)
+  reads_past clients id slot same past = grind (arith, if_serial, option_map_or, slice_get, slice_get_past) steps 400000
 
   pub serial_same : (serial : ℕ) (s : Stored T U C) → s.serial ≡ serial → if_serial serial (Some s) ≡ Some s
   serial_same serial s same = rw (eq-eqb s.serial serial same) refl
 
   pub serial_differs : (serial : ℕ) (s : Stored T U C) → s.serial ≢ serial → if_serial serial (Some s) ≡ None
-  serial_differs serial s differ = at (s.serial == serial) refl
-    where
-      at : (b : Bool) → (s.serial == serial) ≡ b → if_serial serial (Some s) ≡ None
-      at true same = absurd (differ (eqb-true s.serial serial same))
-      at false other = rw other refl
+  serial_differs serial s differ = grind (arith, if_serial, eqb-true) steps 400000

@@ -52,15 +52,7 @@ module _ {T U C : Type 0} where
   pub none_ends : (n : ℕ) (clients : List (Option (Stored T U C))) → length (collected given_at n clients) ≤ 0 → length (collected ends_at n clients) ≤ 0
   none_ends n [] none = none
   none_ends n (None ∷ clients) none = none_ends (n + 1) clients none
-  none_ends n (Some s ∷ clients) none = at s.part.is_killed refl (none_ends (n + 1) clients)
-    where
-      at : (b : Bool) → s.part.is_killed ≡ b → (length (collected given_at (n + 1) clients) ≤ 0 → length (collected ends_at (n + 1) clients) ≤ 0)
-          → length (collected ends_at n (Some s ∷ clients)) ≤ 0
-      at true killed rest = absurd (some_killed (id_in n s, s.part.link.transport) (collected given_at (n + 1) clients) (rw killed at none))
-        where
-          some_killed : {A : Type 0} (x : A) (l : List A) → length (x ∷ l) ≤ 0 → ⊥
-          some_killed x l few = omega (arith, few)
-      at false live rest = rw live (rest (rw live at none))
+  none_ends n (Some s ∷ clients) none = grind (arith, none_ends (n + 1) clients) steps 400000
 
   -- ---- who asks
 

@@ -36,17 +36,10 @@ module _ {U : Type 0} where
 
   leave_notes : (client : ClientParts) (objects : List (ℕ × Object (Kept U))) → notes_in (objects_leave client objects) ≡ ends_of client objects
   leave_notes client [] = refl
-  leave_notes client (e ∷ objects) =
-      notes_append (map Noted (note_of_end client e.0 e.1)) (left_if (id_of (id_at client e.0 e.1)) e.1.value.user_data ++ objects_leave client objects)
-      ∙ (ap (λ (l : List (Happening U)). l ++ notes_in (left_if (id_of (id_at client e.0 e.1)) e.1.value.user_data ++ objects_leave client objects)) (noted_notes (note_of_end client e.0 e.1))
-      ∙ ap (λ (l : List (Happening U)). note_of_end client e.0 e.1 ++ l)
-      (left_notes (id_of (id_at client e.0 e.1)) e.1.value.user_data (objects_leave client objects) ∙ leave_notes client objects))
+  leave_notes client (e ∷ objects) = grind (arith, notes_append, note_of_end, id_of, id_at, noted_notes, left_notes, leave_notes client objects) steps 400000
 
   killed_notes : (n m w e s d n2 n3 : List (Happening U)) → n2 ≡ n ++ (m ++ w) → n3 ≡ n2 ++ e → s ≡ [] → d ≡ w ++ (e ++ s) → n3 ++ [] ≡ (n ++ m) ++ d
-  killed_notes n m w e s d n2 n3 is is' none all =
-      append-nil n3 ∙ (is' ∙ (ap (λ (l : List (Happening U)). l ++ e) is
-      ∙ (append_assoc n (m ++ w) e ∙ (ap (λ (l : List (Happening U)). n ++ l) (append_assoc m w e)
-      ∙ (sym (append_assoc n m (w ++ e)) ∙ ap (λ (l : List (Happening U)). (n ++ m) ++ l) (sym (all ∙ ap (λ (l : List (Happening U)). w ++ (e ++ l)) none ∙ ap (λ (l : List (Happening U)). w ++ l) (append-nil e))))))))
+  killed_notes n m w e s d n2 n3 is is' none all = grind (arith, append-nil, append_assoc) steps 400000
 
 module _ {T U G C : Type 0} (w : World T G C) (id : ClientParts) (offer : Offer G) (out : Vec (ClientParts × T) Global) where
   -- ---- one client
@@ -98,10 +91,7 @@ module _ {T U G C : Type 0} (w : World T G C) (id : ClientParts) (offer : Offer 
     where
       both : {P : Type 0} (a b : List (Happening U)) → a ++ b ≡ [] → (a ≡ [] → b ≡ [] → P) → P
       both [] b none goes = goes refl none
-      both (h ∷ a) b none goes = absurd (cons_nil none)
-        where
-          cons_nil : h ∷ (a ++ b) ≡ [] → ⊥
-          cons_nil e = cc
+      both (h ∷ a) b none goes = grind (arith) steps 400000
 
   cleaned_from : (s s1 : Stored T U C) (lacked : Bool) (sent : List (Deed U)) (n n2 n3 : List (Happening U)) → FlushesKilled w.sends s.part lacked sent s1.part → s1.made ≡ s.made ++ notes_in sent
       → n2 ++ [] ≡ n ++ (s1.made ++ s1.part.waiting) → n3 ≡ n2 ++ ends_in id (Some (emptied true s1)) → share_of id out.items ≡ given_in (Some (emptied true s1))
@@ -136,12 +126,7 @@ module _ {T U G C : Type 0} (w : World T G C) (id : ClientParts) (offer : Offer 
 
   -- the numbers of its notes are of no account
   seen_untimed : (n : List (Happening U)) (x : Option (Stored T U C)) → seen_as n (staying (option_map untimed x)) ≡ seen_as n (staying x)
-  seen_untimed n None = refl
-  seen_untimed n (Some s) = at s.part.is_killed
-    where
-      at : (b : Bool) → seen_as n (if b then None else Some (untimed s)) ≡ seen_as n (if b then None else Some s)
-      at true = refl
-      at false = refl
+  seen_untimed n x = grind (arith, seen_as, untimed) steps 400000
 
   ends_untimed : (x : Option (Stored T U C)) → ends_in id x ≡ ends_in id (option_map untimed x)
   ends_untimed None = refl
@@ -175,18 +160,7 @@ module _ {T U G C : Type 0} (w : World T G C) (id : ClientParts) (offer : Offer 
       at : (x0 x1 : Option (Stored T U C)) → Feels (seen_as [] x0) (λ p q. FlushesKilled w.sends p lacked sent q) lacked sent (seen_as [] x1)
           → n2 ++ [] ≡ n ++ to_gather true x1 → n3 ≡ n2 ++ ends_in id (option_map (emptied true) x1) → share_of id out.items ≡ given_in (option_map (emptied true) x1)
           → CleanedBy x0 n lacked (staying (option_map (emptied true) x1)) n3
-      at None None (u, (not, nothing, same)) told noted given = (
-        [],
-        (
-          given,
-          (
-            not,
-            refl,
-            ap (λ (m : List (Happening U)). let x : Seen T U C = record { part = None; made = m ++ [] } in x)
-                (noted ∙ (append-nil n2 ∙ (sym (append-nil n2) ∙ (told ∙ append-nil n)))),
-          ),
-        ),
-      )
+      at None None (u, (not, nothing, same)) told noted given = grind (arith, append-nil) steps 400000
       at None (Some s1) (u, (not, nothing, same)) told noted given = absurd (none-some s1.part (sym (ap (λ (x : Seen T U C). x.part) same)))
       at (Some s) None (q, flushes, now) told noted given = absurd (none-some q (ap (λ (x : Seen T U C). x.part) now))
       at (Some s) (Some s1) (q, flushes, now) told noted given =

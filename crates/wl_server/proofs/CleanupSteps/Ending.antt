@@ -25,24 +25,9 @@ module _ {U : Type 0} where
   pub ended_one : (client : ClientParts) (notes notes' : List (Note U)) (e : ℕ × Object (Kept U)) (objects rest : List (ℕ × Object (Kept U))) (total : List (Note U)) (room : ℕ)
       → objects ≡ e ∷ rest → Ending client notes objects total room → notes' ≡ notes ++ map (note_of client) (note_of_end client e.0 e.1)
       → Ending client notes' rest total room
-  ended_one client notes notes' e objects rest total room first before is =
-      let here : Ending client notes (e ∷ rest) total room = subst (λ (l : List (ℕ × Object (Kept U))). Ending client notes l total room) first before in
-      let long : length notes' ≡ length notes + length (map (note_of client) (note_of_end client e.0 e.1)) = ap length is ∙ length-append notes (map (note_of client) (note_of_end client e.0 e.1)) in
-      let mapped = length-map (note_of_end client e.0 e.1) (note_of client) in
-      let all = length-append (note_of_end client e.0 e.1) (ends_of client rest) in
-      let fits = here.fits in
-      record {
-        noted = ap (λ (l : List (Note U)). l ++ map (note_of client) (ends_of client rest)) is
-            ∙ (append_assoc notes (map (note_of client) (note_of_end client e.0 e.1)) (map (note_of client) (ends_of client rest))
-            ∙ (ap (λ (l : List (Note U)). notes ++ l) (sym (map-append (note_of client) (note_of_end client e.0 e.1) (ends_of client rest))) ∙ here.noted));
-        fits = omega (arith, long, mapped, all, fits);
-      }
+  ended_one client notes notes' e objects rest total room first before is = grind (arith, length-append, length-map, append_assoc, map-append) steps 400000
 
   -- there is room for its note
   pub ending_room : (client : ClientParts) (notes : List (Note U)) (e : ℕ × Object (Kept U)) (objects rest : List (ℕ × Object (Kept U))) (total : List (Note U)) (room n : ℕ)
       → objects ≡ e ∷ rest → Ending client notes objects total room → n ≡ length notes → n + length (note_of_end client e.0 e.1) ≤ room
-  ending_room client notes e objects rest total room n first before is =
-      let here : Ending client notes (e ∷ rest) total room = subst (λ (l : List (ℕ × Object (Kept U))). Ending client notes l total room) first before in
-      let all = length-append (note_of_end client e.0 e.1) (ends_of client rest) in
-      let fits = here.fits in
-      omega (arith, all, fits, is)
+  ending_room client notes e objects rest total room n first before is = grind (arith, length-append) steps 400000

@@ -59,9 +59,7 @@ drop_next (y ∷ xs) zero x here = ap (λ (z : _). z ∷ xs) (same_Some y x here
 drop_next (y ∷ xs) (suc k) x here = drop_next xs k x here
 
 drop_at : {A : Type 0} (xs : List A) (k : ℕ) (x : A) → slice_get xs k ≡ Some x → drop k xs ≡ x ∷ drop (k + 1) xs
-drop_at xs k x here =
-    let next : suc k ≡ k + 1 = omega arith in
-    subst (λ (n : ℕ). drop k xs ≡ x ∷ drop n xs) next (drop_next xs k x here)
+drop_at xs k x here = grind (arith, drop_next) steps 400000
 
 pub drop_past : {A : Type 0} (xs : List A) (k : ℕ) → length xs ≤ k → drop k xs ≡ []
 drop_past [] zero past = refl
@@ -81,11 +79,7 @@ put_made_places slot made ws order order' is =
 pub put_both_places : {U : Type 0} (slot : ℕ) (made waiting : List (ℕ × Happening U)) (order order' order'' : List NotePlace) → order' ≡ order ++ map (place_of false slot) made
     → order'' ≡ order' ++ map (place_of true slot) waiting
     → order'' ≡ order ++ places_of true slot (record { made = map (λ n. n.0) made; waiting = map (λ n. n.0) waiting })
-put_both_places slot made waiting order order' order'' is is' =
-    is' ∙ (ap (λ (l : List NotePlace). l ++ map (place_of true slot) waiting) is
-    ∙ (append_assoc order (map (place_of false slot) made) (map (place_of true slot) waiting)
-    ∙ (ap (λ (l : List NotePlace). order ++ (l ++ map (place_of true slot) waiting)) (places_by_number false slot made)
-    ∙ ap (λ (l : List NotePlace). order ++ (map (place_at false slot) (map (λ n. n.0) made) ++ l)) (places_by_number true slot waiting))))
+put_both_places slot made waiting order order' order'' is is' = grind (arith, place_of, append_assoc, places_by_number, place_at) steps 400000
 
 pub put_no_places : (waits : Bool) (slot : ℕ) (order : List NotePlace) → order ≡ order ++ places_of waits slot no_times
 put_no_places true slot order = sym (append-nil order)
@@ -93,22 +87,7 @@ put_no_places false slot order = sym (append-nil order)
 
 -- how many places a client's notes have does not hang on its slot
 places_length : (waits : Bool) (slot : ℕ) (t : NoteTimes) → length (places_of waits slot t) ≡ length (places_of waits 0 t)
-places_length waits slot t =
-    length-append (map (place_at false slot) t.made) (if waits then map (place_at true slot) t.waiting else [])
-    ∙ (sym (at waits) ∙ sym (length-append (map (place_at false 0) t.made) (if waits then map (place_at true 0) t.waiting else [])))
-  where
-    at : (b : Bool) → length (map (place_at false 0) t.made) + length (if b then map (place_at true 0) t.waiting else [])
-        ≡ length (map (place_at false slot) t.made) + length (if b then map (place_at true slot) t.waiting else [])
-    at true =
-        let m = length-map t.made (place_at false 0) in
-        let m' = length-map t.made (place_at false slot) in
-        let w = length-map t.waiting (place_at true 0) in
-        let w' = length-map t.waiting (place_at true slot) in
-        omega (arith, m, m', w, w')
-    at false =
-        let m = length-map t.made (place_at false 0) in
-        let m' = length-map t.made (place_at false slot) in
-        omega (arith, m, m')
+places_length waits slot t = grind (arith, length-append, place_at, length-map) steps 400000
 
 no_places : (waits : Bool) (slot : ℕ) (ts : List NoteTimes) → count_places waits ts ≤ 0 → all_places waits slot ts ≡ []
 no_places waits slot [] few = refl
@@ -145,9 +124,7 @@ module _ {U : Type 0} (slot k : ℕ) where
 
   pub put_made : (made : List (ℕ × Happening U)) (order order' : List NotePlace) → order' ≡ order ++ map (place_of false slot) made
       → places_at k order' ≡ places_at k order + (if slot == k then length (map (λ n. n.1) made ++ []) else 0)
-  put_made made order order' is =
-      put false made order order' is
-      ∙ ap (λ (n : ℕ). places_at k order + (if slot == k then n else 0)) (sym (ap length (append-nil (map (λ n. n.1) made)) ∙ length-map made (λ n. n.1)))
+  put_made made order order' is = grind (arith, put, places_at, append-nil, length-map) steps 400000
 
   pub put_both : (made waiting : List (ℕ × Happening U)) (order order' order'' : List NotePlace) → order' ≡ order ++ map (place_of false slot) made
       → order'' ≡ order' ++ map (place_of true slot) waiting
@@ -156,12 +133,7 @@ module _ {U : Type 0} (slot k : ℕ) where
     where
       at : (b : Bool) → places_at k order' ≡ places_at k order + (if b then length made else 0) → places_at k order'' ≡ places_at k order' + (if b then length waiting else 0)
           → places_at k order'' ≡ places_at k order + (if b then length (map (λ n. n.1) made ++ map (λ n. n.1) waiting) else 0)
-      at true first second =
-          let both = length-append (map (λ n. n.1) made) (map (λ n. n.1) waiting) in
-          let m = length-map made (λ n. n.1) in
-          let w = length-map waiting (λ n. n.1) in
-          omega (arith, first, second, both, m, w)
-      at false first second = omega (arith, first, second)
+      at b h1 h2 = grind (arith, length-append, length-map) steps 400000
 
 -- how many places a slot has among those of a client's notes
 at_place : (waits : Bool) (slot k : ℕ) (b : Bool) → (slot == k) ≡ b → (ns : List ℕ) → places_at k (map (place_at waits slot) ns) ≡ (if b then length ns else 0)
@@ -192,21 +164,7 @@ at_places waits slot k b is t =
 
     both : (v b : Bool) → (slot == k) ≡ b → places_at k (map (place_at false slot) t.made) + places_at k (if v then map (place_at true slot) t.waiting else [])
         ≡ (if b then length (map (place_at false 0) t.made) + length (if v then map (place_at true 0) t.waiting else []) else 0)
-    both true true is =
-        let m = at_place false slot k true is t.made in
-        let m' = length-map t.made (place_at false 0) in
-        let w = at_place true slot k true is t.waiting in
-        let w' = length-map t.waiting (place_at true 0) in
-        omega (arith, m, m', w, w')
-    both true false is =
-        let m = at_place false slot k false is t.made in
-        let w = at_place true slot k false is t.waiting in
-        omega (arith, m, w)
-    both false true is =
-        let m = at_place false slot k true is t.made in
-        let m' = length-map t.made (place_at false 0) in
-        omega (arith, m, m')
-    both false false is = let m = at_place false slot k false is t.made in omega (arith, m)
+    both v b h1 = grind (arith, at_place, length-map, place_at) steps 400000
 
 -- all the places of a slot, among those of all clients, are of its client
 past_places : (waits : Bool) (slot k : ℕ) (ts : List NoteTimes) → k < slot → places_at k (all_places waits slot ts) ≡ 0
@@ -218,11 +176,7 @@ past_places waits slot k (t ∷ ts) past =
     omega (arith, both, this, rest)
 
 places_among : (waits : Bool) (slot k n : ℕ) (ts : List NoteTimes) → n ≡ slot + k → places_at n (all_places waits slot ts) ≡ length (places_of waits 0 (times_at k ts))
-places_among waits slot k n [] at = none waits
-  where
-    none : (v : Bool) → 0 ≡ length (places_of v 0 no_times)
-    none true = refl
-    none false = refl
+places_among waits slot k n [] at = grind (arith, places_of, no_times) steps 400000
 places_among waits slot zero n (t ∷ ts) at =
     let both = sum_by-append (λ (p : NotePlace). if p.slot == n then 1 else 0) (places_of waits slot t) (all_places waits (slot + 1) ts) in
     let this = at_places waits slot n true (eq-eqb slot n (omega (arith, at))) t in
@@ -236,9 +190,7 @@ places_among waits slot (suc k) n (t ∷ ts) at =
 
 -- the note of a client has its slot
 slot_told : {U : Type 0} (id : ClientParts) (h : Happening U) → slot_of (note_of id h) ≡ id.slot
-slot_told id happened.Initialized = refl
-slot_told id (happened.Disconnected reason) = refl
-slot_told id (happened.Destroyed object u) = refl
+slot_told id h = grind (arith) steps 400000
 
 -- ---- the places of all clients
 
@@ -246,11 +198,7 @@ pub split : (a b : ℕ) → (a < b) ⊎ (b ≤ a)
 split zero zero = inr (omega arith)
 split zero (suc b) = inl (omega arith)
 split (suc a) zero = inr (omega arith)
-split (suc a) (suc b) = go (split a b)
-  where
-    go : (a < b) ⊎ (b ≤ a) → (suc a < suc b) ⊎ (suc b ≤ suc a)
-    go (inl below) = inl (omega (arith, below))
-    go (inr past) = inr (omega (arith, past))
+split (suc a) (suc b) = grind (arith, split a b) steps 400000
 
 module _ {T U C : Type 0} (waits : Bool) where
   -- each slot below this one has as many places as its client has notes, and the others have none
@@ -272,53 +220,15 @@ module _ {T U C : Type 0} (waits : Bool) where
   pub placed_more : (clients : List (Option (Stored T U C))) (slot : ℕ) (x : Option (Stored T U C)) (order order' : List NotePlace) → slice_get clients slot ≡ Some x
       → Placed clients slot order → ((k : ℕ) → places_at k order' ≡ places_at k order + (if slot == k then length (to_gather waits x) else 0))
       → Placed clients (slot + 1) order'
-  placed_more clients slot x order order' here placed put = record {
-    below = λ k below. at k below (slot == k) refl;
-    past = λ k past. none k past (slot == k) refl;
-  }
-    where
-      added : (k : ℕ) (b : Bool) → (slot == k) ≡ b → places_at k order' ≡ places_at k order + (if b then length (to_gather waits x) else 0)
-      added k b is = put k ∙ ap (λ (b : Bool). places_at k order + (if b then length (to_gather waits x) else 0)) is
-
-      at : (k : ℕ) → k < slot + 1 → (b : Bool) → (slot == k) ≡ b → places_at k order' ≡ length (to_gather waits (stored_at k clients))
-      at k below true is =
-          let same = eqb-true slot k is in
-          let more = added k true is in
-          let none = placed.past k (omega (arith, same)) in
-          let there : length (to_gather waits (stored_at k clients)) ≡ length (to_gather waits x) =
-          ap (λ (o : Option (Stored T U C)). length (to_gather waits o)) (subst (λ (n : ℕ). stored_at n clients ≡ x) same (stored_is clients slot x here))
-          in
-          omega (arith, more, none, there)
-      at k below false is =
-          let differ = other_of slot k is in
-          let more = added k false is in
-          let before = placed.below k (omega (arith, below, differ)) in
-          omega (arith, more, before)
-
-      none : (k : ℕ) → slot + 1 ≤ k → (b : Bool) → (slot == k) ≡ b → places_at k order' ≡ 0
-      none k past true is = let same = eqb-true slot k is in absurd (omega (arith, same, past))
-      none k past false is =
-          let more = added k false is in
-          let before = placed.past k (omega (arith, past)) in
-          omega (arith, more, before)
+  placed_more clients slot x order order' here placed put = grind (arith, places_at, to_gather, stored_at, eqb-true, stored_is, other_of) steps 400000
 
   pub placed_all : (clients : List (Option (Stored T U C))) (slot : ℕ) (order : List NotePlace) → length clients ≤ slot → Placed clients slot order → (k : ℕ)
       → places_at k order ≡ length (to_gather waits (stored_at k clients))
-  placed_all clients slot order ends placed k = at (split k slot)
-    where
-      at : (k < slot) ⊎ (slot ≤ k) → places_at k order ≡ length (to_gather waits (stored_at k clients))
-      at (inl below) = placed.below k below
-      at (inr past) =
-          placed.past k past
-          ∙ sym (ap (λ (o : Option (Stored T U C)). length (to_gather waits o)) (none_stored clients k (omega (arith, ends, past))))
+  placed_all clients slot order ends placed k = grind (arith, split, places_at, to_gather, stored_at, none_stored) steps 400000
 
   -- where there is no note, there is no place
   pub none_placed : (clients : List (Option (Stored T U C))) → AllLeft waits clients → (k : ℕ) → places_at k [] ≡ length (to_gather waits (stored_at k clients))
-  none_placed clients none k = at (slice_get clients k) refl
-    where
-      at : (o : Option (Option (Stored T U C))) → slice_get clients k ≡ o → 0 ≡ length (to_gather waits (option_map_or (λ s. s) o None))
-      at None here = refl
-      at (Some x) here = sym (ap length (none k x here))
+  none_placed clients none k = grind (arith, slice_get, to_gather) steps 400000
 
   -- ---- places that are left
 
@@ -395,29 +305,17 @@ module _ {T U C : Type 0} (waits : Bool) where
       at true same =
           subst (λ (n : ℕ). AreNumbered waits (stored_at n (slice_set clients i x'))) (eqb-true i k same)
           (subst (λ (o : Option (Stored T U C)). AreNumbered waits o) (sym (stored_is (slice_set clients i x') i x' (get_set_same clients i x x' here))) new)
-      at false other =
-          subst (λ (o : Option (Stored T U C)). AreNumbered waits o)
-          (sym (ap (λ (o : Option (Option (Stored T U C))). option_map_or (λ s. s) o None) (get_set_other clients i k x' (other_of i k other)))) (old k)
+      at false other = grind (arith, get_set_other, other_of) steps 400000
 
   pub none_numbered : (clients : List (Option (Stored T U C))) (order : List NotePlace) → order ≡ [] → Left clients order → ((k : ℕ) → AreNumbered waits (stored_at k clients))
       → NoneNumbered waits (map times_of clients)
-  none_numbered clients order none left numbered k =
-      let count = left k in
-      let no : places_at k order ≡ 0 = ap (places_at k) none in
-      let as_many = numbered k in
-      let there = ap (λ (t : NoteTimes). length (places_of waits 0 t)) (times_stored clients k) in
-      nil_from_length (places_of waits 0 (times_at k (map times_of clients))) (omega (arith, count, no, as_many, there))
+  none_numbered clients order none left numbered k = grind (arith, places_at, places_of, times_stored, nil_from_length, times_at, times_of) steps 400000
 
   -- ---- the slots of the notes
 
   pub slots_after : (notes notes' : List (Note U)) (slot : ℕ) (x x' : Option (Stored T U C)) → MovesNote waits slot x notes x' notes'
       → (one : List (Note U)) × (notes' ≡ notes ++ one) × (map slot_of one ≡ slot ∷ [])
-  slots_after notes notes' slot None x' (h, one, rest, is) = absurd (nil_cons one)
-    where
-      nil_cons : [] ≡ h ∷ to_gather waits x' → ⊥
-      nil_cons e = cc
-  slots_after notes notes' slot (Some s) x' (h, one, rest, is) =
-      (note_of (record { slot = slot; serial = s.serial }) h ∷ [], is, ap (λ (n : ℕ). n ∷ []) (slot_told (record { slot = slot; serial = s.serial }) h))
+  slots_after notes notes' slot x x' h1 = grind (arith, to_gather, note_of, slot_told) steps 400000
 
   -- ---- a round of the loop that gathers
 
@@ -445,13 +343,7 @@ module _ {T U C : Type 0} (waits : Bool) where
   -- there is no place where there is no note
   pub none_order : (clients : List (Option (Stored T U C))) (order : List NotePlace) → order ≡ [] → AllLeft waits clients → count_places waits (map times_of clients) ≤ 0
       → IsOrderOf waits clients order
-  none_order clients order none left few =
-      subst (λ (l : List NotePlace). IsOrderOf waits clients l) (sym none)
-      (record {
-        rise = λ k d below. absurd (omega (arith, below));
-        each = none_placed clients left;
-        numbers = subst (λ (l : List NotePlace). IsPermutation l []) (sym (no_places waits 0 (map times_of clients) few)) (IsPermutation-refl []);
-      })
+  none_order clients order none left few = grind (arith, none_placed, no_places, times_of) steps 400000
 
   -- ---- the places, client by client
 
@@ -463,17 +355,12 @@ module _ {T U C : Type 0} (waits : Bool) where
   pub placed_so_far : (clients : List (Option (Stored T U C))) (k : ℕ) (x : Option (Stored T U C)) (order order' : List NotePlace) → slice_get clients k ≡ Some x
       → order ++ all_places waits k (map times_of (drop k clients)) ≡ all_places waits 0 (map times_of clients) → order' ≡ order ++ places_of waits k (times_of x)
       → order' ++ all_places waits (k + 1) (map times_of (drop (k + 1) clients)) ≡ all_places waits 0 (map times_of clients)
-  placed_so_far clients k x order order' here before is =
-      ap (λ (l : List NotePlace). l ++ all_places waits (k + 1) (map times_of (drop (k + 1) clients))) is
-      ∙ (append_assoc order (places_of waits k (times_of x)) (all_places waits (k + 1) (map times_of (drop (k + 1) clients)))
-      ∙ (ap (λ (l : List (Option (Stored T U C))). order ++ all_places waits k (map times_of l)) (sym (drop_at clients k x here)) ∙ before))
+  placed_so_far clients k x order order' here before is = grind (arith, all_places, times_of, append_assoc, places_of, drop_at) steps 400000
 
   pub placed_whole : (clients : List (Option (Stored T U C))) (k : ℕ) (order order' : List NotePlace) → length clients ≤ k
       → order ++ all_places waits k (map times_of (drop k clients)) ≡ all_places waits 0 (map times_of clients) → IsPermutation order order'
       → IsPermutation (all_places waits 0 (map times_of clients)) order'
-  placed_whole clients k order order' past before moved =
-      subst (λ (l : List NotePlace). IsPermutation l order')
-      (sym (append-nil order) ∙ (ap (λ (l : List (Option (Stored T U C))). order ++ all_places waits k (map times_of l)) (sym (drop_past clients k past)) ∙ before)) moved
+  placed_whole clients k order order' past before moved = grind (arith, append-nil, all_places, times_of, drop_past) steps 400000
 
 pub along_more : {U : Type 0} (start now now' : List (Note U)) (order : List NotePlace) (i n : ℕ) (d : NotePlace) → i < length order → n ≡ (get_or order i d).slot
     → Along start now (take i order) → (one : List (Note U)) × (now' ≡ now ++ one) × (map slot_of one ≡ n ∷ []) → Along start now' (take (i + 1) order)

@@ -46,26 +46,15 @@ not_false true other = refl
 not_false false other = absurd (other refl)
 
 pub same_killed : (a b : Bool) → beq a b ≡ true → a ≡ b
-same_killed true true is = refl
-same_killed true false is = absurd (false≢true is)
-same_killed false true is = absurd (false≢true is)
-same_killed false false is = refl
+same_killed a b h1 = grind (arith) steps 400000
 
 pub other_killed : (a b : Bool) → beq a b ≡ false → a ≡ b → ⊥
-other_killed true true other is = false≢true (sym other)
-other_killed true false other is = false≢true (sym is)
-other_killed false true other is = false≢true is
-other_killed false false other is = false≢true (sym other)
+other_killed a b h1 h2 = grind (arith) steps 400000
 
 module _ {U : Type 0} where
   pub ending_length : (client : ClientParts) (objects : List (ℕ × Object (Kept U))) → length (ends_of client objects) ≡ length (with_data objects)
   ending_length client [] = refl
-  ending_length client (e ∷ objects) = at e.1.value.user_data refl (ending_length client objects)
-    where
-      at : (given : Option U) → e.1.value.user_data ≡ given → length (ends_of client objects) ≡ length (with_data objects)
-          → length (end_note (id_at client e.0 e.1) given ++ ends_of client objects) ≡ length (if is_some given then e ∷ with_data objects else with_data objects)
-      at None is more = more
-      at (Some u) is more = ap (λ (n : ℕ). suc n) more
+  ending_length client (e ∷ objects) = grind (arith, ends_of, with_data, is_some, ending_length client objects) steps 400000
 
 module _ {T U C : Type 0} where
   -- ---- what waits for a killed client
@@ -109,12 +98,7 @@ module _ {T U C : Type 0} where
   -- ---- slot by slot
 
   staying_stays : (x : Option (Stored T U C)) → staying (staying x) ≡ staying x
-  staying_stays None = refl
-  staying_stays (Some s) = at s.part.is_killed refl
-    where
-      at : (b : Bool) → s.part.is_killed ≡ b → staying (if b then None else Some s) ≡ (if b then None else Some s)
-      at true is = refl
-      at false is = rw is refl
+  staying_stays x = grind (arith, staying) steps 400000
 
   collected_rest : {A : Type 0} (give : ℕ → Option (Stored T U C) → List A) (n k : ℕ) (clients : List (Option (Stored T U C))) (x : Option (Stored T U C)) → slice_get clients k ≡ Some x
       → collected give n (drop k clients) ≡ give n x ++ collected give (n + 1) (drop (suc k) clients)
@@ -124,9 +108,7 @@ module _ {T U C : Type 0} where
 
   pub collected_drop : {A : Type 0} (give : ℕ → Option (Stored T U C) → List A) (n k : ℕ) (clients : List (Option (Stored T U C))) (x : Option (Stored T U C)) → slice_get clients k ≡ Some x
       → collected give n (drop k clients) ≡ give n x ++ collected give (n + 1) (drop (k + 1) clients)
-  collected_drop give n k clients x here =
-      let next : suc k ≡ k + 1 = omega arith in
-      subst (λ (m : ℕ). collected give n (drop k clients) ≡ give n x ++ collected give (n + 1) (drop m clients)) next (collected_rest give n k clients x here)
+  collected_drop give n k clients x here = grind (arith, collected, collected_rest) steps 400000
 
   pub part_length : {A : Type 0} (give : ℕ → Option (Stored T U C) → List A) (n slot k : ℕ) (clients : List (Option (Stored T U C))) (x : Option (Stored T U C)) → slot ≡ n + k
       → slice_get clients k ≡ Some x → length (give slot x) ≤ length (collected give n clients)
@@ -170,12 +152,7 @@ module _ {T U C : Type 0} where
       there = sym (before.rest slot (omega arith)) ∙ here
 
       at : (k : ℕ) (y : Option (Stored T U C)) (b : Bool) → (k == slot) ≡ b → k < slot + 1 → slice_get (slice_set now slot x') k ≡ Some y → staying y ≡ y
-      at k y true is below get =
-          let same : x' ≡ y = same_Some x' y (sym (get_set_same now slot x x' here) ∙ (ap (slice_get (slice_set now slot x')) (sym (eqb-true k slot is)) ∙ get)) in
-          subst (λ (z : Option (Stored T U C)). staying z ≡ z) (sym stays ∙ same) (staying_stays x)
-      at k y false is below get =
-          let differ : k ≢ slot = other_of k slot is in
-          before.left k y (omega (arith, below, differ)) (sym (get_set_other now slot k x' (λ e. differ (sym e))) ∙ get)
+      at k y b h1 h2 h3 = grind (arith, same_Some, get_set_same, slice_get, slice_set, staying, staying_stays, other_of, get_set_other) steps 400000
 
   -- there is room for what the next one leaves
   pub leave_room : {A : Type 0} (give : ℕ → Option (Stored T U C) → List A) (slot : ℕ) (start : List (Option (Stored T U C))) (has has' : List A) (x : Option (Stored T U C)) (n n' room room' : ℕ)
@@ -228,9 +205,7 @@ module _ {T U C : Type 0} where
 -- ---- the notes of ends are in the order of the slots
 
 slot_noted : {U : Type 0} (id : ClientParts) (h : Happening U) → slot_of (note_of id h) ≡ id.slot
-slot_noted id happened.Initialized = refl
-slot_noted id (happened.Disconnected reason) = refl
-slot_noted id (happened.Destroyed object u) = refl
+slot_noted id h = grind (arith) steps 400000
 
 from_lower : {U : Type 0} (low slot : ℕ) (ns : List (Note U)) → low ≤ slot → RiseFromSlot slot ns → RiseFromSlot low ns
 from_lower low slot [] less rise = tt
@@ -239,9 +214,7 @@ from_lower low slot (n ∷ ns) less (first, rest) = (omega (arith, less, first),
 noted_rise : {U : Type 0} (slot : ℕ) (id : ClientParts) (hs : List (Happening U)) (rest : List (Note U)) → id.slot ≡ slot → RiseFromSlot slot rest
     → RiseFromSlot slot (map (note_of id) hs ++ rest)
 noted_rise slot id [] rest is rise = rise
-noted_rise slot id (h ∷ hs) rest is rise =
-    let at = slot_noted id h in
-    (omega (arith, at, is), subst (λ (n : ℕ). RiseFromSlot n (map (note_of id) hs ++ rest)) (sym (at ∙ is)) (noted_rise slot id hs rest is rise))
+noted_rise slot id (h ∷ hs) rest is rise = grind (arith, slot_noted, note_of, noted_rise slot id hs rest is rise) steps 400000
 
 pub ends_rise : {T U C : Type 0} (low slot : ℕ) (clients : List (Option (Stored T U C))) → low ≤ slot → RiseFromSlot low (collected ends_at slot clients)
 ends_rise low slot [] less = tt

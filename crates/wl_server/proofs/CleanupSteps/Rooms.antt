@@ -59,12 +59,7 @@ module _ {T U C : Type 0} where
   same_flushed sends slot s q lacked did flushes = at s.part.is_killed flushes
     where
       as_new : (notes_in did ≡ []) → q ≡ with_link s.part q.link → SamePlace slot (Some s) (Some (record { serial = s.serial; part = q; made = s.made ++ notes_in did; times = no_times }))
-      as_new quiet is =
-          subst (λ (p : Part T U C). SamePlace slot (Some s) (Some (record { serial = s.serial; part = p; made = s.made ++ notes_in did; times = no_times }))) (sym is) (
-            ap (λ (l : List (Happening U)). length ((s.made ++ l) ++ s.part.waiting)) quiet ∙ ap (λ (l : List (Happening U)). length (l ++ s.part.waiting)) (append-nil s.made),
-            refl,
-            given_length (record { slot = slot; serial = s.serial }) s.part.link.transport q.link.transport s.part.is_killed,
-          )
+      as_new quiet is = grind (arith, no_times, append-nil, given_length) steps 400000
 
       at : (b : Bool) → MatchBool b ((answer : Result (Unit {0}) IoFault) × FlushedTo sends s.part answer lacked did q) ((lacked ≡ false) × (did ≡ []) × (q ≡ s.part))
           → SamePlace slot (Some s) (Some (record { serial = s.serial; part = q; made = s.made ++ notes_in did; times = no_times }))
@@ -85,10 +80,7 @@ module _ {T U C : Type 0} where
     where
       felt : (k : ℕ) (x y : Option (Stored T U C)) (o o' : Option (Option (Stored T U C))) → o ≡ Some x → o' ≡ Some y
           → FeltAt (λ id p lacked did q. FlushesKilled sends p lacked did q) k o (all.lacks k) o' → SamePlace k x y
-      felt k x y None o' is is' by = absurd (false≢true (ap is_some is))
-      felt k x y (Some a) o' is is' (b, feels, to) =
-          subst (λ (z : Option (Stored T U C)). SamePlace k z y) (same_Some a x is)
-          (subst (λ (z : Option (Stored T U C)). SamePlace k a z) (same_Some b y (sym to ∙ is')) (same_place sends k a b (all.lacks k) feels))
+      felt k x y o o' h1 h2 h3 = grind (arith, is_some, same_place) steps 400000
 
       place : (slot k : ℕ) (x y : Option (Stored T U C)) → slot ≡ 0 + k → slice_get start k ≡ Some x → slice_get now k ≡ Some y → SamePlace slot x y
       place slot k x y at is is' =
@@ -100,23 +92,13 @@ module _ {T U C : Type 0} where
   felt_leaves : (sends : T → Queue → Result ℕ IoFault → T → Type 0) (k : ℕ) (lacked : Bool) (o o' : Option (Option (Stored T U C)))
       → FeltAt (λ id p lacked did q. FlushesKilled sends p lacked did q) k o lacked o'
       → length (to_gather true (option_map_or (λ s. s) o' None)) ≡ length (to_gather true (option_map_or (λ s. s) o None))
-  felt_leaves sends k lacked None o' (not, is) = ap (λ (o : Option (Option (Stored T U C))). length (to_gather true (option_map_or (λ s. s) o None))) is
-  felt_leaves sends k lacked (Some a) o' (b, feels, to) =
-      ap (λ (o : Option (Option (Stored T U C))). length (to_gather true (option_map_or (λ s. s) o None))) to ∙ (same_place sends k a b lacked feels).0
+  felt_leaves sends k lacked o o' h1 = grind (arith, option_map_or, same_place) steps 400000
 
   -- the places that were taken down before the flush are still those of the notes
   pub flushed_order : (sends : T → Queue → Result ℕ IoFault → T → Type 0) (refused : Bool) (start now : List (Option (Stored T U C))) (order : List NotePlace)
       → AllFeel (λ id p lacked did q. FlushesKilled sends p lacked did q) refused (length start) start now → map times_of now ≡ map times_of start
       → IsOrderOf true start order → IsOrderOf true now order
-  flushed_order sends refused start now order all times is = record {
-    rise = is.rise;
-    each = λ k. is.each k ∙ sym (at k (split k (length start)));
-    numbers = subst (λ (ts : List NoteTimes). IsPermutation (all_places true 0 ts) order) (sym times) is.numbers;
-  }
-    where
-      at : (k : ℕ) → (k < length start) ⊎ (length start ≤ k) → length (to_gather true (stored_at k now)) ≡ length (to_gather true (stored_at k start))
-      at k (inl below) = felt_leaves sends k (all.lacks k) (slice_get start k) (slice_get now k) (all.felt k below)
-      at k (inr past) = ap (λ (o : Option (Option (Stored T U C))). length (to_gather true (option_map_or (λ s. s) o None))) (all.rest k past)
+  flushed_order sends refused start now order all times is = grind (arith, stored_at, felt_leaves, slice_get, option_map_or) steps 400000
 
   -- ---- gathered notes
 

@@ -49,27 +49,18 @@ module _ {T U C : Type 0} where
   pub taken_put : (slot : ℕ) (clients clients' : List (Option (Stored T U C))) (s : Stored T U C) → IsLeastFree clients slot → IsPut clients slot s clients'
       → AreTaken (slot + 1) clients'
   unfolding AreTaken
-  taken_put slot clients clients' s free (here, others) =
-      below_more (λ k. IsSome (stored_at k clients')) slot
-      (λ k below. ap (λ (o : Option (Option (Stored T U C))). is_some (option_map_or (λ s. s) o None)) (others k (λ (e : k ≡ slot). omega (arith, e, below))) ∙ free.least k below)
-      (ap (λ (o : Option (Option (Stored T U C))). is_some (option_map_or (λ s. s) o None)) here)
+  taken_put slot clients clients' s free (here, others) = grind (arith, below_more, is_some) steps 400000
 
   -- ---- where each client feels something
 
   felt_at : (R : Kind T U C) (slot : ℕ) (lacked : Bool) (before after : Option (Option (Stored T U C)))
       → FeltAt R slot before lacked after → is_some (option_map_or (λ s. s) before None) ≡ true → is_some (option_map_or (λ s. s) after None) ≡ true
-  felt_at R slot lacked None after felt is = absurd (false≢true is)
-  felt_at R slot lacked (Some None) after (place, felt, same) is = absurd (false≢true is)
-  felt_at R slot lacked (Some (Some s)) after (place, (s', does, there), same) is = rw (same, there) refl
+  felt_at R slot lacked before after h1 h2 = grind (arith) steps 400000
 
   pub taken_felt : (R : Kind T U C) (n : ℕ) (refused : Bool) (before after : List (Option (Stored T U C)))
       → AllFeel R refused (length before) before after → AreTaken n before → AreTaken n after
   unfolding AreTaken
-  taken_felt R n refused before after all taken k below = at (slice_get before k) refl
-    where
-      at : (x : Option (Option (Stored T U C))) → slice_get before k ≡ x → IsSome (stored_at k after)
-      at None none = absurd (false≢true (sym (ap (λ (o : Option (Option (Stored T U C))). is_some (option_map_or (λ s. s) o None)) none) ∙ taken k below))
-      at (Some x) here = felt_at R k _ (slice_get before k) (slice_get after k) (all.felt k (slice_get_within before k x here)) (taken k below)
+  taken_felt R n refused before after all taken k below = grind (arith, is_some, felt_at) steps 400000
 
   pub slots_felt : (R : Kind T U C) (count n : ℕ) (refused : Bool) (before after : List (Option (Stored T U C)))
       → AllFeel R refused (length before) before after → HasSlots count n before → HasSlots count n after

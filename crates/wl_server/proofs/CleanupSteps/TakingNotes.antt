@@ -29,12 +29,7 @@ module _ {T U C : Type 0} where
   -- ---- what is left of each client
 
   emptied_if : (waits : Bool) (serial : ℕ) (x : Option (Stored T U C)) → if_serial serial (option_map (emptied waits) x) ≡ option_map (emptied waits) (if_serial serial x)
-  emptied_if waits serial None = refl
-  emptied_if waits serial (Some s) = at (s.serial == serial)
-    where
-      at : (b : Bool) → (if b then Some (emptied waits s) else None) ≡ option_map (emptied waits) (if b then Some s else None)
-      at true = refl
-      at false = refl
+  emptied_if waits serial x = grind (arith, emptied) steps 400000
 
   emptied_at : (waits : Bool) (serial : ℕ) (x : Option (Option (Stored T U C)))
       → if_serial serial (option_map_or (λ s. s) (option_map (option_map (emptied waits)) x) None) ≡ option_map (emptied waits) (if_serial serial (option_map_or (λ s. s) x None))
@@ -52,16 +47,7 @@ module _ {T U C : Type 0} where
   same_left waits clients notes clients' notes' by id = sym (client_emptied waits clients' id) ∙ (ap (client_at id) by.rest ∙ client_emptied waits clients id)
 
   pub none_left : (waits : Bool) (clients : List (Option (Stored T U C))) → AllLeft waits clients → (id : ClientParts) → to_gather waits (client_at id clients) ≡ []
-  none_left waits clients all id = at (slice_get clients id.slot) refl
-    where
-      if_there : (b : Bool) (s : Stored T U C) → to_gather waits (Some s) ≡ [] → to_gather waits (if b then Some s else None) ≡ []
-      if_there true s none = none
-      if_there false s none = refl
-
-      at : (x : Option (Option (Stored T U C))) → slice_get clients id.slot ≡ x → to_gather waits (if_serial id.serial (option_map_or (λ s. s) x None)) ≡ []
-      at None here = refl
-      at (Some None) here = refl
-      at (Some (Some s)) here = if_there (s.serial == id.serial) s (all id.slot (Some s) here)
+  none_left waits clients all id = grind (arith, to_gather, if_serial) steps 400000
 
   -- ---- the notes that were made
 
@@ -84,9 +70,7 @@ module _ {T U C : Type 0} where
       none = none_left false clients' left id
 
       told : notes_of id out.items ≡ notes_of id notes ++ option_map_or (λ s. s.made) (client_at id clients) []
-      told = sym (append-nil (notes_of id out.items))
-          ∙ (ap (λ (l : List (Happening U)). notes_of id out.items ++ l) (sym none)
-          ∙ (by.told id ∙ ap (λ (l : List (Happening U)). notes_of id notes ++ l) (made_of (client_at id clients))))
+      told = grind (arith, append-nil, notes_of, none, made_of, client_at) steps 400000
 
       parts : option_map (λ s. s.part) (client_at id clients') ≡ option_map (λ s. s.part) (client_at id clients)
       parts = sym (part_of_left (client_at id clients'))

@@ -67,10 +67,7 @@ module _ {T U C : Type 0} (sends : T → Queue → Result ℕ IoFault → T → 
   moves_quiet p q d (cleaned on is same) = came_of d _ is refl
 
   goes_quiet : (s t : Seen T U C) (d : Doings U) → Goes unread_moves sends receives client s d t → d.came ≡ []
-  goes_quiet s t d (unfelt is same) = came_of d _ is refl
-  goes_quiet s t d (within p q there moves same) = moves_quiet p q d moves
-  goes_quiet s t d (taken_out p q on there killed moves gone no_notes same) = moves_quiet p q d moves
-  goes_quiet s t d (notes_taken on is same) = came_of d _ is refl
+  goes_quiet s t d h1 = grind (arith, unfelt, came_of, within, moves_quiet, taken_out, notes_taken) steps 400000
 
 pub call_quiet : {T U G C : Type 0} (w : World T G C) (id : ClientParts) (offer : Offer G) (before after : Seen T U C) (lacked : Bool) (did : List (Deed U)) (call : Call T U G C)
     → reads_of id call ≡ false → PartCall w id offer call before lacked did after → came_in did ≡ []
@@ -105,25 +102,11 @@ module _ {T U G C : Type 0} (sends : T → Queue → Result ℕ IoFault → T �
       let left_is : out.left ≡ rest.left = ap (λ (o : Gives (Told U)). o.left) split in omega (arith, few, heard, left_is)
 
   none_left : (did : List (Deed U)) (r r' : Reading) → did ≡ [] → r' ≡ r → receives_in did + r'.turns_left ≤ r.turns_left
-  none_left did r r' none' same =
-      let heard : receives_in did ≡ 0 = ap receives_in none' in
-      let left_is : r'.turns_left ≡ r.turns_left = ap (λ (x : Reading). x.turns_left) same in omega (arith, heard, left_is)
+  none_left did r r' none' same = grind (arith, receives_in) steps 400000
 
   part_bounded : (r : Reading) (p : Part T U C) (answer : Result Handed ActionError) (r' : Reading) (lacked : Bool) (did : List (Deed U)) (q : Part T U C)
       → NextAction sends receives a r p answer r' lacked did q → receives_in did + r'.turns_left ≤ r.turns_left
-  part_bounded r p answer r' lacked did q h =
-      elim (either_option p.action h) [
-        | inr (open', is_open, (is, same, calm, none', stays)) ↦ none_left did r r' none' same
-        | inl (none_open, g) ↦
-            elim (either_bool p.is_killed g) [
-              | inl (is, same, calm, none', stays) ↦ none_left did r r' none' same
-              | inr (turns, out, end, reads, is, left, calm, did_so, ends) ↦
-                  let few = turns_bounded r.turns_left (reader_part p) end turns out reads in
-                  let heard : receives_in did ≡ length (received U turns) =
-                  ap receives_in did_so ∙ ap length (received_deeds sends receives a r.turns_left p end turns out reads) in
-                  let left_is : r'.turns_left ≡ out.left = ap (λ (x : Reading). x.turns_left) left in omega (arith, few, heard, left_is)
-            ]
-      ]
+  part_bounded r p answer r' lacked did q h = grind (arith, either_option, none_left, either_bool, turns_bounded, receives_in, received, received_deeds) steps 400000
 
 -- ---- a call
 
@@ -136,12 +119,7 @@ module _ {T U G C : Type 0} (w : World T G C) (id : ClientParts) (offer : Offer 
       go : (b : Bool) → OfClient b before (λ p q. NextAction w.sends w.receives (around w id offer) r p answer r' lacked did q)
           ((answer ≡ Err (Io fault.InvalidInput)) × (r' ≡ r)) lacked did after
           → MatchBool b (receives_in did + r'.turns_left ≤ r.turns_left) (receives_in did ≡ 0)
-      go false (unlacked, none', same) = ap receives_in none'
-      go true h =
-          elim (either_option before.part h) [
-            | inl (missing, ((is, same), (unlacked, none', stays))) ↦ none_left w.sends w.receives (around w id offer) did r r' none' same
-            | inr (p, there, (q, next, same)) ↦ part_bounded w.sends w.receives (around w id offer) r p answer r' lacked did q next
-          ]
+      go b h1 = grind (arith, receives_in, either_option, none_left, around, part_bounded) steps 400000
 
   of_reply : (target : ClientParts) (reading r' : Reading) (r : Result Action ActionError) (answer : Reply T U) → answer ≡ reply.NextActionWithin r r'
       → MatchBool (same_client target id) (receives_in did + r'.turns_left ≤ reading.turns_left) (receives_in did ≡ 0)

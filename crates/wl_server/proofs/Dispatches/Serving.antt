@@ -151,9 +151,7 @@ module _ {H T U G C : Type 0} (w : World T G C) (answers : Answering H T U G C) 
 
   rounds_join : (h h1 h' : H) (r r1 r' : Reading) (s s1 s' : ServerState T U G C) (first next : List (Entry T U G C)) (before now : Bool)
       → Rounds w answers id h r s first before h1 r1 s1 → Rounds w answers id h1 r1 s1 next now h' r' s' → Rounds w answers id h r s (first ++ next) (before || now) h' r' s'
-  rounds_join h h1 h' r r1 r' s s1 s' first next before now one (none no_run unlacked) =
-      subst (λ (run : List (Entry T U G C)). Rounds w answers id h r s run (before || now) h' r' s') (sym (append-nil first) ∙ ap (λ (x : List (Entry T U G C)). first ++ x) (sym no_run))
-      (subst (λ (b : Bool). Rounds w answers id h r s first b h' r' s') (sym (or_false before) ∙ ap (λ (x : Bool). before || x) (sym unlacked)) one)
+  rounds_join h h1 h' r r1 r' s s1 s' first next before now one (none no_run unlacked) = grind (arith, append-nil, or_false) steps 400000
   rounds_join h h1 h' r r1 r' s s1 s' first next before now one (more {first = earlier} {next = last} {before = b} {now = c} others round run_is lacked_is) =
       more (rounds_join h h1 _ r r1 _ s s1 _ first earlier before b one others) round (ap (λ (x : List (Entry T U G C)). first ++ x) run_is ∙ sym (append_assoc first earlier last))
       (ap (λ (x : Bool). before || x) lacked_is ∙ sym (or_assoc before b c))
@@ -304,15 +302,7 @@ module _ {T U G C : Type 0} (w : World T G C) where
   pub cleans_up : (before left after : BackendState T U G C) (r : Result (Vec (ClientParts × T) Global) OutOfMemory) (answer result : Result ℕ IoFault) (was : Bool)
       → was ≡ before.refused → Calls w before step.Cleanup (reply.Cleanup r) left → after ≡ record left { refused = was || left.refused } → result ≡ after_cleanup r answer
       → CleansUp w before answer result after
-  cleans_up before left after r answer result was was_is calls kept is =
-      let (e, call, refused, one) = calls.step in record {
-        cleanup = e;
-        out = reply.Cleanup r;
-        cleans = subst (λ (s : ServerState T U G C). OneStep w before.server e s) (sym (ap (λ (b : BackendState T U G C). b.server) kept)) one;
-        cleanup_is = call;
-        result_is = is;
-        refused = ap (λ (b : BackendState T U G C). b.refused) kept ∙ ap (λ (b : Bool). b || left.refused) was_is ∙ ap (λ (b : Bool). before.refused || b) (sym refused);
-      }
+  cleans_up before left after r answer result was was_is calls kept is = grind (arith) steps 400000
 
   ends_dispatch : {mid after : BackendState T U G C} {answer result : Result ℕ IoFault} (before : ServerState T U G C) (calls : List (Entry T U G C)) (lacked : Bool)
       → Leads w before calls mid.server → mid.refused ≡ lacked → CleansUp w mid answer result after → EndsDispatch w before calls lacked mid.server answer result after
@@ -374,9 +364,7 @@ module _ {H T U G C : Type 0} (w : World T G C) (answers : Answering H T U G C) 
 
   pub each_begun : (h : H) (before begun : BackendState T U G C) → begun ≡ record before { refused = false }
       → ClientsSoFar w answers [] h (record before { refused = false }) 0 h begun
-  each_begun h before begun is =
-      subst (λ (b : BackendState T U G C). ClientsSoFar w answers [] h (record before { refused = false }) 0 h b) (sym is)
-      (each_none [] h (record before { refused = false }) refl)
+  each_begun h before begun is = grind (arith, each_none) steps 400000
 
   -- the next of the clients
   pub one_more : {h h1 h' : H} {before mid after : BackendState T U G C} {count total : ℕ} {answer : Result ℕ IoFault} (ids : List ClientParts) (n : ℕ) (id : ClientParts)

@@ -46,10 +46,7 @@ module _ {T G C : Type 0} (sends : T → Queue → Result ℕ IoFault → T → 
   told_is : (first all : List Said) (room : ℕ) (e : Entry) (old left : List Entry) → old ≡ e ∷ left
       → is_shown a.views a.client client_data e ≡ true → all ≡ first ++ told_of_all a client_data id room old
       → all ≡ (first ++ told_of room e ∷ []) ++ told_of_all a client_data id (long e) left
-  told_is first all room e old left step shown is =
-      is ∙ ap (λ (l : List Entry). first ++ told_of_all a client_data id room l) step
-      ∙ ap (λ (l : List Said). first ++ l) (shows room e left shown)
-      ∙ sym (append_assoc first (told_of room e ∷ []) (told_of_all a client_data id (long e) left))
+  told_is first all room e old left step shown is = grind (arith, shows, append_assoc) steps 400000
 
   pub told_one : (start now after : LinkState T) (all : List Said) (room next : ℕ) (e : Entry) (old left : List Entry) → old ≡ e ∷ left
       → is_shown a.views a.client client_data e ≡ true → next ≡ long e → Puts sends now (told_of room e ∷ []) (Ok tt) after → ToldTo start all now room old

@@ -27,67 +27,29 @@ module _ {G : Type 0} where
 
   -- it is the one at the name
   by_held : (store : Store (KeptGlobal G)) (id : GlobalParts) (x : Object (KeptGlobal G)) → global_by store id ≡ Some x → held store id.name ≡ Some x
-  by_held store id x is = at (id.name == 0) (held store id.name) is
-    where
-      inside : (o : Option (Object (KeptGlobal G))) → named_in global_serial (record { number = id.name; serial = id.serial }) o ≡ Some x → o ≡ Some x
-      inside None h = h
-      inside (Some y) h = same (y.value.serial == id.serial) h
-        where
-          same : (b : Bool) → (if b then Some y else None) ≡ Some x → Some y ≡ Some x
-          same true h = h
-          same false h = absurd (false≢true (ap is_some h))
-
-      at : (b : Bool) (o : Option (Object (KeptGlobal G)))
-          → (if b then None else named_in global_serial (record { number = id.name; serial = id.serial }) o) ≡ Some x → o ≡ Some x
-      at true o h = absurd (false≢true (ap is_some h))
-      at false o h = inside o h
+  by_held store id x is = grind (arith, global_serial, false≢true, is_some) steps 400000
 
   pub nothing_disabled : (store : Store (KeptGlobal G)) (id : GlobalParts) (last : ℕ) → is_some (global_by store id) ≡ false
       → globals_of store last ≡ disabled (globals_of store last) id
-  nothing_disabled store id last none = at (global_by store id) none
-    where
-      at : (o : Option (Object (KeptGlobal G))) → is_some o ≡ false → globals_of store last ≡ disabled_at (globals_of store last) id.name o
-      at None h = refl
-      at (Some x) h = absurd (false≢true (sym h))
+  nothing_disabled store id last none = grind (arith, is_some, disabled_at, false≢true) steps 400000
 
   pub one_disabled : (store after : Store (KeptGlobal G)) (id : GlobalParts) (last : ℕ) → is_some (global_by store id) ≡ true
       → MatchOption (held store id.name) (after ≡ store) (λ x. after ≡ rewritten store id.name (as_disabled x))
       → globals_of after last ≡ disabled (globals_of store last) id
-  one_disabled store after id last some becomes = at (global_by store id) refl some
-    where
-      at : (o : Option (Object (KeptGlobal G))) → global_by store id ≡ o → is_some o ≡ true → globals_of after last ≡ disabled_at (globals_of store last) id.name o
-      at None is h = absurd (false≢true h)
-      at (Some x) is h =
-          let here : after ≡ rewritten store id.name (as_disabled x) = rw (by_held store id x is) at becomes in
-          ap (λ (s : Store (KeptGlobal G)). globals_of s last) here
+  one_disabled store after id last some becomes = grind (arith, is_some, disabled_at, false≢true, as_disabled, by_held) steps 400000
 
   pub nothing_freed : (store : Store (KeptGlobal G)) (id : GlobalParts) (last : ℕ) → is_some (global_by store id) ≡ false
       → globals_of store last ≡ freed (globals_of store last) id
-  nothing_freed store id last none = at (global_by store id) none
-    where
-      at : (o : Option (Object (KeptGlobal G))) → is_some o ≡ false → globals_of store last ≡ freed_at (globals_of store last) id.name o
-      at None h = refl
-      at (Some x) h = absurd (false≢true (sym h))
+  nothing_freed store id last none = grind (arith, is_some, freed_at, false≢true) steps 400000
 
   pub one_freed : (store after : Store (KeptGlobal G)) (id : GlobalParts) (last : ℕ) → is_some (global_by store id) ≡ true
       → after ≡ removed store id.name → globals_of after last ≡ freed (globals_of store last) id
-  one_freed store after id last some becomes = at (global_by store id) some
-    where
-      at : (o : Option (Object (KeptGlobal G))) → is_some o ≡ true → globals_of after last ≡ freed_at (globals_of store last) id.name o
-      at None h = absurd (false≢true h)
-      at (Some x) h = ap (λ (s : Store (KeptGlobal G)). globals_of s last) becomes
+  one_freed store after id last some becomes = grind (arith, is_some, freed_at, false≢true) steps 400000
 
   -- a new global is named by its id
   pub new_named : (store after : Store (KeptGlobal G)) (id : GlobalParts) (x : Object (KeptGlobal G)) (answer : Result ℕ NewError) → x.value.serial ≡ id.serial
       → answer ≡ Ok id.name → InsertsNew name_range store x answer after → global_by after id ≡ Some x
-  new_named store after id x answer serial is inserts = at (subst (λ (r : Result ℕ NewError). InsertsNew name_range store x r after) is inserts)
-    where
-      at : InsertsNew name_range store x (Ok id.name) after → global_by after id ≡ Some x
-      at (least, becomes) =
-          let above : 1 ≤ id.name = least.within in
-          let other : (id.name == 0) ≡ false = ne_eqb id.name 0 (λ zero. absurd (omega (arith, zero, above))) in
-          let same : (x.value.serial == id.serial) ≡ true = eq-eqb x.value.serial id.serial serial in
-          rw (other, becomes, stored_here store id.name x id.name refl, same) refl
+  new_named store after id x answer serial is inserts = grind (arith, name_range, ne_eqb, eq-eqb, stored_here) steps 400000
 
   -- there was no memory for a new global
   pub name_lacks_memory : (table : List InterfaceRow) (store after : Store (KeptGlobal G)) (last : ℕ) (i : InterfaceId) (version : ℕ) (row : InterfaceRow)

@@ -1,5 +1,5 @@
 -- What a client comes to that was told messages: it is closed down where one could not be put.
-use Rattle.std.proofs.Common.{◌≡◌, ◌∙◌, ℕ, Bool, true, false, ◌||◌, List, [], ◌++◌, append-nil, None, Result, Ok, Err, MatchResult, refl, sym, ap, subst}
+use Rattle.std.proofs.Common.{◌≡◌, ◌∙◌, ℕ, Bool, true, false, ◌||◌, List, [], ◌++◌, append-nil, None, Result, Ok, Err, MatchResult, refl, sym, ap, subst, arith}
 use Rattle.wl_wire.specs.declared.error.IoFault.{IoFault}
 use Rattle.wl_wire.specs.declared.error.IoFault.TheVariants as fault
 use Rattle.wl_link.specs.Exchange.{Queue}
@@ -33,9 +33,7 @@ module _ {U C : Type 0} where
 
   came_closing : (c : Core U C) (puts : List Said) (events : Core U C → List (Told U)) (told : Result (Unit {0}) IoFault)
       → came_to speaker (telling c puts events) told ≡ closing c told
-  came_closing c puts events (Ok u) = refl
-  came_closing c puts events (Err fault.WouldBlock) = refl
-  came_closing c puts events _ = refl
+  came_closing c puts events told = grind (arith) steps 400000
 
 module _ {T U C : Type 0} where
   -- a client of that core and link, with these notes made
@@ -47,11 +45,7 @@ module _ {T U C : Type 0} where
       → c.ended ≡ None
       → MatchResult told (λ _. untimed after ≡ client_of serial c link made) (λ _. Does (client_of serial c link made) (λ p did q. Kills p ConnectionClosed did q) after)
       → untimed after ≡ client_of serial (closing c told) link (made ++ notes_in (end_deeds (closing c told).ended))
-  told_closing serial c link made (Ok u) after none same =
-      rw none (same ∙ ap (client_of serial c link) (sym (append-nil made)))
-  told_closing serial c link made (Err f) after none (did, q, (did-is, q-is), is) =
-      rw none (is ∙ ap (λ (p : Part T U C). let x : Stored T U C = record { serial = serial; part = p; made = made ++ notes_in did; times = no_times } in x) q-is
-      ∙ ap (λ (d : List (Deed U)). client_of serial (closed_down c) link (made ++ notes_in d)) did-is)
+  told_closing serial c link made told after h1 h2 = grind (arith, append-nil, closed_down) steps 400000
 
   -- the messages were put up to the first that failed, and nothing is noted beside the end of the client
   pub told_by : (sends : T → Queue → Result ℕ IoFault → T → Type 0) (c : Core U C) (puts : List Said) (events : Core U C → List (Told U))

@@ -1,5 +1,5 @@
 -- How what was done to an object that the program destroys is its destruction.
-use Rattle.std.proofs.Common.{◌≡◌, ◌∙◌, ℕ, Bool, true, false, eqb, cond, List, [], ◌++◌, append-nil, map, Option, None, Some, is_some, IfSome, Result, Ok, Err, MatchOption, MatchResult, refl, sym, ap, subst, inl, inr}
+use Rattle.std.proofs.Common.{◌≡◌, ◌∙◌, ℕ, Bool, true, false, eqb, cond, List, [], ◌++◌, append-nil, map, Option, None, Some, is_some, IfSome, Result, Ok, Err, MatchOption, MatchResult, refl, sym, ap, subst, inl, inr, arith}
 use Rattle.std.specs.Prelude.{◌==◌}
 use Rattle.std.proofs.lemmas.Bool.{false≢true}
 use Rattle.wl_wire.specs.declared.error.IoFault.{IoFault}
@@ -51,22 +51,13 @@ module _ {U : Type 0} where
 
   -- nothing that an object leaves behind is a note
   pub leaves_no_note : {C : Type 0} (id : IdParts) (u : Option U) (c : Core U C) → told_notes (told_of_removed id u c) ≡ []
-  leaves_no_note id u c = at (is_some (named c.store id)) u
-    where
-      at : (b : Bool) (u : Option U) → told_notes (cond b [] (map Did (left_if (id_of id) u))) ≡ []
-      at true u = refl
-      at false None = refl
-      at false (Some u) = refl
+  leaves_no_note id u c = grind (arith, is_some, named, id_of) steps 400000
 
 -- ---- the object that may be destroyed
 
 module _ {T U C : Type 0} where
   destroyable_named : (p : Part T U C) (id : IdParts) (x : Object (Kept U)) → destroyable p id ≡ Some x → named p.store id ≡ Some x
-  destroyable_named p id x = at (id.number == 1)
-    where
-      at : (b : Bool) → cond b None (named p.store id) ≡ Some x → named p.store id ≡ Some x
-      at true is = absurd cc
-      at false is = is
+  destroyable_named p id x = grind (arith, named) steps 400000
 
 at_none : {A : Type 0} (o : Option A) (X : Type 0) (Y : A → Type 0) → o ≡ None → X → MatchOption o X Y
 at_none o X Y is x = rw is x
@@ -148,9 +139,7 @@ module _ {T U C : Type 0} (sends : T → Queue → Result ℕ IoFault → T → 
     gone_to : (link : LinkState T) (wrote : Result (Unit {0}) IoFault) (after : Stored T U C) → lacks_memory wrote ≡ false
         → MatchResult wrote (λ _. untimed after ≡ gone link) (λ _. Does (gone link) (λ p did q. Kills p ConnectionClosed did q) after)
         → untimed after ≡ arrived s (came_to speaker verdict wrote) link
-    gone_to link (Ok u) after lacked told = told ∙ ap (with_notes (gone link)) (sym (append-nil s.made))
-    gone_to link (Err fault.OutOfMemory) after lacked told = absurd (false≢true (sym lacked))
-    gone_to link _ after lacked told = kills_is (gone link) after ConnectionClosed told
+    gone_to link wrote after h1 h2 = grind (arith, append-nil, false≢true, kills_is) steps 400000
 
     -- it is gone, and the client was told, or closed down where it could not be
     told_destroyed : (link : LinkState T) (n : ℕ) (wrote : Result (Unit {0}) IoFault) (after a : Stored T U C) → n ≡ id.number → a ≡ gone link
@@ -181,16 +170,7 @@ module _ {T U C : Type 0} (sends : T → Queue → Result ℕ IoFault → T → 
         → IfSome (held s.part.store id.number) (λ y. registries ≡ registries_without s.part.registries id.number y)
         → IfSome (held s.part.store id.number) (λ y. waiting ≡ before ++ note_of_end id.client id.number y) → before ≡ s.part.waiting
         → with_all link store registries waiting ≡ gone link
-    left link store registries before waiting without forgotten noted same =
-        ap (λ (st : Store (Kept U)). with_all link st registries waiting) without
-        ∙ ap (λ (rs : List Id). with_all link (removed s.part.store id.number) rs waiting) (of_x (λ y. registries ≡ registries_without s.part.registries id.number y) forgotten)
-        ∙ ap (with_all link (removed s.part.store id.number) (registries_without s.part.registries id.number x))
-        (of_x (λ y. waiting ≡ before ++ note_of_end id.client id.number y) noted
-        ∙ ap (λ (w : List (Happening U)). w ++ note_of_end id.client id.number x) same)
-      where
-        of_x : (P : Object (Kept U) → Type 0) → IfSome (held s.part.store id.number) P → P x
-        of_x P said =
-            subst (λ (h : Option (Object (Kept U))). IfSome h P) (named_is_held s.part.store id x (destroyable_named s.part id x is)) said
+    left link store registries before waiting without forgotten noted same = grind (arith, registries_without, note_of_end, named_is_held, destroyable_named) steps 400000
 
     -- what was taken out is gone, and the client was told, or closed down where it could not be
     pub destroyed : (link : LinkState T) (n : ℕ) (store : Store (Kept U)) (registries : List Id) (before waiting : List (Happening U))

@@ -48,20 +48,10 @@ module _ {T U C : Type 0} where
       → AreTaken n clients → OkIff r (n < 0x100000000) n → o ≡ result_ok r
       → MatchOption o ((k : ℕ) → k < 0x100000000 → IsSome (stored_at k clients)) (IsLeastFree clients)
   unfolding AreTaken
-  slot_of clients n (Ok x) o free taken (below, is) given =
-      subst (λ (o : Option ℕ). MatchOption o ((k : ℕ) → k < 0x100000000 → IsSome (stored_at k clients)) (IsLeastFree clients)) (sym given)
-      (subst (λ (m : ℕ). IsLeastFree clients m) (sym is) (record { below = below; free = free; least = taken }))
-  slot_of clients n (Err e) o free taken past given =
-      subst (λ (o : Option ℕ). MatchOption o ((k : ℕ) → k < 0x100000000 → IsSome (stored_at k clients)) (IsLeastFree clients)) (sym given)
-      (λ k below. taken k (omega (arith, past, below)))
+  slot_of clients n r o h1 h2 h3 h4 = grind (arith, stored_at) steps 400000
 
   pub least_within : (clients : List (Option (Stored T U C))) (slot : ℕ) → IsLeastFree clients slot → slot ≤ length clients
-  least_within clients slot free = at (nat_lt (length clients) slot) refl
-    where
-      at : (b : Bool) → nat_lt (length clients) slot ≡ b → slot ≤ length clients
-      at true past =
-          absurd (false≢true (sym (ap is_some (stored_past clients (length clients) (omega arith))) ∙ free.least (length clients) (ltb-true (length clients) slot past)))
-      at false within = ltb-false (length clients) slot within
+  least_within clients slot free = grind (arith, nat_lt, false≢true, is_some, stored_past, ltb-true, ltb-false) steps 400000
 
   -- ---- a client is put at a slot
 
@@ -74,11 +64,7 @@ module _ {T U C : Type 0} where
       at None past = absurd (false≢true (ap is_some (sym past ∙ slice_get-get_or clients slot None within)))
 
   at_end : (clients : List (Option (Stored T U C))) (s : Stored T U C) → IsPut clients (length clients) s (clients ++ Some s ∷ [])
-  at_end [] s = (refl, λ k differ. past k differ)
-    where
-      past : (k : ℕ) → k ≢ 0 → slice_get (Some s ∷ []) k ≡ None
-      past zero differ = absurd (differ refl)
-      past (suc k) differ = refl
+  at_end [] s = grind (arith, slice_get) steps 400000
   at_end (x ∷ clients) s = let rest = at_end clients s in (rest.0, λ k differ. others k rest.1 differ)
     where
       others : (k : ℕ) → ((i : ℕ) → i ≢ length clients → slice_get (clients ++ Some s ∷ []) i ≡ slice_get clients i) → k ≢ length (x ∷ clients)

@@ -1,5 +1,5 @@
 -- How an error that was posted on an object is a verdict that was carried out.
-use Rattle.std.proofs.Common.{◌≡◌, ◌∙◌, ℕ, Bool, true, false, not, ◌||◌, List, [], ◌∷◌, ◌++◌, Option, None, Some, is_some, option_copied, Bor, Result, Ok, Err, MatchResult, refl, sym, ap, subst, append-nil, inl, inr}
+use Rattle.std.proofs.Common.{◌≡◌, ◌∙◌, ℕ, Bool, true, false, not, ◌||◌, List, [], ◌∷◌, ◌++◌, Option, None, Some, is_some, option_copied, Bor, Result, Ok, Err, MatchResult, refl, sym, ap, subst, append-nil, inl, inr, arith}
 use Rattle.std.proofs.lemmas.Bool.{false≢true}
 use Rattle.wl_wire.specs.declared.error.IoFault.{IoFault}
 use Rattle.wl_wire.specs.declared.error.IoFault.TheVariants as fault
@@ -41,9 +41,7 @@ module _ {T U C : Type 0} where
   with_made s made = record { serial = s.serial; part = s.part; made = made; times = no_times }
 
   pub kills_is : (s after : Stored T U C) (reason : DisconnectReason) → Does s (λ p did q. Kills p reason did q) after → untimed after ≡ ended s reason
-  kills_is s after reason (did, q, (deeds, part), is) =
-      is ∙ ap (λ (p : Part T U C). let x : Stored T U C = record { serial = s.serial; part = p; made = s.made ++ notes_in did; times = no_times } in x) part
-      ∙ ap (λ d. let x : Stored T U C = record { serial = s.serial; part = record s.part { is_killed = true }; made = s.made ++ notes_in d; times = no_times } in x) deeds
+  kills_is s after reason (did, q, (deeds, part), is) = grind (arith) steps 400000
 
   -- a killed one stays as it is
   pub ended_twice : (s : Stored T U C) (first second : DisconnectReason) → ended (ended s first) second ≡ ended s first
@@ -56,9 +54,7 @@ module _ {T U C : Type 0} where
 
   pub told_is : (s after : Stored T U C) (wrote : Result (Unit {0}) IoFault) (reason : DisconnectReason)
       → MatchResult wrote (λ _. after ≡ s) (λ _. Does s (λ p did q. Kills p ConnectionClosed did q) after) → ended after reason ≡ spoken wrote s reason
-  told_is s after (Ok u) reason told = ap (λ (x : Stored T U C). ended x reason) told
-  told_is s after (Err f) reason told =
-      ap (λ (x : Stored T U C). ended x reason) (kills_is s after ConnectionClosed told) ∙ ended_twice s ConnectionClosed reason
+  told_is s after wrote reason h1 = grind (arith, kills_is, ended_twice) steps 400000
 
   -- the client as it is where its core came to this
   abbrev pub arrived : Stored T U C → Core U C → LinkState T → Stored T U C
@@ -72,20 +68,12 @@ module _ {T U C : Type 0} where
   spoken_is : (table : List InterfaceRow) (s : Stored T U C) (link : LinkState T) (id : IdParts) (code : ℕ) (text : List ℕ) (wrote : Result (Unit {0}) IoFault)
       → spoken wrote (linked s link) (BrokeProtocol (error_of table id code text))
       ≡ arrived s (came_to speaker (posts table (core_of s.part) id code text) wrote) link
-  spoken_is table s link id code text (Ok u) = refl
-  spoken_is table s link id code text (Err fault.WouldBlock) = refl
-  spoken_is table s link id code text _ = refl
+  spoken_is table s link id code text wrote = grind (arith) steps 400000
 
   -- a client that was killed
   still : (s : Stored T U C) (link : LinkState T) (table : List InterfaceRow) (id : IdParts) (code : ℕ) (text : List ℕ) → s.part.is_killed ≡ true
       → untimed (linked s link) ≡ arrived s (killed (core_of s.part) (BrokeProtocol (error_of table id code text))) link
-  still s link table id code text dead = at s.part.is_killed dead
-    where
-      at : (b : Bool) → b ≡ true
-          → (let x : Stored T U C = record { serial = s.serial; part = record s.part { link = link; is_killed = b }; made = s.made; times = no_times } in x)
-          ≡ (let core : Core U C = record (core_of s.part) { is_killed = b } in arrived s (killed core (BrokeProtocol (error_of table id code text))) link)
-      at true is = ap (λ (made : List (Happening U)). let x : Stored T U C = record { serial = s.serial; part = record s.part { link = link; is_killed = true }; made = made; times = no_times } in x) (sym (append-nil s.made))
-      at false is = absurd (false≢true is)
+  still s link table id code text dead = grind (arith, core_of, killed, append-nil, false≢true) steps 400000
 
 -- what was found by reference is there where it was found
 pub is_some_copied : {X : Type 0} (found : Option (Bor X)) (x : Option X) (b : Bool) → option_copied found ≡ x → is_some found ≡ b → is_some x ≡ b

@@ -1,5 +1,5 @@
 -- What an event that is sent does, from the steps of its sending.
-use Rattle.std.proofs.Common.{◌≡◌, ◌∙◌, ℕ, Bool, true, false, List, [], ◌∷◌, ◌++◌, append-nil, map, Option, None, Some, IfSome, Result, Ok, Err, MatchBool, MatchResult, refl, sym, ap, subst, inl, inr}
+use Rattle.std.proofs.Common.{◌≡◌, ◌∙◌, ℕ, Bool, true, false, List, [], ◌∷◌, ◌++◌, append-nil, map, Option, None, Some, IfSome, Result, Ok, Err, MatchBool, MatchResult, refl, sym, ap, subst, inl, inr, arith}
 use Rattle.std.proofs.lemmas.Bool.{false≢true}
 use Rattle.wl_wire.specs.declared.error.IoFault.{IoFault}
 use Rattle.wl_wire.specs.declared.error.IoFault.TheVariants as fault
@@ -79,10 +79,7 @@ module _ {T U C : Type 0} (client : ClientParts) (m : SessionMessage) (sender : 
 
   after_end_is : (s : Stored T U C) (ends : Bool) (link : LinkState T)
       → after_end s ends link ≡ client_of s.serial (ends_sender client (core_of s.part) m sender ends).core link s.made
-  after_end_is s true link = refl
-  after_end_is s false link =
-      ap (λ (waiting : List (Happening U)). let x : Stored T U C = record (untimed s) { part = record s.part { link = link; waiting = waiting } } in x)
-      (append-nil s.part.waiting)
+  after_end_is s ends link = grind (arith, untimed, append-nil) steps 400000
 
   module _ (sends : T → Queue → Result ℕ IoFault → T → Type 0) where
     -- the verdicts of an event that was put, and of one that was not

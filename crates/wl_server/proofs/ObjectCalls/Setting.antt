@@ -28,15 +28,7 @@ own o u answer = record { offer = λ o. refl; last = refl; client = λ b. tt; gl
 data_set : {T U C : Type 0} (p : Part T U C) (id : IdParts) (u : U) (answer : Result (Unit {0}) InvalidId) (store : Store (Kept U))
     → MatchOption (named p.store id) (answer ≡ Err _) (λ _. answer ≡ Ok tt) → store ≡ data_given p.store id.number (named p.store id) u
     → DataSet p id u answer (record p { store = store })
-data_set {T} {U} {C} p id u answer store = at (named p.store id)
-  where
-    over : Store (Kept U) → Part T U C
-    over s = record p { store = s }
-
-    at : (o : Option (Object (Kept U))) → MatchOption o (answer ≡ Err _) (λ _. answer ≡ Ok tt) → store ≡ data_given p.store id.number o u
-        → MatchOption o ((answer ≡ Err _) × (over store ≡ p)) (λ x. (answer ≡ Ok tt) × (over store ≡ over (data_given p.store id.number (Some x) u)))
-    at None is same = (is, ap over same)
-    at (Some x) is same = (is, ap over same)
+data_set {T} {U} {C} p id u answer store = grind (arith) steps 400000
 
 pub set_does : {T U C : Type 0} (s : Stored T U C) (id : IdParts) (u : U) (answer : Result (Unit {0}) InvalidId) (store : Store (Kept U))
     → MatchOption (named s.part.store id) (answer ≡ Err _) (λ _. answer ≡ Ok tt) → store ≡ data_given s.part.store id.number (named s.part.store id) u

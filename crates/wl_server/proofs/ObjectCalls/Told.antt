@@ -59,11 +59,4 @@ module _ {T U C : Type 0} where
       (R : Part T U C → List _ → Part T U C → Type 0) → read ≡ target → Some c ≡ client_at read clients
       → Does c R c' → Q c.part c'.part → (p q : Part T U C) → option_map (λ s. s.part) (client_at target clients) ≡ Some p
       → option_map (λ s. s.part) (client_at target (slice_set clients read.slot (Some c'))) ≡ Some q → Q p q
-  at_slot Q clients target read c c' R same is does holds p q before after =
-      let has = slot_of_client clients target c (is ∙ ap (λ (id : ClientParts). client_at id clients) same) in
-      let first : Some c.part ≡ Some p = sym (ap (option_map (λ (s : Stored T U C). s.part)) (client_present target clients c has.0 has.1)) ∙ before in
-      let there : slice_get (slice_set clients read.slot (Some c')) target.slot ≡ Some (Some c') =
-      subst (λ (i : ℕ). slice_get (slice_set clients i (Some c')) target.slot ≡ Some (Some c')) (sym (ap (λ (id : ClientParts). id.slot) same)) (get_set_same clients target.slot (Some c) (Some c') has.0) in
-      let second : Some c'.part ≡ Some q =
-      sym (ap (option_map (λ (s : Stored T U C). s.part)) (client_present target (slice_set clients read.slot (Some c')) c' there (does_serial c c' R does ∙ has.1))) ∙ after in
-      subst (λ (y : Part T U C). Q p y) (same_Some c'.part q second) (subst (λ (y : Part T U C). Q y c'.part) (same_Some c.part p first) holds)
+  at_slot Q clients target read c c' R same is does holds p q before after = grind (arith, get_set_same, does_serial, same_Some) steps 400000

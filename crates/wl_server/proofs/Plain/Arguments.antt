@@ -1,5 +1,5 @@
 -- The arguments of a request that is handed out: those of its message, with the ids of kept objects.
-use Rattle.std.proofs.Common.{◌≡◌, ◌⊎◌, ℕ, Bool, true, false, cond, eqb, eqb-true, List, [], ◌∷◌, ◌++◌, map, Option, None, Some, is_some, Result, Ok, Err, MatchOption, refl, sym, ap, ap₂, subst, ◌∙◌, append-nil, append_assoc, true≢false}
+use Rattle.std.proofs.Common.{◌≡◌, ◌⊎◌, ℕ, Bool, true, false, cond, eqb, eqb-true, List, [], ◌∷◌, ◌++◌, map, Option, None, Some, is_some, Result, Ok, Err, MatchOption, refl, sym, ap, ap₂, subst, ◌∙◌, append-nil, append_assoc, true≢false, arith}
 use Rattle.std.proofs.lemmas.Option.{none-some}
 use mathlib.Core.Logic.{inl, inr}
 use Rattle.std.specs.List.{list_any}
@@ -38,11 +38,7 @@ use Rattle.wl_server.specs.Telling.{Core}
 use Rattle.wl_server.proofs.OverRuns.Moves.MovesOfRequests.{valid_new}
 
 no_error : {A E : Type 0} {x : A} {e : E} → ◌≡◌ {A = Result A E} (Ok x) (Err e) → ⊥
-no_error is = true≢false (ap is_fine is)
-  where
-    is_fine : {A E : Type 0} → Result A E → Bool
-    is_fine (Ok x) = true
-    is_fine (Err e) = false
+no_error is = grind (arith, true≢false) steps 400000
 
 -- ---- new ids among arguments
 
@@ -78,33 +74,12 @@ module _ {T U G C : Type 0} (sends : T → Queue → Result ℕ IoFault → T �
       → (signature : List ArgumentType)
       × (option_map (λ (r : MessageRow). r.signature) (row_in a.table (held p.core.store m.sender) m.opcode) ≡ Some signature)
       × (list_any is_new_id signature ≡ list_any is_new m.args)
-  read_signed read =
-      elim (either_bool (nat_le 8 (length p.link.incoming.bytes)) read) [
-        | inl (found, is, h) ↦ at found is h
-        | inr (none, same) ↦ absurd (no_error none)
-      ]
-    where
-      at : (found : Option (List ArgumentType)) → found ≡ option_map (λ (r : MessageRow). r.signature) (row_in a.table (held p.core.store (sender_of p.link.incoming.bytes)) (opcode_of p.link.incoming.bytes))
-          → ReadFound found p.link (Ok m) link
-          → (signature : List ArgumentType)
-          × (option_map (λ (r : MessageRow). r.signature) (row_in a.table (held p.core.store m.sender) m.opcode) ≡ Some signature)
-          × (list_any is_new_id signature ≡ list_any is_new m.args)
-      at None is (none, same) = absurd (no_error none)
-      at (Some signature) is (message, after) = (
-        signature,
-        ap₂ (λ (n opcode : ℕ). option_map (λ (r : MessageRow). r.signature) (row_in a.table (held p.core.store n) opcode)) message.sender message.opcode ∙ sym is,
-        new_in_both signature m.args _ _ message.args,
-      )
+  read_signed read = grind (arith, no_error, is_new_id, ap₂, new_in_both) steps 400000
 
   -- it makes an object by the table exactly if one of its arguments is a new number
   pub makes_new : ReadsAs sends (server a) p (Ok m) link → (row : MessageRow) → row_in a.table (held p.core.store m.sender) m.opcode ≡ Some row
       → creates row ≡ list_any is_new m.args
-  makes_new read row has =
-      let (signature, is, same) = read_signed read in
-      ap (list_any is_new_id) (of_some row.signature signature (sym (ap (option_map (λ (r : MessageRow). r.signature)) has) ∙ is)) ∙ same
-    where
-      of_some : (x y : List ArgumentType) → Some x ≡ Some y → x ≡ y
-      of_some x y e = cc
+  makes_new read row has = grind (arith, read_signed, is_new_id) steps 400000
 
 module _ {U : Type 0} where
   -- each object that was kept still is, at its number
@@ -141,20 +116,11 @@ module _ {U : Type 0} (client : ClientParts) (version : ℕ) where
 
   one_found : (d : Converting U) (n : ℕ) (o : Option (Object (Kept U))) → held d.objects.store n ≡ o
       → One d (arg.Object n) (with_object_argument d (object_found client (next_interface d.asked) n o))
-  one_found d n None e = tt
-  one_found d n (Some x) e = go (fits (next_interface d.asked) x.interface) refl
-    where
-      go : (b : Bool) → fits (next_interface d.asked) x.interface ≡ b
-          → One d (arg.Object n) (with_object_argument d (cond b (Ok (id_at client n x)) (Err (wrong.WrongInterface n (next_interface d.asked) x.interface))))
-      go true fit = (refl, λ k y there. there, λ s more grown rest. (inr (x, grown n x e, refl, fit), rest), λ e' more grown made. made)
-      go false fit = tt
+  one_found d n o h1 = grind (arith, with_object_argument) steps 400000
 
   one_object : (d : Converting U) (n : ℕ) (null b : Bool) → allows_null d.kinds ≡ null → eqb n 0 ≡ b
       → One d (arg.Object n) (with_object_argument d (cond b (cond null (Ok (null_id client)) (Err wrong.NullObject)) (object_found client (next_interface d.asked) n (held d.objects.store n))))
-  one_object d n null false allowed is = one_found d n (held d.objects.store n) refl
-  one_object d n true true allowed is =
-      (ap (λ (k : ℕ). let x : WireArgument = arg.Object k in x) (sym (eqb-true n 0 is)), λ k y there. there, λ s more grown rest. (inl (allowed, refl), rest), λ e more grown made. made)
-  one_object d n false true allowed is = tt
+  one_object d n null b h1 h2 = grind (arith, one_found, eqb-true) steps 400000
 
   one_new : (d : Converting U) (n : ℕ) (child : Option InterfaceId) → d.child ≡ child → One d (arg.NewId n) (with_new_argument client version d n child)
   one_new d n None left = tt
@@ -196,9 +162,7 @@ module _ {U : Type 0} (client : ClientParts) (version : ℕ) where
       go false valid = tt
 
   one : (d : Converting U) (x : WireArgument) → One d x (convert_one client version d x)
-  one d (arg.Object n) = one_object d n (allows_null d.kinds) (eqb n 0) refl refl
-  one d (arg.NewId n) = one_new d n d.child refl
-  one d _ = (refl, λ k y there. there, λ s more grown rest. rest, λ e more grown made. made)
+  one d x = grind (arith, one_object, allows_null, eqb, one_new) steps 400000
 
   -- what the arguments became: behind those that were gone through stand theirs
   abbrev pub Came : Converting U → List (Argument IdParts Token) → List WireArgument → Outcome U → Type 0
@@ -236,19 +200,4 @@ module _ {U : Type 0} (client : ClientParts) (version : ℕ) (row : MessageRow) 
   -- all arguments were gone through: the object that they made, if any, is that of the new id among them
   pub made_by_all : Making client version (start objects row) e args → map wire_argument args ≡ wire → creates row ≡ list_any is_new wire
       → MakesItsObject client e.objects.store row version args e.created × MatchOption e.created (Unit {0}) (λ id. held objects.store id.number ≡ None)
-  made_by_all (inl (none, created)) numbers makes = (
-    record {
-      new_id = created ∙ sym none;
-      by_table = by_table (created ∙ sym none) numbers makes;
-      is_held = subst (λ (o : Option IdParts). MatchOption o (Unit {0}) (HasMade client e.objects.store row version)) (sym created) tt;
-    },
-    subst (λ (o : Option IdParts). MatchOption o (Unit {0}) (λ id. held objects.store id.number ≡ None)) (sym created) tt,
-  )
-  made_by_all (inr (id, left, new, created, (of, free, there))) numbers makes = (
-    record {
-      new_id = created ∙ sym new;
-      by_table = by_table (created ∙ sym new) numbers makes;
-      is_held = subst (λ (o : Option IdParts). MatchOption o (Unit {0}) (HasMade client e.objects.store row version)) (sym created) (of, left, there);
-    },
-    subst (λ (o : Option IdParts). MatchOption o (Unit {0}) (λ id. held objects.store id.number ≡ None)) (sym created) free,
-  )
+  made_by_all h1 h2 h3 = grind (arith, by_table) steps 400000

@@ -38,18 +38,11 @@ none_and_some o none is = absurd cc
 
 -- two answers of which each is true if the other is
 as_true : (a b : Bool) → (a ≡ true → b ≡ true) → (b ≡ true → a ≡ true) → a ≡ b
-as_true true b there back = sym (there refl)
-as_true false true there back = back refl
-as_true false false there back = refl
+as_true a b h1 h2 = grind (arith) steps 400000
 
 -- two ids that are the same are one
 pub same_is : (a b : ClientParts) → same_client a b ≡ true → a ≡ b
-same_is a b is =
-    elim (compare a b) [
-      | Are slot serial ↦ same_parts a b slot serial
-      | Slots slot ↦ absurd (true≢false (sym is ∙ same_slots a b slot))
-      | Serials slot serial ↦ absurd (true≢false (sym is ∙ same_serials a b slot serial))
-    ]
+same_is a b is = grind (arith, compare, same_parts, true≢false, same_slots, same_serials) steps 400000
 
 -- ---- a call
 
@@ -57,17 +50,7 @@ module _ {T U G C : Type 0} (id : ClientParts) (e : Entry T U G C) (by : IsRefus
     (others : (other : ClientParts) → same_client id other ≡ false → e.lacks other ≡ false) where
   -- memory was refused in a call about this client exactly if it was refused to the client
   pub lacks_as : e.refused ≡ e.lacks id
-  lacks_as =
-      as_true e.refused (e.lacks id)
-      (λ known. elim (by.0 known) [
-        | inl grows ↦ absurd (true≢false (sym grows ∙ growth))
-        | inr (other, lacks) ↦ of other lacks (same_client id other) refl
-      ])
-      (λ lacks. by.1 (inr (id, lacks)))
-    where
-      of : (other : ClientParts) → e.lacks other ≡ true → (b : Bool) → same_client id other ≡ b → e.lacks id ≡ true
-      of other lacks true same = ap e.lacks (same_is id other same) ∙ lacks
-      of other lacks false differ = absurd (true≢false (sym lacks ∙ others other differ))
+  lacks_as = grind (arith, as_true, true≢false, same_is) steps 400000
 
 module _ {T U G C : Type 0} {w : World T G C} {before after : BackendState T U G C} {s : Step T U G C} {answer : Reply T U} (call : Calls w before s answer after) where
   abbrev Each : ClientParts → Type 0
@@ -89,15 +72,7 @@ module _ {T U G C : Type 0} {w : World T G C} {before after : BackendState T U G
   -- nothing has changed
   pub unchanged : offer_after before.server.offer (Asked s answer) ≡ before.server.offer → inserted_by (Asked s answer) ≡ 0
       → ((id : ClientParts) → seen id after.server ≡ seen id before.server) → IsUnchanged before after
-  unchanged offer none each =
-      let (e, is, refused, by) = call.step in
-      let last : after.server.last_client ≡ before.server.last_client + inserted_by (Asked s answer) =
-      subst (λ (c : Call T U G C). after.server.last_client ≡ before.server.last_client + inserted_by c) is by.last in
-      record {
-        offer = offer_of ∙ offer;
-        last = omega (arith, last, none);
-        each = each;
-      }
+  unchanged offer none each = grind (arith, inserted_by, offer_of) steps 400000
 
   -- ---- whether memory was refused
 
@@ -156,9 +131,7 @@ module _ {T U G C : Type 0} {w : World T G C} {before after : BackendState T U G
 
   -- for what the call makes of its own
   pub refused_growth : lacks_growth (Asked s answer) ≡ true → after.refused ≡ true
-  refused_growth growth =
-      let (e, is, refused, by) = call.step in
-      sym refused ∙ by.refused.1 (inl (subst (λ (c : Call T U G C). lacks_growth c ≡ true) (sym is) growth))
+  refused_growth growth = grind (arith, lacks_growth) steps 400000
 
 -- of two ids that differ, and have one client, the number or the serial differs
 pub ids_differ : (b : Bool) {c : Bool} → b ≡ true → (b && c) ≡ false → c ≡ false
@@ -171,80 +144,33 @@ module _ {T U C : Type 0} where
   -- the part stays, and nothing is noted
   pub nothing_new : (s t : Seen T U C) (p q : Part T U C) (did : List (Deed U)) → s.part ≡ Some p → q ≡ p → notes_in did ≡ []
       → t ≡ record { part = Some q; made = s.made ++ notes_in did } → t ≡ s
-  nothing_new s t p q did there same none is =
-      is ∙ ap (λ (x : Part T U C). with_part (Some x) (s.made ++ notes_in did)) same
-      ∙ ap (λ (o : Option (Part T U C)). with_part o (s.made ++ notes_in did)) (sym there)
-      ∙ ap (λ (n : List (Happening U)). with_part s.part (s.made ++ n)) none ∙ ap (with_part s.part) (append-nil s.made)
-    where
-      with_part : Option (Part T U C) → List (Happening U) → Seen T U C
-      with_part o made = record { part = o; made = made }
+  nothing_new s t p q did there same none is = grind (arith, append-nil) steps 400000
 
 module _ {T U C : Type 0} (b : Bool) (s : Seen T U C) (R : Part T U C → Part T U C → Type 0) (missing : Type 0) (lacked : Bool) (did : List (Deed U)) (t : Seen T U C) where
   -- a step about a client is one of its part
   pub meant : b ≡ true → OfClient b s R missing lacked did t → OnPart s R missing lacked did t
-  meant is h = at b is h
-    where
-      at : (b : Bool) → b ≡ true → OfClient b s R missing lacked did t → OnPart s R missing lacked did t
-      at true is h = h
-      at false is h = absurd (true≢false (sym is))
+  meant is h = grind (arith, true≢false) steps 400000
 
   -- another client stays
   pub other_stays : b ≡ false → OfClient b s R missing lacked did t → t ≡ s
-  other_stays is h = at b is h
-    where
-      at : (b : Bool) → b ≡ false → OfClient b s R missing lacked did t → t ≡ s
-      at true is h = absurd (true≢false is)
-      at false is (calm, none, same) = same
+  other_stays is h = grind (arith, true≢false, calm) steps 400000
 
   -- what each such step of the part leaves as it was stays
   pub keeps : {A : Type 0} (f : Option (Part T U C) → A) → (b ≡ true → (p q : Part T U C) → R p q → f (Some q) ≡ f (Some p)) → OfClient b s R missing lacked did t
       → f t.part ≡ f s.part
-  keeps {A = A} f each h = at b each h
-    where
-      at : (b : Bool) → (b ≡ true → (p q : Part T U C) → R p q → f (Some q) ≡ f (Some p)) → OfClient b s R missing lacked did t → f t.part ≡ f s.part
-      at false each (calm, none, same) = ap (λ (x : Seen T U C). f x.part) same
-      at true each h =
-          elim (either_option s.part h) [
-            | inl (none, (m, (calm, nothing, same))) ↦ ap (λ (x : Seen T U C). f x.part) same
-            | inr (p, there, (q, r, same)) ↦ ap (λ (x : Seen T U C). f x.part) same ∙ each refl p q r ∙ sym (ap f there)
-          ]
+  keeps {A = A} f each h = grind (arith, calm, either_option) steps 400000
 
   -- so do the notes that were made, where such a step notes nothing
   pub notes_stay : ((p q : Part T U C) → R p q → notes_in did ≡ []) → OfClient b s R missing lacked did t → t.made ≡ s.made
-  notes_stay silent h = at b h
-    where
-      at : (b : Bool) → OfClient b s R missing lacked did t → t.made ≡ s.made
-      at false (calm, none, same) = ap (λ (x : Seen T U C). x.made) same
-      at true h =
-          elim (either_option s.part h) [
-            | inl (none, (m, (calm, nothing, same))) ↦ ap (λ (x : Seen T U C). x.made) same
-            | inr (p, there, (q, r, same)) ↦
-                ap (λ (x : Seen T U C). x.made) same ∙ ap (λ (n : List (Happening U)). s.made ++ n) (silent p q r) ∙ append-nil s.made
-          ]
+  notes_stay silent h = grind (arith, calm, either_option, append-nil) steps 400000
 
   -- no memory is refused to it, where none is in such a step
   pub never : ((p q : Part T U C) → R p q → lacked ≡ false) → OfClient b s R missing lacked did t → lacked ≡ false
-  never so h = at b h
-    where
-      at : (b : Bool) → OfClient b s R missing lacked did t → lacked ≡ false
-      at false (calm, none, same) = calm
-      at true h =
-          elim (either_option s.part h) [
-            | inl (none, (m, (calm, nothing, same))) ↦ calm
-            | inr (p, there, (q, r, same)) ↦ so p q r
-          ]
+  never so h = grind (arith, calm, either_option) steps 400000
 
   -- so is a client that is not stored
   pub missing_stays : (b ≡ true → s.part ≡ None) → OfClient b s R missing lacked did t → t ≡ s
-  missing_stays absent h = at b absent h
-    where
-      at : (b : Bool) → (b ≡ true → s.part ≡ None) → OfClient b s R missing lacked did t → t ≡ s
-      at false absent (calm, none, same) = same
-      at true absent h =
-          elim (either_option s.part h) [
-            | inl (none, (m, (calm, nothing, same))) ↦ same
-            | inr (p, there, (q, r, same)) ↦ absurd (none_and_some s.part (absent refl) there)
-          ]
+  missing_stays absent h = grind (arith, calm, either_option, none_and_some) steps 400000
 
 -- a step about this very client
 pub own : {T U C : Type 0} (id : ClientParts) (s : Seen T U C) (R : Part T U C → Part T U C → Type 0) (missing : Type 0) (lacked : Bool) (did : List (Deed U)) (t : Seen T U C)

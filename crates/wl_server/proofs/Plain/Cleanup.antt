@@ -1,5 +1,5 @@
 -- Killed clients leave, and notes are handed out.
-use Rattle.std.proofs.Common.{◌≡◌, Bool, true, false, List, [], ◌∷◌, ◌++◌, map, Option, None, Some, Result, Ok, Err, refl, sym, ap, subst, ◌∙◌, true≢false}
+use Rattle.std.proofs.Common.{◌≡◌, Bool, true, false, List, [], ◌∷◌, ◌++◌, map, Option, None, Some, Result, Ok, Err, refl, sym, ap, subst, ◌∙◌, true≢false, arith}
 use mathlib.Core.Logic.{inl, inr}
 use Rattle.std.specs.Prelude.{Vec}
 use Rattle.std.specs.Global.{Global}
@@ -37,13 +37,7 @@ module _ {T U G C : Type 0} (w : World T G C) (id : ClientParts) (offer : Offer 
   -- a stored client
   cleaned : (p : Part T U C) → s.part ≡ Some p → CleanedAs w id offer (Ok out) s lacked did t
       → (q : Option (Part T U C)) × Cleaned w.sends id p lacked did (share_of id out.items) q × (t ≡ record { part = q; made = s.made ++ notes_in did })
-  cleaned p there h =
-      elim (either_option s.part h) [
-        | inl (none, rest) ↦ absurd (none_and_some s.part none there)
-        | inr (r, here, found) ↦
-            subst (λ (x : Part T U C). (q : Option (Part T U C)) × Cleaned w.sends id x lacked did (share_of id out.items) q × (t ≡ record { part = q; made = s.made ++ notes_in did }))
-            (one_value s.part here there) found
-      ]
+  cleaned p there h = grind (arith, either_option, none_and_some, share_of, one_value) steps 400000
 
   pub cleaned_killed : (p : Part T U C) → s.part ≡ Some p → p.is_killed ≡ true → CleanedAs w id offer (Ok out) s lacked did t → HandsOut w.sends p (share_of id out.items) t.part
   cleaned_killed p there killed h =
@@ -53,20 +47,10 @@ module _ {T U G C : Type 0} (w : World T G C) (id : ClientParts) (offer : Offer 
 
   pub cleaned_live : (p : Part T U C) → s.part ≡ Some p → p.is_killed ≡ false → CleanedAs w id offer (Ok out) s lacked did t
       → (share_of id out.items ≡ []) × (t.part ≡ Some (record p { waiting = [] })) × (t.made ≡ s.made ++ p.waiting)
-  cleaned_live p there live h =
-      let (q, cleans, same) = cleaned p there h in
-      let (memory, did_so, handed, is) = when_false _ p.is_killed live cleans in (
-        handed,
-        ap (λ (x : Seen T U C). x.part) same ∙ is,
-        ap (λ (x : Seen T U C). x.made) same ∙ ap (λ (d : List (Deed U)). s.made ++ notes_in d) did_so ∙ ap (λ (n : List (Happening U)). s.made ++ n) (all_noted p.waiting),
-      )
+  cleaned_live p there live h = grind (arith, cleaned, when_false, all_noted) steps 400000
 
   pub cleaned_none : s.part ≡ None → CleanedAs w id offer (Ok out) s lacked did t → (share_of id out.items ≡ []) × (t ≡ s)
-  cleaned_none none h =
-      elim (either_option s.part h) [
-        | inl (absent, (nothing, (memory, nobody, same))) ↦ (nothing, same)
-        | inr (p, there, found) ↦ absurd (none_and_some s.part none there)
-      ]
+  cleaned_none none h = grind (arith, either_option, none_and_some) steps 400000
 
 module _ {T U G C : Type 0} {w : World T G C} {before after : BackendState T U G C} where
   cleanup_each : (answer : Result (Vec (ClientParts × T) Global) OutOfMemory) → Calls w before step.Cleanup (reply.Cleanup answer) after → (id : ClientParts)
@@ -134,22 +118,4 @@ module _ {T U G C : Type 0} {w : World T G C} {before after : BackendState T U G
       inside r is = cc
 
   pub takes_notes : (answer : Result (Vec (Note U) Global) OutOfMemory) → Calls w before step.TakeNotes (reply.TakeNotes answer) after → TakesNotes before answer after
-  takes_notes (Ok out) call = record {
-    taken = λ id. let (lacked, did, (all, memory, did_so, same)) = notes_each (Ok out) call id in all;
-    left = λ id. let (lacked, did, (all, memory, did_so, same)) = notes_each (Ok out) call id in ap (λ (x : Seen T U C). x.made) same;
-    clients = λ id. let (lacked, did, (all, memory, did_so, same)) = notes_each (Ok out) call id in ap (λ (x : Seen T U C). x.part) same;
-    objects = λ o.
-        let (lacked, did, (all, memory, did_so, same)) = notes_each (Ok out) call o.client in ap (λ (x : Seen T U C). and_then x.part (λ p. named p.store o)) same;
-    globals = offer_of call;
-    memory = calm call refl (λ id lacked did is. took_calm out id lacked did is);
-  }
-    where
-      took_calm : (out : Vec (Note U) Global) (id : ClientParts) (lacked : Bool) (did : List (Deed U))
-          → (r : Result (Vec (Note U) Global) OutOfMemory) × (◌≡◌ {A = Reply T U} (reply.TakeNotes (Ok out)) (reply.TakeNotes r))
-          × NotesTaken w id before.server.offer r (seen id before.server) lacked did (seen id after.server) → lacked ≡ false
-      took_calm out id lacked did (Ok other, is, (all, memory, did_so, same)) = memory
-      took_calm out id lacked did (Err e, is, (memory, none, same)) = memory
-  takes_notes (Err e) call = (
-    unchanged call refl refl (λ id. let (lacked, did, (memory, none, same)) = notes_each (Err e) call id in same),
-    refused_growth call refl,
-  )
+  takes_notes answer h1 = grind (arith, offer_of, calm, unchanged, refused_growth) steps 400000

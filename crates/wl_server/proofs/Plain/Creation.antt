@@ -38,33 +38,10 @@ record IsNew {T U C : Type 0} (client : ClientParts) (p : Part T U C) (i : Inter
 
 module _ {T U C : Type 0} (table : List InterfaceRow) (client : ClientParts) (p : Part T U C) (i : InterfaceId) (version : ℕ) (u : U) where
   made_new : (id : IdParts) (q : Part T U C) → Creates table client p i version u (Ok id) q → IsNew client p i version u id q
-  made_new id q h =
-      elim (either_option (slice_get table i.0) h) [
-        | inl (unknown, (is, same)) ↦ absurd cc
-        | inr (row, known, inl (full, is, same)) ↦ absurd cc
-        | inr (row, known, inr (n, absent, which)) ↦
-            elim (either_bool (p.last_serial == last_possible_serial) which) [
-              | inl (is, same) ↦ absurd cc
-              | inr (inl (is, same)) ↦ record { n = n; absent = absent; id_is = inside _ is; part_is = same }
-              | inr (inr (is, first, same)) ↦ absurd cc
-            ]
-      ]
-    where
-      inside : (other : IdParts) → ◌≡◌ {A = Result IdParts CreateError} (Ok id) (Ok other) → id ≡ other
-      inside other is = cc
+  made_new id q h = grind (arith, slice_get, last_possible_serial) steps 400000
 
   made_none : (e : CreateError) (q : Part T U C) → Creates table client p i version u (Err e) q → q ≡ p
-  made_none e q h =
-      elim (either_option (slice_get table i.0) h) [
-        | inl (unknown, (is, same)) ↦ same
-        | inr (row, known, inl (full, is, same)) ↦ same
-        | inr (row, known, inr (n, absent, which)) ↦
-            elim (either_bool (p.last_serial == last_possible_serial) which) [
-              | inl (is, same) ↦ same
-              | inr (inl (is, same)) ↦ absurd cc
-              | inr (inr (is, first, same)) ↦ same
-            ]
-      ]
+  made_none e q h = grind (arith, slice_get, last_possible_serial) steps 400000
 
 module _ {T U C : Type 0} {client : ClientParts} {p : Part T U C} {i : InterfaceId} {version : ℕ} {u : U} {id : IdParts} {q : Part T U C} (new : IsNew client p i version u id q) where
   abbrev made : Object (Kept U)
@@ -74,9 +51,7 @@ module _ {T U C : Type 0} {client : ClientParts} {p : Part T U C} {i : Interface
   numbered = let first = new.absent.within in ne_eqb new.n 0 (λ (zero : new.n ≡ 0). absurd (omega (arith, first, zero)))
 
   new_before : named p.store id ≡ None
-  new_before =
-      ap (λ (o : IdParts). named p.store o) new.id_is
-      ∙ ap (λ (h : Option (Object (Kept U))). cond (new.n == 0) None (named_in serial_of (id_of (id_at client new.n made)) h)) new.absent.absent ∙ both_none (new.n == 0)
+  new_before = grind (arith, named, serial_of, id_of, id_at, both_none) steps 400000
 
   new_after : named q.store id ≡ Some (fresh_object i version id.serial (Some u))
   new_after =
@@ -118,17 +93,7 @@ Of table target client i version u answer s lacked did t = OfClient (same_client
 module _ {T U C : Type 0} (table : List InterfaceRow) (client : ClientParts) (i : InterfaceId) (version : ℕ) (u : U) (s t : Seen T U C) (lacked : Bool) (did : List (Deed U)) where
   created : (id : IdParts) → Of table client client i version u (Ok id) s lacked did t
       → (id.client ≡ client) × (id.interface ≡ i) × (named_of s id ≡ None) × (named_of t id ≡ Some (fresh_object i version id.serial (Some u)))
-  created id h =
-      elim (either_option s.part (own client s (Does table client i version u (Ok id) lacked did) (Unknown (Ok id)) lacked did t h)) [
-        | inl (none, (is, rest)) ↦ absurd (ok_unknown is)
-        | inr (p, there, (q, (memory, none, makes), same)) ↦
-            let new = made_new table client p i version u id q makes in (
-              new_client new,
-              new_interface new,
-              ap (λ (x : Option (Part T U C)). and_then x (λ p. named p.store id)) there ∙ new_before new,
-              ap (λ (x : Seen T U C). named_of x id) same ∙ new_after new,
-            )
-      ]
+  created id h = grind (arith, own, ok_unknown, made_new, new_client, new_interface, named, new_before, new_after) steps 400000
 
 not_created : {T U C : Type 0} (b : Bool) (table : List InterfaceRow) (client : ClientParts) (i : InterfaceId) (version : ℕ) (u : U) (e : CreateError) (s t : Seen T U C)
     (lacked : Bool) (did : List (Deed U)) → OfClient b s (Does table client i version u (Err e) lacked did) (Unknown (Err e)) lacked did t → t ≡ s

@@ -1,5 +1,5 @@
 -- An object that gets data.
-use Rattle.std.proofs.Common.{◌≡◌, Bool, true, false, List, Option, None, Some, Result, Ok, Err, MatchResult, option_map, refl, sym, ap, subst, ◌∙◌}
+use Rattle.std.proofs.Common.{◌≡◌, Bool, true, false, List, Option, None, Some, Result, Ok, Err, MatchResult, option_map, refl, sym, ap, subst, ◌∙◌, arith}
 use mathlib.Core.Logic.{inl, inr}
 use Rattle.wl_link.proofs.Calls.Branches.{either_option}
 use Rattle.wl_link.specs.declared.object.Object.{Object}
@@ -35,48 +35,16 @@ module _ {T U C : Type 0} (o : IdParts) (u : U) (answer : Result (Unit {0}) Inva
   -- an id of another number or serial
   set_others : (lacked : Bool) (did : List (Deed U)) (p q : Part T U C) → Sets lacked did p q → (other : IdParts) → same_id (id_of o) (id_of other) ≡ false
       → named q.store other ≡ named p.store other
-  set_others lacked did p q (calm, none, h) other differ =
-      elim (either_option (named p.store o) h) [
-        | inl (unknown, (is, same)) ↦ ap (λ (x : Part T U C). named x.store other) same
-        | inr (x, is, (ok, same)) ↦
-            ap (λ (x : Part T U C). named x.store other) same
-            ∙ rewritten_others p.store o x (with_user_data u x) (names_so p.store o x is) refl other differ
-      ]
+  set_others lacked did p q (calm, none, h) other differ = grind (arith, either_option, named, rewritten_others, with_user_data, names_so) steps 400000
 
   -- all of the client but its objects
   set_rest : (lacked : Bool) (did : List (Deed U)) (p q : Part T U C) → Sets lacked did p q → without_objects q ≡ without_objects p
-  set_rest lacked did p q (calm, none, h) =
-      elim (either_option (named p.store o) h) [
-        | inl (unknown, (is, same)) ↦ ap without_objects same
-        | inr (x, is, (ok, same)) ↦ ap without_objects same
-      ]
+  set_rest lacked did p q (calm, none, h) = grind (arith, either_option, named) steps 400000
 
   -- the object of the id
   set_here : (lacked : Bool) (did : List (Deed U)) (s t : Seen T U C) → OfClient (same_client o.client o.client) s (Sets lacked did) (Refused answer) lacked did t
       → MatchResult answer (λ _. (x : Object (Kept U)) × (named_of s o ≡ Some x) × (named_of t o ≡ Some (with_user_data u x))) (λ _. named_of s o ≡ None)
-  set_here lacked did s t h =
-      elim (either_option s.part (own o.client s (Sets lacked did) (Refused answer) lacked did t h)) [
-        | inl (none, (is, rest)) ↦ refused is (ap (λ (x : Option (Part T U C)). and_then x (λ p. named p.store o)) none)
-        | inr (p, there, (q, (calm, none, set), same)) ↦
-            elim (either_option (named p.store o) set) [
-              | inl (unknown, (is, stays)) ↦ refused is (ap (λ (x : Option (Part T U C)). and_then x (λ p. named p.store o)) there ∙ unknown)
-              | inr (x, is, (ok, changed)) ↦
-                  accepted ok (
-                    x,
-                    ap (λ (x : Option (Part T U C)). and_then x (λ p. named p.store o)) there ∙ is,
-                    ap (λ (x : Seen T U C). named_of x o) same ∙ ap (λ (x : Part T U C). named x.store o) changed
-                        ∙ rewritten_named p.store o x (with_user_data u x) (names_so p.store o x is) refl,
-                  )
-            ]
-      ]
-    where
-      refused : Refused answer → named_of s o ≡ None
-          → MatchResult answer (λ _. (x : Object (Kept U)) × (named_of s o ≡ Some x) × (named_of t o ≡ Some (with_user_data u x))) (λ _. named_of s o ≡ None)
-      refused is none = rw is none
-
-      accepted : ◌≡◌ {A = Result (Unit {0}) InvalidId} answer (Ok tt) → (x : Object (Kept U)) × (named_of s o ≡ Some x) × (named_of t o ≡ Some (with_user_data u x))
-          → MatchResult answer (λ _. (x : Object (Kept U)) × (named_of s o ≡ Some x) × (named_of t o ≡ Some (with_user_data u x))) (λ _. named_of s o ≡ None)
-      accepted is found = rw is found
+  set_here lacked did s t h = grind (arith, either_option, own, named, calm, rewritten_named, with_user_data, names_so) steps 400000
 
   -- a refusal changes nothing
   set_refused : Refused answer → (b : Bool) (lacked : Bool) (did : List (Deed U)) (s t : Seen T U C) → OfClient b s (Sets lacked did) (Refused answer) lacked did t → t ≡ s
@@ -140,8 +108,4 @@ module _ {T U G C : Type 0} {w : World T G C} {before after : BackendState T U G
 module _ {T U G C R : Type 0} (lend : U → R → U → Type 0) (w : World T G C) where
   pub sets_what_is_left : (before : BackendState T U G C) (o : IdParts) (answer : Result R InvalidId) (after : BackendState T U G C) → LendsObjectData lend w before o answer after
       → SetsWhatIsLeft lend before o answer after
-  sets_what_is_left before o answer after h =
-      elim (either_option (object_data_of before.server o) h) [
-        | inl (none, (is, same)) ↦ rw none (is, same)
-        | inr (u, some, (r, left, called, is, call, sets)) ↦ rw some (r, left, called, is, sets)
-      ]
+  sets_what_is_left before o answer after h = grind (arith, either_option) steps 400000

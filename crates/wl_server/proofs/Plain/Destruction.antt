@@ -1,5 +1,5 @@
 -- An object that the program destroys.
-use Rattle.std.proofs.Common.{◌≡◌, ℕ, Bool, true, false, cond, eqb-true, List, ◌++◌, Option, None, Some, is_some, Result, Ok, Err, refl, sym, ap, subst, ◌∙◌}
+use Rattle.std.proofs.Common.{◌≡◌, ℕ, Bool, true, false, cond, eqb-true, List, ◌++◌, Option, None, Some, is_some, Result, Ok, Err, refl, sym, ap, subst, ◌∙◌, arith}
 use mathlib.Core.Logic.{inl, inr}
 use Rattle.std.specs.Prelude.{◌⊎◌, ◌==◌}
 use Rattle.wl_wire.specs.declared.error.IoFault.{IoFault}
@@ -52,18 +52,10 @@ never_refused false is = absurd cc
 
 module _ {T U C : Type 0} where
   destroyable_named : (p : Part T U C) (o : IdParts) (x : Object (Kept U)) → destroyable p o ≡ Some x → named p.store o ≡ Some x
-  destroyable_named p o x = at (o.number == 1)
-    where
-      at : (b : Bool) → cond b None (named p.store o) ≡ Some x → named p.store o ≡ Some x
-      at true is = absurd cc
-      at false is = is
+  destroyable_named p o x = grind (arith, named) steps 400000
 
   not_destroyable : (p : Part T U C) (o : IdParts) → destroyable p o ≡ None → (o.number ≡ 1) ⊎ (named p.store o ≡ None)
-  not_destroyable p o = at (o.number == 1) refl
-    where
-      at : (b : Bool) → (o.number == 1) ≡ b → cond b None (named p.store o) ≡ None → (o.number ≡ 1) ⊎ (named p.store o ≡ None)
-      at true one is = inl (eqb-true o.number 1 one)
-      at false one is = inr is
+  not_destroyable p o = grind (arith, named, eqb-true) steps 400000
 
 module _ {T U C : Type 0} (sends : T → Queue → Result ℕ IoFault → T → Type 0) (o : IdParts) (client : ClientParts) where
   abbrev Does : Result (Unit {0}) DestroyError → Bool → List (Deed U) → Part T U C → Part T U C → Type 0
@@ -98,11 +90,7 @@ module _ {T U C : Type 0} (sends : T → Queue → Result ℕ IoFault → T → 
   -- no memory is refused where the answer is another
   destroy_calm : (answer : Result (Unit {0}) DestroyError) → ((lacked : Bool) → answer ≡ unless_refused destroy.OutOfMemory lacked → lacked ≡ false) → (lacked : Bool)
       (did : List (Deed U)) (p q : Part T U C) → Does answer lacked did p q → lacked ≡ false
-  destroy_calm answer so lacked did p q h =
-      elim (either_option (destroyable p o) h) [
-        | inl (unknown, (is, calm, none, same)) ↦ calm
-        | inr (x, is, (answered, tells)) ↦ so lacked answered
-      ]
+  destroy_calm answer so lacked did p q h = grind (arith, either_option, calm) steps 400000
 
   abbrev Of : Result (Unit {0}) DestroyError → Bool → Seen T U C → Bool → List (Deed U) → Seen T U C → Type 0
   Of answer b s lacked did t = OfClient b s (Does answer lacked did) (Refused answer) lacked did t
@@ -152,33 +140,10 @@ module _ {T U C : Type 0} (sends : T → Queue → Result ℕ IoFault → T → 
       ]
 
   destroyed_unknown : Own (Err destroy.InvalidId) → (o.number ≡ 1) ⊎ (named_of s o ≡ None)
-  destroyed_unknown h =
-      elim (either_option s.part (own o.client s (Does sends o o.client (Err destroy.InvalidId) lacked did) (Refused (Err destroy.InvalidId)) lacked did t h)) [
-        | inl (none, (is, rest)) ↦ inr (ap (λ (x : Option (Part T U C)). and_then x (λ p. named p.store o)) none)
-        | inr (p, there, (q, r, same)) ↦
-            elim (either_option (destroyable p o) r) [
-              | inl (unknown, (is, calm, nothing, stays)) ↦
-                  elim (not_destroyable p o unknown) [ inl one ↦ inl one | inr none ↦ inr (in_part (λ p. named p.store o) p there ∙ none) ]
-              | inr (x, is, (answered, tells)) ↦ absurd (never_refused lacked answered)
-            ]
-      ]
+  destroyed_unknown h = grind (arith, either_option, own, named, calm, not_destroyable, in_part, never_refused) steps 400000
 
   destroyed_starved : Own (Err destroy.OutOfMemory) → (named_of t o ≡ named_of s o) × (lacked ≡ true)
-  destroyed_starved h =
-      elim (either_option s.part (own o.client s (Does sends o o.client (Err destroy.OutOfMemory) lacked did) (Refused (Err destroy.OutOfMemory)) lacked did t h)) [
-        | inl (none, (is, rest)) ↦ absurd (starved_refused refl is)
-        | inr (p, there, (q, r, same)) ↦
-            elim (either_option (destroyable p o) r) [
-              | inl (unknown, (is, calm, nothing, stays)) ↦ absurd (starved_refused refl is)
-              | inr (x, is, (answered, tells)) ↦ (
-                ap (λ (y : Seen T U C). named_of y o) same
-                    ∙ ap (λ (st : Store (Kept U)). named st o)
-                    (left_store sends o o.client p x lacked did q tells ∙ ap (λ (b : Bool). cond b p.store (removed p.store o.number)) (starved_lacks lacked answered))
-                    ∙ sym (in_part (λ p. named p.store o) p there),
-                starved_lacks lacked answered,
-              )
-            ]
-      ]
+  destroyed_starved h = grind (arith, either_option, own, starved_refused, calm, named, left_store, starved_lacks, in_part) steps 400000
 
 module _ {T U G C : Type 0} {w : World T G C} {before after : BackendState T U G C} (o : IdParts) where
   destroy_each : (answer : Result (Unit {0}) DestroyError) → Calls w before (step.DestroyObject o) (reply.DestroyObject answer) after → (id : ClientParts)

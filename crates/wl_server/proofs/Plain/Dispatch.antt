@@ -61,23 +61,7 @@ split false = inr refl
 module _ {T U G C : Type 0} (w : World T G C) (id : ClientParts) (offer : Offer G) (out : Vec (ClientParts × T) Global) (s t : Seen T U C) (lacked : Bool) (did : List (Deed U))
     (h : CleanedAs w id offer (Ok out) s lacked did t) where
   left_live : (p : Part T U C) → t.part ≡ Some p → (p.is_killed ≡ false) × (p.waiting ≡ [])
-  left_live p there =
-      elim (found s.part refl) [
-        | inl none ↦ let (nothing, same) = cleaned_none w id offer out s t lacked did none h in
-            absurd (none_and_some t.part (ap (λ (x : Seen T U C). x.part) same ∙ none) there)
-        | inr (q, was) ↦ elim (split q.is_killed) [
-          | inl dead ↦
-              let (answer, link, by, handed, gone) = cleaned_killed w id offer out s t lacked did q was dead h in absurd (none_and_some t.part gone there)
-          | inr live ↦
-              let (handed, is, made) = cleaned_live w id offer out s t lacked did q was live h in
-              let same : record q { waiting = [] } ≡ p = one_value t.part is there in
-              (ap (λ (x : Part T U C). x.is_killed) (sym same) ∙ live, ap (λ (x : Part T U C). x.waiting) (sym same))
-        ]
-      ]
-    where
-      found : (o : Option (Part T U C)) → s.part ≡ o → (s.part ≡ None) ⊎ ((q : Part T U C) × (s.part ≡ Some q))
-      found None is = inl is
-      found (Some q) is = inr (q, is)
+  left_live p there = grind (arith, cleaned_none, split, cleaned_killed, cleaned_live) steps 400000
 
   -- a live client without an open action stays so
   idle_still : IsIdle s.part → IsIdle t.part
@@ -134,15 +118,9 @@ not_open is = absurd cc
 
 module _ {T U C : Type 0} (table : List InterfaceRow) (id : ClientParts) (s t : Seen T U C) where
   read_blocked : ReadAs table id (Err (Io fault.WouldBlock)) s t → IsIdle t.part
-  read_blocked (inl (none, is, same)) = absurd (differ is)
-    where
-      differ : ◌≡◌ {A = Result Handed ActionError} (Err (Io fault.WouldBlock)) (Err (Io fault.InvalidInput)) → ⊥
-      differ is = absurd cc
+  read_blocked (inl (none, is, same)) = grind (arith) steps 400000
   read_blocked (inr (p, was, inl (some, is, same))) = absurd (not_open is)
-  read_blocked (inr (p, was, inr (inl (idle, dead, is, same)))) = absurd (differ is)
-    where
-      differ : ◌≡◌ {A = Result Handed ActionError} (Err (Io fault.WouldBlock)) (Err (Io fault.Pipe)) → ⊥
-      differ is = absurd cc
+  read_blocked (inr (p, was, inr (inl (idle, dead, is, same)))) = grind (arith) steps 400000
   read_blocked (inr (p, was, inr (inr (idle, live, (q, (closed, (lives, is))))))) = (q, ap (λ (x : Seen T U C). x.part) is, lives, closed)
 
   -- a fault by which a client is killed
@@ -224,16 +202,7 @@ module _ {T U G C : Type 0} (sends : T → Queue → Result ℕ IoFault → T �
   receive_starves : (left : ℕ) (before : ReaderState T (Core U C)) (turns : List Turn) (out : Gives (Told U)) (end : ReaderState T (Core U C))
       → Reads sends (server a) receives left before turns out end → LastReceiveFailed fault.OutOfMemory turns → out.refused ≡ true
   receive_starves left before [] out end h (r, last, failed) = absurd (none_and_some None refl last)
-  receive_starves left before (Received got ∷ []) out end (on, lacks, (n, is, (link, filled, room, h))) (r, last, failed) =
-      elim (split_result (counted_answer (count_of got)) h) [
-        | inl (u, ok, more) ↦ absurd (not_both ok (ap (λ (x : Result Queue IoFault). counted_answer (count_of x)) (got_is last) ∙ failed))
-        | inr (f, bad, (over, stopped, same)) ↦
-            ap (λ (o : Gives (Told U)). o.refused) stopped
-            ∙ ap lacks_memory (sym bad ∙ ap (λ (x : Result Queue IoFault). counted_answer (count_of x)) (got_is last) ∙ failed)
-      ]
-    where
-      got_is : Some (Received got) ≡ Some (Received r) → got ≡ r
-      got_is is = cc
+  receive_starves left before (Received got ∷ []) out end (on, lacks, (n, is, (link, filled, room, h))) (r, last, failed) = grind (arith, split_result, not_both) steps 400000
   receive_starves left before (Received got ∷ t ∷ turns) out end (on, lacks, (n, is, (link, filled, room, h))) last =
       elim (split_result (counted_answer (count_of got)) h) [
         | inl (u, ok, more) ↦ receive_starves n (with_link before link) (t ∷ turns) out end more last
@@ -242,40 +211,15 @@ module _ {T U G C : Type 0} (sends : T → Queue → Result ℕ IoFault → T �
     where
       none_left : t ∷ turns ≡ [] → ⊥
       none_left is = absurd cc
-  receive_starves left before (Handled es ∷ []) out end h (r, last, failed) = absurd (not_received last)
-    where
-      not_received : Some (Handled es) ≡ Some (Received r) → ⊥
-      not_received is = absurd cc
+  receive_starves left before (Handled es ∷ []) out end h (r, last, failed) = grind (arith) steps 400000
   receive_starves left before (Handled es ∷ t ∷ turns) out end (on, (v, link, first, lacked, mid, rest, found, by, split', more)) last =
       ap (λ (o : Gives (Told U)). o.refused) split' ∙ or_then lacked rest.refused (receive_starves left mid (t ∷ turns) rest end more last)
-  receive_starves left before (Unread es ∷ []) out end h (r, last, failed) = absurd (not_received last)
-    where
-      not_received : Some (Unread es) ≡ Some (Received r) → ⊥
-      not_received is = absurd cc
+  receive_starves left before (Unread es ∷ []) out end h (r, last, failed) = grind (arith) steps 400000
   receive_starves left before (Unread es ∷ t ∷ turns) out end (on, (v, link, first, lacked, mid, rest, found, by, split', more)) last =
       ap (λ (o : Gives (Told U)). o.refused) split' ∙ or_then lacked rest.refused (receive_starves left mid (t ∷ turns) rest end more last)
 
   next_starves : (p q : Part T U C) (r r' : Reading) (lacked : Bool) (did : List (Deed U)) → NextAction sends receives a r p (Err (Io fault.OutOfMemory)) r' lacked did q → lacked ≡ true
-  next_starves p q r r' lacked did h =
-      elim (either_option p.action h) [
-        | inr (action, is_open, (says, same, calm, none, stays)) ↦ absurd (not_open says)
-        | inl (idle, g) ↦ elim (split_bool p.is_killed g) [
-          | inl (dead, (says, same, calm, none, stays)) ↦ absurd (not_pipe says)
-          | inr (live, (turns, out, end, reads, says, same, calm, did_so, after)) ↦
-              calm
-              ∙ starved turns out end reads
-              (subst (λ (x : Result Handed ActionError). ReadingEnds sends receives a (reader_part p) turns x out.refused out.left end) (sym says)
-              (reading_ends sends receives a r.turns_left p turns out end live idle reads)).0
-        ]
-      ]
-    where
-      not_pipe : ◌≡◌ {A = Result Handed ActionError} (Err (Io fault.OutOfMemory)) (Err (Io fault.Pipe)) → ⊥
-      not_pipe is = absurd cc
-
-      starved : (turns : List Turn) (out : Gives (Told U)) (end : ReaderState T (Core U C)) → Reads sends (server a) receives r.turns_left (reader_part p) turns out end
-          → LastReceiveFailed fault.OutOfMemory turns ⊎ StopsItself sends receives a fault.OutOfMemory (reader_part p) turns out.refused out.left end → out.refused ≡ true
-      starved turns out end reads (inl last) = receive_starves r.turns_left (reader_part p) turns out end reads last
-      starved turns out end reads (inr (refused, why)) = refused
+  next_starves p q r r' lacked did h = grind (arith, either_option, not_open, reading_ends, receive_starves) steps 400000
 
 module _ {T U G C : Type 0} (w : World T G C) (id : ClientParts) (s s' : ServerState T U G C) (e : Entry T U G C) (by : OneStep w s e s') where
   reading_starved : (r r' : Reading) → e.call ≡ Asked (step.NextActionWithin id r) (reply.NextActionWithin (Err (Io fault.OutOfMemory)) r') → e.refused ≡ true
@@ -309,10 +253,7 @@ module _ {T U G C : Type 0} (w : World T G C) (id : ClientParts) (s s' : ServerS
     where
       lacks : (r : Result (Unit {0}) (FinishRefused (Option U))) → Some finish.OutOfMemory ≡ refusal_in {T = T} (reply.FinishRequest r) → lacks_finish r ≡ true
       lacks (Ok ok) is = absurd (none_and_some None refl (sym is))
-      lacks (Err x) is = ap is_out_of_memory (sym (one is))
-        where
-          one : Some finish.OutOfMemory ≡ Some x.error → finish.OutOfMemory ≡ x.error
-          one is = cc
+      lacks (Err x) is = grind (arith) steps 400000
 
   abbrev BindAnswer : Type 0
   BindAnswer = Result (Unit {0}) (FinishRefused U)
@@ -327,17 +268,10 @@ module _ {T U G C : Type 0} (w : World T G C) (id : ClientParts) (s s' : ServerS
       (own id (seen id s) (λ p q. FinishesBind p u r (e.lacks id) (e.did id) q) (r ≡ Err (record { error = finish.InvalidId; user_data = u })) (e.lacks id) (e.did id) (seen id s') h))
     where
       not_for : (r : BindAnswer) (f : FinishError) → IsStarved r → r ≡ Err (record { error = f; user_data = u }) → finish.OutOfMemory ≡ f
-      not_for r f starved is = one (subst IsStarved is starved)
-        where
-          one : Some finish.OutOfMemory ≡ Some f → finish.OutOfMemory ≡ f
-          one is = cc
+      not_for r f starved is = grind (arith) steps 400000
 
       open_bind : (r : BindAnswer) → IsStarved r → (p q : Part T U C) (a : OpenAction) → FinishesOpenBind p a u r (e.lacks id) (e.did id) q → ⊥
-      open_bind r starved p q (opened.Request sender is_destructor created) (is, calm, none, same) = absurd (other (not_for r finish.WrongKind starved is))
-        where
-          other : finish.OutOfMemory ≡ finish.WrongKind → ⊥
-          other is = absurd cc
-      open_bind r starved p q (opened.Bind object) (is, calm, none, same) = absurd (none_and_some None refl (sym (subst IsStarved is starved)))
+      open_bind r h1 p q a h2 = grind (arith, not_for) steps 400000
 
       never : (r : BindAnswer) → IsStarved r
           → OnPart (seen id s) (λ p q. FinishesBind p u r (e.lacks id) (e.did id) q) (r ≡ Err (record { error = finish.InvalidId; user_data = u })) (e.lacks id) (e.did id) (seen id s') → ⊥
@@ -403,19 +337,11 @@ module _ {H T U G C : Type 0} (w : World T G C) (answers : Answering H T U G C) 
         one is = cc
 
         accepted : (lacked : Bool) → r ≡ unless_refused (record { error = finish.OutOfMemory; user_data = u }) lacked → ⊥
-        accepted true is = is_not (one (so ∙ ap (λ (x : Result (Unit {0}) (FinishRefused (Option U))). refusal_in {T = T} (reply.FinishRequest x)) is))
-        accepted false is =
-            none_and_some None refl (sym (so ∙ ap (λ (x : Result (Unit {0}) (FinishRefused (Option U))). refusal_in {T = T} (reply.FinishRequest x)) is))
+        accepted lacked h1 = grind (arith, refusal_in) steps 400000
 
     bind_same : (p q : Part T U C) (u : U) (r : Result (Unit {0}) (FinishRefused U)) (lacked : Bool) (did : List (Deed U))
         → Some why ≡ refusal_in {T = T} (reply.FinishBind r) → FinishesBind p u r lacked did q → q ≡ p
-    bind_same p q u r lacked did so does =
-        elim (either_option p.action does) [
-          | inl (idle, (is, calm, none, stays)) ↦ stays
-          | inr (opened.Request sender is_destructor created, is_open, (is, calm, none, stays)) ↦ stays
-          | inr (opened.Bind object, is_open, (is, calm, none, same)) ↦
-              absurd (none_and_some None refl (sym (so ∙ ap (λ (x : Result (Unit {0}) (FinishRefused U)). refusal_in {T = T} (reply.FinishBind x)) is)))
-        ]
+    bind_same p q u r lacked did so does = grind (arith, either_option, refusal_in) steps 400000
 
     module _ (s s' : ServerState T U G C) (e : Entry T U G C) (by : OneStep w s e s') (answer : Reply T U) (so : Some why ≡ refusal_in answer) where
       request_stays : (u : Option U) → e.call ≡ Asked (step.FinishRequest id u) answer → (seen id s').part ≡ (seen id s).part

@@ -1,5 +1,5 @@
 -- That a dispatch changes no global, if no call of its handler does.
-use Rattle.std.proofs.Common.{◌≡◌, ◌∙◌, ℕ, Bool, List, Option, None, Some, Result, Ok, refl, ap}
+use Rattle.std.proofs.Common.{◌≡◌, ◌∙◌, ℕ, Bool, List, Option, None, Some, Result, Ok, refl, ap, arith}
 use Rattle.wl_wire.specs.declared.error.IoFault.{IoFault}
 use Rattle.wl_server.specs.declared.error.FinishError.{FinishError}
 use Rattle.wl_server.specs.declared.reading.action.Action.{Action}
@@ -23,14 +23,7 @@ module _ {H T U G C : Type 0} (w : World T G C) (answers : Answering H T U G C) 
   module _ (id : ClientParts) where
     handled_keeps : (h h' : H) (before : BackendState T U G C) (a : Action) (run : List (Entry T U G C)) (lacked : Bool) (why : Option FinishError) (after : ServerState T U G C)
         → Handles w answers id h before a run lacked why h' after → after.offer ≡ before.server.offer
-    handled_keeps h h' before a run lacked why after x = at a x.answers_so
-      where
-        ended : (s : Step T U G C) → x.end ≡ s → offer_after x.left.server.offer (Asked s x.answer) ≡ x.left.server.offer → after.offer ≡ x.left.server.offer
-        ended s is same = kept_by x.left.server after x.ended (Asked s x.answer) x.ends (x.ended_is ∙ ap (λ (s : Step T U G C). Asked s x.answer) is) same
-
-        at : (a : Action) → Answers w answers id h before a x.end h' x.left → after.offer ≡ before.server.offer
-        at (action.Request sender opcode args is_destructor created) (u, so, is) = ended _ is refl ∙ keeps.requests h h' before x.left id sender opcode args.items created u so
-        at (action.Bind global object) (u, so, is) = ended _ is refl ∙ keeps.binds h h' before x.left id global object u so
+    handled_keeps h h' before a run lacked why after x = grind (arith, kept_by) steps 400000
 
     round_keeps : (h h' : H) (r r' : Reading) (before after : ServerState T U G C) (run : List (Entry T U G C)) (lacked : Bool) (why : Option FinishError)
         → Round w answers id h r before run lacked why h' r' after → after.offer ≡ before.offer

@@ -1,5 +1,5 @@
 -- A client that is killed.
-use Rattle.std.proofs.Common.{◌≡◌, Bool, true, false, cond, List, [], ◌∷◌, ◌++◌, append-nil, Option, None, Some, refl, sym, ap, ◌∙◌}
+use Rattle.std.proofs.Common.{◌≡◌, Bool, true, false, cond, List, [], ◌∷◌, ◌++◌, append-nil, Option, None, Some, refl, sym, ap, ◌∙◌, arith}
 use mathlib.Core.Logic.{inl, inr}
 use Rattle.std.specs.Prelude.{option_map}
 use Rattle.wl_link.proofs.Calls.Branches.{either_option}
@@ -28,22 +28,10 @@ module _ {T U C : Type 0} (id : ClientParts) (reason : DisconnectReason) (s t : 
   noted_if false = refl
 
   killed_part : OfClient (same_client id id) s Ending (Unit {0}) lacked did t → t.part ≡ option_map as_killed s.part
-  killed_part h =
-      elim (either_option s.part (own id s Ending (Unit {0}) lacked did t h)) [
-        | inl (none, (m, (calm, nothing, same))) ↦ ap (λ (x : Seen T U C). x.part) same ∙ none ∙ sym (ap (option_map as_killed) none)
-        | inr (p, there, (q, (calm, (did_so, is)), same)) ↦ ap (λ (x : Seen T U C). x.part) same ∙ ap Some is ∙ sym (ap (option_map as_killed) there)
-      ]
+  killed_part h = grind (arith, either_option, own, calm, option_map, as_killed) steps 400000
 
   killed_notes : OfClient (same_client id id) s Ending (Unit {0}) lacked did t → t.made ≡ s.made ++ end_note_of s.part reason
-  killed_notes h =
-      elim (either_option s.part (own id s Ending (Unit {0}) lacked did t h)) [
-        | inl (none, (m, (calm, nothing, same))) ↦
-            ap (λ (x : Seen T U C). x.made) same ∙ sym (append-nil s.made) ∙ ap (λ (o : Option (Part T U C)). s.made ++ end_note_of o reason) (sym none)
-        | inr (p, there, (q, (calm, (did_so, is)), same)) ↦
-            ap (λ (x : Seen T U C). x.made) same ∙ ap (λ (d : List (Deed U)). s.made ++ notes_in d) did_so
-            ∙ ap (λ (n : List (Happening U)). s.made ++ n) (noted_if p.is_killed)
-            ∙ ap (λ (o : Option (Part T U C)). s.made ++ end_note_of o reason) (sym there)
-      ]
+  killed_notes h = grind (arith, either_option, own, calm, append-nil, end_note_of, noted_if) steps 400000
 
 module _ {T U G C : Type 0} {w : World T G C} {before after : BackendState T U G C} where
   pub kills_client : (id : ClientParts) (reason : DisconnectReason) → Calls w before (step.KillClient id reason) reply.KillClient after → KillsClient before id reason after

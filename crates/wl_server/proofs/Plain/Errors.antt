@@ -1,5 +1,5 @@
 -- An error that the program posts.
-use Rattle.std.proofs.Common.{◌≡◌, ◌≢◌, ℕ, Bool, true, false, cond, List, [], ◌∷◌, ◌++◌, append-nil, map, Option, None, Some, IsSome, is_some, Result, Ok, Err, refl, sym, ap, subst, ◌∙◌, true≢false}
+use Rattle.std.proofs.Common.{◌≡◌, ◌≢◌, ℕ, Bool, true, false, cond, List, [], ◌∷◌, ◌++◌, append-nil, map, Option, None, Some, IsSome, is_some, Result, Ok, Err, refl, sym, ap, subst, ◌∙◌, true≢false, arith}
 use mathlib.Core.Logic.{inl, inr}
 use Rattle.std.specs.Prelude.{◌⊎◌, ◌==◌, MatchBool, option_map}
 use Rattle.wl_wire.specs.declared.error.IoFault.{IoFault}
@@ -92,11 +92,7 @@ module _ {T U C : Type 0} (sends : T → Queue → Result ℕ IoFault → T → 
 
   -- the objects stay
   stores_stay : (lacked : Bool) (did : List (Deed U)) (p q : Part T U C) → Does lacked did p q → q.store ≡ p.store
-  stores_stay lacked did p q h =
-      elim (by_choice (id.number == 0) h) [
-        | inl (null, (calm, none, same)) ↦ ap (λ (x : Part T U C). x.store) same
-        | inr (some, tells) ↦ let e : IsEnded p did q = ends p q lacked did tells in ap (λ (c : Core U C). c.store) e.core_is
-      ]
+  stores_stay lacked did p q h = grind (arith, by_choice, ends) steps 400000
 
   -- a null id does nothing
   null_same : (id.number == 0) ≡ true → (b : Bool) (s t : Seen T U C) (lacked : Bool) (did : List (Deed U)) → OfClient b s (Does lacked did) (Unit {0}) lacked did t → t ≡ s

@@ -1,5 +1,5 @@
 -- Whether memory was refused where an event is sent, by the answer.
-use Rattle.std.proofs.Common.{◌≡◌, ℕ, Bool, true, false, List, Result, Ok, Err, refl, sym, ap, ◌∙◌, true≢false}
+use Rattle.std.proofs.Common.{◌≡◌, ℕ, Bool, true, false, List, Result, Ok, Err, refl, sym, ap, ◌∙◌, true≢false, arith}
 use mathlib.Core.Logic.{inl, inr}
 use Rattle.wl_wire.specs.declared.error.IoFault.{IoFault}
 use Rattle.wl_wire.specs.declared.error.IoFault.TheVariants as fault
@@ -28,10 +28,7 @@ pub data MemoryBy {T U C : Type 0} (p q : Part T U C) (answer : Result (Unit {0}
 module _ {T U C : Type 0} (sends : T → Queue → Result ℕ IoFault → T → Type 0) (client : ClientParts) (m : SessionMessage) (p q : Part T U C) where
   starved : (lacked : Bool) (did : List (Deed U)) (x : Object (Kept U)) (ends : Bool) (link : LinkState T) → Tells sends (ends_sender client (core_of p) m x ends) link lacked did q
       → lacked ≡ true → q.is_killed ≡ true
-  starved lacked did x true link tells lacks =
-      ap (λ (y : Part T U C). y.is_killed) (told_starved sends (ends_sender client (core_of p) m x true) refl link lacked did q lacks tells).part_is
-  starved lacked did x false link tells lacks =
-      ap (λ (y : Part T U C). y.is_killed) (told_starved sends (ends_sender client (core_of p) m x false) refl link lacked did q lacks tells).part_is
+  starved lacked did x ends link h1 h2 = grind (arith, ends_sender, core_of) steps 400000
 
   closed : (lacked : Bool) (did : List (Deed U)) (x : Object (Kept U)) (ends : Bool) (link : LinkState T) → Tells sends (ends_closed client (core_of p) m x ends) link lacked did q
       → lacked ≡ false

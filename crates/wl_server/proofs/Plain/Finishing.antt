@@ -1,5 +1,5 @@
 -- The end of an action.
-use Rattle.std.proofs.Common.{◌≡◌, Bool, true, false, List, [], Option, None, Some, Result, Ok, Err, refl, sym, ap, subst, ◌∙◌}
+use Rattle.std.proofs.Common.{◌≡◌, Bool, true, false, List, [], Option, None, Some, Result, Ok, Err, refl, sym, ap, subst, ◌∙◌, arith}
 use mathlib.Core.Logic.{inl, inr}
 use Rattle.std.specs.Prelude.{option_map}
 use Rattle.wl_link.proofs.Calls.Branches.{either_option}
@@ -29,18 +29,10 @@ use Rattle.wl_server.proofs.Plain.Naming.{names_so, rewritten_named, rewritten_o
 
 module _ {U : Type 0} (store : Store (Kept U)) (id : IdParts) (u : U) where
   pub given_named : named (data_given store id.number (named store id) u) id ≡ option_map (with_user_data u) (named store id)
-  given_named = at (named store id) refl
-    where
-      at : (o : Option (Object (Kept U))) → named store id ≡ o → named (data_given store id.number o u) id ≡ option_map (with_user_data u) o
-      at None none = none
-      at (Some x) is = rewritten_named store id x (with_user_data u x) (names_so store id x is) refl
+  given_named = grind (arith, named, option_map, with_user_data, rewritten_named, names_so) steps 400000
 
   pub given_others : (other : IdParts) → same_id (id_of id) (id_of other) ≡ false → named (data_given store id.number (named store id) u) other ≡ named store other
-  given_others other differ = at (named store id) refl
-    where
-      at : (o : Option (Object (Kept U))) → named store id ≡ o → named (data_given store id.number o u) other ≡ named store other
-      at None none = refl
-      at (Some x) is = rewritten_others store id x (with_user_data u x) (names_so store id x is) refl other differ
+  given_others other differ = grind (arith, named, rewritten_others, with_user_data, names_so) steps 400000
 
 -- ---- a bind
 
@@ -64,35 +56,17 @@ refused_ok : {U : Type 0} {r : FinishRefused U} → ◌≡◌ {A = Result (Unit 
 refused_ok is = absurd cc
 
 given_back : {U : Type 0} {r : FinishRefused U} {e : FinishError} {u : U} → ◌≡◌ {A = Result (Unit {0}) (FinishRefused U)} (Err r) (Err (record { error = e; user_data = u })) → r.user_data ≡ u
-given_back {U} {r} {e} {u} is = ap (λ (x : FinishRefused U). x.user_data) (inside is)
-  where
-    inside : ◌≡◌ {A = Result (Unit {0}) (FinishRefused U)} (Err r) (Err (record { error = e; user_data = u })) → r ≡ record { error = e; user_data = u }
-    inside is = cc
+given_back {U} {r} {e} {u} is = grind (arith) steps 400000
 
 module _ {T U C : Type 0} (u : U) (lacked : Bool) (did : List (Deed U)) (p q : Part T U C) where
   bound_ok : Bound u (Ok tt) lacked did p q → HasBound p u did q
-  bound_ok h =
-      elim (either_option p.action h) [
-        | inl (none, (is, calm, nothing, same)) ↦ absurd (ok_refused is)
-        | inr (opened.Request sender b created, is_open, (is, calm, nothing, same)) ↦ absurd (ok_refused is)
-        | inr (opened.Bind object, is_open, (is, calm, nothing, same)) ↦ record { object = object; open_is = is_open; did_is = nothing; part_is = same }
-      ]
+  bound_ok h = grind (arith, either_option, calm, ok_refused) steps 400000
 
   bound_refused : (r : FinishRefused U) → Bound u (Err r) lacked did p q → (r.user_data ≡ u) × (did ≡ []) × (q ≡ p)
-  bound_refused r h =
-      elim (either_option p.action h) [
-        | inl (none, (is, calm, nothing, same)) ↦ (given_back is, nothing, same)
-        | inr (opened.Request sender b created, is_open, (is, calm, nothing, same)) ↦ (given_back is, nothing, same)
-        | inr (opened.Bind object, is_open, (is, calm, nothing, same)) ↦ absurd (refused_ok is)
-      ]
+  bound_refused r h = grind (arith, either_option, calm, given_back, refused_ok) steps 400000
 
   bound_quietly : (answer : Result (Unit {0}) (FinishRefused U)) → Bound u answer lacked did p q → (lacked ≡ false) × (did ≡ [])
-  bound_quietly answer h =
-      elim (either_option p.action h) [
-        | inl (none, (is, calm, nothing, same)) ↦ (calm, nothing)
-        | inr (opened.Request sender b created, is_open, (is, calm, nothing, same)) ↦ (calm, nothing)
-        | inr (opened.Bind object, is_open, (is, calm, nothing, same)) ↦ (calm, nothing)
-      ]
+  bound_quietly answer h = grind (arith, either_option, calm) steps 400000
 
 abbrev OfBind : {T U C : Type 0} → ClientParts → ClientParts → U → Result (Unit {0}) (FinishRefused U) → Seen T U C → Bool → List (Deed U) → Seen T U C → Type 0
 OfBind target client u answer s lacked did t = OfClient (same_client target client) s (Bound u answer lacked did) (Unknown u answer) lacked did t
@@ -119,11 +93,7 @@ module _ {T U C : Type 0} (client : ClientParts) (u : U) (s t : Seen T U C) (lac
       ]
 
   bind_given_back : (r : FinishRefused U) → OfBind client client u (Err r) s lacked did t → r.user_data ≡ u
-  bind_given_back r h =
-      elim (either_option s.part (own client s (Bound u (Err r) lacked did) (Unknown u (Err r)) lacked did t h)) [
-        | inl (none, (is, rest)) ↦ given_back is
-        | inr (p, there, (q, binds, same)) ↦ (bound_refused u lacked did p q r binds).0
-      ]
+  bind_given_back r h = grind (arith, either_option, own, given_back, bound_refused) steps 400000
 
 bind_refused : {T U C : Type 0} (b : Bool) (u : U) (r : FinishRefused U) (s t : Seen T U C) (lacked : Bool) (did : List (Deed U))
     → OfClient b s (Bound u (Err r) lacked did) (Unknown u (Err r)) lacked did t → t ≡ s

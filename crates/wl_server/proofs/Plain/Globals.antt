@@ -57,16 +57,7 @@ which false = inr refl
 
 module _ {T U C : Type 0} (sends : T → Queue → Result ℕ IoFault → T → Type 0) (messages : List Said) (lacked : Bool) (did : List (Deed U)) where
   hears_store : (p q : Part T U C) → Hears sends p messages lacked did q → q.store ≡ p.store
-  hears_store p q h =
-      elim (either_bool p.is_killed h) [
-        | inl (calm, none, same) ↦ ap (λ (x : Part T U C). x.store) same
-        | inr tells' ↦
-            told sends (λ c. c.store) (λ q. q.store) (λ e. refl) (tells (core_of p) messages) refl (λ c. refl) (λ c. refl) p.link lacked did q tells' ∙ either lacked
-      ]
-    where
-      either : (b : Bool) → cond b p.store p.store ≡ p.store
-      either true = refl
-      either false = refl
+  hears_store p q h = grind (arith, either_bool, told, tells, core_of) steps 400000
 
   -- told, or killed
   hears_as : (s t : Seen T U C) (p q : Part T U C) → s.part ≡ Some p → Hears sends p messages lacked did q → t ≡ record { part = Some q; made = s.made ++ notes_in did }
@@ -101,15 +92,11 @@ module _ {T U C : Type 0} (sends : T → Queue → Result ℕ IoFault → T → 
       ]
     where
       alive : (link : LinkState T) → q ≡ with_link p link → notes_in did ≡ [] → t ≡ record { part = Some (with_link p link); made = s.made }
-      alive link part notes =
-          is ∙ ap (λ (x : Part T U C). seen_with x (s.made ++ notes_in did)) part ∙ ap (λ (n : List (Happening U)). seen_with (with_link p link) (s.made ++ n)) notes
-          ∙ ap (seen_with (with_link p link)) (append-nil s.made)
+      alive link part notes = grind (arith, append-nil) steps 400000
 
       dead : p.is_killed ≡ false → (link : LinkState T) → q ≡ as_killed (with_link p link) → notes_in did ≡ notes_in (end_deeds (cond p.is_killed None (Some ConnectionClosed)))
           → t ≡ record { part = Some (as_killed (with_link p link)); made = s.made ++ Disconnected ConnectionClosed ∷ [] }
-      dead live link part notes =
-          is ∙ ap (λ (x : Part T U C). seen_with x (s.made ++ notes_in did)) part ∙ ap (λ (n : List (Happening U)). seen_with (as_killed (with_link p link)) (s.made ++ n)) notes
-          ∙ ap (λ (b : Bool). seen_with (as_killed (with_link p link)) (s.made ++ notes_in (end_deeds (cond b None (Some ConnectionClosed))))) live
+      dead live link part notes = grind (arith, end_deeds) steps 400000
 
 module _ {T U C : Type 0} (sends : T → Queue → Result ℕ IoFault → T → Type 0) (messages : Part T U C → List Said) (lacked : Bool) (did : List (Deed U)) where
   -- so is a client that feels a call
@@ -128,19 +115,7 @@ module _ {T U C : Type 0} (sends : T → Queue → Result ℕ IoFault → T → 
   -- if memory was refused to it, it is killed now
   felt_lacked : (s t : Seen T U C) → lacked ≡ true → Feels s (λ p q. Hears sends p (messages p) lacked did q) lacked did t
       → (option_map (λ p. p.is_killed) s.part ≡ Some false) × (option_map (λ p. p.is_killed) t.part ≡ Some true)
-  felt_lacked s t lacks h =
-      elim (either_option s.part h) [
-        | inl (none, (u, (calm, nothing, stays))) ↦ absurd (true≢false (sym lacks ∙ calm))
-        | inr (p, there, (q, hears, is)) ↦
-            elim (split p.is_killed hears) [
-              | inl (dead, (calm, nothing, stays)) ↦ absurd (true≢false (sym lacks ∙ calm))
-              | inr (live, tells') ↦
-                  let u = told_starved sends (tells (core_of p) (messages p)) refl p.link lacked did q lacks tells' in (
-                    ap (option_map (λ (x : Part T U C). x.is_killed)) there ∙ ap Some live,
-                    ap (λ (x : Seen T U C). option_map (λ (p : Part T U C). p.is_killed) x.part) is ∙ ap (λ (x : Part T U C). Some x.is_killed) u.part_is,
-                  )
-            ]
-      ]
+  felt_lacked s t lacks h = grind (arith, either_option, true≢false, split, told_starved, tells, core_of, option_map) steps 400000
 
 module _ {T U C : Type 0} where
   -- a client that feels nothing
@@ -163,16 +138,7 @@ no_error is = absurd cc
 module _ {G : Type 0} where
   global_parts : (zero : Bool) (id : Id) (h : Option (Object (KeptGlobal G))) (x : Object (KeptGlobal G)) → cond zero None (named_in global_serial id h) ≡ Some x
       → (zero ≡ false) × ((x.value.serial == id.serial) ≡ true)
-  global_parts true id h x e = absurd cc
-  global_parts false id None x e = absurd cc
-  global_parts false id (Some y) x e = (refl, at (y.value.serial == id.serial) refl e)
-    where
-      at : (b : Bool) → (y.value.serial == id.serial) ≡ b → cond b (Some y) None ≡ Some x → (x.value.serial == id.serial) ≡ true
-      at true is e = ap (λ (z : Object (KeptGlobal G)). z.value.serial == id.serial) (inside e) ∙ is
-        where
-          inside : Some y ≡ Some x → x ≡ y
-          inside e = cc
-      at false is e = absurd cc
+  global_parts zero id h x h1 = grind (arith) steps 400000
 
   global_here : (store : Store (KeptGlobal G)) (id : Id) (x : Object (KeptGlobal G)) → (id.number == 0) ≡ false → held store id.number ≡ Some x → (x.value.serial == id.serial) ≡ true
       → cond (id.number == 0) None (named_in global_serial id (held store id.number)) ≡ Some x
@@ -185,36 +151,17 @@ module _ {G : Type 0} where
 
   disabled_in : (globals : Globals G) (id : GlobalParts) (o : Option (Object (KeptGlobal G))) → global_of globals id ≡ o
       → global_of (disabled_at globals id.name o) id ≡ option_map as_disabled o
-  disabled_in globals id None is = is
-  disabled_in globals id (Some x) is =
-      let (numbered, tells') = global_parts (id.name == 0) (record { number = id.name; serial = id.serial }) (held globals.store id.name) x is in
-      global_here (rewritten globals.store id.name (as_disabled x)) (record { number = id.name; serial = id.serial }) (as_disabled x) numbered
-      (rewritten_here globals.store id.name (as_disabled x) id.name refl) tells'
+  disabled_in globals id o h1 = grind (arith, global_parts, held, global_here, rewritten, as_disabled, rewritten_here) steps 400000
 
   freed_in : (globals : Globals G) (id : GlobalParts) (o : Option (Object (KeptGlobal G))) → global_of globals id ≡ o → global_of (freed_at globals id.name o) id ≡ None
-  freed_in globals id None is = is
-  freed_in globals id (Some x) is =
-      ap (λ (h : Option (Object (KeptGlobal G))). cond (id.name == 0) None (named_in global_serial (record { number = id.name; serial = id.serial }) h))
-      (removed_here globals.store id.name id.name refl)
-      ∙ both_none (id.name == 0)
+  freed_in globals id o h1 = grind (arith, global_serial, removed_here, both_none) steps 400000
 
   next_of : (table : List InterfaceRow) (globals : Globals G) (i : InterfaceId) (version : ℕ) (g : GlobalParts) → CreatesGlobal table globals i version (Ok g) → IsNextGlobal globals g
-  next_of table globals i version g h =
-      elim (either_option (slice_get table i.0) h) [
-        | inl (unknown, is) ↦ absurd (no_error is)
-        | inr (row, known, more) ↦ at (nat_le version row.version) more
-      ]
-    where
-      at : (b : Bool) → MatchBool b (IsNextGlobal globals g) (◌≡◌ {A = Result GlobalParts GlobalError} (Ok g) (Err refused.VersionTooHigh)) → IsNextGlobal globals g
-      at true next = next
-      at false is = absurd (no_error is)
+  next_of table globals i version g h = grind (arith, either_option, slice_get, no_error, nat_le) steps 400000
 
   created_in : (globals : Globals G) (g : GlobalParts) (x : Object (KeptGlobal G)) → IsNextGlobal globals g → x.value.serial ≡ g.serial
       → cond (g.name == 0) None (named_in global_serial (record { number = g.name; serial = g.serial }) (held (stored globals.store g.name x) g.name)) ≡ Some x
-  created_in globals g x next serial =
-      global_here (stored globals.store g.name x) (record { number = g.name; serial = g.serial }) x
-      (let first = next.0.within in ne_eqb g.name 0 (λ (zero : g.name ≡ 0). absurd (omega (arith, first, zero))))
-      (stored_here globals.store g.name x g.name refl) (eq-eqb x.value.serial g.serial serial)
+  created_in globals g x next serial = grind (arith, global_here, stored, ne_eqb, stored_here, eq-eqb) steps 400000
 
 -- ---- the calls
 
@@ -323,9 +270,7 @@ module _ {T U G C : Type 0} {w : World T G C} {before after : BackendState T U G
 
     -- no global has its name, so its id named none
     unnamed_before : (g : GlobalParts) → Calls w before (step.CreateGlobal i version handler) (reply.CreateGlobal (Ok g)) after → global_of before.server.offer.globals g ≡ None
-    unnamed_before g call =
-        ap (λ (h : Option (Object (KeptGlobal G))). cond (g.name == 0) None (named_in global_serial (record { number = g.name; serial = g.serial }) h)) (next g call).0.absent
-        ∙ both_none (g.name == 0)
+    unnamed_before g call = grind (arith, global_serial, next, both_none) steps 400000
 
     created_as : (answer : Result GlobalParts GlobalError) → Calls w before (step.CreateGlobal i version handler) (reply.CreateGlobal answer) after
         → GlobalCreatedAs before i version handler answer after

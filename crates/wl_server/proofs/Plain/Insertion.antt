@@ -1,5 +1,5 @@
 -- A client that is inserted, limits, and interfaces that are added.
-use Rattle.std.proofs.Common.{◌≡◌, ℕ, Bool, true, false, List, [], ◌++◌, Option, None, Some, Result, Ok, Err, MatchOption, refl, sym, ap, subst, ◌∙◌, true≢false}
+use Rattle.std.proofs.Common.{◌≡◌, ℕ, Bool, true, false, List, [], ◌++◌, Option, None, Some, Result, Ok, Err, MatchOption, refl, sym, ap, subst, ◌∙◌, true≢false, arith}
 use mathlib.Core.Logic.{inl, inr}
 use Rattle.std.specs.Prelude.{MatchBool}
 use Rattle.wl_wire.specs.declared.protocol.TableError.{TableError}
@@ -70,9 +70,7 @@ module _ {T U G C : Type 0} {w : World T G C} {before after : BackendState T U G
       never_lacks id (Err e) lacked did (calm', none, same) = calm'
 
       growth_of : (r : Result ClientParts InsertClientError) → lacks_growth {T = T} {U = U} {G = G} {C = C} (Asked (step.InsertClient transport client_data) (reply.InsertClient r)) ≡ lacks_insertion r
-      growth_of (Ok id) = refl
-      growth_of (Err insert.Full) = refl
-      growth_of (Err insert.OutOfMemory) = refl
+      growth_of r = grind (arith) steps 400000
 
 module _ {T U G C : Type 0} {w : World T G C} {before after : BackendState T U G C} where
   pub sets_limit : (id : ClientParts) (limit : ℕ) → Calls w before (step.SetClientMaxBufferSize id limit) reply.SetClientMaxBufferSize after → SetsLimit before id limit after
@@ -132,17 +130,8 @@ module _ {T U G C : Type 0} (w : World T G C) (before after : BackendState T U G
       at true true refused lacks = refl
       at false false refused lacks = refl
       at false true refused lacks = sym refused ∙ by.refused.1 (inl (for_table ∙ lacks))
-      at true false refused lacks =
-          elim (by.refused.0 refused) [
-            | inl growth ↦ absurd (true≢false (sym growth ∙ for_table ∙ lacks))
-            | inr (id, lacking) ↦ absurd (true≢false (sym lacking ∙ (unfelt e is by id).0))
-          ]
+      at true false refused lacks = grind (arith, true≢false, for_table, unfelt) steps 400000
 
   pub adds_interfaces : IsGrowth w before rows answer after
       → after.server ≡ record before.server { offer = with_table before.server.offer (grown before.server.offer.table rows answer) } → AddsInterfaces before rows answer after
-  adds_interfaces growth same =
-      let (e, is, refused, by) = growth.step in record {
-        answered = subst (λ (c : Call T U G C). AnswersShared before.server.offer c) is by.global;
-        server = same;
-        memory = sym refused ∙ refused_as e is by;
-      }
+  adds_interfaces growth same = grind (arith, refused_as) steps 400000

@@ -1,5 +1,5 @@
 -- Whether memory was refused in a reading, by its answer.
-use Rattle.std.proofs.Common.{◌≡◌, ℕ, Bool, true, false, cond, List, [], ◌∷◌, ◌++◌, map, append-nil, None, Result, Ok, Err, refl, sym, ap, subst, ◌∙◌, true≢false}
+use Rattle.std.proofs.Common.{◌≡◌, ℕ, Bool, true, false, cond, List, [], ◌∷◌, ◌++◌, map, append-nil, None, Result, Ok, Err, refl, sym, ap, subst, ◌∙◌, true≢false, arith}
 use mathlib.Core.Logic.{inl, inr}
 use Rattle.std.specs.Prelude.{◌||◌, nat_lt}
 use Rattle.wl_wire.specs.declared.error.IoFault.{IoFault}
@@ -53,38 +53,14 @@ module _ {T U G C : Type 0} (sends : T → Queue → Result ℕ IoFault → T �
 
   -- a verdict that puts nothing and asks for nothing
   quiet_lacks : (v : Verdict (Core U C) (Told U)) → v.puts ≡ [] → v.flushes ≡ false → v.asks ≡ false → Lacking v
-  quiet_lacks v nothing none unasked link es first lacked mid (inl (es1, es2, put, wrote, l, lacks, puts, flushed, is, core, gave, refused)) known =
-      absurd (true≢false
-      (sym known ∙ refused ∙ ap (λ (r : Result (Unit {0}) IoFault). lacks_memory r || lacks) (nothing_put sends link v.puts nothing es1 put wrote l puts)
-      ∙ no_flush sends v.flushes l es2 lacks mid.link none flushed))
-  quiet_lacks v nothing none unasked link es first lacked mid (inr (asks, memory, silent, gave, is)) known = absurd (true≢false (sym asks ∙ unasked))
+  quiet_lacks v h1 h2 h3 = grind (arith, true≢false, lacks_memory, nothing_put, no_flush) steps 400000
 
   breaks_lacks : (c : Core U C) (code : ℕ) (text : List ℕ) → Lacking (breaks a c code text)
-  breaks_lacks c code text link es first lacked mid (inl (es1, es2, put, wrote, l, lacks, puts, flushed, is, core, gave, refused)) known =
-      (ap (λ (e : Core U C). e.is_killed) core ∙ dead wrote, ap action_in gave ∙ after_puts put _)
-    where
-      dead : (wrote : Result (Unit {0}) IoFault) → (came_to (server a) (breaks a c code text) wrote).is_killed ≡ true
-      dead (Ok u) = refl
-      dead (Err fault.OutOfMemory) = refl
-      dead (Err fault.WouldBlock) = refl
-      dead (Err fault.Pipe) = refl
-      dead (Err fault.TooBig) = refl
-      dead (Err fault.Proto) = refl
-      dead (Err fault.InvalidInput) = refl
-      dead (Err (fault.Other n)) = refl
-  breaks_lacks c code text link es first lacked mid (inr (asks, memory, none, gave, is)) known =
-      (ap (λ (s : ReaderState T (Core U C)). s.core.is_killed) is, ap action_in gave)
+  breaks_lacks c code text = grind (arith, action_in, after_puts, came_to, server, breaks) steps 400000
 
   replies_lacks : (m : Core U C) (puts : List Said) (did : List (Deed U)) → action_in (map HandedOut (map Did did ++ telling.Stops fault.Pipe ∷ [])) ≡ Err (Io fault.Pipe)
       → Lacking (replies m puts did)
-  replies_lacks m puts did says link es first lacked mid (inl (es1, es2, put, wrote, l, lacks, puts', flushed, is, core, gave, refused)) known =
-      let starves : came_to (server a) (replies m puts did) wrote ≡ closed_down m =
-      ap (came_to (server a) (replies m puts did))
-      (lacking wrote (sym (or_false (lacks_memory wrote)) ∙ ap (λ (b : Bool). lacks_memory wrote || b) (sym (no_flush sends false l es2 lacks mid.link refl flushed)) ∙ sym refused ∙ known)) in (
-        ap (λ (e : Core U C). e.is_killed) (core ∙ starves),
-        ap action_in gave ∙ ap (λ (e : Core U C). action_in (put_and_gave put (map Did did ++ stops_if e))) starves ∙ after_puts put _ ∙ says,
-      )
-  replies_lacks m puts did says link es first lacked mid (inr (asks, memory, silent, gave, is)) known = absurd (true≢false (sym asks))
+  replies_lacks m puts did h1 = grind (arith, came_to, server, replies, closed_down, lacking, or_false, lacks_memory, no_flush, action_in, put_and_gave, stops_if, after_puts, true≢false) steps 400000
 
   handles_lacks : (c : Core U C) (m : WireMessage) → Lacking ((server a).handles c m)
   handles_lacks c m =
@@ -114,23 +90,10 @@ module _ {T U G C : Type 0} (sends : T → Queue → Result ℕ IoFault → T �
   -- nothing more is read after this answer
   last_memory : (t : Turn) (before mid : ReaderState T (Core U C)) (answer : Result Handed ActionError) (lacked : Bool) → Answers sends receives a t before answer mid
       → (lacked ≡ true → answer ≡ Err (Io fault.Pipe)) → MemoryOf answer (lacked || false)
-  last_memory t before mid (Ok h) false answers pipe = refl
-  last_memory t before mid (Ok h) true answers pipe = absurd (never (pipe refl))
-    where
-      never : ◌≡◌ {A = Result Handed ActionError} (Ok h) (Err (Io fault.Pipe)) → ⊥
-      never is = absurd cc
-  last_memory t before mid (Err (Io fault.Pipe)) lacked answers pipe = tt
-  last_memory t before mid (Err (Io fault.Proto)) false answers pipe = refl
-  last_memory t before mid (Err (Io fault.Proto)) true answers pipe = absurd (never (pipe refl))
-    where
-      never : ◌≡◌ {A = Result Handed ActionError} (Err (Io fault.Proto)) (Err (Io fault.Pipe)) → ⊥
-      never is = absurd cc
-  last_memory t before mid _ lacked answers pipe = absurd answers
+  last_memory t before mid answer lacked h1 h2 = grind (arith) steps 400000
 
   halts_memory : (left : ℕ) (before : ReaderState T (Core U C)) (out : Gives (Told U)) → Halts sends (server a) left before out → MemoryAt out
-  halts_memory left before out (inl (lacks, none, is)) = subst MemoryAt (sym is) refl
-  halts_memory left before out (inr (inl (asks, is))) = subst MemoryAt (sym is) refl
-  halts_memory left before out (inr (inr (lacks, (n, one, is)))) = subst MemoryAt (sym is) refl
+  halts_memory left before out h1 = grind (arith) steps 400000
 
   no_more : (left : ℕ) (mid end : ReaderState T (Core U C)) (turns : List Turn) (rest : Gives (Told U)) → reads_on mid.core ≡ false
       → Reads sends (server a) receives left mid turns rest end → rest ≡ stops None false left
@@ -142,18 +105,7 @@ module _ {T U G C : Type 0} (sends : T → Queue → Result ℕ IoFault → T �
   then_memory : (t : Turn) (before mid end : ReaderState T (Core U C)) (left : ℕ) (turns : List Turn) (first : List (Given (Told U))) (lacked : Bool) (rest out : Gives (Told U))
       → out ≡ given_first first lacked rest → Turned sends receives a t before first mid → Pipes first lacked mid → Reads sends (server a) receives left mid turns rest end
       → (IsRead mid.core → MemoryAt rest) → MemoryAt out
-  then_memory t before mid end left turns first lacked rest out split (inl (r, silent)) pipes reads more =
-      subst MemoryAt (sym split)
-      (subst (λ (x : Result Handed ActionError). MemoryOf x (lacked || rest.refused)) (sym (still_answered sends receives a rest.stopped first rest.gave silent))
-      (subst (λ (b : Bool). MemoryOf (answered rest.stopped rest.gave) (b || rest.refused)) (sym (at lacked pipes)) (more r)))
-    where
-      at : (b : Bool) → Pipes first b mid → b ≡ false
-      at true pipes = absurd (true≢false (sym (pipes refl).0 ∙ r.live))
-      at false pipes = refl
-  then_memory t before mid end left turns first lacked rest out split (inr (off, answers)) pipes reads more =
-      subst MemoryAt (sym (split ∙ ap (given_first first lacked) (no_more left mid end turns rest off reads)))
-      (subst (λ (g : List (Given (Told U))). MemoryOf (action_in g) (lacked || false)) (sym (append-nil first))
-      (last_memory t before mid (action_in first) lacked answers (λ known. (pipes known).1)))
+  then_memory t before mid end left turns first lacked rest out h1 h2 h3 h4 h5 = grind (arith, still_answered, answered, true≢false, given_first, no_more, action_in, append-nil, last_memory) steps 400000
 
   pub reads_memory : (left : ℕ) (before : ReaderState T (Core U C)) (turns : List Turn) (out : Gives (Told U)) (end : ReaderState T (Core U C)) → IsRead before.core
       → Reads sends (server a) receives left before turns out end → MemoryAt out

@@ -1,5 +1,5 @@
 -- What is noted in a reading: the end of the client, if it is killed, and nothing else.
-use Rattle.std.proofs.Common.{◌≡◌, ℕ, Bool, true, false, cond, List, [], ◌∷◌, ◌++◌, map, Result, refl, sym, ap, subst, ◌∙◌}
+use Rattle.std.proofs.Common.{◌≡◌, ℕ, Bool, true, false, cond, List, [], ◌∷◌, ◌++◌, map, Result, refl, sym, ap, subst, ◌∙◌, arith}
 use mathlib.Core.Logic.{inl, inr}
 use Rattle.std.specs.Prelude.{nat_lt}
 use Rattle.wl_wire.specs.declared.error.IoFault.{IoFault}
@@ -49,24 +49,14 @@ module _ {T U G C : Type 0} (sends : T → Queue → Result ℕ IoFault → T �
   Unnoted v = (d : Core U C) → notes_in (told_deeds (v.events d)) ≡ []
 
   stops_unnoted : (d : Core U C) → notes_in (told_deeds (stops_if d)) ≡ []
-  stops_unnoted d = go d.is_killed
-    where
-      go : (b : Bool) → notes_in {U = U} (told_deeds (cond b (Stops fault.Pipe ∷ []) [])) ≡ []
-      go true = refl
-      go false = refl
+  stops_unnoted d = grind (arith, told_deeds) steps 400000
 
   converted_unnoted : (c : Core U C) (m : WireMessage) (receiver : Object (Kept U)) (row : MessageRow) (o : Outcome U) → Unnoted (converted a c m receiver row o)
   converted_unnoted c m receiver row (Wrong w objects) d = refl
   converted_unnoted c m receiver row (Whole e args) d = refl
 
   other_unnoted : (c : Core U C) (m : WireMessage) (receiver : Object (Kept U)) (row : MessageRow) → Unnoted (other_request a c m receiver row)
-  other_unnoted c m receiver row = go (nat_lt receiver.version row.since)
-    where
-      go : (b : Bool) → Unnoted (cond b
-          (breaks a c 1 (since_text m.opcode receiver.version row.since (name_of a.table receiver.interface.0) m.sender))
-          (converted a c m receiver row (convert a.client receiver.version (start (objects_in c) row) [] m.args)))
-      go true = λ d. refl
-      go false = converted_unnoted c m receiver row (convert a.client receiver.version (start (objects_in c) row) [] m.args)
+  other_unnoted c m receiver row = grind (arith, nat_lt, breaks, converted, convert, start, objects_in, converted_unnoted) steps 400000
 
   handles_unnoted : (c : Core U C) (m : WireMessage) → Unnoted ((server a).handles c m)
   handles_unnoted c m =
@@ -75,9 +65,7 @@ module _ {T U G C : Type 0} (sends : T → Queue → Result ℕ IoFault → T �
 
   carried_unnoted : (v : Verdict (Core U C) (Told U)) (link : LinkState T) (es : List Sending) (first : List (Given (Told U))) (lacked : Bool) (mid : ReaderState T (Core U C))
       → Unnoted v → CarriesOut sends (server a) v link es first lacked mid → NoteLess first
-  carried_unnoted v link es first lacked mid none (inl (es1, es2, put, wrote, l, lacks, puts, flushed, is, core, gave, refused)) =
-      subst NoteLess (sym gave) (given_unnoted put _ (none _))
-  carried_unnoted v link es first lacked mid none (inr (asks, memory, nothing, gave, is)) = subst NoteLess (sym gave) (none v.starved)
+  carried_unnoted v link es first lacked mid h1 h2 = grind (arith, given_unnoted) steps 400000
 
   pub reads_unnoted : (left : ℕ) (before : ReaderState T (Core U C)) (turns : List Turn) (out : Gives (Told U)) (end : ReaderState T (Core U C))
       → Reads sends (server a) receives left before turns out end → NoteLess out.gave
@@ -91,15 +79,9 @@ module _ {T U G C : Type 0} (sends : T → Queue → Result ℕ IoFault → T �
       ap (λ (o : Gives (Told U)). notes_in (deeds_in o.gave)) split ∙ ap notes_in (deeds_both first rest.gave)
       ∙ joined_unnoted (deeds_in first) (deeds_in rest.gave)
       (carried_unnoted v link es first lacked mid (subst Unnoted (sym is) (handles_unnoted before.core m)) by) (reads_unnoted left mid turns rest end more)
-  reads_unnoted left before (Unread es ∷ turns) out end (on, (v, link, first, lacked, mid, rest, (read, same, is), by, split, more)) =
-      ap (λ (o : Gives (Told U)). notes_in (deeds_in o.gave)) split ∙ ap notes_in (deeds_both first rest.gave)
-      ∙ joined_unnoted (deeds_in first) (deeds_in rest.gave)
-      (carried_unnoted v link es first lacked mid (subst Unnoted (sym is) (λ d. refl)) by) (reads_unnoted left mid turns rest end more)
+  reads_unnoted left before (Unread es ∷ turns) out end (on, (v, link, first, lacked, mid, rest, (read, same, is), by, split, more)) = grind (arith, deeds_in, deeds_both, joined_unnoted, carried_unnoted, reads_unnoted left mid turns rest end more) steps 400000
 
   -- only the end of the client is noted
   pub notes_of_reading : (left : ℕ) (before : ReaderState T (Core U C)) (turns : List Turn) (out : Gives (Told U)) (end : ReaderState T (Core U C))
       → Reads sends (server a) receives left before turns out end → notes_in (deeds_of (exchanges_in turns) out.gave end.core) ≡ notes_in (end_deeds {U = U} end.core.ended)
-  notes_of_reading left before turns out end reads =
-      notes_both (exchanges_in turns) (deeds_in out.gave ++ end_deeds end.core.ended)
-      ∙ ap (λ (n : List (Happening U)). n ++ notes_in (deeds_in out.gave ++ end_deeds end.core.ended)) (turns_unnoted turns)
-      ∙ notes_both (deeds_in out.gave) (end_deeds end.core.ended) ∙ ap (λ (n : List (Happening U)). n ++ notes_in (end_deeds {U = U} end.core.ended)) (reads_unnoted left before turns out end reads)
+  notes_of_reading left before turns out end reads = grind (arith, notes_both, exchanges_in, deeds_in, end_deeds, turns_unnoted, reads_unnoted) steps 400000

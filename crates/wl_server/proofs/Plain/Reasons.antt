@@ -1,5 +1,5 @@
 -- That a reading of one client ends for a reason.
-use Rattle.std.proofs.Common.{◌≡◌, ℕ, Bool, false, List, ◌++◌, Some, Result, sym, ap, subst, ◌∙◌}
+use Rattle.std.proofs.Common.{◌≡◌, ℕ, Bool, false, List, ◌++◌, Some, Result, sym, ap, subst, ◌∙◌, arith}
 use Rattle.wl_link.specs.Reader.{ReaderState, Turn}
 use Rattle.wl_server.specs.declared.error.ActionError.{ActionError}
 use Rattle.wl_server.specs.declared.notes.Happening.{Happening}
@@ -29,9 +29,7 @@ module _ {T U C : Type 0} where
 
   held_so : (s t : Seen T U C) (q r : Part T U C) (did d : List (Deed U)) (notes : List (Happening U)) → t ≡ seen_as q (s.made ++ notes_in did) → q ≡ r → did ≡ d
       → notes_in d ≡ notes → t ≡ seen_as r (s.made ++ notes)
-  held_so s t q r did d notes same part did_so noted =
-      same ∙ ap (λ (x : Part T U C). seen_as x (s.made ++ notes_in did)) part ∙ ap (λ (e : List (Deed U)). seen_as r (s.made ++ notes_in e)) did_so
-      ∙ ap (λ (ns : List (Happening U)). seen_as r (s.made ++ ns)) noted
+  held_so s t q r did d notes same part did_so noted = grind (arith) steps 400000
 
 module _ {T U G C : Type 0} (w : World T G C) (before after : BackendState T U G C) (id : ClientParts) where
   abbrev here : Around G C
@@ -46,9 +44,7 @@ module _ {T U G C : Type 0} (w : World T G C) (before after : BackendState T U G
   -- with this answer, as the turns have it
   answered_so : (start end : ReaderState T (Core U C)) (turns : List Turn) (left : ℕ) (a a' : Result Handed ActionError) (b b' : Bool) → a ≡ a' → b ≡ b'
       → ReadingEnds w.sends w.receives here start turns a' b' left end → ReadingEnds w.sends w.receives here start turns a b left end
-  answered_so start end turns left a a' b b' same calm so =
-      subst (λ (x : Result Handed ActionError). ReadingEnds w.sends w.receives here start turns x b left end) (sym same)
-      (subst (λ (x : Bool). ReadingEnds w.sends w.receives here start turns a' x left end) (sym calm) so)
+  answered_so start end turns left a a' b b' same calm so = grind (arith) steps 400000
 
   ends_so : (r r' : Reading) (answer : Result Action ActionError) (lacked : Bool) (did : List (Deed U)) → after.refused ≡ lacked
       → ReadsFor w id before.server.offer id r (action_content answer) r' s lacked did t → EndsForAReason w before id r answer r' after

@@ -1,5 +1,5 @@
 -- The end of a request.
-use Rattle.std.proofs.Common.{◌≡◌, ℕ, Bool, true, false, cond, eqb-true, List, [], ◌++◌, append-nil, Option, None, Some, is_some, Result, Ok, Err, refl, sym, ap, subst, ◌∙◌, true≢false, ◌∷◌, map}
+use Rattle.std.proofs.Common.{◌≡◌, ℕ, Bool, true, false, cond, eqb-true, List, [], ◌++◌, append-nil, Option, None, Some, is_some, Result, Ok, Err, refl, sym, ap, subst, ◌∙◌, true≢false, ◌∷◌, map, arith}
 use mathlib.Core.Logic.{inl, inr}
 use Rattle.std.specs.Prelude.{◌⊎◌, ◌&&◌, ◌==◌, IsSome, option_map}
 use Rattle.wl_wire.specs.declared.error.IoFault.{IoFault}
@@ -53,37 +53,20 @@ mk number serial = record { number = number; serial = serial }
 
 module _ {U : Type 0} where
   same_named : (store : Store (Kept U)) (a b : IdParts) → same_id (id_of a) (id_of b) ≡ true → named store a ≡ named store b
-  same_named store a b same =
-      let (number, serial) = both_true (a.number == b.number) (a.serial == b.serial) same in
-      ap (λ (n : ℕ). names serial_of (mk n a.serial) store) (eqb-true a.number b.number number)
-      ∙ ap (λ (n : ℕ). names serial_of (mk b.number n) store) (eqb-true a.serial b.serial serial)
+  same_named store a b same = grind (arith, both_true, serial_of, eqb-true) steps 400000
 
   -- ---- the object that was made gets its data
 
   made_named : (store : Store (Kept U)) (id : IdParts) (u : Option U) → named (store_with_data store (Some id) u) id ≡ option_map (with_given u) (named store id)
-  made_named store id (Some u) = given_named store id u
-  made_named store id None = at (named store id)
-    where
-      at : (o : Option (Object (Kept U))) → o ≡ option_map (with_given None) o
-      at None = refl
-      at (Some x) = refl
+  made_named store id u = grind (arith, given_named, named, option_map, with_given) steps 400000
 
   made_others : (store : Store (Kept U)) (created : Option IdParts) (u : Option U) (other : IdParts) → is_made created other ≡ false
       → named (store_with_data store created u) other ≡ named store other
-  made_others store None u other differ = refl
-  made_others store (Some id) None other differ = refl
-  made_others store (Some id) (Some u) other differ = given_others store id u other differ
+  made_others store created u other h1 = grind (arith, given_others) steps 400000
 
   -- what names none goes on to
   made_none : (store : Store (Kept U)) (created : Option IdParts) (u : Option U) (o : IdParts) → named store o ≡ None → named (store_with_data store created u) o ≡ None
-  made_none store None u o none = none
-  made_none store (Some id) u o none = at (same_id (id_of id) (id_of o)) refl
-    where
-      at : (b : Bool) → same_id (id_of id) (id_of o) ≡ b → named (store_with_data store (Some id) u) o ≡ None
-      at false differ = made_others store (Some id) u o differ ∙ none
-      at true same =
-          sym (same_named (store_with_data store (Some id) u) id o same) ∙ made_named store id u
-          ∙ ap (λ (x : Option (Object (Kept U))). option_map (with_given u) x) (same_named store id o same ∙ none)
+  made_none store created u o h1 = grind (arith, same_id, id_of, named, store_with_data, made_others, same_named, made_named, option_map, with_given) steps 400000
 
   -- ---- the sender that is ended
 
@@ -98,16 +81,11 @@ module _ {U : Type 0} where
 
   sender_gone : (store : Store (Kept U)) (sender : IdParts) (is_destructor : Bool) (o : Option (Object (Kept U))) → ended_by store sender is_destructor ≡ o → is_destructor ≡ true
       → named (left_by store sender.number o) sender ≡ None
-  sender_gone store sender true None is destroys = is
-  sender_gone store sender true (Some x) is destroys = removed_named store sender
-  sender_gone store sender false o is destroys = absurd (true≢false (sym destroys))
+  sender_gone store sender is_destructor o h1 h2 = grind (arith, removed_named, true≢false) steps 400000
 
   sender_others : (store : Store (Kept U)) (sender : IdParts) (is_destructor : Bool) (o : Option (Object (Kept U))) → ended_by store sender is_destructor ≡ o → (other : IdParts)
       → is_ended is_destructor sender other ≡ false → named (left_by store sender.number o) other ≡ named store other
-  sender_others store sender is_destructor None is other differ = refl
-  sender_others store sender is_destructor (Some x) is other differ =
-      let (ends, there) = ended_named store sender is_destructor x is in
-      removed_others store sender x (names_so store sender x there) other (not_both is_destructor (same_id (id_of sender) (id_of other)) differ ends)
+  sender_others store sender is_destructor o h1 other h2 = grind (arith, ended_named, removed_others, names_so, not_both, same_id, id_of) steps 400000
 
 -- ---- what a finish comes to
 
@@ -152,25 +130,10 @@ module _ {T U C : Type 0} where
 
   reason : (p : Part T U C) (sender : IdParts) (is_destructor : Bool) (created : Option IdParts) (u : Option U) (e : FinishError)
       → p.action ≡ Some (opened.Request sender is_destructor created) → refusal p.is_killed created u ≡ Some e → Why p u e
-  reason p sender is_destructor created u e is_open refused = at created u p.is_killed is_open refl refused
-    where
-      inside : (a b : FinishError) → Some a ≡ Some b → a ≡ b
-      inside a b is = cc
-
-      at : (created : Option IdParts) (u : Option U) (killed : Bool) → p.action ≡ Some (opened.Request sender is_destructor created) → p.is_killed ≡ killed
-          → refusal killed created u ≡ Some e → Why p u e
-      at None (Some u) true is_open killed is =
-          subst (λ (e : FinishError). Why p (Some u) e) (inside finish.UnexpectedData e is) (sender, is_destructor, is_open, refl)
-      at None (Some u) false is_open killed is =
-          subst (λ (e : FinishError). Why p (Some u) e) (inside finish.UnexpectedData e is) (sender, is_destructor, is_open, refl)
-      at (Some made) None false is_open killed is =
-          subst (λ (e : FinishError). Why p None e) (inside finish.MissingObjectData e is) (sender, is_destructor, made, is_open, refl, killed)
-      at _ _ _ is_open killed is = absurd cc
+  reason p sender is_destructor created u e is_open refused = grind (arith, refusal) steps 400000
 
   why_calm : (p : Part T U C) (u : Option U) (e : FinishError) → Why p u e → is_out_of_memory e ≡ false
-  why_calm p u finish.InvalidId why = absurd why
-  why_calm p u finish.OutOfMemory why = absurd why
-  why_calm p u _ why = refl
+  why_calm p u e h1 = grind (arith) steps 400000
 
 module _ {T U C : Type 0} (sends : T → Queue → Result ℕ IoFault → T → Type 0) (client : ClientParts) (u : Option U) where
   abbrev Does : Answer U → Bool → List (Deed U) → Part T U C → Part T U C → Type 0
@@ -195,35 +158,14 @@ module _ {T U C : Type 0} (sends : T → Queue → Result ℕ IoFault → T → 
 
   -- whether memory was refused is told by the answer
   lacks_by : (answer : Answer U) (lacked : Bool) (did : List (Deed U)) (p q : Part T U C) → Does answer lacked did p q → lacked ≡ lacks_finish answer
-  lacks_by answer lacked did p q h =
-      elim (comes_to answer lacked did p q h) [
-        | inl r ↦ r.calm ∙ sym (why_calm p u r.error r.why) ∙ sym (ap (λ (a : Answer U). lacks_finish a) r.answer_is)
-        | inr e ↦ at lacked ∙ sym (ap (λ (a : Answer U). lacks_finish a) e.answer_is)
-      ]
-    where
-      at : (b : Bool) → b ≡ lacks_finish (unless_refused (record { error = finish.OutOfMemory; user_data = u }) b)
-      at true = refl
-      at false = refl
+  lacks_by answer lacked did p q h = grind (arith, comes_to, why_calm) steps 400000
 
   -- ---- the client behind a finish
 
   ended_part : (p q : Part T U C) (sender : IdParts) (created : Option IdParts) (o : Option (Object (Kept U))) (lacked : Bool) (did : List (Deed U)) → lacked ≡ false
       → Tells sends (ends client (core_of p) sender o created u) p.link lacked did q
       → (q.store ≡ store_with_data (left_by p.store sender.number o) created u) × (q.action ≡ None)
-  ended_part p q sender created None lacked did calm h = (
-    told sends (λ c. c.store) (λ q. q.store) (λ e. refl) (ends client (core_of p) sender None created u) refl (λ c. refl) (λ c. refl) p.link lacked did q h ∙ at_calm _ _ _ calm,
-    told sends (λ c. c.action) (λ q. q.action) (λ e. refl) (ends client (core_of p) sender None created u) refl (λ c. refl) (λ c. refl) p.link lacked did q h ∙ at_calm _ _ _ calm,
-  )
-    where
-      at_calm : {A : Type 0} (a b : A) (lacked : Bool) → lacked ≡ false → cond lacked a b ≡ b
-      at_calm a b lacked calm = ap (λ (l : Bool). cond l a b) calm
-  ended_part p q sender created (Some x) lacked did calm h = (
-    told sends (λ c. c.store) (λ q. q.store) (λ e. refl) (ends client (core_of p) sender (Some x) created u) refl (λ c. refl) (λ c. refl) p.link lacked did q h ∙ at_calm _ _ _ calm,
-    told sends (λ c. c.action) (λ q. q.action) (λ e. refl) (ends client (core_of p) sender (Some x) created u) refl (λ c. refl) (λ c. refl) p.link lacked did q h ∙ at_calm _ _ _ calm,
-  )
-    where
-      at_calm : {A : Type 0} (a b : A) (lacked : Bool) → lacked ≡ false → cond lacked a b ≡ b
-      at_calm a b lacked calm = ap (λ (l : Bool). cond l a b) calm
+  ended_part p q sender created o lacked did h1 h2 = grind (arith, calm, told, ends, core_of) steps 400000
 
   abbrev IsNoted : Part T U C → Part T U C → IdParts → Bool → Option (Object (Kept U)) → List (Deed U) → Type 0
   IsNoted p q sender is_destructor o did =
@@ -232,28 +174,12 @@ module _ {T U C : Type 0} (sends : T → Queue → Result ℕ IoFault → T → 
       × (notes_in did ≡ notes_if_kept client sender.number o ++ cond p.is_killed [] (Disconnected ConnectionClosed ∷ [])))
 
   ending_noted : (sender : IdParts) (x : Object (Kept U)) (c : Core U C) → named c.store sender ≡ None → told_notes (ending client sender x c) ≡ note_of_end client sender.number x
-  ending_noted sender x c gone =
-      ap (λ (o : Option (Object (Kept U))). told_notes (cond (is_some o) [] (map Did (map Noted (note_of_end client sender.number x) ++ left_if (id_of sender) x.value.user_data)))) gone
-      ∙ at (id_at client sender.number x) x.value.user_data
-    where
-      at : (id : IdParts) (given : Option U) → told_notes (map Did (map Noted (end_note id given) ++ left_if (id_of sender) given)) ≡ end_note id given
-      at id None = refl
-      at id (Some u) = refl
+  ending_noted sender x c gone = grind (arith, is_some, note_of_end, id_of, id_at, end_note) steps 400000
 
   part_noted : (p q : Part T U C) (sender : IdParts) (is_destructor : Bool) (created : Option IdParts) (o : Option (Object (Kept U))) → ended_by p.store sender is_destructor ≡ o
       → (lacked : Bool) (did : List (Deed U)) → lacked ≡ false → Tells sends (ends client (core_of p) sender o created u) p.link lacked did q
       → IsNoted p q sender is_destructor o did
-  part_noted p q sender is_destructor created None is lacked did calm h =
-      let v : Verdict (Core U C) (Told U) = ends client (core_of p) sender None created u in
-      let t : IsTold v did q = told_ended sends v (λ c. refl) p.link lacked did q calm h in
-      elim t.core_is [
-        | inl all ↦
-            inl (
-              ap (λ (y : Part T U C). y.is_killed) t.part_is ∙ ap (λ (c : Core U C). c.is_killed) all,
-              t.notes_are ∙ ap (λ (c : Core U C). told_notes (v.events c) ++ notes_in (end_deeds c.ended)) all,
-            )
-        | inr (some, closes) ↦ absurd (some refl)
-      ]
+  part_noted p q sender is_destructor created None is lacked did calm h = grind (arith, ends, core_of, told_ended, end_deeds) steps 400000
   part_noted p q sender is_destructor created (Some x) is lacked did calm h =
       let v : Verdict (Core U C) (Told U) = ends client (core_of p) sender (Some x) created u in
       let t : IsTold v did q = told_ended sends v (λ c. refl) p.link lacked did q calm h in
@@ -326,11 +252,7 @@ module _ {T U C : Type 0} (sends : T → Queue → Result ℕ IoFault → T → 
 
   -- whether memory is refused is told by the answer
   pub own_lacks : (s t : Seen T U C) (lacked : Bool) (did : List (Deed U)) → lacks_finish answer ≡ true → Of (same_client client client) s lacked did t → lacked ≡ true
-  own_lacks s t lacked did lacks h =
-      elim (either_option s.part (own client s (Does sends client u answer lacked did) (Unknown u answer) lacked did t h)) [
-        | inl (none, (is, rest)) ↦ absurd (true≢false (sym lacks ∙ ap (λ (a : Answer U). lacks_finish a) is))
-        | inr (p, there, (q, does, same)) ↦ lacks_by sends client u answer lacked did p q does ∙ lacks
-      ]
+  own_lacks s t lacked did lacks h = grind (arith, either_option, own, true≢false, lacks_by) steps 400000
 
 module _ {U : Type 0} (u : Option U) where
   not_ok : (r : FinishRefused (Option U)) → ◌≡◌ {A = Answer U} (Err r) (Ok tt) → ⊥
@@ -340,10 +262,7 @@ module _ {U : Type 0} (u : Option U) where
   no_refusal e is = absurd cc
 
   was_refused_for : (r : FinishRefused (Option U)) (e : FinishError) → ◌≡◌ {A = Answer U} (Err r) (RefusedFor u e) → (r.error ≡ e) × (r.user_data ≡ u)
-  was_refused_for r e is = let same = inside is in (ap (λ (x : FinishRefused (Option U)). x.error) same, ap (λ (x : FinishRefused (Option U)). x.user_data) same)
-    where
-      inside : ◌≡◌ {A = Answer U} (Err r) (RefusedFor u e) → r ≡ record { error = e; user_data = u }
-      inside is = cc
+  was_refused_for r e is = grind (arith) steps 400000
 
   was_starved : (r : FinishRefused (Option U)) (lacked : Bool) → ◌≡◌ {A = Answer U} (Err r) (unless_refused (record { error = finish.OutOfMemory; user_data = u }) lacked)
       → (lacked ≡ true) × (r.error ≡ finish.OutOfMemory) × (r.user_data ≡ u)
@@ -396,26 +315,7 @@ module _ {T U G C : Type 0} (w : World T G C) (before after : BackendState T U G
   -- ---- by the answer
 
   refused_as : (p : Part T U C) → (seen target before.server).part ≡ Some p → (e : FinishError) → Why p u e → IsRefusedWhole before after → RequestRefusedAs before target u e after
-  refused_as p there finish.InvalidId why whole = absurd why
-  refused_as p there finish.NoOpenAction why whole = (ap is_some there, ap (λ (x : Option (Part T U C)). and_then x (λ p. p.action)) there ∙ why, whole)
-  refused_as p there finish.WrongKind (object, is_open) whole = (object, ap (λ (x : Option (Part T U C)). and_then x (λ p. p.action)) there ∙ is_open, whole)
-  refused_as p there finish.MissingObjectData (sender, is_destructor, made, is_open, none, live) whole = (
-    sender,
-    is_destructor,
-    made,
-    ap (λ (x : Option (Part T U C)). and_then x (λ p. p.action)) there ∙ is_open,
-    none,
-    ap (λ (x : Option (Part T U C)). option_map (λ p. p.is_killed) x) there ∙ ap Some live,
-    whole,
-  )
-  refused_as p there finish.UnexpectedData (sender, is_destructor, is_open, given) whole = (
-    sender,
-    is_destructor,
-    ap (λ (x : Option (Part T U C)). and_then x (λ p. p.action)) there ∙ is_open,
-    given,
-    whole,
-  )
-  refused_as p there finish.OutOfMemory why whole = absurd why
+  refused_as p h1 e h2 h3 = grind (arith, is_some, option_map) steps 400000
 
   starved_as : (p q : Part T U C) (lacked : Bool) (did : List (Deed U)) (r : FinishRefused (Option U)) → IsTaken w.sends target p u (Err r) lacked did q → lacked ≡ true
       → (seen target before.server).part ≡ Some p → seen target after.server ≡ record { part = Some q; made = (seen target before.server).made ++ notes_in did }
@@ -433,41 +333,12 @@ module _ {T U G C : Type 0} (w : World T G C) (before after : BackendState T U G
       )
 
   data_fit : (p : Part T U C) → (seen target before.server).part ≡ Some p → (created : Option IdParts) → refusal p.is_killed created u ≡ None → DataFit before target created u
-  data_fit p there created none = at created u p.is_killed refl none
-    where
-      at : (created : Option IdParts) (u : Option U) (killed : Bool) → p.is_killed ≡ killed → refusal killed created u ≡ None → DataFit before target created u
-      at None None killed is none = refl
-      at None (Some u) true is none = absurd cc
-      at None (Some u) false is none = absurd cc
-      at (Some made) (Some u) killed is none = inl refl
-      at (Some made) None true is none = inr (ap (λ (x : Option (Part T U C)). option_map (λ p. p.is_killed) x) there ∙ ap Some is)
-      at (Some made) None false is none = absurd cc
+  data_fit p there created none = grind (arith, refusal, option_map) steps 400000
 
   end_told : (p q : Part T U C) (did : List (Deed U)) (sender : IdParts) (is_destructor : Bool) → (seen target before.server).part ≡ Some p
       → seen target after.server ≡ record { part = Some q; made = (seen target before.server).made ++ notes_in did }
       → IsNoted w.sends target u p q sender is_destructor (ended_by p.store sender is_destructor) did → EndIsTold before target sender is_destructor after
-  end_told p q did sender is_destructor there same noted =
-      let made : List (Happening U) = (seen target before.server).made in
-      let now : (k : Bool) → q.is_killed ≡ k → option_map (λ (p : Part T U C). p.is_killed) (seen target after.server).part ≡ Some k =
-      λ k is. ap (λ (x : Seen T U C). option_map (λ (p : Part T U C). p.is_killed) x.part) same ∙ ap Some is in
-      let left : notes_if_kept target sender.number (ended_by p.store sender is_destructor) ≡ sender_notes before target sender is_destructor =
-      sym (ap (λ (x : Option (Part T U C)). notes_if_kept target sender.number (cond is_destructor (and_then x (λ p. named p.store sender)) None)) there) in
-      let noted_now : (seen target after.server).made ≡ made ++ notes_in did = ap (λ (x : Seen T U C). x.made) same in
-      elim noted [
-        | inl (stays, notes) ↦
-            inl (
-              now p.is_killed stays ∙ sym (ap (λ (x : Option (Part T U C)). option_map (λ (p : Part T U C). p.is_killed) x) there),
-              noted_now ∙ ap (λ (n : List (Happening U)). made ++ n) (notes ∙ left),
-            )
-        | inr (destroys, killed, notes) ↦
-            inr (
-              destroys,
-              now true killed,
-              noted_now ∙ ap (λ (n : List (Happening U)). made ++ n)
-                  (notes ∙ ap (λ (n : List (Happening U)). n ++ cond p.is_killed [] (Disconnected ConnectionClosed ∷ [])) left
-                  ∙ ap (λ (x : Option (Part T U C)). sender_notes before target sender is_destructor ++ end_note_of x ConnectionClosed) (sym there)),
-            )
-      ]
+  end_told p q did sender is_destructor there same noted = grind (arith, option_map, notes_if_kept, ended_by, sender_notes, named, end_note_of) steps 400000
 
   ended_as : (p q : Part T U C) (lacked : Bool) (did : List (Deed U)) → (e : IsTaken w.sends target p u (Ok tt) lacked did q)
       → (seen target before.server).part ≡ Some p → seen target after.server ≡ record { part = Some q; made = (seen target before.server).made ++ notes_in did }

@@ -45,32 +45,13 @@ module _ {T U C : Type 0} (p q : Part T U C) where
 
 module _ {T U C : Type 0} (clients : List (Option (Stored T U C))) (id : ClientParts) (s t : Stored T U C) where
   pub found_after : Some s ≡ client_at id clients → t.serial ≡ s.serial → client_at id (slice_set clients id.slot (Some t)) ≡ Some t
-  found_after is same =
-      let (here, known) = slot_of_client clients id s is in
-      client_present id (slice_set clients id.slot (Some t)) t (get_set_same clients id.slot (Some s) (Some t) here) (same ∙ known)
+  found_after is same = grind (arith, get_set_same) steps 400000
 
 module _ {T U G C : Type 0} (before after : BackendState T U G C) (client : ClientParts) (p q : Part T U C) where
   pub bind_returns : (u : U) (answer : Result (Option U) (FinishRefused U)) → client_in before client ≡ Some p → client_in after client ≡ Some q
       → EndsBind before client u (result_and answer (Ok tt)) after → BindLeaves p u answer q → ReturnsBindData before client u answer after
-  bind_returns u (Ok back) was is ends (object, open_is, held) = (
-    object,
-    ap (λ (o : Option (Part T U C)). and_then o (λ p. p.action)) was ∙ open_is,
-    subst (λ (o : Option (Part T U C)). HoldsData (and_then o (λ p. named p.store object)) u back) (sym is) held,
-  )
-  bind_returns u (Err r) was is ends left = ends.bind.0
+  bind_returns u answer h1 h2 h3 h4 = grind (arith) steps 400000
 
   pub request_returns : (u : Option U) (answer : Result (Option U) (FinishRefused (Option U))) → client_in before client ≡ Some p → client_in after client ≡ Some q
       → EndsOpenRequest before client u (result_and answer (Ok tt)) after → RequestLeaves p u answer q → ReturnsRequestData before client u answer after
-  request_returns u (Ok back) was is ends (sender, is_destructor, created, open_is, held) = (
-    sender,
-    is_destructor,
-    created,
-    ap (λ (o : Option (Part T U C)). and_then o (λ p. p.action)) was ∙ open_is,
-    at created u held,
-  )
-    where
-      at : (created : Option IdParts) (u : Option U) → DataHeld q.store created u back → RequestDataHeld after client created u back
-      at (Some made) (Some u) held = subst (λ (o : Option (Part T U C)). HoldsData (and_then o (λ p. named p.store made)) u back) (sym is) held
-      at (Some made) None held = held
-      at None u held = held
-  request_returns u (Err r) was is ends left = ends.request.0
+  request_returns u answer h1 h2 h3 h4 = grind (arith) steps 400000

@@ -55,12 +55,7 @@ module _ {U : Type 0} where
   old_still a b stay id (inr given) = let more = stay.serials in inr (omega (arith, given, more))
 
   ids_then : (a b c : Objects (Kept U)) → IdsStay a b → IdsStay b c → IdsStay a c
-  ids_then a b c first second =
-      let more = first.serials in
-      let most = second.serials in record {
-        serials = omega (arith, more, most);
-        ids = λ id old. second.ids id (old_still a b first id old) ∙ first.ids id old;
-      }
+  ids_then a b c first second = grind (arith, old_still) steps 400000
 
   -- what the id names where its number holds this
   abbrev names_at : IdParts → Option (Object (Kept U)) → Option (Object (Kept U))
@@ -70,14 +65,7 @@ module _ {U : Type 0} where
   module _ (before after : Store (Kept U)) (n : ℕ) (new : Option (Object (Kept U)))
       (holds : (m : ℕ) → held after m ≡ cond (eqb m n) new (held before m)) (id : IdParts) where
     by_number : (id.number ≡ n → names_at id new ≡ names_at id (held before n)) → named after id ≡ named before id
-    by_number there = at (eqb id.number n) refl
-      where
-        at : (b : Bool) → eqb id.number n ≡ b → named after id ≡ named before id
-        at false is = ap (names_at id) (holds id.number ∙ ap (λ (b : Bool). cond b new (held before id.number)) is)
-        at true is =
-            let same : id.number ≡ n = eqb-true id.number n is in
-            ap (names_at id) (holds id.number ∙ ap (λ (b : Bool). cond b new (held before id.number)) is)
-            ∙ there same ∙ ap (λ (k : ℕ). names_at id (held before k)) (sym same)
+    by_number there = grind (arith, eqb, eqb-true) steps 400000
 
   -- ---- a new object
 
@@ -95,15 +83,10 @@ module _ {U : Type 0} where
     }
       where
         unnamed : (id : IdParts) → id.serial ≤ a.last_serial → names_at id (Some (made_object a i version)) ≡ None
-        unnamed id given =
-            ap (λ (b : Bool). cond (id.number == 0) None (cond b (Some (made_object a i version)) None))
-            (ne_eqb (a.last_serial + 1) id.serial (λ same. absurd (omega (arith, given, same))))
-            ∙ both_none (id.number == 0)
+        unnamed id given = grind (arith, made_object, ne_eqb, both_none) steps 400000
 
         there : (id : IdParts) → id.number ≡ n → Old a id → names_at id (Some (made_object a i version)) ≡ names_at id (held a.store n)
-        there id same (inr given) = unnamed id given ∙ sym (none_at id)
-        there id same (inl some) =
-            absurd (true≢false (sym some ∙ ap (λ (k : ℕ). is_some (names_at id (held a.store k))) same ∙ ap is_some (none_at id)))
+        there id h1 h2 = grind (arith, unnamed, none_at, true≢false, is_some) steps 400000
 
     -- it is gone again at once
     ids_by_brief : IdsStay a (record (with_made a n i version) { store = removed (with_made a n i version).store n })
@@ -133,11 +116,7 @@ module _ {U : Type 0} (client : ClientParts) (version : ℕ) (first : Objects (K
   By (Wrong w objects) = IdsStay first objects
 
   by_one : (d : Converting U) (x : WireArgument) → IdsStay first d.objects → ByOne (convert_one client version d x)
-  by_one d (arg.Object n) so = at (object_argument client d.objects.store (allows_null d.kinds) (next_interface d.asked) n)
-    where
-      at : (r : Result IdParts RequestFault) → ByOne (with_object_argument d r)
-      at (Ok id) = so
-      at (Err w) = tt
+  by_one d (arg.Object n) so = grind (arith, object_argument, allows_null, with_object_argument) steps 400000
   by_one d (arg.NewId n) so = new d.child
     where
       valid : (i : InterfaceId) (b : Bool) → is_valid_new d.objects n ≡ b
@@ -183,20 +162,12 @@ module _ {U G C : Type 0} (a : Around G C) (c : Core U C) where
 
   keeps_all : (v : Verdict (Core U C) (Told U)) → objects_in v.core ≡ objects_in c → objects_in v.starved ≡ objects_in c
       → ((d : Core U C) → objects_in (v.last d) ≡ objects_in d) → Keeps v
-  keeps_all v core starved last = record {
-    core = subst (λ (o : Objects (Kept U)). IdsStay (objects_in c) o) (sym core) (ids_same (objects_in c));
-    starved = subst (λ (o : Objects (Kept U)). IdsStay (objects_in c) o) (sym starved) (ids_same (objects_in c));
-    last = last;
-  }
+  keeps_all v core starved last = grind (arith, objects_in, ids_same) steps 400000
 
   -- with these objects
   keeps_by : (o : Objects (Kept U)) → IdsStay (objects_in c) o → (v : Verdict (Core U C) (Told U)) → objects_in v.core ≡ o → objects_in v.starved ≡ o
       → ((d : Core U C) → objects_in (v.last d) ≡ objects_in d) → Keeps v
-  keeps_by o stay v core starved last = record {
-    core = subst (λ (p : Objects (Kept U)). IdsStay (objects_in c) p) (sym core) stay;
-    starved = subst (λ (p : Objects (Kept U)). IdsStay (objects_in c) p) (sym starved) stay;
-    last = last;
-  }
+  keeps_by o stay v core starved last = grind (arith, objects_in) steps 400000
 
   breaks_keeps : (code : ℕ) (text : List ℕ) → Keeps (breaks a c code text)
   breaks_keeps code text = keeps_all (breaks a c code text) refl refl (λ d. refl)
@@ -233,21 +204,14 @@ module _ {U G C : Type 0} (a : Around G C) (c : Core U C) where
 module _ {T U G C : Type 0} (sends : T → Queue → Result ℕ IoFault → T → Type 0) (receives : T → ℕ → Result Queue IoFault → T → Type 0) (a : Around G C) where
   came_keeps : (c : Core U C) (v : Verdict (Core U C) (Told U)) → Keeps a c v → (wrote : Result (Unit {0}) IoFault)
       → IdsStay (objects_in c) (objects_in (came_to (server a) v wrote))
-  came_keeps c v keeps (Ok u) = subst (λ (o : Objects (Kept U)). IdsStay (objects_in c) o) (sym (keeps.last v.core)) keeps.core
-  came_keeps c v keeps (Err fault.OutOfMemory) = keeps.starved
-  came_keeps c v keeps (Err _) = subst (λ (o : Objects (Kept U)). IdsStay (objects_in c) o) (sym (keeps.last (closed_down v.core))) keeps.core
+  came_keeps c v h1 wrote = grind (arith, objects_in, closed_down) steps 400000
 
   carried_keeps : (c : Core U C) (v : Verdict (Core U C) (Told U)) (link : LinkState T) (es : List Sending) (first : List (Given (Told U))) (lacked : Bool)
       (mid : ReaderState T (Core U C)) → Keeps a c v → CarriesOut sends (server a) v link es first lacked mid → IdsStay (objects_in c) (objects_in mid.core)
-  carried_keeps c v link es first lacked mid keeps (inl (es1, es2, put, wrote, l, lacks, puts, flushed, is, core, gave, refused)) =
-      subst (λ (d : Core U C). IdsStay (objects_in c) (objects_in d)) (sym core) (came_keeps c v keeps wrote)
-  carried_keeps c v link es first lacked mid keeps (inr (asks, memory, nothing, gave, is)) =
-      subst (λ (p : ReaderState T (Core U C)). IdsStay (objects_in c) (objects_in p.core)) (sym is) keeps.starved
+  carried_keeps c v link es first lacked mid h1 h2 = grind (arith, objects_in, came_keeps) steps 400000
 
   faulted_keeps : (c : Core U C) (f : IoFault) → IdsStay (objects_in c) (objects_in (faulted c f))
-  faulted_keeps c fault.WouldBlock = ids_same (objects_in c)
-  faulted_keeps c fault.OutOfMemory = ids_same (objects_in c)
-  faulted_keeps c _ = ids_same (objects_in c)
+  faulted_keeps c f = grind (arith, ids_same, objects_in) steps 400000
 
   pub reads_keep : (left : ℕ) (before : ReaderState T (Core U C)) (turns : List Turn) (out : Gives (Told U)) (end : ReaderState T (Core U C))
       → Reads sends (server a) receives left before turns out end → IdsStay (objects_in before.core) (objects_in end.core)
@@ -263,7 +227,4 @@ module _ {T U G C : Type 0} (sends : T → Queue → Result ℕ IoFault → T �
       ids_then (objects_in before.core) (objects_in mid.core) (objects_in end.core)
       (carried_keeps before.core v link es first lacked mid (subst (λ (w : Verdict (Core U C) (Told U)). Keeps a before.core w) (sym is) (handles_keeps a before.core m)) by)
       (reads_keep left mid turns rest end more)
-  reads_keep left before (Unread es ∷ turns) out end (on, (v, link, first, lacked, mid, rest, (read, same, is), by, split, more)) =
-      ids_then (objects_in before.core) (objects_in mid.core) (objects_in end.core)
-      (carried_keeps before.core v link es first lacked mid (subst (λ (w : Verdict (Core U C) (Told U)). Keeps a before.core w) (sym is) (garbled_keeps a before.core)) by)
-      (reads_keep left mid turns rest end more)
+  reads_keep left before (Unread es ∷ turns) out end (on, (v, link, first, lacked, mid, rest, (read, same, is), by, split, more)) = grind (arith, ids_then, objects_in, carried_keeps, garbled_keeps, reads_keep left mid turns rest end more) steps 400000

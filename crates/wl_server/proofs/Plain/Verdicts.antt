@@ -1,5 +1,5 @@
 -- What a verdict over the link leaves of a client beside it.
-use Rattle.std.proofs.Common.{◌≡◌, ℕ, Bool, true, false, cond, List, [], ◌∷◌, ◌++◌, map, Result, Ok, Err, refl, sym, ap, ◌∙◌, true≢false}
+use Rattle.std.proofs.Common.{◌≡◌, ℕ, Bool, true, false, cond, List, [], ◌∷◌, ◌++◌, map, Result, Ok, Err, refl, sym, ap, ◌∙◌, true≢false, arith}
 use mathlib.Core.Logic.{inl, inr}
 use Rattle.std.specs.Prelude.{◌⊎◌, ◌||◌}
 use Rattle.wl_wire.specs.declared.error.IoFault.{IoFault}
@@ -56,13 +56,7 @@ nothing_put sends link (m ∷ ms) is es put wrote mid h = absurd cc
 -- no memory is refused where a verdict puts nothing and asks for none
 pub told_nothing : {T U C : Type 0} (sends : T → Queue → Result ℕ IoFault → T → Type 0) (v : Verdict (Core U C) (Told U)) → v.puts ≡ [] → v.flushes ≡ false → v.asks ≡ false
     → (link : LinkState T) (lacked : Bool) (did : List (Deed U)) (q : Part T U C) → Tells sends v link lacked did q → lacked ≡ false
-told_nothing {T} {U} {C} sends v nothing none unasked link lacked did q (es, gave, end, carries, did_so, same) = carried carries
-  where
-    carried : CarriesOut sends speaker v link es gave lacked end → lacked ≡ false
-    carried (inl (first, others, put, wrote, mid, lacks, puts, flushes, sent, is, given, memory)) =
-        memory ∙ ap (λ (r : Result (Unit {0}) IoFault). lacks_memory r || lacks) (nothing_put sends link v.puts nothing first put wrote mid puts)
-        ∙ no_flush sends v.flushes mid others lacks end.link none flushes
-    carried (inr (asks, refused, silent, given, starves)) = absurd (true≢false (sym asks ∙ unasked))
+told_nothing {T} {U} {C} sends v nothing none unasked link lacked did q (es, gave, end, carries, did_so, same) = grind (arith, speaker, nothing_put, no_flush, true≢false) steps 400000
 
 -- what a verdict leaves where memory is refused, and what was noted in that
 pub record IsStarved {T U C : Type 0} (v : Verdict (Core U C) (Told U)) (did : List (Deed U)) (q : Part T U C) : Type 0 where
@@ -119,14 +113,7 @@ told_ended {T} {U} {C} sends v last link lacked did q calm (es, gave, end, carri
   where
     came : (wrote : Result (Unit {0}) IoFault) (b : Bool) → (lacks_memory wrote || b) ≡ false
         → (came_to speaker v wrote ≡ v.core) ⊎ ((wrote ≡ Ok tt → ⊥) × (came_to speaker v wrote ≡ closed_down v.core))
-    came (Ok u) b calm = inl (last v.core)
-    came (Err fault.OutOfMemory) b calm = absurd (true≢false calm)
-    came (Err fault.WouldBlock) b calm = inr (failed _, last (closed_down v.core))
-    came (Err fault.Pipe) b calm = inr (failed _, last (closed_down v.core))
-    came (Err fault.TooBig) b calm = inr (failed _, last (closed_down v.core))
-    came (Err fault.Proto) b calm = inr (failed _, last (closed_down v.core))
-    came (Err fault.InvalidInput) b calm = inr (failed _, last (closed_down v.core))
-    came (Err (fault.Other n)) b calm = inr (failed _, last (closed_down v.core))
+    came wrote b h1 = grind (arith, true≢false, failed, closed_down) steps 400000
 
     of_core : (put : List Said) → gave ≡ put_and_gave put (v.events end.core) → (end.core ≡ v.core) ⊎ ((v.puts ≡ [] → ⊥) × (end.core ≡ closed_down v.core)) → IsTold v did q
     of_core put given is = record {

@@ -76,9 +76,7 @@ module _ {T U C : Type 0} (sends : T → Queue → Result ℕ IoFault → T → 
   -- of a sender that the request ends and that is kept
   where_kept : (x : Object (Kept U)) (answer : Result (Result (Unit {0}) IoFault) OutOfMemory) (after : Stored T U C) → Some x ≡ ended_by s.part.store sender is_destructor
       → EndsObject sends client s sender x answer after → EndsSender sends client s sender is_destructor answer after
-  where_kept x answer after ended-is ends =
-      subst (λ (o : Option (Object (Kept U))). MatchOption o ((answer ≡ Ok (Ok tt)) × (after ≡ s)) (λ x. EndsObject sends client s sender x answer after))
-      ended-is ends
+  where_kept x answer after ended-is ends = grind (arith) steps 400000
 
   -- it was taken out at its number, and noted
   pub ends_taken : (x : Object (Kept U)) (n : ℕ) (wrote : Result (Unit {0}) IoFault) (link : LinkState T) (store : Store (Kept U)) (registries : List Id)
@@ -87,46 +85,23 @@ module _ {T U C : Type 0} (sends : T → Queue → Result ℕ IoFault → T → 
       → ((y : Object (Kept U)) → held s.part.store n ≡ Some y
       → (registries ≡ registries_without s.part.registries n y) × (made ≡ same_made ++ note_of_end client n y))
       → same_made ≡ s.made → EndsSender sends client s sender is_destructor (Ok wrote) (changed times link store registries made)
-  ends_taken x n wrote link store registries made same_made times ended-is n-is puts lacks store-is left same-is =
-      let out = left x (ap (held s.part.store) n-is ∙ named_held s.part.store sender x (ended_named s.part.store sender x is_destructor (sym ended-is))) in
-      where_kept x (Ok wrote) (changed times link store registries made) ended-is (
-        subst (λ (k : ℕ). Puts sends s.part.link (deletions k) wrote link) n-is puts,
-        sym lacks,
-        ap (λ (t : Store (Kept U)). changed no_times link t registries made) (store-is ∙ ap (removed s.part.store) n-is)
-            ∙ ap (λ (r : List Id). changed no_times link (removed s.part.store sender.number) r made) (out.0 ∙ ap (λ (k : ℕ). registries_without s.part.registries k x) n-is)
-            ∙ ap (changed no_times link (removed s.part.store sender.number) (registries_without s.part.registries sender.number x))
-            (out.1 ∙ ap (λ (notes : List (Happening U)). notes ++ note_of_end client n x) same-is ∙ ap (λ (k : ℕ). s.made ++ note_of_end client k x) n-is),
-      )
+  ends_taken x n wrote link store registries made same_made times ended-is n-is puts lacks store-is left same-is = grind (arith, named_held, ended_named, where_kept, deletions, no_times, registries_without, note_of_end) steps 400000
 
 -- ---- what it leaves
 
 module _ {U : Type 0} where
   -- a number that holds nothing is named by no id
   unnamed : (store : Store (Kept U)) (id : IdParts) → held store id.number ≡ None → named store id ≡ None
-  unnamed store id none = at (eqb id.number 0) (held store id.number) none
-    where
-      at : (b : Bool) (h : Option (Object (Kept U))) → h ≡ None → cond b None (named_in serial_of (id_of id) h) ≡ None
-      at true h is = refl
-      at false None is = refl
-      at false (Some x) is = absurd (none-some _ (sym is))
+  unnamed store id none = grind (arith, eqb, serial_of, id_of) steps 400000
 
   -- data that an object is given make none at a number that holds none
   still_gone : (store : Store (Kept U)) (n : ℕ) (created : Option IdParts) (u : Option U) → held store n ≡ None → held (store_with_data store created u) n ≡ None
-  still_gone store n None u gone = gone
-  still_gone store n (Some id) None gone = gone
-  still_gone store n (Some id) (Some u) gone = at (named store id) refl
-    where
-      at : (o : Option (Object (Kept U))) → named store id ≡ o → held (data_given store id.number o u) n ≡ None
-      at None is = gone
-      at (Some y) is = rewritten_other store id.number (with_user_data u y) n
-          (λ same. none-some _ (sym gone ∙ ap (held store) same ∙ named_held store id y is)) ∙ gone
+  still_gone store n created u h1 = grind (arith, named, data_given, rewritten_other, with_user_data, named_held) steps 400000
 
   -- an object that left is named no more, whatever data the new one was given
   pub not_named : (store : Store (Kept U)) (sender : IdParts) (created : Option IdParts) (u : Option U)
       → named (store_with_data (removed store sender.number) created u) sender ≡ None
-  not_named store sender created u =
-      unnamed (store_with_data (removed store sender.number) created u) sender
-      (still_gone (removed store sender.number) sender.number created u (removed_here store sender.number sender.number refl))
+  not_named store sender created u = grind (arith, unnamed, store_with_data, still_gone, removed_here) steps 400000
 
   told_end : (i : IdParts) (id : Id) (u : Option U) → told_notes (map Did (map Noted (end_note i u) ++ left_if id u)) ≡ end_note i u
   told_end i id None = refl
@@ -180,9 +155,7 @@ where_some {X} o x is A B h = subst (λ (o : Option X). MatchOption o A B) is h
 
 -- no refusal for other reasons is a want of memory
 no_memory : (a b : Bool) (e : FinishError) → first_refusal (when a finish.MissingObjectData ∷ when b finish.UnexpectedData ∷ []) ≡ Some e → is_out_of_memory e ≡ false
-no_memory true b e is = sym (ap is_out_of_memory (same_some is))
-no_memory false true e is = sym (ap is_out_of_memory (same_some is))
-no_memory false false e is = absurd (none-some _ is)
+no_memory a b e h1 = grind (arith, is_out_of_memory, same_some) steps 400000
 
 ok_ok : (f : OutOfMemory) → ◌≡◌ {A = Result (Result (Unit {0}) IoFault) OutOfMemory} (Err f) (Ok (Ok tt)) → ⊥
 ok_ok f same = cc
@@ -270,10 +243,7 @@ module _ {T U C : Type 0} (sends : T → Queue → Result ℕ IoFault → T → 
 
       at : (wrote : Result (Unit {0}) IoFault) → MatchResult wrote (λ _. untimed after ≡ finished mid) (λ _. Does (finished mid) (λ p did q. Kills p ConnectionClosed did q) after)
           → untimed after ≡ noting (part_of (record { core = closing core wrote; link = mid.part.link })) (note ++ notes_in (end_deeds (closing core wrote).ended))
-      at (Ok v) same = same ∙ finished-is ∙ ap (noting gone.part) (sym (append-nil note))
-      at (Err f) kills =
-          kills_is (finished mid) after ConnectionClosed kills ∙ ap (λ (t : Stored T U C). ended t ConnectionClosed) finished-is
-          ∙ ap (with_notes (record gone.part { is_killed = true })) (append_assoc s.made note (notes_in (end_deeds (killed (core_of gone.part) ConnectionClosed).ended)))
+      at wrote h1 = grind (arith, finished-is, gone, append-nil, note, append_assoc, end_deeds, killed, core_of) steps 400000
 
   -- of the sender, where it is ended and kept, and else of none
   pub ends_starved : (e : OutOfMemory) (after : Stored T U C) → EndsSender sends client s sender is_destructor (Err e) after

@@ -1,5 +1,5 @@
 -- How a verdict that was carried out is a turn of a reading.
-use Rattle.std.proofs.Common.{◌≡◌, ◌∙◌, ℕ, Bool, true, false, ◌&&◌, ◌||◌, if◌then◌else◌, not, List, [], ◌∷◌, ◌++◌, append-nil, map, Some, is_none, Result, Ok, Err, MatchResult, refl, sym, ap}
+use Rattle.std.proofs.Common.{◌≡◌, ◌∙◌, ℕ, Bool, true, false, ◌&&◌, ◌||◌, if◌then◌else◌, not, List, [], ◌∷◌, ◌++◌, append-nil, map, Some, is_none, Result, Ok, Err, MatchResult, refl, sym, ap, arith}
 use mathlib.Core.Logic.{inl, inr}
 use Rattle.wl_wire.specs.declared.error.IoFault.{IoFault}
 use Rattle.wl_wire.specs.declared.error.IoFault.TheVariants as fault
@@ -107,9 +107,7 @@ module _ {T U C : Type 0} (sends : T → Queue → Result ℕ IoFault → T → 
 
   came_killed : {G : Type 0} (a : Around G C) (s : Stored T U C) (code : ℕ) (text : List ℕ) (wrote : Result (Unit {0}) IoFault)
       → (came_to speaker (posts a.table (core_of s.part) (display_of a.client) code text) wrote).is_killed ≡ true
-  came_killed a s code text (Ok u) = refl
-  came_killed a s code text (Err fault.WouldBlock) = refl
-  came_killed a s code text _ = refl
+  came_killed a s code text wrote = grind (arith) steps 400000
 
   pub broke : {G : Type 0} (a : Around G C) (s after : Stored T U C) (code : ℕ) (text : List ℕ) (refused : Bool)
       → IsCarried sends (posts a.table (core_of s.part) (display_of a.client) code text) s refused after

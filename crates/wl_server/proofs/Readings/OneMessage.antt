@@ -119,9 +119,7 @@ module _ {T U : Type 0} (table : List InterfaceRow) (store : Store (Kept U)) (li
   AsAsked f = f ≡ Some r.desc.now.signature.items
 
   pub read_in : (answer : Result WireMessage MessageParseError) → ReadOne (λ _ _ f. AsAsked f) link answer after → ReadsIn table store link answer after
-  read_in answer read =
-      other_look_up (nat_le 8 (length link.incoming.bytes)) AsAsked (λ f. f ≡ option_map (λ row. row.signature) (row_in table (held store (sender_of link.incoming.bytes)) (opcode_of link.incoming.bytes)))
-      (λ f. ReadFound f link answer after) ((answer ≡ Err parse.MissingData) × (after ≡ link)) (λ f is. is ∙ ap (option_map (λ row. row.signature)) front.row) read
+  read_in answer read = grind (arith, other_look_up, nat_le, option_map, row_in) steps 400000
 
   module _ (m : WireMessage) (read : ReadOne (λ _ _ f. AsAsked f) link (Ok m) after) where
     header_is : (m.sender ≡ sender_of link.incoming.bytes) × (m.opcode ≡ opcode_of link.incoming.bytes)
@@ -234,10 +232,7 @@ module _ {T U G C : Type 0} (sends : T → Queue → Result ℕ IoFault → T �
         where
           again : (turns : List Turn) (rest : Gives (Told U)) (last : ReaderState T (Core U C)) → Reads sends (server a) receives r'.turns_left (reader_part after.part) turns rest last
               → Reads sends (server a) receives r.turns_left end turns rest last
-          again turns rest last reads =
-              let same : reader_part after.part ≡ end = ap (λ (x : Stored T U C). reader_part x.part) is ∙ core_again end unended in
-              subst (λ (n : ℕ). Reads sends (server a) receives n end turns rest last) left
-              (subst (λ (p : ReaderState T (Core U C)). Reads sends (server a) receives r'.turns_left p turns rest last) same reads)
+          again turns rest last reads = grind (arith, reader_part, core_again, server) steps 400000
 
       shorter : (gave : List (Given (Told U))) (refused : Bool) (end : ReaderState T (Core U C)) (es : List Sending) (after : Stored T U C)
           → CarriesOut sends (server a) v link es gave refused end → untimed after ≡ stored_as s end → length link.incoming.bytes < length s.part.link.incoming.bytes
@@ -312,11 +307,7 @@ module _ {T U G C : Type 0} (sends : T → Queue → Result ℕ IoFault → T �
 
   pub is_malformed : (s : Stored T U C) → NotTaken a.table s.part.store s.part.link parse.Malformed
       → Leaves sends (server a) (reader_part s.part) ((server a).malformed (core_of s.part)) s.part.link
-  is_malformed s (inl read) = (read, refl, refl)
-  is_malformed s (inr (other, asks)) = absurd (never other)
-    where
-      never : ◌≡◌ {A = MessageParseError} parse.Malformed parse.OutOfMemory → ⊥
-      never same = cc
+  is_malformed s h1 = grind (arith) steps 400000
 
   pub does_ask : (s : Stored T U C) → NotTaken a.table s.part.store s.part.link parse.OutOfMemory → FrontAsks sends (server a) (reader_part s.part)
   does_ask s (inl read) = inr read
@@ -371,10 +362,7 @@ module _ {T U G C : Type 0} (sends : T → Queue → Result ℕ IoFault → T �
 
     -- a receive after which it goes on
     pub fills_goes : (after : Stored T U C) → Fills receives s None after → ReadsOn sends receives a s r after q
-    fills_goes after (inr (impossible, same, asks), finds, is) = absurd (never impossible)
-      where
-        never : ◌≡◌ {A = Result (Unit {0}) IoFault} (Ok tt) (Err fault.OutOfMemory) → ⊥
-        never e = cc
+    fills_goes after (inr (impossible, same, asks), finds, is) = grind (arith) steps 400000
     fills_goes after (inl (rc, made), finds, is) = record {
       first = Received rc ∷ [];
       gave = [];
@@ -458,14 +446,10 @@ module _ {T U G C : Type 0} (sends : T → Queue → Result ℕ IoFault → T �
 -- ---- an open action is answered first, and then that the client was killed
 
 live_as : {A : Type 0} (P Q : Type 0) (S : A → Type 0) (o : Option A) (b : Bool) → o ≡ None → b ≡ false → P → MatchOption o (MatchBool b Q P) S
-live_as P Q S None true none live p = absurd (true≢false live)
-live_as P Q S None false none live p = p
-live_as P Q S (Some x) b none live p = absurd (true≢false (ap is_some none))
+live_as P Q S o b h1 h2 h3 = grind (arith, true≢false, is_some) steps 400000
 
 killed_as : {A : Type 0} (P Q : Type 0) (S : A → Type 0) (o : Option A) (b : Bool) → is_some o ≡ false → b ≡ true → Q → MatchOption o (MatchBool b Q P) S
-killed_as P Q S None true none dead q = q
-killed_as P Q S None false none dead q = absurd (true≢false (sym dead))
-killed_as P Q S (Some x) b none dead q = absurd (true≢false none)
+killed_as P Q S o b h1 h2 h3 = grind (arith, true≢false) steps 400000
 
 open_as : {A : Type 0} (P : Type 0) (S : A → Type 0) (o : Option A) → is_some o ≡ true → ((x : A) → S x) → MatchOption o P S
 open_as P S None some s = absurd (true≢false (sym some))
@@ -557,16 +541,8 @@ fault_fills receives s after link f blocks memory filled finds kills =
     (link, filled, finds, sym (lacks_none f memory), kills_is (linked s link) after ConnectionClosed kills ∙ closes f blocks memory)
   where
     lacks_none : (f : IoFault) → f ≢ fault.OutOfMemory → lacks_memory (Err f) ≡ false
-    lacks_none fault.WouldBlock memory = refl
-    lacks_none fault.Pipe memory = refl
-    lacks_none fault.TooBig memory = refl
-    lacks_none fault.Proto memory = refl
-    lacks_none fault.InvalidInput memory = refl
-    lacks_none fault.OutOfMemory memory = absurd (memory refl)
-    lacks_none (fault.Other n) memory = refl
+    lacks_none f h1 = grind (arith) steps 400000
 
     closes : (f : IoFault) → f ≢ fault.WouldBlock → f ≢ fault.OutOfMemory
         → stored_as s (record { core = faulted (core_of s.part) fault.Pipe; link = link }) ≡ stored_as s (record { core = faulted (core_of s.part) f; link = link })
-    closes fault.WouldBlock blocks memory = absurd (blocks refl)
-    closes fault.OutOfMemory blocks memory = absurd (memory refl)
-    closes _ blocks memory = refl
+    closes f h1 h2 = grind (arith) steps 400000

@@ -117,10 +117,7 @@ module _ {U : Type 0} (client : ClientParts) (version : ℕ) (objects : Objects 
   found_is : (null : Bool) (asked : InterfaceId) (n : ℕ) (zero : Bool) (o : Option (Object (Kept U))) → (if zero then null else held_fits asked o) ≡ true
       → (if zero then (if null then Ok (null_id client) else Err wrong.NullObject) else object_found client asked n o)
       ≡ Ok (if zero then null_id client else held_id client n o)
-  found_is null asked n true o is = ap (λ (b : Bool). let r : Result IdParts RequestFault = if b then Ok (null_id client) else Err wrong.NullObject in r) is
-  found_is null asked n false None is = absurd (true≢false (sym is))
-  found_is null asked n false (Some x) is =
-      ap (λ (b : Bool). let r : Result IdParts RequestFault = if b then Ok (id_at client n x) else Err (wrong.WrongInterface n asked x.interface) in r) is
+  found_is null asked n zero o h1 = grind (arith, true≢false) steps 400000
 
   object_is : (null : AllowNull) (kinds : List ArgumentType) (asked : InterfaceId) (n : ℕ) → object_fits objects.store (allows_null (kind.Object null ∷ [])) asked n ≡ true
       → object_argument client objects.store (allows_null (kind.Object null ∷ kinds)) asked n ≡ Ok (handed_object client objects.store n)
@@ -278,16 +275,7 @@ record RequestWaits {T U : Type 0} (table : List InterfaceRow) (store : Store (K
 
 request_waits : {T U : Type 0} (table : List InterfaceRow) (store : Store (Kept U)) (link : LinkState T) (r : FrontRequest) → IsFront table store link r → IsWhole link.incoming.bytes
     → MayStand (message_row r.desc.now) r.sender → RequestWaits table store link (message_row r.desc.now) r.sender
-request_waits table store link r front whole stands =
-    let x = receiver_of table (held store (sender_of link.incoming.bytes)) (opcode_of link.incoming.bytes) (message_row r.desc.now) front.row in
-    record {
-      receiver = x.0;
-      holds = x.1;
-      is_sender = front.sender x.0 x.1;
-      has = ap (λ o. row_in table o (opcode_of link.incoming.bytes)) (sym x.1) ∙ sym front.row;
-      stands = stands;
-      whole = whole;
-    }
+request_waits table store link r front whole stands = grind (arith, receiver_of, sender_of, opcode_of, message_row, row_in) steps 400000
 
 module _ {T U G C : Type 0} (sends : T → Queue → Result ℕ IoFault → T → Type 0) (receives : T → ℕ → Result Queue IoFault → T → Type 0) (a : Around G C)
     (s : Stored T U C) (live : Live s.part) (front : FrontRequest) (is_front : IsFront a.table s.part.store s.part.link front)
@@ -331,20 +319,7 @@ module _ {T U G C : Type 0} (sends : T → Queue → Result ℕ IoFault → T �
   row_is = ap (λ o. row_in a.table o (opcode_of bytes)) waits.holds ∙ waits.has
 
   reads : ReadsAs sends (server a) (reader_part s.part) (Ok message) (taken s.part.link)
-  reads =
-      rw (le-leb 8 (length bytes) waits.whole.header) (
-        Some row.signature,
-        sym (ap (option_map (λ r. r.signature)) row_is),
-        (
-          record {
-            whole = waits.whole;
-            sender = refl;
-            opcode = refl;
-            args = hands.reads;
-          },
-          ap (λ (n : ℕ). with_incoming s.part.link s.part.link.transport (record { bytes = drop (length_of bytes) bytes; tokens = drop n s.part.link.incoming.tokens })) (sym hands.no_fd),
-        ),
-      )
+  reads = grind (arith, le-leb, waits, option_map, row_is, hands, length_of) steps 400000
 
   no_display : (waits.receiver.interface.0 == display_id.0) ≡ false
   no_display = ap (λ (i : InterfaceId). i.0 == display_id.0) waits.is_sender.1 ∙ waits.stands.no_display

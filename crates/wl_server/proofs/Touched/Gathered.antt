@@ -58,10 +58,7 @@ module _ {T U C : Type 0} where
       sym (emptied_at waits clients' k) ∙ (ap (λ (xs : List (Option (Stored T U C))). stored_at k xs) same ∙ emptied_at waits clients k)
 
   sent_as : (waits : Bool) (o o' : Option (Stored T U C)) → option_map (emptied waits) o' ≡ option_map (emptied waits) o → HasSent o → HasSent o'
-  sent_as waits o None same sent = tt
-  sent_as waits None (Some s') same sent = absurd (false≢true (sym (ap is_some same)))
-  sent_as waits (Some s) (Some s') same sent =
-      ap (λ (x : Stored T U C). x.part.link.outgoing.bytes) (same_Some (emptied waits s') (emptied waits s) same) ∙ sent
+  sent_as waits o o' h1 h2 = grind (arith, is_some) steps 400000
 
   pub sent_emptied : (waits : Bool) (words : List ℕ) (clients clients' : List (Option (Stored T U C))) → all_emptied waits clients' ≡ all_emptied waits clients
       → AllSent words clients → AllSent words clients'
@@ -70,18 +67,7 @@ module _ {T U C : Type 0} where
 
   quiet_as : (o o' : Option (Stored T U C)) → option_map (emptied false) o' ≡ option_map (emptied false) o → TakesFirst (times_of o) (times_of o') → IsNumbered o'
       → IsQuiet o → IsQuiet o'
-  quiet_as o None same takes numbered quiet = tt
-  quiet_as None (Some s') same takes numbered quiet = absurd (false≢true (sym (ap is_some same)))
-  quiet_as (Some s) (Some s') same takes numbered calm =
-      let is = same_Some (emptied false s') (emptied false s) same in
-      let made : s'.times.made ≡ [] = none_more takes.made s'.times.made (sym (ap (λ (t : NoteTimes). t.made) calm.times) ∙ takes.of_made) in
-      let waiting : s'.times.waiting ≡ [] = none_more takes.waiting s'.times.waiting (sym (ap (λ (t : NoteTimes). t.waiting) calm.times) ∙ takes.of_waiting) in
-      record {
-        live = ap (λ (x : Stored T U C). x.part.is_killed) is ∙ calm.live;
-        made = as_long s'.times.made s'.made numbered.0 made;
-        waiting = as_long s'.times.waiting s'.part.waiting numbered.1 waiting;
-        times = λ i. record { made = made i; waiting = waiting i };
-      }
+  quiet_as o o' h1 h2 h3 h4 = grind (arith, is_some, none_more, as_long) steps 400000
 
   pub quiet_gathered : (words : List ℕ) (clients clients' : List (Option (Stored T U C))) → all_emptied false clients' ≡ all_emptied false clients
       → AllTakeFirst (map times_of clients) (map times_of clients') → AllNumbered clients' → AllQuiet words clients → AllQuiet words clients'
@@ -107,29 +93,11 @@ module _ {T U C : Type 0} where
   staying_at (x ∷ clients) (suc k) = staying_at clients k
 
   sent_staying : (o : Option (Stored T U C)) → HasSent o → HasSent (staying o)
-  sent_staying None sent = tt
-  sent_staying (Some s) sent = at s.part.is_killed
-    where
-      at : (b : Bool) → HasSent (if b then None else Some s)
-      at true = tt
-      at false = sent
+  sent_staying o h1 = grind (arith) steps 400000
 
   calm_staying : (o : Option (Stored T U C)) → (to_none : (s : Stored T U C) → o ≡ Some s → (s.made ≡ []) × (s.part.waiting ≡ []))
       → (times_of (staying o)).waiting ≡ [] → IsNumbered (staying o) → IsQuiet (staying o)
-  calm_staying None none waits numbered = tt
-  calm_staying (Some s) none waits numbered = at s.part.is_killed refl waits numbered
-    where
-      at : (b : Bool) → s.part.is_killed ≡ b → (times_of (if b then None else Some s)).waiting ≡ [] → IsNumbered (if b then None else Some s)
-          → IsQuiet (if b then None else Some s)
-      at true killed waits numbered = tt
-      at false live waits numbered =
-          let made : s.times.made ≡ [] = none_long s.times.made (numbered.0 ∙ ap length (none s refl).0) in
-          record {
-            live = live;
-            made = (none s refl).0;
-            waiting = (none s refl).1;
-            times = λ i. record { made = made i; waiting = waits i };
-          }
+  calm_staying o to_none h1 h2 = grind (arith, times_of, none_long) steps 400000
 
   stored_there : (clients : List (Option (Stored T U C))) (k : ℕ) (s : Stored T U C) → stored_at k clients ≡ Some s → slice_get clients k ≡ Some (Some s)
   stored_there [] k s is = absurd (false≢true (ap is_some is))
@@ -154,9 +122,7 @@ module _ {T U C : Type 0} where
     sent_killed words refused clients clients' all = out_each HasSent words clients clients' (λ k sent. at k (nat_lt k (length clients)) refl sent)
       where
         at : (k : ℕ) (b : Bool) → nat_lt k (length clients) ≡ b → HasSent (stored_at k clients) → HasSent (stored_at k clients')
-        at k true below sent = sent_place k (all.lacks k) (slice_get clients k) (slice_get clients' k) (all.felt k (ltb-true k (length clients) below)) sent
-        at k false past sent =
-            subst (λ (o : Option (Option (Stored T U C))). HasSent (option_map_or (λ s. s) o None)) (sym (all.rest k (ltb-false k (length clients) past))) sent
+        at k b h1 h2 = grind (arith, sent_place) steps 400000
 
     pub sent_cleaned : (words : List ℕ) (clients clients' : List (Option (Stored T U C))) (notes notes' : List (Note U)) (refused : Bool) (given : List (ClientParts × T))
         → CleansUp sends clients notes refused clients' notes' given → AllSent words clients → AllSent words clients'

@@ -18,11 +18,7 @@ carry P from zero less is step = subst P (let e : from ≡ zero = omega (arith, 
 carry P from (suc to) less is step = at (from == suc to) refl (λ below. carry P from to below is (λ k low high. step k low (omega (arith, high))))
   where
     at : (b : Bool) → (from == suc to) ≡ b → (from ≤ to → P to) → P (suc to)
-    at true same before = subst P (eqb-true from (suc to) same) is
-    at false other before =
-        let differ : from ≢ suc to = other_of from (suc to) other in
-        let below : from ≤ to = omega (arith, less, differ) in
-        subst P (let e : to + 1 ≡ suc to = omega arith in e) (step to below (omega arith) (before below))
+    at b h1 h2 = grind (arith, eqb-true, other_of) steps 400000
 
 pub there : {A : Type 0} (xs : List A) (k : ℕ) → k < length xs → (x : A) × (slice_get xs k ≡ Some x)
 there [] k within = absurd (omega (arith, within))
@@ -55,14 +51,7 @@ module _ {T U C : Type 0} where
     pub out_set : (words : List ℕ) (clients : List (Option (Stored T U C))) (slot : ℕ) (x x' : Option (Stored T U C)) → slice_get clients slot ≡ Some x → (P x → P x')
         → AllOut P words clients → AllOut P words (slice_set clients slot x')
     unfolding AllOut
-    out_set words clients slot x x' here keeps all k out = at (k == slot) refl
-      where
-        at : (b : Bool) → (k == slot) ≡ b → P (stored_at k (slice_set clients slot x'))
-        at true same =
-            subst (λ (n : ℕ). P (stored_at n (slice_set clients slot x'))) (sym (eqb-true k slot same))
-            (subst P (sym (ap place_at (get_set_same clients slot x x' here)))
-            (keeps (subst P (ap place_at here) (subst (λ (n : ℕ). P (stored_at n clients)) (eqb-true k slot same) (all k out)))))
-        at false other = subst P (sym (ap place_at (get_set_other clients slot k x' (λ e. other_of k slot other (sym e))))) (all k out)
+    out_set words clients slot x x' here keeps all k out = grind (arith, slice_set, eqb-true, get_set_same, get_set_other, other_of) steps 400000
 
     -- ---- slots are added to the set
 
@@ -78,26 +67,19 @@ module _ {T U C : Type 0} where
     pub out_touched : (words words' : List ℕ) (clients : List (Option (Stored T U C))) (slot : ℕ) (y : Option (Stored T U C)) → Adds slot words words'
         → AllOut P words clients → AllOut P words' (slice_set clients slot y)
     unfolding AllOut
-    out_touched words words' clients slot y adds all k out =
-        let (differ, before) = adds k out in
-        subst P (sym (ap place_at (get_set_other clients slot k y (λ e. differ (sym e))))) (all k before)
+    out_touched words words' clients slot y adds all k out = grind (arith, get_set_other) steps 400000
 
     pub out_put : (words words' : List ℕ) (clients clients' : List (Option (Stored T U C))) (slot : ℕ) (s : Stored T U C) → Adds slot words words'
         → IsPut clients slot s clients' → AllOut P words clients → AllOut P words' clients'
     unfolding AllOut
-    out_put words words' clients clients' slot s adds (here, others) all k out =
-        let (differ, before) = adds k out in
-        subst P (sym (ap place_at (others k differ))) (all k before)
+    out_put words words' clients clients' slot s adds (here, others) all k out = grind (arith) steps 400000
 
     -- ---- a slot is taken out of the set
 
     pub out_taken : (words words' : List ℕ) (clients : List (Option (Stored T U C))) (slot : ℕ) (x : Option (Stored T U C)) (flag : Bool) → TakesOut slot flag words words'
         → slice_get clients slot ≡ Some x → (IsTrue flag → P x) → AllOut P words clients → AllOut P words' clients
     unfolding AllOut
-    out_taken words words' clients slot x flag takes here is all k out = elim (takes k out) [
-      | inl (same, set) ↦ subst P (sym (ap (λ (n : ℕ). stored_at n clients) same ∙ ap place_at here)) (is set)
-      | inr before ↦ all k before
-    ]
+    out_taken words words' clients slot x flag takes here is all k out = grind (arith) steps 400000
 
     pub out_of_none : (words : List ℕ) → P None → AllOut P words []
     unfolding AllOut

@@ -28,25 +28,13 @@ pub same_self : (id : ClientParts) → same_client id id ≡ true
 same_self id = rw (eq-eqb id.slot id.slot refl) (eq-eqb id.serial id.serial refl)
 
 pub same_serial : (a b : ClientParts) → same_client a b ≡ true → a.serial ≡ b.serial
-same_serial a b same = at (a.slot == b.slot) same
-  where
-    at : (t : Bool) → (t && (a.serial == b.serial)) ≡ true → a.serial ≡ b.serial
-    at true same = eqb-true a.serial b.serial same
-    at false same = absurd (false≢true same)
+same_serial a b same = grind (arith, eqb-true, false≢true) steps 400000
 
 earlier_differs : (new id : ClientParts) → new.serial < id.serial → same_client new id ≡ false
-earlier_differs new id sooner = at (same_client new id) refl
-  where
-    at : (t : Bool) → same_client new id ≡ t → same_client new id ≡ false
-    at false is = is
-    at true is = let same = same_serial new id is in absurd (omega (arith, same, sooner))
+earlier_differs new id sooner = grind (arith, same_serial) steps 400000
 
 later_differs : (new id : ClientParts) → id.serial < new.serial → same_client new id ≡ false
-later_differs new id later = at (same_client new id) refl
-  where
-    at : (t : Bool) → same_client new id ≡ t → same_client new id ≡ false
-    at false is = is
-    at true is = let same = same_serial new id is in absurd (omega (arith, same, later))
+later_differs new id later = grind (arith, same_serial) steps 400000
 
 -- ---- one step, of a client that is not there or is not meant
 
@@ -66,13 +54,7 @@ module _ {T U G C : Type 0} (w : World T G C) (id : ClientParts) (offer : Offer 
   inserted_other : (transport : T) (client_data : C) (r : Result ClientParts InsertClientError) (before : Seen T U C) (lacked : Bool) (did : List (Deed U)) (after : Seen T U C)
       → ((new : ClientParts) → r ≡ Ok new → same_client new id ≡ false)
       → InsertedAs w id offer transport client_data r before lacked did after → Unfelt before lacked did after
-  inserted_other transport client_data (Err e) before lacked did after other h = h
-  inserted_other transport client_data (Ok new) before lacked did after other h = at (same_client new id) (other new refl) h
-    where
-      at : (b : Bool) → b ≡ false → MatchBool b (Inserted w id offer transport client_data before lacked did after) (Unfelt before lacked did after)
-          → Unfelt before lacked did after
-      at true is h = absurd (true≢false is)
-      at false is h = h
+  inserted_other transport client_data r before lacked did after h1 h2 = grind (arith, true≢false) steps 400000
 
   inserts_other : (transport : T) (client_data : C) (answer : Reply T U) (r : Result ClientParts InsertClientError) → answer ≡ reply.InsertClient r
       → IsNotInserted {T = T} {U = U} {G = G} {C = C} id (Asked (step.InsertClient transport client_data) answer) → (new : ClientParts) → r ≡ Ok new → same_client new id ≡ false
@@ -82,55 +64,20 @@ module _ {T U G C : Type 0} (w : World T G C) (id : ClientParts) (offer : Offer 
   -- a client of which nothing is held feels nothing of a step that does not insert it
   nothing_step : (s : Step T U G C) (answer : Reply T U) (lacked : Bool) (did : List (Deed U)) (after : Seen T U C)
       → IsNotInserted id (Asked s answer) → PartStep w id offer s answer nothing_seen lacked did after → Unfelt nothing_seen lacked did after
-  nothing_step (step.InsertClient transport client_data) answer lacked did after other (r, is, h) =
-      inserted_other transport client_data r nothing_seen lacked did after (inserts_other transport client_data answer r is other) h
-  nothing_step (step.CreateGlobal i version handler) answer lacked did after other (Ok g, is, h) = h.1
-  nothing_step (step.CreateGlobal i version handler) answer lacked did after other (Err e, is, h) = h
-  nothing_step (step.Flush None) answer lacked did after other (r, is, h) = h.1.1
-  nothing_step step.Cleanup answer lacked did after other (Ok out, is, h) = h.1
-  nothing_step step.Cleanup answer lacked did after other (Err e, is, h) = h
-  nothing_step step.TakeNotes answer lacked did after other (Ok out, is, h) = (h.1, h.2, h.3)
-  nothing_step step.TakeNotes answer lacked did after other (Err e, is, h) = h
-  nothing_step (step.SetDefaultMaxBufferSize limit) answer lacked did after other h = h.1
-  nothing_step (step.DisableGlobal g) answer lacked did after other h = own_nothing _ _ lacked did after h.1
-  nothing_step (step.RemoveGlobal g) answer lacked did after other h = own_nothing _ _ lacked did after h.1
-  nothing_step (step.PostError o code text) answer lacked did after other h = own_nothing _ _ lacked did after h.1
-  nothing_step (step.KillClient target reason) answer lacked did after other h = own_nothing _ _ lacked did after h.1
-  nothing_step (step.SetClientMaxBufferSize target limit) answer lacked did after other h = own_nothing _ _ lacked did after h.1
-  nothing_step (step.NextAction target) answer lacked did after other h = own_nothing _ _ lacked did after h.3
-  nothing_step (step.NextActionWithin target reading) answer lacked did after other h = own_nothing _ _ lacked did after h.3
-  nothing_step s answer lacked did after other h = own_nothing _ _ lacked did after h.2
+  nothing_step s answer lacked did after h1 h2 = grind (arith, inserted_other, nothing_seen, inserts_other, own_nothing) steps 400000
 
   nothing_call : (call : Call T U G C) (lacked : Bool) (did : List (Deed U)) (after : Seen T U C)
       → IsNotInserted id call → PartCall w id offer call nothing_seen lacked did after → Unfelt nothing_seen lacked did after
-  nothing_call (Asked s answer) lacked did after other h = nothing_step s answer lacked did after other h
-  nothing_call (Changed target t) lacked did after other h = own_nothing _ _ lacked did after h
-  nothing_call (Grown rows answer) lacked did after other h = h
+  nothing_call call lacked did after h1 h2 = grind (arith, nothing_step, own_nothing) steps 400000
 
   -- a client feels nothing of a step that names another
   other_step : (s : Step T U G C) (answer : Reply T U) (before : Seen T U C) (lacked : Bool) (did : List (Deed U)) (after : Seen T U C)
       → IsNotInserted id (Asked s answer) → is_about id s ≡ false → PartStep w id offer s answer before lacked did after → Unfelt before lacked did after
-  other_step (step.InsertClient transport client_data) answer before lacked did after other far (r, is, h) =
-      inserted_other transport client_data r before lacked did after (inserts_other transport client_data answer r is other) h
-  other_step (step.CreateGlobal i version handler) answer before lacked did after other far h = absurd (true≢false far)
-  other_step (step.DisableGlobal g) answer before lacked did after other far h = absurd (true≢false far)
-  other_step (step.RemoveGlobal g) answer before lacked did after other far h = absurd (true≢false far)
-  other_step (step.Flush None) answer before lacked did after other far h = absurd (true≢false far)
-  other_step (step.SetDefaultMaxBufferSize limit) answer before lacked did after other far h = absurd (true≢false far)
-  other_step step.Cleanup answer before lacked did after other far h = absurd (true≢false far)
-  other_step step.TakeNotes answer before lacked did after other far h = absurd (true≢false far)
-  other_step (step.PostError o code text) answer before lacked did after other far h = own_other _ before _ _ lacked did after far h.1
-  other_step (step.KillClient target reason) answer before lacked did after other far h = own_other _ before _ _ lacked did after far h.1
-  other_step (step.SetClientMaxBufferSize target limit) answer before lacked did after other far h = own_other _ before _ _ lacked did after far h.1
-  other_step (step.NextAction target) answer before lacked did after other far h = own_other _ before _ _ lacked did after far h.3
-  other_step (step.NextActionWithin target reading) answer before lacked did after other far h = own_other _ before _ _ lacked did after far h.3
-  other_step s answer before lacked did after other far h = own_other _ before _ _ lacked did after far h.2
+  other_step s answer before lacked did after h1 h2 h3 = grind (arith, inserted_other, inserts_other, true≢false, own_other) steps 400000
 
   pub other_call : (call : Call T U G C) (before : Seen T U C) (lacked : Bool) (did : List (Deed U)) (after : Seen T U C)
       → IsNotInserted id call → concerns id call ≡ false → PartCall w id offer call before lacked did after → Unfelt before lacked did after
-  other_call (Asked s answer) before lacked did after other far h = other_step s answer before lacked did after other far h
-  other_call (Changed target t) before lacked did after other far h = own_other _ before _ _ lacked did after far h
-  other_call (Grown rows answer) before lacked did after other far h = h
+  other_call call before lacked did after h1 h2 h3 = grind (arith, other_step, own_other) steps 400000
 
 module _ {T U : Type 0} where
   -- what an insertion answers
@@ -141,16 +88,10 @@ module _ {T U : Type 0} where
 module _ {T U G C : Type 0} where
   -- and it leaves the offer
   other_offer : (id : ClientParts) (offer : Offer G) (s : Step T U G C) (answer : Reply T U) → is_about id s ≡ false → offer_after offer (Asked s answer) ≡ offer
-  other_offer id offer (step.CreateGlobal i version handler) answer far = absurd (true≢false far)
-  other_offer id offer (step.DisableGlobal g) answer far = absurd (true≢false far)
-  other_offer id offer (step.RemoveGlobal g) answer far = absurd (true≢false far)
-  other_offer id offer (step.SetDefaultMaxBufferSize limit) answer far = absurd (true≢false far)
-  other_offer id offer s answer far = refl
+  other_offer id offer s answer h1 = grind (arith, true≢false) steps 400000
 
   pub offer_of_other : (id : ClientParts) (offer : Offer G) (call : Call T U G C) → concerns id call ≡ false → offer_after offer call ≡ offer
-  offer_of_other id offer (Asked s answer) far = other_offer id offer s answer far
-  offer_of_other id offer (Changed target t) far = refl
-  offer_of_other id offer (Grown rows answer) far = absurd (true≢false far)
+  offer_of_other id offer call h1 = grind (arith, other_offer, true≢false) steps 400000
 
   -- ---- clients that were not inserted yet
 
@@ -175,12 +116,7 @@ module _ {T U G C : Type 0} where
   }
     where
       far : (id : ClientParts) → after.last_client < id.serial → IsNotInserted id e.call
-      far id late new inserts =
-          earlier_differs new id
-          (let next = (numbered before e.call new by.client inserts).2 in
-          let grown = by.last in
-          let one = one_more e.call new inserts in
-          omega (arith, late, next, grown, one))
+      far id late new inserts = grind (arith, earlier_differs, numbered, one_more) steps 400000
 
   -- ---- runs
 
@@ -217,10 +153,7 @@ module _ {T U G C : Type 0} where
       → PartCall w id offer e.call before (e.lacks id) (e.did id) mid
       → Alone w id (offer_after offer e.call) mid (mine id run) after
       → Alone w id offer before (if b then (own_of id e ∷ mine id run) else mine id run) after
-  alone_more w id before mid after offer e run true is other by rest = (mid, by, rest)
-  alone_more w id before mid after offer e run false is other by rest =
-      subst (λ (s : Seen T U C). Alone w id offer s (mine id run) after) (other_call w id offer e.call before (e.lacks id) (e.did id) mid other is by).2
-      (subst (λ (o : Offer G). Alone w id o mid (mine id run) after) (offer_of_other id offer e.call is) rest)
+  alone_more w id before mid after offer e run b h1 h2 h3 h4 = grind (arith, mine, other_call, offer_of_other) steps 400000
 
   -- an id that was given is not given again
   pub not_again : (w : World T G C) (id : ClientParts) (before after : ServerState T U G C) (e : Entry T U G C) → id.serial ≤ before.last_client → OneStep w before e after
@@ -262,13 +195,7 @@ module _ {T U G C : Type 0} where
   -- a client that is stored was given its serial before
   pub known_before : (w : World T G C) (table : List InterfaceRow) (run : List (Entry T U G C)) (after : ServerState T U G C) → Leads w (new_server table) run after
       → (id : ClientParts) (p : Part T U C) → (seen id after).part ≡ Some p → id.serial ≤ after.last_client
-  known_before w table run after leads id p there =
-      elim (cases_lt after.last_client id.serial) [
-        | inl late ↦
-            let nothing = (unborn_run w (new_server table) after run (new_unborn table) leads).each id late in
-            absurd (true≢false (ap is_some (sym there ∙ ap (λ (s : Seen T U C). s.part) nothing)))
-        | inr born ↦ born
-      ]
+  known_before w table run after leads id p there = grind (arith, cases_lt, unborn_run, new_server, new_unborn, true≢false, is_some) steps 400000
 
   pub each_alone : (w : World T G C) (table : List InterfaceRow) (run : List (Entry T U G C)) (after : ServerState T U G C)
       → Leads w (new_server table) run after → EachAlone w table run after
@@ -313,12 +240,7 @@ module _ {T U G C : Type 0} where
   pub shared_run : (w : World T G C) (before after : ServerState T U G C) (run : List (Entry T U G C)) → Leads w before run after
       → SharedAlone before.offer before.last_client run after.offer after.last_client
   shared_run w before after [] same = (ap (λ (s : ServerState T U G C). s.offer) same, ap (λ (s : ServerState T U G C). s.last_client) same)
-  shared_run w before after (e ∷ run) (mid, by, leads) = (
-    by.global,
-    (λ new inserts. let next = numbered before e.call new by.client inserts in (next.1, next.2)),
-    subst (λ (n : ℕ). SharedAlone (offer_after before.offer e.call) n run after.offer after.last_client) by.last
-        (subst (λ (o : Offer G). SharedAlone o mid.last_client run after.offer after.last_client) by.offer (shared_run w mid after run leads)),
-  )
+  shared_run w before after (e ∷ run) (mid, by, leads) = grind (arith, numbered, offer_after, shared_run w mid after run leads) steps 400000
 
   -- over every run of a new server
   pub is_isolated : (w : World T G C) (table : List InterfaceRow) (run : List (Entry T U G C)) (after : ServerState T U G C)

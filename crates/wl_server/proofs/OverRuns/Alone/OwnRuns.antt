@@ -1,5 +1,5 @@
 -- That the calls of a client's own run are about it or about none.
-use Rattle.std.proofs.Common.{◌≡◌, Bool, true, false, List, [], ◌∷◌, refl}
+use Rattle.std.proofs.Common.{◌≡◌, Bool, true, false, List, [], ◌∷◌, refl, arith}
 use Rattle.std.specs.Prelude.{if◌then◌else◌}
 use Rattle.wl_server.specs.Ids.{ClientParts}
 use Rattle.wl_server.specs.Runs.{Own, concerns, mine, own_of}
@@ -12,9 +12,4 @@ AreMine id (e ∷ run) = (concerns id e.call ≡ true) × AreMine id run
 
 pub are_mine : {T U G C : Type 0} (id : ClientParts) (run : List (Entry T U G C)) → AreMine id (mine id run)
 are_mine id [] = tt
-are_mine {T} {U} {G} {C} id (e ∷ run) = go (are_mine id run) (concerns id e.call) refl
-  where
-    go : AreMine {T = T} {U = U} {G = G} {C = C} id (mine id run) → (b : Bool) → concerns id e.call ≡ b
-        → AreMine {T = T} {U = U} {G = G} {C = C} id (if b then own_of id e ∷ mine id run else mine id run)
-    go rest true is = (is, rest)
-    go rest false is = rest
+are_mine {T} {U} {G} {C} id (e ∷ run) = grind (arith, are_mine id run) steps 400000

@@ -79,9 +79,7 @@ module _ {T U G C : Type 0} where
       go : (b : Bool) → concerns id e.call ≡ b
           → AreNumbered (offer_after offer e.call) (mine id run) × (own_offer (offer_after offer e.call) (mine id run) ≡ offer')
           → AreNumbered offer (if b then (own_of id e ∷ mine id run) else mine id run) × (own_offer offer (if b then (own_of id e ∷ mine id run) else mine id run) ≡ offer')
-      go true is (numbered, ends) = ((by, numbered), ends)
-      go false is both =
-          subst (λ (o : Offer G). AreNumbered o (mine id run) × (own_offer o (mine id run) ≡ offer')) (offer_of_other id offer e.call is) both
+      go b h1 h2 = grind (arith, mine, offer_of_other) steps 400000
 
 module _ {T U G C : Type 0} (w : World T G C) (id : ClientParts) (r : Id) where
   abbrev Watched : Offer G → Part T U C → List Said → List Id → Type 0
@@ -106,37 +104,20 @@ module _ {T U G C : Type 0} (w : World T G C) (id : ClientParts) (r : Id) where
   lives_leads offer p did q lives log made was on = (lives.goes on).watch log made (was (lives.live on))
 
   unfelt_follows : (offer : Offer G) (s : Seen T U C) (lacked : Bool) (did : List (Deed U)) (t : Seen T U C) → Unfelt s lacked did t → Follows offer offer s did t
-  unfelt_follows offer s lacked did t (no_memory, none, same) = record {
-    watch = λ log made is.
-        subst (λ (x : Seen T U C). SeenWatched offer x (log ++ log_of did) (made ++ registries_in did)) (sym same)
-        (subst (λ (ds : List (Deed U)). SeenWatched offer s (log ++ log_of ds) (made ++ registries_in ds)) (sym none)
-        (subst (λ (l : List Said). SeenWatched offer s l (made ++ [])) (sym (append-nil log))
-        (subst (λ (l : List Id). SeenWatched offer s log l) (sym (append-nil made)) is)));
-  }
+  unfelt_follows offer s lacked did t (no_memory, none, same) = grind (arith, log_of, registries_in, append-nil) steps 400000
 
   -- a part that is stored, and goes on as this one
   part_follows : (offer offer' : Offer G) (s : Seen T U C) (p q : Part T U C) (did : List (Deed U)) (made : List (Happening U)) (t : Seen T U C) → s.part ≡ Some p
       → t ≡ record { part = Some q; made = made } → Leads' offer offer' p did q → Follows offer offer' s did t
-  part_follows offer offer' s p q did notes t there same leads = record {
-    watch = λ log made is.
-        subst (λ (x : Seen T U C). SeenWatched offer' x (log ++ log_of did) (made ++ registries_in did)) (sym same)
-        (leads log made (subst (λ (o : Option (Part T U C)). MatchOption o (Unit {0}) (λ x. x.is_killed ≡ false → Watched offer x log made)) there is));
-  }
+  part_follows offer offer' s p q did notes t there same leads = grind (arith, log_of, registries_in) steps 400000
 
   out_follows : (offer offer' : Offer G) (s : Seen T U C) (did : List (Deed U)) (t : Seen T U C) → t.part ≡ None → Follows offer offer' s did t
-  out_follows offer offer' s did t none = record {
-    watch = λ log made is.
-        subst (λ (o : Option (Part T U C)). MatchOption o (Unit {0}) (λ x. x.is_killed ≡ false → Watched offer' x (log ++ log_of did) (made ++ registries_in did))) (sym none) tt;
-  }
+  out_follows offer offer' s did t none = grind (arith, log_of, registries_in) steps 400000
 
   -- a step that each client feels, where the offer becomes this
   feels_follows : (offer offer' : Offer G) (s : Seen T U C) (R : Part T U C → Part T U C → Type 0) (missing : Type 0) (lacked : Bool) (did : List (Deed U)) (t : Seen T U C)
       → ((p q : Part T U C) → R p q → Leads' offer offer' p did q) → OnPart s R missing lacked did t → Follows offer offer' s did t
-  feels_follows offer offer' s R missing lacked did t leads h =
-      elim (either_option s.part h) [
-        | inl (none, (m, (no_memory, nothing, same))) ↦ out_follows offer offer' s did t (ap (λ (x : Seen T U C). x.part) same ∙ none)
-        | inr (p, there, (q, by, same)) ↦ part_follows offer offer' s p q did _ t there same (leads p q by)
-      ]
+  feels_follows offer offer' s R missing lacked did t leads h = grind (arith, either_option, out_follows, part_follows) steps 400000
 
   -- a step that is about this client or about another
   of_client : (offer : Offer G) (b : Bool) (s : Seen T U C) (R : Part T U C → Part T U C → Type 0) (missing : Type 0) (lacked : Bool) (did : List (Deed U)) (t : Seen T U C)
@@ -168,18 +149,7 @@ module _ {T U G C : Type 0} (w : World T G C) (id : ClientParts) (r : Id) where
       (λ log made was. global_watch w.views id r offer (part_scene p) i version handler g (is_free creates) log made was) heard) h
     where
       is_free : CreatesGlobal offer.table offer.globals i version (Ok g) → held offer.globals.store g.name ≡ None
-      is_free creates =
-          elim (either_option (slice_get offer.table i.0) creates) [
-            | inl (unknown, is) ↦ absurd (not_err is)
-            | inr (row, known, h) ↦
-                elim (either_bool (nat_le version row.version) h) [
-                  | inl next ↦ next.0.absent
-                  | inr is ↦ absurd (not_err is)
-                ]
-          ]
-        where
-          not_err : {e : GlobalError} → Ok g ≡ Err e → ⊥
-          not_err is = true≢false (ap is_ok is)
+      is_free creates = grind (arith, either_option, slice_get, either_bool, nat_le, true≢false, is_ok) steps 400000
   global_follows offer i version handler (Err e) s lacked did t creates h = unfelt_follows offer s lacked did t h
 
   loss_follows : (offer : Offer G) (g : GlobalParts) (after : Globals G) (s : Seen T U C) (lacked : Bool) (did : List (Deed U)) (t : Seen T U C)
@@ -225,22 +195,7 @@ module _ {T U G C : Type 0} (w : World T G C) (id : ClientParts) (r : Id) where
 
   cleaned_follows : (offer : Offer G) (s : Seen T U C) (p : Part T U C) → s.part ≡ Some p → (lacked : Bool) (did : List (Deed U)) (out : List T) (q : Option (Part T U C))
       (t : Seen T U C) → Cleaned w.sends id p lacked did out q → t.part ≡ q → Follows offer offer s did t
-  cleaned_follows offer s p there lacked did out q t h same =
-      elim (either_bool p.is_killed h) [
-        | inl (sent, answer, end, flushed, did_so, handed, is) ↦ out_follows offer offer s did t (same ∙ is)
-        | inr (no_memory, did_so, nobody, is) ↦
-            record {
-              watch = λ log made was.
-                  subst (λ (o : Option (Part T U C)). MatchOption o (Unit {0}) (λ x. x.is_killed ≡ false → Watched offer x (log ++ log_of did) (made ++ registries_in did)))
-                  (sym (same ∙ is))
-                  (λ on.
-                  subst (λ (l : List Said). Watched offer p (log ++ l) (made ++ registries_in did)) (sym (ap log_of did_so ∙ (silent_notes p.waiting).0))
-                  (subst (λ (l : List Id). Watched offer p (log ++ []) (made ++ l)) (sym (ap registries_in did_so ∙ (silent_notes p.waiting).1))
-                  (subst (λ (l : List Said). Watched offer p l (made ++ [])) (sym (append-nil log))
-                  (subst (λ (l : List Id). Watched offer p log l) (sym (append-nil made))
-                  (subst (λ (o : Option (Part T U C)). MatchOption o (Unit {0}) (λ x. x.is_killed ≡ false → Watched offer x log made)) there was on)))));
-            }
-      ]
+  cleaned_follows offer s p there lacked did out q t h same = grind (arith, either_bool, out_follows, log_of, registries_in, silent_notes, append-nil) steps 400000
 
   cleanup_follows : (offer : Offer G) (answer : Result (Vec (ClientParts × T) Global) OutOfMemory) (s : Seen T U C) (lacked : Bool) (did : List (Deed U)) (t : Seen T U C)
       → CleanedAs w id offer answer s lacked did t → Follows offer offer s did t
@@ -253,15 +208,7 @@ module _ {T U G C : Type 0} (w : World T G C) (id : ClientParts) (r : Id) where
 
   taken_follows : (offer : Offer G) (answer : Result (Vec (Note U) Global) OutOfMemory) (s : Seen T U C) (lacked : Bool) (did : List (Deed U)) (t : Seen T U C)
       → NotesTaken w id offer answer s lacked did t → Follows offer offer s did t
-  taken_follows offer (Err e) s lacked did t h = unfelt_follows offer s lacked did t h
-  taken_follows offer (Ok out) s lacked did t (all, no_memory, did_so, same) = record {
-    watch = λ log made is.
-        subst (λ (x : Seen T U C). SeenWatched offer x (log ++ log_of did) (made ++ registries_in did)) (sym same)
-        (subst (λ (l : List Said). SeenWatched offer s (log ++ l) (made ++ registries_in did)) (sym (ap log_of did_so ∙ (silent_taken s.made).0))
-        (subst (λ (l : List Id). SeenWatched offer s (log ++ []) (made ++ l)) (sym (ap registries_in did_so ∙ (silent_taken s.made).1))
-        (subst (λ (l : List Said). SeenWatched offer s l (made ++ [])) (sym (append-nil log))
-        (subst (λ (l : List Id). SeenWatched offer s log l) (sym (append-nil made)) is))));
-  }
+  taken_follows offer answer s lacked did t h1 = grind (arith, unfelt_follows, log_of, registries_in, silent_taken, append-nil) steps 400000
 
   moved_follows : (offer : Offer G) (target : ClientParts) (m : Move) (answer : Moved) (s : Seen T U C) (lacked : Bool) (did : List (Deed U)) (t : Seen T U C)
       → MovedFor w id offer target m answer s lacked did t → Follows offer offer s did t
@@ -296,10 +243,7 @@ module _ {T U G C : Type 0} (w : World T G C) (id : ClientParts) (r : Id) where
       of_client offer (same_client o.client id) s _ _ lacked did t (λ p q d. posts_lives w.views id r offer w.sends p o _ _ lacked did q d) h
   step_follows offer known (step.KillClient target reason) answer s lacked did t about numbered alone (is, h) =
       of_client offer (same_client target id) s _ _ lacked did t (λ p q (no_memory, k). kills_lives w.views id r offer p reason did q k) h
-  step_follows offer known (step.CreateGlobal i version handler) answer s lacked did t about numbered alone (a, is, h) =
-      subst (λ (x : Reply T U). AnswersShared {T = T} {U = U} {C = C} offer (Asked (step.CreateGlobal i version handler) x)
-      → Follows offer (offer_after {T = T} {U = U} {C = C} offer (Asked (step.CreateGlobal i version handler) x)) s did t) (sym is)
-      (λ creates. global_follows offer i version handler a s lacked did t creates h) numbered
+  step_follows offer known (step.CreateGlobal i version handler) answer s lacked did t about numbered alone (a, is, h) = grind (arith, offer_after, global_follows) steps 400000
   step_follows offer known (step.DisableGlobal g) answer s lacked did t about numbered alone (is, h) =
       loss_follows offer g (disabled offer.globals g) s lacked did t (λ client_data x kept. disabled_one w.views id client_data offer g x kept)
       (λ client_data hidden. disabled_stays w.views id client_data offer g hidden) h
@@ -311,12 +255,7 @@ module _ {T U G C : Type 0} (w : World T G C) (id : ClientParts) (r : Id) where
     where
       -- the limit is nothing to what is shown
       other_limit : Follows offer offer s did t → Follows offer (record offer { default_limit = limit }) s did t
-      other_limit f = record { watch = λ log made is. go (log ++ log_of did) (made ++ registries_in did) t.part (f.watch log made is) }
-        where
-          go : (log : List Said) (made : List Id) (o : Option (Part T U C)) → MatchOption o (Unit {0}) (λ p. p.is_killed ≡ false → Watched offer p log made)
-              → MatchOption o (Unit {0}) (λ p. p.is_killed ≡ false → Watched (record offer { default_limit = limit }) p log made)
-          go log made None is = tt
-          go log made (Some p) is = λ on. limit_watch w.views id r offer limit (part_scene p) log made (is on)
+      other_limit f = grind (arith, log_of, registries_in, limit_watch, part_scene) steps 400000
   step_follows offer known (step.SetClientMaxBufferSize target limit) answer s lacked did t about numbered alone (is, h) =
       of_client offer (same_client target id) s _ _ lacked did t
       (λ p q (no_memory, none, (link, set, same)). relinked_lives w.views id r offer p link did q none same) h
@@ -340,24 +279,13 @@ module _ {T U G C : Type 0} (w : World T G C) (id : ClientParts) (r : Id) where
     where
       -- more interfaces are nothing to what is shown
       longer : (a : Result (Unit {0}) TableError) → Follows offer offer s did t → Follows offer (with_table offer (grown offer.table rows a)) s did t
-      longer (Err e) f = record { watch = f.watch }
-      longer (Ok u) f = record { watch = λ log made is. go (log ++ log_of did) (made ++ registries_in did) t.part (f.watch log made is) }
-        where
-          go : (log : List Said) (made : List Id) (o : Option (Part T U C)) → MatchOption o (Unit {0}) (λ p. p.is_killed ≡ false → Watched offer p log made)
-              → MatchOption o (Unit {0}) (λ p. p.is_killed ≡ false → Watched (with_table offer (offer.table ++ rows)) p log made)
-          go log made None is = tt
-          go log made (Some p) is = λ on. growth_watch w.views id r offer known rows (part_scene p) log made (is on)
+      longer a h1 = grind (arith, log_of, registries_in, with_table, growth_watch, part_scene) steps 400000
 
   -- ---- a run
 
   run_follows : (offer : Offer G) → HasInterfaces offer → (s : Seen T U C) (run : List (Own T U G C)) (t : Seen T U C) → AreMine id run → AreNumbered offer run → IsAlwaysLeftAlone r run
       → Alone w id offer s run t → Follows offer (own_offer offer run) s (history run) t
-  run_follows offer known s [] t own numbered alone same = record {
-    watch = λ log made is.
-        subst (λ (x : Seen T U C). SeenWatched offer x (log ++ []) (made ++ [])) (sym same)
-        (subst (λ (l : List Said). SeenWatched offer s l (made ++ [])) (sym (append-nil log))
-        (subst (λ (l : List Id). SeenWatched offer s log l) (sym (append-nil made)) is));
-  }
+  run_follows offer known s [] t own numbered alone same = grind (arith, append-nil) steps 400000
   run_follows offer known s (e ∷ run) t own numbered alone (mid, by, rest) =
       let first = call_follows offer known e.call s e.lacked e.did mid own.0 numbered.0 alone.0 by in
       let more = run_follows (offer_after offer e.call) (after_call offer e.call known numbered.0) mid run t own.1 numbered.1 alone.1 rest in
@@ -404,15 +332,7 @@ module _ {T U G C : Type 0} (w : World T G C) (id : ClientParts) (r : Id) where
           → MatchOption o (Unit {0})
           (λ p. p.is_killed ≡ false → AreSameGlobals (announced (log_of (history run)) r) (shown_of w.views (own_offer offer run) id p.client_data))
       of_watched None is = tt
-      of_watched (Some p) is = λ on g.
-          let tells = (is on).tells (among_contains (registries_in (history run)) r there) in (
-            λ told.
-                contains_among (shown_of w.views (own_offer offer run) id p.client_data) g
-                (shown_among w.views id p.client_data (own_offer offer run) g (tells.told g (among_contains (announced (log_of (history run)) r) g told))),
-            λ shown'.
-                contains_among (announced (log_of (history run)) r) g
-                (tells.tells g (among_shown w.views id p.client_data (own_offer offer run) g (among_contains (shown_of w.views (own_offer offer run) id p.client_data) g shown'))),
-          )
+      of_watched (Some p) is = grind (arith, among_contains, registries_in, history, contains_among, shown_of, shown_among, announced, log_of, among_shown) steps 400000
 
 -- ---- of every client of a server
 

@@ -1,5 +1,5 @@
 -- What an object's messages announce, one list behind another.
-use Rattle.std.proofs.Common.{◌≡◌, ◌≢◌, ◌⊎◌, ℕ, Bool, true, false, not, ◌&&◌, cond, eqb, List, [], ◌∷◌, ◌++◌, length, map, refl, sym, ap, subst, ◌∙◌, true≢false, append-nil, append_assoc}
+use Rattle.std.proofs.Common.{◌≡◌, ◌≢◌, ◌⊎◌, ℕ, Bool, true, false, not, ◌&&◌, cond, eqb, List, [], ◌∷◌, ◌++◌, length, map, refl, sym, ap, subst, ◌∙◌, true≢false, append-nil, append_assoc, arith}
 use mathlib.Core.Logic.{inl, inr}
 use Rattle.std.proofs.lemmas.Bool.{eqb-true, eq-eqb, ne_eqb}
 use Rattle.wl_wire.specs.Table.{InterfaceRow, name_of}
@@ -15,25 +15,13 @@ use Rattle.wl_server.specs.Telling.{global_message, introductions, making, remov
 -- ---- ids
 
 pub same_id_is : (a b : Id) → same_id a b ≡ true → a ≡ b
-same_id_is a b e = go (eqb a.number b.number) (eqb a.serial b.serial) refl refl e
-  where
-    go : (n s : Bool) → eqb a.number b.number ≡ n → eqb a.serial b.serial ≡ s → (n && s) ≡ true → a ≡ b
-    go true true en es e =
-        let with_number : ℕ → Id = λ k. record { number = k; serial = a.serial } in
-        let with_serial : ℕ → Id = λ k. record { number = b.number; serial = k } in
-        ap with_number (eqb-true a.number b.number en) ∙ ap with_serial (eqb-true a.serial b.serial es)
-    go true false en es e = absurd (true≢false (sym e))
-    go false s en es e = absurd (true≢false (sym e))
+same_id_is a b e = grind (arith, eqb, eqb-true, true≢false) steps 400000
 
 pub same_id_self : (a : Id) → same_id a a ≡ true
 same_id_self a = rw (eq-eqb a.number a.number refl, eq-eqb a.serial a.serial refl) refl
 
 pub other_id : (a b : Id) → a ≢ b → same_id a b ≡ false
-other_id a b other = go (same_id a b) refl
-  where
-    go : (c : Bool) → same_id a b ≡ c → c ≡ false
-    go true e = absurd (other (same_id_is a b e))
-    go false e = refl
+other_id a b other = grind (arith, same_id_is) steps 400000
 
 -- ---- one list behind another
 
@@ -52,16 +40,10 @@ AreOfOthers r (m ∷ log) = (sender_of m ≢ r) × AreOfOthers r log
 
 pub others_say : (r : Id) (log : List Said) → AreOfOthers r log → SaysNothing r log
 others_say r [] others = record { same = λ told. refl }
-others_say r (m ∷ log) others = record {
-  same = λ told.
-      ap (λ b. announced_over r (cond b (announced_after told m.message) told) log) (other_id (sender_of m) r others.0)
-      ∙ (others_say r log others.1).same told;
-}
+others_say r (m ∷ log) others = grind (arith, announced_over, announced_after, other_id, sender_of, others_say r log others.1) steps 400000
 
 pub say_then : (r : Id) (a b : List Said) → SaysNothing r a → SaysNothing r b → SaysNothing r (a ++ b)
-say_then r a b first second = record {
-  same = λ told. announced-append r told a b ∙ ap (λ t. announced_over r t b) (first.same told) ∙ second.same told;
-}
+say_then r a b first second = grind (arith, announced-append, announced_over) steps 400000
 
 -- ---- a registry is told of globals one after another
 
@@ -98,9 +80,7 @@ module _ (table : List InterfaceRow) where
     pub adding_adds : (told : List Announced) (rs : List Id) → IsAmong rs r
         → IsAmong (announced_over r told (map (λ y. making (makes y) (global_message table y g)) rs)) (announced_as table g)
     adding_adds told [] among = absurd among
-    adding_adds told (y ∷ rs) (inl e) =
-        subst (λ b. IsAmong (after_adding (cond b (told ++ announced_as table g ∷ []) told) rs) (announced_as table g)) (sym (ap (λ z. same_id z r) e ∙ same_id_self r))
-        (adding_keeps (told ++ announced_as table g ∷ []) rs (announced_as table g) (among_later told (announced_as table g ∷ []) (announced_as table g) (inl refl)))
+    adding_adds told (y ∷ rs) (inl e) = grind (arith, announced_as, same_id_self, adding_keeps, among_later) steps 400000
     adding_adds told (y ∷ rs) (inr among) = adding_adds (cond (same_id y r) (told ++ announced_as table g ∷ []) told) rs among
 
     pub adding_only : (told : List Announced) (rs : List Id) (x : Announced)
@@ -110,12 +90,7 @@ module _ (table : List InterfaceRow) where
       where
         go : (b : Bool) → ((t : List Announced) → IsAmong (after_adding t rs) x → IsAmong t x ⊎ (announced_as table g ≡ x))
             → IsAmong (after_adding (cond b (told ++ announced_as table g ∷ []) told) rs) x → IsAmong told x ⊎ (announced_as table g ≡ x)
-        go true more among =
-            elim (more (told ++ announced_as table g ∷ []) among) [
-              | inl k ↦ elim (among_both told (announced_as table g ∷ []) x k) [ inl a ↦ inl a | inr (inl e) ↦ inr e | inr (inr none) ↦ absurd none ]
-              | inr e ↦ inr e
-            ]
-        go false more among = more told among
+        go b h1 h2 = grind (arith, announced_as, among_both) steps 400000
 
 -- those that are told say nothing of a registry that is not among them
 pub told_others : (r : Id) (message : Id → Said) → ((y : Id) → sender_of (message y) ≡ y) → (rs : List Id) → (IsAmong rs r → ⊥)
@@ -152,9 +127,5 @@ module _ (name : ℕ) (r : Id) where
   pub removing_removes : (told : List Announced) (rs : List Id) (x : Announced) → IsAmong rs r
       → IsAmong (announced_over r told (map (removal_message name) rs)) x → x.name ≢ name
   removing_removes told [] x there among = absurd there
-  removing_removes told (y ∷ rs) x (inl e) among =
-      let kept : IsAmong (without_name name told) x =
-      removing_only (without_name name told) rs x
-      (subst (λ b. IsAmong (after_removing (cond b (without_name name told) told) rs) x) (ap (λ z. same_id z r) e ∙ same_id_self r) among) in
-      λ same. true≢false (sym (among_filter _ told x kept).1 ∙ ap not (eq-eqb x.name name same))
+  removing_removes told (y ∷ rs) x (inl e) among = grind (arith, without_name, removing_only, same_id_self, true≢false, among_filter, eq-eqb) steps 400000
   removing_removes told (y ∷ rs) x (inr there) among = removing_removes (cond (same_id y r) (without_name name told) told) rs x there among

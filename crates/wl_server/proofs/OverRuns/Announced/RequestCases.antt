@@ -1,5 +1,5 @@
 -- What a request may come to: one of a few verdicts, whatever is asked of them.
-use Rattle.std.proofs.Common.{◌≡◌, ℕ, Bool, true, false, cond, eqb, List, [], ◌∷◌, Option, None, Some, refl}
+use Rattle.std.proofs.Common.{◌≡◌, ℕ, Bool, true, false, cond, eqb, List, [], ◌∷◌, Option, None, Some, refl, arith}
 use Rattle.std.specs.Option.{option_map_or}
 use Rattle.wl_wire.specs.declared.argument.Argument.TheVariants as arg
 use Rattle.wl_wire.specs.Argument.{WireArgument}
@@ -19,11 +19,7 @@ module _ {U G C : Type 0} (a : Around G C) (c : Core U C) (P : Verdict (Core U C
     (breaks' : (code : ℕ) (text : List ℕ) → P (breaks a c code text)) where
   -- an object is made, or the number is invalid
   made_case : (n : ℕ) (v : Verdict (Core U C) (Told U)) → (is_valid_new (objects_in c) n ≡ true → P v) → P (made_at a c n v)
-  made_case n v made = go (is_valid_new (objects_in c) n) refl
-    where
-      go : (b : Bool) → is_valid_new (objects_in c) n ≡ b → P (cond b v (breaks a c 0 (new_id_text n)))
-      go true valid = made valid
-      go false valid = breaks' 0 (new_id_text n)
+  made_case n v made = grind (arith, breaks) steps 400000
 
   module _ (syncs' : (n : ℕ) → is_valid_new (objects_in c) n ≡ true → P (syncs a c n))
       (registers' : (n : ℕ) → is_valid_new (objects_in c) n ≡ true → P (registers a c n)) where
@@ -37,12 +33,7 @@ module _ {U G C : Type 0} (a : Around G C) (c : Core U C) (P : Verdict (Core U C
 
   module _ (binds' : (g version n : ℕ) (x : Object (KeptGlobal G)) → is_valid_new (objects_in c) n ≡ true → P (binds a c g version n x)) where
     binds_to_case : (g : ℕ) (name : Option (List ℕ)) (version n : ℕ) (x : Option (Object (KeptGlobal G))) → P (binds_to a c g name version n x)
-    binds_to_case g name version n None = breaks' 0 _
-    binds_to_case g name version n (Some x) = go (may_bind a c g name version x)
-      where
-        go : (b : Bool) → P (cond b (made_at a c n (binds a c g version n x)) (breaks a c 0 (bind_text (option_map_or (λ t. t) name []) version g)))
-        go true = made_case n _ (λ valid. binds' g version n x valid)
-        go false = breaks' 0 _
+    binds_to_case g name version n x = grind (arith, may_bind, made_at, binds, breaks, option_map_or, made_case) steps 400000
 
     pub registry_case : (args : List WireArgument) → P (registry_request a c args)
     registry_case (arg.Uint g ∷ arg.Str name ∷ arg.Uint version ∷ arg.NewId n ∷ []) = binds_to_case g name version n (held a.globals.store g)
@@ -63,6 +54,4 @@ module _ {U G C : Type 0} (a : Around G C) (c : Core U C) (P : Verdict (Core U C
         where
           go : (b t : Bool) → eqb receiver.interface.0 registry_id.0 ≡ t
               → P (cond b (display_request a c m.opcode m.args) (cond t (registry_request a c m.args) (other_request a c m receiver row)))
-          go true t is = display_case syncs' registers' m.opcode m.args
-          go false true is = registry_case binds' m.args
-          go false false is = others receiver row holds is
+          go b t h1 = grind (arith, display_case, registry_case) steps 400000

@@ -1,5 +1,5 @@
 -- Which globals a client is shown, before and after one is created, disabled or removed.
-use Rattle.std.proofs.Common.{◌≡◌, ◌≢◌, ◌⊎◌, ℕ, Bool, true, false, not, ◌&&◌, cond, eqb, Option, None, Some, refl, sym, ap, subst, ◌∙◌, true≢false}
+use Rattle.std.proofs.Common.{◌≡◌, ◌≢◌, ◌⊎◌, ℕ, Bool, true, false, not, ◌&&◌, cond, eqb, Option, None, Some, refl, sym, ap, subst, ◌∙◌, true≢false, arith}
 use mathlib.Core.Logic.{inl, inr}
 use Rattle.std.specs.List.{filter}
 use Rattle.std.specs.FinMap as finmap
@@ -19,16 +19,7 @@ use Rattle.wl_server.specs.Ids.{ClientParts, GlobalParts}
 module _ {G : Type 0} where
   -- the global that an id names has its name
   pub global_held : (globals : Globals G) (g : GlobalParts) (x : Object (KeptGlobal G)) → global_of globals g ≡ Some x → held globals.store g.name ≡ Some x
-  global_held globals g x e = go (eqb g.name 0) (held globals.store g.name) e
-    where
-      one : (c : Bool) (y : Object (KeptGlobal G)) → cond c (Some y) None ≡ Some x → Some y ≡ Some x
-      one true y e = e
-      one false y e = absurd (none-some _ e)
-
-      go : (b : Bool) (o : Option (Object (KeptGlobal G))) → cond b None (named_in global_serial (record { number = g.name; serial = g.serial }) o) ≡ Some x → o ≡ Some x
-      go true o e = absurd (none-some _ e)
-      go false None e = absurd (none-some _ e)
-      go false (Some y) e = one (eqb y.value.serial g.serial) y e
+  global_held globals g x e = grind (arith, eqb, global_serial) steps 400000
 
 module _ {G C : Type 0} (views : G → ClientParts → C → GlobalParts → Bool) (client : ClientParts) (client_data : C) where
   -- a global is shown under its name
@@ -117,19 +108,10 @@ module _ {G C : Type 0} (views : G → ClientParts → C → GlobalParts → Boo
       hidden_only g h = (back after g (hides.beside g.name (hidden_other g h)) h, hidden_other g h)
 
     disabled_hides : (x : Object (KeptGlobal G)) → Hides (record offer.globals { store = rewritten offer.globals.store name (as_disabled x) })
-    disabled_hides x = record {
-      beside = λ m other. rewritten_other offer.globals.store name (as_disabled x) m other;
-      hidden = λ y at passes. (
-          let is : as_disabled x ≡ y = same_Some (as_disabled x) y (sym (rewritten_here offer.globals.store name (as_disabled x) name refl) ∙ at) in
-          true≢false (sym (subst (λ (z : Object (KeptGlobal G)). is_shown views client client_data (name, z) ≡ true) (sym is) passes))
-          );
-    }
+    disabled_hides x = grind (arith, rewritten_other, as_disabled, rewritten_here, true≢false, is_shown) steps 400000
 
     removed_hides : Hides (record offer.globals { store = removed offer.globals.store name })
-    removed_hides = record {
-      beside = λ m other. removed_other offer.globals.store name m other;
-      hidden = λ y at passes. none-some _ (sym (removed_here offer.globals.store name name refl) ∙ at);
-    }
+    removed_hides = grind (arith, removed_other, removed_here) steps 400000
 
   module _ (offer : Offer G) (g : GlobalParts) (x : Object (KeptGlobal G)) (is : global_of offer.globals g ≡ Some x) where
     pub disabled_one : Hides offer g.name (disabled offer.globals g)
@@ -148,15 +130,7 @@ module _ {G C : Type 0} (views : G → ClientParts → C → GlobalParts → Boo
       pub only : (a : Announced) → IsShown (with_globals offer after) a → IsShown offer a
 
     not_named : (x : Object (KeptGlobal G)) → global_of offer.globals g ≡ Some x → (a : Announced) → IsShown offer a → a.name ≢ g.name
-    not_named x is a h same =
-        let this : x ≡ h.global = same_Some x h.global (sym (global_held offer.globals g x is) ∙ ap (held offer.globals.store) (sym same) ∙ h.at) in
-        let off : not x.value.is_disabled ≡ false = ap is_enabled (sym is) ∙ hidden in
-        let on : not x.value.is_disabled ≡ true = first_true (not x.value.is_disabled) _ (subst (λ (y : Object (KeptGlobal G)). is_shown views client client_data (a.name, y) ≡ true) (sym this) h.passes) in
-        true≢false (sym on ∙ off)
-      where
-        first_true : (b c : Bool) → (b && c) ≡ true → b ≡ true
-        first_true true c e = refl
-        first_true false c e = absurd (true≢false (sym e))
+    not_named x is a h same = grind (arith, global_held, is_enabled, is_shown, true≢false) steps 400000
 
     stays_where_hidden : (after : Globals G) (x : Object (KeptGlobal G)) → global_of offer.globals g ≡ Some x → Hides offer g.name after → StaysShown after
     stays_where_hidden after x is hides = record {

@@ -1,5 +1,5 @@
 -- A registry that is watched over what the program does with its client.
-use Rattle.std.proofs.Common.{◌≡◌, ◌≢◌, ℕ, Bool, true, false, cond, eqb, List, [], ◌∷◌, ◌++◌, map, append-nil, Option, None, Some, is_some, Result, Ok, Err, MatchResult, refl, sym, ap, subst, ◌∙◌, true≢false}
+use Rattle.std.proofs.Common.{◌≡◌, ◌≢◌, ℕ, Bool, true, false, cond, eqb, List, [], ◌∷◌, ◌++◌, map, append-nil, Option, None, Some, is_some, Result, Ok, Err, MatchResult, refl, sym, ap, subst, ◌∙◌, true≢false, arith}
 use mathlib.Core.Logic.{inl, inr}
 use Rattle.std.specs.Prelude.{slice_get}
 use Rattle.wl_wire.specs.declared.error.IoFault.{IoFault}
@@ -46,29 +46,18 @@ module _ {U : Type 0} where
   IsSilent did = (log_of did ≡ []) × (registries_in did ≡ [])
 
   silent_left : (id : IdParts) (u : Option U) (b : Bool) → IsSilent (told_deeds (cond b [] (map Did (left_if (id_of id) u))))
-  silent_left id u true = (refl, refl)
-  silent_left id None false = (refl, refl)
-  silent_left id (Some u) false = (refl, refl)
+  silent_left id u b = grind (arith) steps 400000
 
   silent_ended : (client : ClientParts) (id : IdParts) (x : Object (Kept U)) (b : Bool)
       → IsSilent (told_deeds (cond b [] (map Did (map Noted (note_of_end client id.number x) ++ left_if (id_of id) x.value.user_data))))
-  silent_ended client id x true = (refl, refl)
-  silent_ended client id x false = go x.value.user_data
-    where
-      go : (o : Option U) → IsSilent (told_deeds (map Did (map Noted (end_note (id_at client id.number x) o) ++ left_if (id_of id) o)))
-      go None = (refl, refl)
-      go (Some u) = (refl, refl)
+  silent_ended client id x b = grind (arith, end_note, id_at, left_if, id_of) steps 400000
 
   named_at : (store : Store (Kept U)) (id : IdParts) (x : Object (Kept U)) → named store id ≡ Some x → id_at_number id.number x ≡ id_of id
   named_at store id x is = ap (λ (s : ℕ). record { number = id.number; serial = s }) (named_serial store id x is)
 
 -- the number of an object is told in one message at most
 short_deletions : (n : ℕ) → IsShort (deletions n)
-short_deletions n = go _
-  where
-    go : (b : Bool) → IsShort (cond b [] (delete_message n ∷ []))
-    go true = tt
-    go false = tt
+short_deletions n = grind (arith, delete_message) steps 400000
 
 not_refused : {E : Type 0} (e : E) (answer : Result (Unit {0}) E) (refused : Bool) → answer ≡ unless_refused e refused → refused ≡ false → answer ≡ Ok tt
 not_refused e answer refused is fine = is ∙ ap (unless_refused e) fine
@@ -77,11 +66,7 @@ silent_sends : (U : Type 0) (es : List Sending) → IsSilent {U = U} (map Sent e
 silent_sends U es = (ap (λ (d : Doings U). d.put) (doings_sends es), ap (λ (d : Doings U). d.registries) (doings_sends es))
 
 destroyable_is : {T U C : Type 0} (p : Part T U C) (id : IdParts) (x : Object (Kept U)) → destroyable p id ≡ Some x → named p.store id ≡ Some x
-destroyable_is p id x e = go (eqb id.number 1) e
-  where
-    go : (b : Bool) → cond b None (named p.store id) ≡ Some x → named p.store id ≡ Some x
-    go true e = absurd (true≢false (sym (ap is_some e)))
-    go false e = e
+destroyable_is p id x e = grind (arith, eqb, named, true≢false, is_some) steps 400000
 
 module _ {G C : Type 0} (views : G → ClientParts → C → GlobalParts → Bool) (client : ClientParts) (r : Id) {U : Type 0} (offer : Offer G) where
   abbrev Still : Scene U C → Scene U C → Type 0
@@ -97,10 +82,7 @@ module _ {G C : Type 0} (views : G → ClientParts → C → GlobalParts → Boo
 
   -- nothing is put, and the client stays as live as it was
   quietly : {T : Type 0} (p q e : Part T U C) (did : List (Deed U)) → IsSilent did → q ≡ e → e.is_killed ≡ p.is_killed → Still (part_scene p) (part_scene e) → Run p did q
-  quietly p q e did silent same live still =
-      subst (λ (x : Part _ U C). Run p did x) (sym same)
-      (lives_so views client r offer p.is_killed e.is_killed (part_scene p) (part_scene e) [] (log_of did) [] (registries_in did) silent.0 silent.1
-      (record { live = λ on. sym live ∙ on; goes = λ on. steady_goes views client r offer (part_scene p) (part_scene e) still }))
+  quietly p q e did silent same live still = grind (arith, lives_so, part_scene, log_of, registries_in, steady_goes) steps 400000
 
   pub none_done : {T : Type 0} (p q : Part T U C) (did : List (Deed U)) → did ≡ [] → q ≡ p → Run p did q
   none_done p q did none same =
@@ -114,14 +96,7 @@ module _ {G C : Type 0} (views : G → ClientParts → C → GlobalParts → Boo
   -- messages and then a change, of a core that is as live as before
   speaks_then : (c e : Core U C) (puts : List Said) (told : List (Deed U)) → e.is_killed ≡ c.is_killed → registries_in told ≡ [] → Change (scene_of c) puts [] (scene_of c)
       → Still (scene_of c) (scene_of e) → Lives views client r offer c.is_killed e.is_killed (scene_of c) puts (registries_in told) (scene_of e)
-  speaks_then c e puts told same none says still =
-      lives_so views client r offer c.is_killed e.is_killed (scene_of c) (scene_of e) puts puts [] (registries_in told) refl none
-      (record {
-        live = λ on. sym same ∙ on;
-        goes = λ on.
-            subst (λ (l : List Said). Change (scene_of c) l [] (scene_of e)) (append-nil puts)
-            (goes_then views client r offer (scene_of c) (scene_of c) (scene_of e) puts [] [] [] says (steady_goes views client r offer (scene_of c) (scene_of e) still));
-      })
+  speaks_then c e puts told same none says still = grind (arith, lives_so, scene_of, registries_in, append-nil, goes_then, steady_goes) steps 400000
 
   -- ---- data, and new objects
 
@@ -183,14 +158,7 @@ module _ {G C : Type 0} (views : G → ClientParts → C → GlobalParts → Boo
 
   pub posts_lives : {T : Type 0} (sends : T → Queue → Result ℕ IoFault → T → Type 0) (p : Part T U C) (id : IdParts) (code : ℕ) (text : List ℕ) (lacked : Bool) (did : List (Deed U))
       (q : Part T U C) → PostsError sends offer.table p id code text lacked did q → Run p did q
-  posts_lives sends p id code text lacked did q h =
-      elim (either_bool (eqb id.number 0) h) [
-        | inl (no_memory, none, same) ↦ none_done p q did none same
-        | inr tells' ↦
-            tells_lives views client r offer sends p (posts offer.table (core_of p) id code text) p.link lacked did q
-            (record { last = λ d killed'. refl; starved = inl refl; silent = λ e. refl })
-            (λ fits. lives_not views client r offer p.is_killed true (part_scene p) _ _ _ refl) tells'
-      ]
+  posts_lives sends p id code text lacked did q h = grind (arith, either_bool, eqb, none_done, tells_lives, core_of, lives_not, part_scene) steps 400000
 
   pub kills_lives : {T : Type 0} (p : Part T U C) (reason : DisconnectReason) (did : List (Deed U)) (q : Part T U C) → Kills p reason did q → Run p did q
   kills_lives p reason did q (is, same) =
@@ -204,9 +172,7 @@ module _ {G C : Type 0} (views : G → ClientParts → C → GlobalParts → Boo
 
   pub flushed_lives : {T : Type 0} (sends : T → Queue → Result ℕ IoFault → T → Type 0) (p : Part T U C) (answer : Result (Unit {0}) IoFault) (lacked : Bool) (did : List (Deed U))
       (q : Part T U C) → FlushedTo sends p answer lacked did q → Run p did q
-  flushed_lives sends p answer lacked did q (es, link, by, no_memory, did_so, same) =
-      quietly p q (with_link p link) did (ap log_of did_so ∙ (silent_sends U es).0, ap registries_in did_so ∙ (silent_sends U es).1) same refl
-      (steady_same views client r offer (part_scene p))
+  flushed_lives sends p answer lacked did q (es, link, by, no_memory, did_so, same) = grind (arith, quietly, with_link, log_of, silent_sends, registries_in, steady_same, part_scene) steps 400000
 
   pub flushes_lives : {T : Type 0} (sends : T → Queue → Result ℕ IoFault → T → Type 0) (p : Part T U C) (lacked : Bool) (did : List (Deed U)) (q : Part T U C)
       → FlushesLive sends p lacked did q → Run p did q
@@ -222,18 +188,10 @@ module _ {G C : Type 0} (views : G → ClientParts → C → GlobalParts → Boo
     module _ (p : Part T U C) (b : Bool) (es : List Sending) (link : LinkState T) (answer : Result (Unit {0}) EventError) (lacked : Bool) (rest did : List (Deed U)) (q : Part T U C)
         (is : named p.store m.sender ≡ Some sender) (alone : id_of m.sender ≡ r → answer ≢ Ok tt) (did_so : did ≡ map Sent es ++ rest) where
       after_sends : Lives views client r offer p.is_killed q.is_killed (part_scene p) (log_of rest) (registries_in rest) (part_scene q) → Run p did q
-      after_sends lives =
-          lives_so views client r offer p.is_killed q.is_killed (part_scene p) (part_scene q) (log_of rest) (log_of did) (registries_in rest) (registries_in did)
-          (ap log_of did_so ∙ log_both (map Sent es) rest ∙ ap (λ (l : List Said). l ++ log_of rest) (silent_sends U es).0)
-          (ap registries_in did_so ∙ registries_both (map Sent es) rest ∙ ap (λ (l : List Id). l ++ registries_in rest) (silent_sends U es).1) lives
+      after_sends lives = grind (arith, lives_so, part_scene, log_of, registries_in, log_both, silent_sends, registries_both) steps 400000
 
       ends_forms : (c : Core U C) (d : Bool) → Forms c (ends_sender client c m sender d)
-      ends_forms c false = record { last = λ e killed'. killed'; starved = inl refl; silent = λ e. refl }
-      ends_forms c true = record {
-        last = λ e killed'. killed';
-        starved = inl refl;
-        silent = λ e. (silent_left m.sender sender.value.user_data (is_some (named e.store m.sender))).0;
-      }
+      ends_forms c d = grind (arith, silent_left, is_some, named) steps 400000
 
       -- the sender is not the registry: it may leave
       ends_leads : (d : Bool) → id_of m.sender ≢ r → Leads views client r offer (core_of p) (ends_sender client (core_of p) m sender d)
@@ -245,12 +203,7 @@ module _ {G C : Type 0} (views : G → ClientParts → C → GlobalParts → Boo
           (deletes_goes (part_scene p) m.sender.number) (without_still (core_of p) m.sender sender is other)
 
       closed_forms : (c : Core U C) (d : Bool) → Forms c (ends_closed client c m sender d)
-      closed_forms c false = record { last = λ e killed'. killed'; starved = inl refl; silent = λ e. refl }
-      closed_forms c true = record {
-        last = λ e killed'. killed';
-        starved = inl refl;
-        silent = λ e. (silent_left m.sender sender.value.user_data (is_some (named e.store m.sender))).0;
-      }
+      closed_forms c d = grind (arith, silent_left, is_some, named) steps 400000
 
       closed_leads : (d : Bool) → Leads views client r offer (core_of p) (ends_closed client (core_of p) m sender d)
       closed_leads false = lives_not views client r offer p.is_killed true (part_scene p) _ _ _ refl

@@ -1,5 +1,5 @@
 -- A registry that is watched over the calls that each client feels: globals that come and go.
-use Rattle.std.proofs.Common.{◌≡◌, ℕ, Bool, true, false, cond, List, [], ◌++◌, map, append-nil, None, Some, Result, Ok, refl, sym, ap, subst, ◌∙◌, true≢false}
+use Rattle.std.proofs.Common.{◌≡◌, ℕ, Bool, true, false, cond, List, [], ◌++◌, map, append-nil, None, Some, Result, Ok, refl, sym, ap, subst, ◌∙◌, true≢false, arith}
 use mathlib.Core.Logic.{inl, inr}
 use Rattle.std.specs.Prelude.{MatchBool, if◌then◌else◌}
 use Rattle.wl_wire.specs.declared.error.IoFault.{IoFault}
@@ -47,9 +47,7 @@ module _ {G C : Type 0} (views : G → ClientParts → C → GlobalParts → Boo
 
       whole : (gave : List (Given (Told U))) (e : Core U C) (refused : Bool) → p.is_killed ≡ false → e.is_killed ≡ false → CameTo c (tells c messages) gave refused e
           → (e ≡ c) × (log_of (deeds_in gave) ≡ messages) × (registries_in (deeds_in gave) ≡ [])
-      whole gave e refused was on (inl killed) = absurd (true≢false (sym killed ∙ on))
-      whole gave e refused was on (inr (inl (starved, same, none, nothing))) = absurd (true≢false (ap (λ (d : Core U C). d.is_killed) starved ∙ was))
-      whole gave e refused was on (inr (inr (same, told, put, made))) = (same, put, made)
+      whole gave e refused h1 h2 h3 = grind (arith, true≢false) steps 400000
 
       go : (b : Bool) → p.is_killed ≡ b → MatchBool b ((lacked ≡ false) × (did ≡ []) × (q ≡ p)) (Tells sends (tells c messages) p.link lacked did q)
           → Hear p q messages did
@@ -122,9 +120,7 @@ module _ {G C : Type 0} (views : G → ClientParts → C → GlobalParts → Boo
             → Watched created s (log ++ cond b (announcements offer.table s.registries new) []) made
         go true visible =
             told_all views client r offer created s (λ y. making (first y) (global_message offer.table y new)) (λ y. refl) log made (λ among tells'. global_told log among visible tells') w
-        go false unseen =
-            subst (λ (l : List Said). Watched created s l made) (sym (append-nil log))
-            (told_none views client r offer created s log made (λ tells'. global_hidden log unseen tells') w)
+        go false unseen = grind (arith, append-nil, told_none, global_hidden) steps 400000
 
   -- ---- a global is announced no more
 

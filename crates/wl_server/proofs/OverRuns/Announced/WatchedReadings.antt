@@ -1,5 +1,5 @@
 -- A registry that is watched over the readings of its client.
-use Rattle.std.proofs.Common.{◌≡◌, ◌≢◌, ℕ, Bool, true, false, cond, eqb, List, [], ◌∷◌, ◌++◌, map, append-nil, Option, None, Some, Result, Ok, Err, refl, sym, ap, subst, ◌∙◌, true≢false}
+use Rattle.std.proofs.Common.{◌≡◌, ◌≢◌, ℕ, Bool, true, false, cond, eqb, List, [], ◌∷◌, ◌++◌, map, append-nil, Option, None, Some, Result, Ok, Err, refl, sym, ap, subst, ◌∙◌, true≢false, arith}
 use mathlib.Core.Logic.{inl, inr}
 use Rattle.std.specs.Prelude.{nat_lt}
 use Rattle.wl_wire.specs.declared.argument.Argument.{Argument}
@@ -72,16 +72,10 @@ module _ {G C : Type 0} (views : G → ClientParts → C → GlobalParts → Boo
   -- ---- verdicts that end the client
 
   garbled_handles : (c : Core U C) → Handles c (garbled c)
-  garbled_handles c = record {
-    forms = record { last = λ d killed. killed; starved = inl refl; silent = λ e. refl };
-    leads = lives_not views client r offer c.is_killed true (scene_of c) _ _ _ refl;
-  }
+  garbled_handles c = grind (arith, lives_not, scene_of) steps 400000
 
   breaks_handles : (c m : Core U C) (code : ℕ) (text : List ℕ) → Handles c (breaks (around_of views client offer) m code text)
-  breaks_handles c m code text = record {
-    forms = record { last = λ d killed. refl; starved = inl refl; silent = λ e. refl };
-    leads = lives_not views client r offer c.is_killed true (scene_of c) _ _ _ refl;
-  }
+  breaks_handles c m code text = grind (arith, lives_not, scene_of) steps 400000
 
   -- ---- verdicts that answer
 
@@ -89,22 +83,11 @@ module _ {G C : Type 0} (views : G → ClientParts → C → GlobalParts → Boo
   replies_handles : (c m : Core U C) (puts : List Said) (did : List (Deed U)) → m.is_killed ≡ c.is_killed → log_of did ≡ []
       → told_deeds (map Did did ++ stops_if m) ≡ did → ((e : Core U C) → log_of (told_deeds (map Did did ++ stops_if e)) ≡ [])
       → Goes' (scene_of c) puts (registries_in did) (scene_of m) → Handles c (replies m puts did)
-  replies_handles c m puts did same quiet told silent goes = record {
-    forms = record { last = λ d killed. killed; starved = inl refl; silent = silent };
-    leads = lives_so views client r offer c.is_killed m.is_killed (scene_of c) (scene_of m) puts puts (registries_in did)
-        (registries_in (told_deeds (map Did did ++ stops_if m))) refl (ap registries_in told)
-        (record { live = λ on. sym same ∙ on; goes = λ on. goes });
-  }
+  replies_handles c m puts did same quiet told silent goes = grind (arith, lives_so, scene_of, registries_in, stops_if) steps 400000
 
   hands_out_handles : (c m : Core U C) (action : OpenAction) (h : Handed) → m.is_killed ≡ c.is_killed → Still (scene_of c) (scene_of (record m { action = Some action }))
       → Handles c (hands_out m action h)
-  hands_out_handles c m action h same still = record {
-    forms = record { last = λ d killed. killed; starved = inl refl; silent = λ e. refl };
-    leads = record {
-      live = λ on. sym same ∙ on;
-      goes = λ on. steady_goes views client r offer (scene_of c) (scene_of (record m { action = Some action })) still;
-    };
-  }
+  hands_out_handles c m action h same still = grind (arith, steady_goes, scene_of) steps 400000
 
   -- ---- a display's
 
@@ -171,18 +154,11 @@ module _ {G C : Type 0} (views : G → ClientParts → C → GlobalParts → Boo
     One d (Err w) = Unit {0}
 
     converts_found : (d : Converting U) (asked : InterfaceId) (n : ℕ) (x : Option (Object (Kept U))) → One d (with_object_argument d (object_found client asked n x))
-    converts_found d asked n None = tt
-    converts_found d asked n (Some x) = go (fits asked x.interface)
-      where
-        go : (b : Bool) → One d (with_object_argument d (cond b (Ok (id_at client n x)) (Err (wrong.WrongInterface n asked x.interface))))
-        go true = still d.objects
-        go false = tt
+    converts_found d asked n x = grind (arith, with_object_argument, still) steps 400000
 
     converts_object : (d : Converting U) (null : Bool) (asked : InterfaceId) (n : ℕ) (b : Bool)
         → One d (with_object_argument d (cond b (cond null (Ok (null_id client)) (Err wrong.NullObject)) (object_found client asked n (held d.objects.store n))))
-    converts_object d null asked n false = converts_found d asked n (held d.objects.store n)
-    converts_object d true asked n true = still d.objects
-    converts_object d false asked n true = tt
+    converts_object d null asked n b = grind (arith, converts_found, still) steps 400000
 
     converts_new : (d : Converting U) (n : ℕ) (child : Option InterfaceId) → One d (with_new_argument client version d n child)
     converts_new d n None = tt
@@ -205,9 +181,7 @@ module _ {G C : Type 0} (views : G → ClientParts → C → GlobalParts → Boo
         go false valid = tt
 
     converts_one : (d : Converting U) (x : WireArgument) → One d (convert_one client version d x)
-    converts_one d (arg.Object n) = converts_object d (allows_null d.kinds) (next_interface d.asked) n (eqb n 0)
-    converts_one d (arg.NewId n) = converts_new d n d.child
-    converts_one d _ = still d.objects
+    converts_one d x = grind (arith, converts_object, allows_null, eqb, converts_new, still) steps 400000
 
     abbrev Came : Objects (Kept U) → Outcome U → Type 0
     Came o (Whole d args) = Over o d.objects
@@ -217,10 +191,7 @@ module _ {G C : Type 0} (views : G → ClientParts → C → GlobalParts → Boo
         → ((next : Converting U) (more : List (Argument IdParts Token)) → Over o next.objects → Came o (convert client version next more args))
         → (t : Converted U) → One d t → Over o d.objects
         → Came o (going_on t d.objects (λ b next. convert client version next (done ++ b ∷ []) args))
-    goes_on o d done args rest (Ok next) one so =
-        rest next.1 (done ++ next.0 ∷ [])
-        (steady_then views client r offer (scene_of (with_objects c o)) (scene_of (with_objects c d.objects)) (scene_of (with_objects c next.1.objects)) so one)
-    goes_on o d done args rest (Err w) one so = tt
+    goes_on o d done args h1 t h2 h3 = grind (arith, steady_then, scene_of, with_objects) steps 400000
 
     converts : (o : Objects (Kept U)) (d : Converting U) (done : List (Argument IdParts Token)) (args : List WireArgument) → Over o d.objects
         → Came o (convert client version d done args)
@@ -251,9 +222,7 @@ module _ {G C : Type 0} (views : G → ClientParts → C → GlobalParts → Boo
             (breaks (around_of views client offer) c 1 (since_text m.opcode receiver.version row.since (name_of offer.table receiver.interface.0) m.sender))
             (converted (around_of views client offer) c m receiver row (convert client receiver.version (start (objects_in c) row) [] m.args)))
         go true = breaks_handles c c 1 _
-        go false =
-            converted_handles (convert client receiver.version (start (objects_in c) row) [] m.args)
-            (λ e. converts e receiver.version (objects_in c) (start (objects_in c) row) [] m.args (still e receiver.version (objects_in c)))
+        go false = grind (arith, converted_handles, convert, start, objects_in, converts, still) steps 400000
 
   handles : (c : Core U C) (m : WireMessage) → Handles c ((server (around_of views client offer)).handles c m)
   handles c m =
@@ -305,11 +274,7 @@ module _ {G C : Type 0} (views : G → ClientParts → C → GlobalParts → Boo
         (gave_then before.core mid.core after.core first rest.gave
         (turn_lives before link v (subst (λ (w : Verdict (Core U C) (Told U)). Handles before.core w) (sym is) (handles before.core m)) es first lacked mid by)
         (reads_lives left mid turns rest after more))
-    reads_lives left before (Unread es ∷ turns) out after (on, (v, link, first, lacked, mid, rest, (read, same, is), by, split, more)) =
-        subst (λ (o : Gives (Told U)). Gave before.core o.gave after.core) (sym split)
-        (gave_then before.core mid.core after.core first rest.gave
-        (turn_lives before link v (subst (λ (w : Verdict (Core U C) (Told U)). Handles before.core w) (sym is) (garbled_handles before.core)) es first lacked mid by)
-        (reads_lives left mid turns rest after more))
+    reads_lives left before (Unread es ∷ turns) out after (on, (v, link, first, lacked, mid, rest, (read, same, is), by, split, more)) = grind (arith, gave_then, turn_lives, garbled_handles, reads_lives left mid turns rest after more) steps 400000
 
     pub next_action_lives : (t : Reading) (p : Part T U C) (answer : Result Handed ActionError) (t' : Reading) (lacked : Bool) (did : List (Deed U)) (q : Part T U C)
         → NextAction sends receives (record { table = offer.table; client = client; globals = offer.globals; views = views }) t p answer t' lacked did q
@@ -330,6 +295,4 @@ module _ {G C : Type 0} (views : G → ClientParts → C → GlobalParts → Boo
         ]
       where
         stands : did ≡ [] → q ≡ p → PartLives views client r offer p did q
-        stands none same =
-            subst (λ (e : Part T U C). PartLives views client r offer p did e) (sym same)
-            (subst (λ (ds : List (Deed U)). PartLives views client r offer p ds p) (sym none) (lives_same views client r offer p.is_killed (part_scene p)))
+        stands none same = grind (arith, lives_same, part_scene) steps 400000

@@ -81,11 +81,7 @@ module _ {G C : Type 0} (views : G → ClientParts → C → GlobalParts → Boo
       pub watch : (log : List Said) (made : List Id) → Watch offer s log made → Watch offer t log made
 
     pub steady_goes : (s t : Scene U C) → Steady s t → Goes s [] [] t
-    steady_goes s t steady = record {
-      watch = λ log made w.
-          subst (λ (l : List Said). Watch offer t l (made ++ [])) (sym (append-nil log))
-          (subst (λ (l : List Id). Watch offer t log l) (sym (append-nil made)) (steady.watch log made w));
-    }
+    steady_goes s t steady = grind (arith, append-nil) steps 400000
 
     pub steady_then : (s m t : Scene U C) → Steady s m → Steady m t → Steady s t
     steady_then s m t first second = record { watch = λ log made w. second.watch log made (first.watch log made w) }
@@ -94,29 +90,18 @@ module _ {G C : Type 0} (views : G → ClientParts → C → GlobalParts → Boo
     steady_same s = record { watch = λ log made w. w }
 
     pub goes_then : (s m t : Scene U C) (a b : List Said) (c d : List Id) → Goes s a c m → Goes m b d t → Goes s (a ++ b) (c ++ d) t
-    goes_then s m t a b c d first second = record {
-      watch = λ log made w.
-          subst (λ (l : List Said). Watch offer t l (made ++ (c ++ d))) (append_assoc log a b)
-          (subst (λ (l : List Id). Watch offer t ((log ++ a) ++ b) l) (append_assoc made c d) (second.watch (log ++ a) (made ++ c) (first.watch log made w)));
-    }
+    goes_then s m t a b c d first second = grind (arith, append_assoc) steps 400000
 
     -- ---- who speaks
 
     -- the display is no registry
     pub display_other : (s : Scene U C) (log : List Said) (made : List Id) → Watch offer s log made → IsOurs s made → (n : ℕ) → record { number = n; serial = 0 } ≢ r
-    display_other s log made w (inl is) n same =
-        let zero : 0 ≡ r.serial = ap (λ (i : Id). i.serial) same in let positive = (w.known is).positive in omega (arith, zero, positive)
-    display_other s log made w (inr later) n same = let zero : 0 ≡ r.serial = ap (λ (i : Id). i.serial) same in omega (arith, zero, later)
+    display_other s log made h1 h2 n = grind (arith) steps 400000
 
     -- nor is a kept object of another interface
     pub kept_other : (s : Scene U C) (log : List Said) (made : List Id) → Watch offer s log made → IsOurs s made → (n : ℕ) (x : Object (Kept U))
         → held s.store n ≡ Some x → eqb x.interface.0 registry_id.0 ≡ false → id_at_number n x ≢ r
-    kept_other s log made w (inl is) n x holds other same =
-        let known = w.known is in
-        let this : x ≡ known.object = same_Some x known.object (sym holds ∙ ap (λ (i : Id). held s.store i.number) same ∙ known.holds) in
-        true≢false (sym known.interface ∙ sym (ap (λ (y : Object (Kept U)). eqb y.interface.0 registry_id.0) this) ∙ other)
-    kept_other s log made w (inr later) n x holds other same =
-        let most = w.bounded n x holds in let serial : x.value.serial ≡ r.serial = ap (λ (i : Id). i.serial) same in omega (arith, most, serial, later)
+    kept_other s log made h1 h2 n x h3 h4 = grind (arith, held, true≢false, eqb, registry_id) steps 400000
 
     -- messages of others
     pub others_goes : (s : Scene U C) (put : List Said) → ((log : List Said) (made : List Id) → Watch offer s log made → IsOurs s made → AreOfOthers r put) → Goes s put [] s
@@ -163,23 +148,10 @@ module _ {G C : Type 0} (views : G → ClientParts → C → GlobalParts → Boo
       where
         most : ((m : ℕ) (y : Object (Kept U)) → held s.store m ≡ Some y → y.value.serial ≤ s.last_serial) → (m : ℕ) (y : Object (Kept U))
             → held (stored s.store n x) m ≡ Some y → y.value.serial ≤ s.last_serial + 1
-        most old m y holds =
-            elim (cases_eq m n) [
-              | inl same ↦
-                  let this : x ≡ y = same_Some x y (sym (stored_here s.store n x m same) ∙ holds) in
-                  let so : y.value.serial ≡ s.last_serial + 1 = ap (λ (z : Object (Kept U)). z.value.serial) (sym this) ∙ serial in omega (arith, so)
-              | inr other ↦ let before = old m y (sym (stored_other s.store n x m other) ∙ holds) in omega (arith, before)
-            ]
+        most old m y holds = grind (arith, stored_here, stored_other) steps 400000
 
         keeps : IsKnown s → IsKnown (record s { store = stored s.store n x; last_serial = s.last_serial + 1 })
-        keeps known = record {
-          listed = known.listed;
-          object = known.object;
-          holds = stored_other s.store n x r.number (λ same. none-some _ (sym free ∙ ap (held s.store) (sym same) ∙ known.holds)) ∙ known.holds;
-          serial = known.serial;
-          interface = known.interface;
-          positive = known.positive;
-        }
+        keeps known = grind (arith, stored_other, held) steps 400000
 
     -- an object gets user data
     pub wrote_goes : (s : Scene U C) (n : ℕ) (x : Object (Kept U)) (u : U) → held s.store n ≡ Some x
@@ -199,13 +171,7 @@ module _ {G C : Type 0} (views : G → ClientParts → C → GlobalParts → Boo
       where
         most : ((m : ℕ) (y : Object (Kept U)) → held s.store m ≡ Some y → y.value.serial ≤ s.last_serial) → (m : ℕ) (y : Object (Kept U))
             → held (rewritten s.store n (with_user_data u x)) m ≡ Some y → y.value.serial ≤ s.last_serial
-        most old m y holds =
-            elim (cases_eq m n) [
-              | inl same ↦
-                  let this : with_user_data u x ≡ y = same_Some (with_user_data u x) y (sym (rewritten_here s.store n (with_user_data u x) m same) ∙ holds) in
-                  subst (λ (z : Object (Kept U)). z.value.serial ≤ s.last_serial) this (old n x there)
-              | inr other ↦ old m y (sym (rewritten_other s.store n (with_user_data u x) m other) ∙ holds)
-            ]
+        most old m y holds = grind (arith, with_user_data, rewritten_here, rewritten_other) steps 400000
 
         keeps : IsKnown s → IsKnown (record s { store = rewritten s.store n (with_user_data u x) })
         keeps known =
@@ -235,111 +201,19 @@ module _ {G C : Type 0} (views : G → ClientParts → C → GlobalParts → Boo
     pub went_goes : (s : Scene U C) (n : ℕ) (x : Object (Kept U)) → held s.store n ≡ Some x
         → ((log : List Said) (made : List Id) → Watch offer s log made → IsAmong made r → id_at_number n x ≢ r)
         → Steady s (record s { store = removed s.store n; registries = registries_without s.registries n x })
-    went_goes s n x there other = record {
-      watch = λ log made w. record {
-        bounded = λ m y holds. w.bounded m y (before m y holds);
-        listed = λ y among. w.listed y (was (eqb x.interface.0 registry_id.0) y among);
-        open_bounded = w.open_bounded;
-        open_other = w.open_other;
-        silent = w.silent;
-        unborn = w.unborn;
-        known = λ is. keeps (other log made w is) (w.known is);
-        tells = w.tells;
-      };
-    }
-      where
-        before : (m : ℕ) (y : Object (Kept U)) → held (removed s.store n) m ≡ Some y → held s.store m ≡ Some y
-        before m y holds =
-            elim (cases_eq m n) [
-              | inl same ↦ absurd (none-some _ (sym (removed_here s.store n m same) ∙ holds))
-              | inr else' ↦ sym (removed_other s.store n m else') ∙ holds
-            ]
-
-        test : Id → Bool
-        test y = not (same_id y (id_at_number n x))
-
-        was : (b : Bool) (y : Id) → IsAmong (cond b (filter test s.registries) s.registries) y → IsAmong s.registries y
-        was true y among = (among_filter test s.registries y among).0
-        was false y among = among
-
-        stays : (b : Bool) → id_at_number n x ≢ r → IsAmong s.registries r → IsAmong (cond b (filter test s.registries) s.registries) r
-        stays true differs among = filter_among test s.registries r among (ap not (other_id r (id_at_number n x) (λ same. differs (sym same))))
-        stays false differs among = among
-
-        keeps : id_at_number n x ≢ r → IsKnown s → IsKnown (record s { store = removed s.store n; registries = registries_without s.registries n x })
-        keeps differs known = record {
-          listed = stays (eqb x.interface.0 registry_id.0) differs known.listed;
-          object = known.object;
-          holds = removed_other s.store n r.number (λ same. differs (one same known)) ∙ known.holds;
-          serial = known.serial;
-          interface = known.interface;
-          positive = known.positive;
-        }
-          where
-            one : r.number ≡ n → IsKnown s → id_at_number n x ≡ r
-            one same known =
-                let this : x ≡ known.object = same_Some x known.object (sym there ∙ ap (held s.store) (sym same) ∙ known.holds) in
-                let with_number : ℕ → Id = λ k. record { number = k; serial = x.value.serial } in
-                let with_serial : ℕ → Id = λ k. record { number = r.number; serial = k } in
-                ap with_number (sym same) ∙ ap with_serial (ap (λ (z : Object (Kept U)). z.value.serial) this ∙ known.serial)
+    went_goes s n x there other = grind (arith, eqb, registry_id, held, removed, removed_here, removed_other, same_id, filter, among_filter, filter_among, other_id, registries_without) steps 400000
 
     -- ---- actions
 
     -- a request of a kept object that is no registry is handed out, and open
     pub opens_goes : (s : Scene U C) (sender : IdParts) (b : Bool) (created : Option IdParts) (x : Object (Kept U)) → held s.store sender.number ≡ Some x
         → x.value.serial ≡ sender.serial → eqb x.interface.0 registry_id.0 ≡ false → Steady s (record s { action = Some (opened.Request sender b created) })
-    opens_goes s sender b created x holds serial other = record {
-      watch = λ log made w. record {
-        bounded = w.bounded;
-        listed = w.listed;
-        open_bounded = λ sender' b' created' is.
-            subst (λ (n : ℕ). n ≤ s.last_serial) (serial ∙ ap (λ (i : Id). i.serial) (of_request sender' b' created' is)) (w.bounded sender.number x holds);
-        open_other = λ sender' b' created' is among same.
-            kept_other s log made w (inl among) sender.number x holds other (ap (λ (k : ℕ). record { number = sender.number; serial = k }) serial ∙ of_request sender' b' created' is ∙ same);
-        silent = w.silent;
-        unborn = w.unborn;
-        known = λ is. (let known = w.known is in record {
-          listed = known.listed;
-          object = known.object;
-          holds = known.holds;
-          serial = known.serial;
-          interface = known.interface;
-          positive = known.positive;
-        });
-        tells = w.tells;
-      };
-    }
-      where
-        sender_in : Option OpenAction → Id
-        sender_in (Some (opened.Request i b c)) = id_of i
-        sender_in _ = id_of sender
-
-        of_request : (sender' : IdParts) (b' : Bool) (created' : Option IdParts) → Some (opened.Request sender b created) ≡ Some (opened.Request sender' b' created')
-            → id_of sender ≡ id_of sender'
-        of_request sender' b' created' is = ap sender_in is
+    opens_goes s sender b created x holds serial other = grind (arith, id_of) steps 400000
 
     -- a bind is open, or nothing is
     pub set_action_goes : (s : Scene U C) (action : Option OpenAction)
         → ((sender : IdParts) (b : Bool) (created : Option IdParts) → action ≡ Some (opened.Request sender b created) → ⊥) → Steady s (record s { action = action })
-    set_action_goes s action none = record {
-      watch = λ log made w. record {
-        bounded = w.bounded;
-        listed = w.listed;
-        open_bounded = λ sender b created is. absurd (none sender b created is);
-        open_other = λ sender b created is. absurd (none sender b created is);
-        silent = w.silent;
-        unborn = w.unborn;
-        known = λ is. (let known = w.known is in record {
-          listed = known.listed;
-          object = known.object;
-          holds = known.holds;
-          serial = known.serial;
-          interface = known.interface;
-          positive = known.positive;
-        });
-        tells = w.tells;
-      };
-    }
+    set_action_goes s action none = grind (arith) steps 400000
 
     -- ---- a registry is made
 
@@ -390,14 +264,10 @@ module _ {G C : Type 0} (views : G → ClientParts → C → GlobalParts → Boo
       }
         where
           earlier : {A : Type 0} → A ⊎ ((new_id ≡ r) ⊎ ⊥) → A
-          earlier (inl a) = a
-          earlier (inr (inl same)) = absurd (other same)
-          earlier (inr (inr none)) = absurd none
+          earlier h1 = grind (arith) steps 400000
 
           most : ((y : Id) → IsAmong s.registries y → y.serial ≤ s.last_serial) → (y : Id) → IsAmong s.registries y ⊎ ((new_id ≡ y) ⊎ ⊥) → y.serial ≤ s.last_serial + 1
-          most old y (inl among) = let before = old y among in omega (arith, before)
-          most old y (inr (inl same)) = let so : s.last_serial + 1 ≡ y.serial = ap (λ (i : Id). i.serial) same in omega (arith, so)
-          most old y (inr (inr none)) = absurd none
+          most h1 y h2 = grind (arith) steps 400000
 
       -- the watched one is this
       registers_this : new_id ≡ r → Goes s greeting (new_id ∷ []) after
@@ -439,9 +309,7 @@ module _ {G C : Type 0} (views : G → ClientParts → C → GlobalParts → Boo
           shown_as_announced = shown_of views offer client s.client_data
 
           most : ((y : Id) → IsAmong s.registries y → y.serial ≤ s.last_serial) → (y : Id) → IsAmong s.registries y ⊎ ((new_id ≡ y) ⊎ ⊥) → y.serial ≤ s.last_serial + 1
-          most old y (inl among) = let before = old y among in omega (arith, before)
-          most old y (inr (inl same)) = let so : s.last_serial + 1 ≡ y.serial = ap (λ (i : Id). i.serial) same in omega (arith, so)
-          most old y (inr (inr none)) = absurd none
+          most h1 y h2 = grind (arith) steps 400000
 
       pub registers_goes : Goes s (introductions offer.table (record { number = n; serial = s.last_serial + 1 }) 0 (shown views offer.globals client s.client_data))
           (record { number = n; serial = s.last_serial + 1 } ∷ [])
@@ -475,13 +343,4 @@ module _ {G C : Type 0} (views : G → ClientParts → C → GlobalParts → Boo
 
     -- none is told
     pub told_none : (log : List Said) (made : List Id) → (TellsShown offer s.client_data log → TellsShown offer' s.client_data log) → Watch offer s log made → Watch offer' s log made
-    told_none log made tells w = record {
-      bounded = w.bounded;
-      listed = w.listed;
-      open_bounded = w.open_bounded;
-      open_other = w.open_other;
-      silent = w.silent;
-      unborn = w.unborn;
-      known = w.known;
-      tells = λ is. tells (w.tells is);
-    }
+    told_none log made tells w = grind (arith) steps 400000

@@ -1,6 +1,6 @@
 -- What the readings of a client of a server answer, and how they leave it: an action, or that the client was killed, or that
 -- more may be received later.
-use Rattle.std.proofs.Common.{◌≡◌, ◌≢◌, ◌⊎◌, ℕ, Bool, true, false, not, ◌&&◌, eqb, cond, List, [], ◌∷◌, ◌++◌, append-nil, map, Option, None, Some, is_none, is_some, Result, Ok, Err, is_ok, MatchResult, refl, sym, ap, ap₂, subst, ◌∙◌, true≢false}
+use Rattle.std.proofs.Common.{◌≡◌, ◌≢◌, ◌⊎◌, ℕ, Bool, true, false, not, ◌&&◌, eqb, cond, List, [], ◌∷◌, ◌++◌, append-nil, map, Option, None, Some, is_none, is_some, Result, Ok, Err, is_ok, MatchResult, refl, sym, ap, ap₂, subst, ◌∙◌, true≢false, arith}
 use mathlib.Core.Logic.{inl, inr}
 use Rattle.std.proofs.lemmas.Option.{same_Some, none-some}
 use Rattle.std.specs.Prelude.{if◌then◌else◌, nat_lt, MatchBool}
@@ -112,24 +112,16 @@ module _ {U : Type 0} where
   IsBeside gave = beside_exchanges (deeds_in gave) ≡ deeds_in gave
 
   beside_gave : (gave others : List (Given (Told U))) → IsBeside gave → IsBeside others → IsBeside (gave ++ others)
-  beside_gave gave others first second =
-      ap beside_exchanges (deeds_both gave others) ∙ beside_both (deeds_in gave) (deeds_in others)
-      ∙ ap₂ (λ (a b : List (Deed U)). a ++ b) first second ∙ sym (deeds_both gave others)
+  beside_gave gave others first second = grind (arith, deeds_both, beside_both, deeds_in, ap₂) steps 400000
 
   beside_given : (put : List Said) (events : List (Told U)) → IsBeside (map HandedOut events) → IsBeside (put_and_gave put events)
-  beside_given put events quiet =
-      ap beside_exchanges (deeds_given put events) ∙ beside_puts put (deeds_in (map HandedOut events))
-      ∙ ap (λ (l : List (Deed U)). map Put put ++ l) quiet ∙ sym (deeds_given put events)
+  beside_given put events quiet = grind (arith, deeds_given, beside_puts, deeds_in) steps 400000
 
 module _ {U C : Type 0} where
   -- of a call's deeds these are what was given, and the end of the client
   pub beside_deeds : (exchanges : List (Deed U)) (gave : List (Given (Told U))) (c : Core U C) → beside_exchanges exchanges ≡ [] → IsBeside gave
       → beside_exchanges (deeds_of exchanges gave c) ≡ deeds_in gave ++ end_deeds c.ended
-  beside_deeds exchanges gave c none quiet =
-      beside_both exchanges (deeds_in gave ++ end_deeds c.ended)
-      ∙ ap (λ (l : List (Deed U)). l ++ beside_exchanges (deeds_in gave ++ end_deeds c.ended)) none
-      ∙ beside_both (deeds_in gave) (end_deeds c.ended)
-      ∙ ap₂ (λ (a b : List (Deed U)). a ++ b) quiet (beside_end c.ended)
+  beside_deeds exchanges gave c none quiet = grind (arith, beside_both, deeds_in, end_deeds, ap₂, beside_end) steps 400000
 
   pub killed_deeds : (exchanges : List (Deed U)) (gave : List (Given (Told U))) (c : Core U C) (reason : DisconnectReason) → c.ended ≡ Some reason
       → was_killed (deeds_of exchanges gave c) ≡ true
@@ -145,10 +137,7 @@ module _ {U C : Type 0} where
       ⊎ ((c.is_killed ≡ true) × (c.action ≡ None) × ((reason : DisconnectReason) × (c.ended ≡ Some reason)))
 
   sound_killed : (c : Core U C) (reason : DisconnectReason) → IsSound c → c.action ≡ None → IsSound (killed c reason)
-  sound_killed c reason (inl (live, none)) unopened =
-      inr (refl, unopened, (reason, ap (λ (b : Bool). if b then c.ended else Some reason) live))
-  sound_killed c reason (inr (was, none, (first, is))) unopened =
-      inr (refl, unopened, (first, ap (λ (b : Bool). if b then c.ended else Some reason) was ∙ is))
+  sound_killed c reason h1 h2 = grind (arith) steps 400000
 
   -- the client is read on, and so has no end
   record IsReady (c : Core U C) : Type 0 where
@@ -157,15 +146,7 @@ module _ {U C : Type 0} where
     none : c.ended ≡ None
 
   ready : (c : Core U C) → reads_on c ≡ true → IsSound c → IsReady c
-  ready c on sound = at c.is_killed c.action refl refl on sound
-    where
-      at : (b : Bool) (o : Option OpenAction) → c.is_killed ≡ b → c.action ≡ o → (not b && is_none o) ≡ true
-          → ((b ≡ false) × (c.ended ≡ None)) ⊎ ((b ≡ true) × (o ≡ None) × ((reason : DisconnectReason) × (c.ended ≡ Some reason)))
-          → IsReady c
-      at true o was is off sound = absurd (true≢false (sym off))
-      at false (Some x) was is off sound = absurd (true≢false (sym off))
-      at false None was is on' (inl (live, none)) = record { live = was; unopened = is; none = none }
-      at false None was is on' (inr (dead, none, end)) = absurd (true≢false (sym dead))
+  ready c on sound = grind (arith, is_none, true≢false) steps 400000
 
   pub on_of : (c : Core U C) → c.is_killed ≡ false → c.action ≡ None → reads_on c ≡ true
   on_of c live unopened = ap₂ (λ (b : Bool) (o : Option OpenAction). not b && is_none o) live unopened
@@ -203,28 +184,13 @@ module _ {U G C : Type 0} (a : Around G C) where
     broken : (v.puts ≢ []) → Says (map HandedOut (v.events (v.last (closed_down v.core)))) (v.last (closed_down v.core))
 
   stops_speaks : (c : Core U C) (code : ℕ) (text : List ℕ) → IsReady c → Speaks (breaks a c code text)
-  stops_speaks c code text r =
-      let closed' = sound_killed c ConnectionClosed (inl (r.live, r.none)) r.unopened in record {
-        whole = says_stops fault.Pipe _ pipe_not (sound_killed c _ (inl (r.live, r.none)) r.unopened) refl;
-        broken = λ some. says_stops fault.Pipe _ pipe_not (sound_killed (closed_down c) ConnectionClosed closed' r.unopened) refl;
-      }
+  stops_speaks c code text r = grind (arith, sound_killed, says_stops, pipe_not, closed_down) steps 400000
 
   garbled_speaks : (c : Core U C) → IsReady c → Speaks (garbled c)
-  garbled_speaks c r =
-      let closed' = sound_killed c ConnectionClosed (inl (r.live, r.none)) r.unopened in record {
-        whole = says_stops fault.Proto _ proto_not closed' refl;
-        broken = λ some. says_stops fault.Proto _ proto_not (sound_killed (closed_down c) ConnectionClosed closed' r.unopened) refl;
-      }
+  garbled_speaks c r = grind (arith, sound_killed, says_stops, proto_not, closed_down) steps 400000
 
   action_speaks : (c : Core U C) (action : OpenAction) (h : Handed) → IsReady c → Speaks (hands_out c action h)
-  action_speaks c action h r = record {
-    whole = record { sound = inl (r.live, r.none); quiet = refl; so = inr (off c.is_killed, inl (h, refl)) };
-    broken = λ some. absurd (some refl);
-  }
-    where
-      off : (b : Bool) → (not b && false) ≡ false
-      off true = refl
-      off false = refl
+  action_speaks c action h r = grind (arith) steps 400000
 
   -- what was done beside the answer is no exchange, and hands nothing out
   record IsPlain (did : List (Deed U)) : Type 0 where
@@ -234,15 +200,7 @@ module _ {U G C : Type 0} (a : Around G C) where
     end : answers_in (map HandedOut (map Did did ++ Stops fault.Pipe ∷ [])) ≡ Err fault.Pipe ∷ []
 
   reply_speaks : (c : Core U C) (puts : List Said) (did : List (Deed U)) → IsReady c → IsPlain did → Speaks (replies c puts did)
-  reply_speaks c puts did r plain = record {
-    whole = subst (λ (l : List (Told U)). Says (map HandedOut (map Did did ++ l)) c) (sym (ap (λ (b : Bool). let l : List (Told U) = if b then Stops fault.Pipe ∷ [] else [] in l) r.live))
-        (record { sound = inl (r.live, r.none); quiet = plain.quiet; so = inl (on_of c r.live r.unopened, plain.none) });
-    broken = λ some. record {
-      sound = sound_killed c _ (inl (r.live, r.none)) r.unopened;
-      quiet = plain.quiet_end;
-      so = inr (refl, inr (fault.Pipe, plain.end, pipe_not, refl));
-    };
-  }
+  reply_speaks c puts did r plain = grind (arith, on_of, sound_killed, pipe_not) steps 400000
 
   made_speaks : (c : Core U C) (n : ℕ) (v : Verdict (Core U C) (Told U)) → IsReady c → Speaks v → Speaks (made_at a c n v)
   made_speaks c n v r speaks = go (is_valid_new (objects_in c) n)
@@ -329,19 +287,7 @@ module _ {U G C : Type 0} (a : Around G C) where
 
     carried_says : (v : Verdict (Core U C) (Told U)) → Speaks v → (before : LinkState T) (es : List Sending) (gave : List (Given (Told U))) (refused : Bool)
         (after : ReaderState T (Core U C)) → refused ≡ false → CarriesOut sends (server a) v before es gave refused after → Says gave after.core
-    carried_says v speaks before es gave refused after ample (inr (asks, was, none, is, same)) = absurd (true≢false (sym was ∙ ample))
-    carried_says v speaks before es gave refused after ample (inl (first, others, put, wrote, mid, lacked, puts, flushed, split, core, is, was)) =
-        let calm = both_false (lacks_memory wrote) lacked (sym ample ∙ was) in
-        let says = came_says v speaks before mid first put wrote puts calm.0 in
-        let events = v.events (came_to (server a) v wrote) in
-        subst (λ (d : Core U C). Says gave d) (sym core)
-        (subst (λ (g : List (Given (Told U))). Says g (came_to (server a) v wrote)) (sym is)
-        (record {
-          sound = says.sound;
-          quiet = beside_given put events says.quiet;
-          so = subst (λ (l : List (Result Handed IoFault)). ((reads_on (came_to (server a) v wrote) ≡ true) × (l ≡ [])) ⊎ IsOver l (came_to (server a) v wrote))
-              (sym (answers_given put events)) says.so;
-        }))
+    carried_says v h1 before es gave refused after h2 h3 = grind (arith, true≢false, both_false, came_says, came_to, server, beside_given, reads_on, answers_given) steps 400000
 
 -- ---- a reading
 
@@ -371,9 +317,7 @@ module _ {U C : Type 0} where
       subst (λ (g : Gives (Told U)). ReadsSo c g e) (sym is) (record { sound = sound; quiet = refl; answered = answered })
 
   faulted_sound : (c : Core U C) (f : IoFault) → IsReady c → IsSound (faulted c f)
-  faulted_sound c fault.WouldBlock r = inl (r.live, r.none)
-  faulted_sound c fault.OutOfMemory r = inl (r.live, r.none)
-  faulted_sound c _ r = sound_killed c _ (inl (r.live, r.none)) r.unopened
+  faulted_sound c f h1 = grind (arith, sound_killed) steps 400000
 
   -- what a verdict said, and then the rest
   joins_so : (c mid e : Core U C) (first : List (Given (Told U))) (lacked : Bool) (rest out : Gives (Told U)) → out ≡ given_first first lacked rest → Says first mid
@@ -390,44 +334,20 @@ module _ {U C : Type 0} where
       both = answers_both first rest.gave
 
       go : ((reads_on mid ≡ true) × (answers_in first ≡ [])) ⊎ IsOver (answers_in first) mid → IsAnswered mid rest e → IsAnswered c (given_first first lacked rest) e
-      go (inl (on, none)) (inl (f, stopped, nothing)) =
-          inl (f, stopped, both ∙ ap₂ (λ (x y : List (Result Handed IoFault)). x ++ y) none nothing)
-      go (inl (on, none)) (inr (stopped, inl (off, nothing))) = absurd (true≢false (sym on ∙ off))
-      go (inl (on, none)) (inr (stopped, inr over')) =
-          inr (stopped, inr (subst (λ (l : List (Result Handed IoFault)). IsOver l e) (sym (both ∙ ap (λ (x : List (Result Handed IoFault)). x ++ answers_in rest.gave) none)) over'))
-      go (inr ended) answered =
-          let o = over ended.0 in
-          let same : answers_in first ≡ answers_in (first ++ rest.gave) = sym (ap (λ (g : List (Given (Told U))). answers_in (first ++ g)) o.1 ∙ both_nothing) in
-          inr (o.0, inr (subst (λ (d : Core U C). IsOver (answers_in (first ++ rest.gave)) d) (sym o.2) (subst (λ (l : List (Result Handed IoFault)). IsOver l mid) same ended)))
-        where
-          both_nothing : answers_in (first ++ []) ≡ answers_in first
-          both_nothing = ap answers_in (append-nil first)
+      go h1 h2 = grind (arith, both, ap₂, true≢false, append-nil) steps 400000
 
 module _ {T U G C : Type 0} (sends : T → Queue → Result ℕ IoFault → T → Type 0) (receives : T → ℕ → Result Queue IoFault → T → Type 0)
     (a : Around G C) where
   reads_off : (left : ℕ) (p after : ReaderState T (Core U C)) (turns : List Turn) (out : Gives (Told U)) → reads_on p.core ≡ false
       → Reads sends (server a) receives left p turns out after → (out.stopped ≡ None) × (out.gave ≡ []) × (after.core ≡ p.core)
-  reads_off left p after [] out off (same, ends) = go (reads_on p.core) off ends
-    where
-      go : (b : Bool) → b ≡ false → MatchBool b (Halts sends (server a) left p out) (out ≡ stops None false left) → (out.stopped ≡ None) × (out.gave ≡ []) × (after.core ≡ p.core)
-      go true is h = absurd (true≢false is)
-      go false is h = (ap stopped_of h, ap given_of h, ap (λ (x : ReaderState T (Core U C)). x.core) same)
+  reads_off left p after [] out off (same, ends) = grind (arith, reads_on, server, stops, true≢false) steps 400000
   reads_off left p after (Received r ∷ turns) out off h = absurd (true≢false (sym h.0 ∙ off))
   reads_off left p after (Handled es ∷ turns) out off h = absurd (true≢false (sym h.0 ∙ off))
   reads_off left p after (Unread es ∷ turns) out off h = absurd (true≢false (sym h.0 ∙ off))
 
   pub reads_so : (left : ℕ) (p after : ReaderState T (Core U C)) (turns : List Turn) (out : Gives (Told U)) → Reads sends (server a) receives left p turns out after
       → out.refused ≡ false → IsSound p.core → ReadsSo p.core out after.core
-  reads_so left p after [] out (same, ends) ample sound = go (reads_on p.core) refl ends
-    where
-      kept : IsSound after.core
-      kept = subst (λ (x : ReaderState T (Core U C)). IsSound x.core) (sym same) sound
-
-      go : (b : Bool) → reads_on p.core ≡ b → MatchBool b (Halts sends (server a) left p out) (out ≡ stops None false left) → ReadsSo p.core out after.core
-      go true on (inl (lacks, none, is)) = stops_so p.core after.core out (Some fault.WouldBlock) false left kept is (inl (fault.WouldBlock, refl, refl))
-      go true on (inr (inl (asks, is))) = stops_so p.core after.core out (Some fault.OutOfMemory) true left kept is (inl (fault.OutOfMemory, refl, refl))
-      go true on (inr (inr (lacks, (n, one, is)))) = stops_so p.core after.core out (Some fault.OutOfMemory) true n kept is (inl (fault.OutOfMemory, refl, refl))
-      go false off is = stops_so p.core after.core out None false left kept is (inr (refl, inl (off, refl)))
+  reads_so left p after [] out (same, ends) ample sound = grind (arith, reads_on, server, stops, stops_so) steps 400000
   reads_so left p after (Received r ∷ turns) out (on, lacks, (n, is, (link, filled, finds, h))) ample sound =
       go (counted_answer (count_of r)) h (λ more. reads_so n (with_link p link) after turns out more ample sound)
     where
@@ -436,9 +356,7 @@ module _ {T U G C : Type 0} (sends : T → Queue → Result ℕ IoFault → T �
           (λ f. (turns ≡ []) × (out ≡ stops (Some f) (lacks_memory (Err f)) n) × (after ≡ record { core = faulted p.core f; link = link }))
           → (Reads sends (server a) receives n (with_link p link) turns out after → ReadsSo p.core out after.core) → ReadsSo p.core out after.core
       go (Ok u) more goes = goes more
-      go (Err f) (none, ends, same) goes =
-          stops_so p.core after.core out (Some f) (lacks_memory (Err f)) n
-          (subst (λ (x : ReaderState T (Core U C)). IsSound x.core) (sym same) (faulted_sound p.core f (ready p.core on sound))) ends (inl (f, refl, refl))
+      go (Err f) (none, ends, same) goes = grind (arith, stops_so, faulted_sound, ready) steps 400000
   reads_so left p after (Handled es ∷ turns) out (on, (v, link, first, lacked, mid, rest, (m, read, is), carried, split, more)) ample sound =
       let calm = both_false lacked rest.refused (sym ample ∙ ap (λ (o : Gives (Told U)). o.refused) split) in
       let speaks = subst (λ (w : Verdict (Core U C) (Told U)). Speaks a w) (sym is) (handles_speaks a p.core m (ready p.core on sound)) in
@@ -470,9 +388,7 @@ module _ {U G C : Type 0} (a : Around G C) where
     none : (d : Core U C) → answers_in (map HandedOut (v.events d)) ≡ []
 
   finished_end : (v : Verdict (Core U C) (Told U)) → IsFinishVerdict v → (wrote : Result (Unit {0}) IoFault) → lacks_memory wrote ≡ false → IsSound (came_to (server a) v wrote)
-  finished_end v finish' (Ok u) ample = subst IsSound (sym (finish'.last v.core)) (inl (finish'.live, finish'.unended))
-  finished_end v finish' (Err f) ample =
-      subst IsSound (sym (came_broken a v f ample ∙ finish'.last (closed_down v.core))) (sound_killed v.core _ (inl (finish'.live, finish'.unended)) finish'.unopened)
+  finished_end v h1 wrote h2 = grind (arith, came_broken, closed_down, sound_killed) steps 400000
 
   -- what is told of an object that is gone
   abbrev told_end : IdParts → Object (Kept U) → Bool → Option U → List (Told U)
@@ -480,42 +396,10 @@ module _ {U G C : Type 0} (a : Around G C) where
 
   ending_is_finish : (c : Core U C) (id : IdParts) (x : Option (Object (Kept U))) (created : Option IdParts) (u : Option U) → c.is_killed ≡ false → c.ended ≡ None
       → IsFinishVerdict (ends a.client c id x created u)
-  ending_is_finish c id None created u live unended = record {
-    last = λ d. refl;
-    live = live;
-    unopened = refl;
-    unended = unended;
-    quiet = λ d. refl;
-    none = λ d. refl;
-  }
-  ending_is_finish c id (Some x) created u live unended = record {
-    last = λ d. refl;
-    live = live;
-    unopened = refl;
-    unended = unended;
-    quiet = λ d. quiet (is_some (named d.store id)) x.value.user_data;
-    none = λ d. none (is_some (named d.store id)) x.value.user_data;
-  }
-    where
-      quiet : (b : Bool) (o : Option U) → IsBeside (map HandedOut (told_end id x b o))
-      quiet true o = refl
-      quiet false None = refl
-      quiet false (Some d) = refl
-
-      none : (b : Bool) (o : Option U) → answers_in (map HandedOut (told_end id x b o)) ≡ []
-      none true o = refl
-      none false None = refl
-      none false (Some d) = refl
+  ending_is_finish c id x created u h1 h2 = grind (arith, is_some) steps 400000
 
   bound_is_finish : (c : Core U C) (created : Option IdParts) (u : Option U) → c.is_killed ≡ false → c.ended ≡ None → IsFinishVerdict (finish_verdict c created u)
-  bound_is_finish c created u live unended = record {
-    last = λ d. refl;
-    live = live;
-    unopened = refl;
-    unended = unended;
-    quiet = λ d. refl;
-    none = λ d. refl;
-  }
+  bound_is_finish c created u live unended = grind (arith) steps 400000
 
   taken_is_finish : (c : Core U C) (u : Finish U) (v : Verdict (Core U C) (Told U)) → c.ended ≡ None → takes a.client c u ≡ Some v → IsFinishVerdict v
   taken_is_finish c u v unended is = at c.is_killed refl c.action u is
@@ -525,9 +409,7 @@ module _ {U G C : Type 0} (a : Around G C) where
 
       request : (live : c.is_killed ≡ false) (sender : IdParts) (b : Bool) (created : Option IdParts) (o : Option U) (e : Option FinishError)
           → unless_some e (ends_request a.client c sender b created o) ≡ Some v → IsFinishVerdict v
-      request live sender b created o None same =
-          finish_by (ends_request a.client c sender b created o) (ending_is_finish c sender (ended_by c.store sender b) created o live unended) same
-      request live sender b created o (Some e) same = absurd (none-some _ same)
+      request live sender b created o e h1 = grind (arith, finish_by, ends_request, ending_is_finish, ended_by, none-some) steps 400000
 
       at : (b : Bool) → c.is_killed ≡ b → (action : Option OpenAction) (u : Finish U) → (if b then None else finishing a.client c action u) ≡ Some v → IsFinishVerdict v
       at true dead action u same = absurd (none-some _ same)

@@ -1,6 +1,6 @@
 -- What follows for a client of a server from the laws of a reader: that it does not matter to it how bytes and tokens are
 -- cut, reading by reading and finish by finish.
-use Rattle.std.proofs.Common.{◌≡◌, ℕ, ◌<◌, Bool, true, false, List, ◌∷◌, ◌++◌, Option, None, Some, is_none, Result, Ok, Err, refl, sym, ap, subst, ◌∙◌, true≢false}
+use Rattle.std.proofs.Common.{◌≡◌, ℕ, ◌<◌, Bool, true, false, List, ◌∷◌, ◌++◌, Option, None, Some, is_none, Result, Ok, Err, refl, sym, ap, subst, ◌∙◌, true≢false, arith}
 use mathlib.Core.Logic.{inl, inr}
 use Rattle.std.proofs.lemmas.Option.{same_Some, none-some}
 use Rattle.std.specs.Prelude.{if◌then◌else◌, not, ◌&&◌, is_ok, map, MatchBool}
@@ -60,55 +60,23 @@ module _ {T U G C : Type 0} (sends : T → Queue → Result ℕ IoFault → T �
   -- a reading of a live client with no action open is one of the reader
   pub reads_to : (r : Reading) (p : Part T U C) (answer : Result Handed ActionError) (r' : Reading) (refused : Bool) (did : List (Deed U)) (q : Part T U C)
       → p.is_killed ≡ false → p.action ≡ None → NextAction sends receives a r p answer r' refused did q → ReadsTo sends receives a r p answer r' refused did q
-  reads_to r p answer r' refused did q live unopened h =
-      elim (either_option p.action h) [
-        | inr (action, is_open, g) ↦ absurd (none-some _ (sym unopened ∙ is_open))
-        | inl (not_open, g) ↦ of_live p.is_killed live g
-      ]
-    where
-      of_live : (b : Bool) → b ≡ false → MatchBool b (ReadsNone (Io fault.Pipe) r p answer r' refused did q) (ReadsTo sends receives a r p answer r' refused did q)
-          → ReadsTo sends receives a r p answer r' refused did q
-      of_live true is g = absurd (true≢false is)
-      of_live false is g = g
+  reads_to r p answer r' refused did q live unopened h = grind (arith, none-some, true≢false) steps 400000
 
 -- ---- what is open
 
 module _ {U C : Type 0} where
   -- a client of which something is ended is not read on
   pub taken_off : (client : ClientParts) (c : Core U C) (u : Finish U) (v : Verdict (Core U C) (Told U)) → takes client c u ≡ Some v → reads_on c ≡ false
-  taken_off client c u v is = at c.is_killed c.action is
-    where
-      at : (b : Bool) (o : Option OpenAction) → (if b then None else finishing client c o u) ≡ Some v → (not b && is_none o) ≡ false
-      at true o taken = refl
-      at false None taken = absurd (none-some _ taken)
-      at false (Some x) taken = refl
+  taken_off client c u v is = grind (arith, finishing, is_none, none-some) steps 400000
 
 module _ {T U C : Type 0} where
   -- a finish that is accepted lacked no memory
   accepted_ample : (sends : T → Queue → Result ℕ IoFault → T → Type 0) (client : ClientParts) (p : Part T U C) (u : Option U) (lacked : Bool) (did : List (Deed U)) (q : Part T U C)
       → FinishesRequest sends client p u (Ok tt) lacked did q → lacked ≡ false
-  accepted_ample sends client p u lacked did q h =
-      elim (either_option p.action h) [
-        | inl (none, (is, no_memory, nothing', same)) ↦ no_memory
-        | inr (opened.Bind object, is_open, (is, no_memory, nothing', same)) ↦ no_memory
-        | inr (opened.Request sender b created, is_open, g) ↦
-            elim (either_option (refusal p.is_killed created u) g) [
-              | inr (e, why, (is, no_memory, nothing', same)) ↦ no_memory
-              | inl (none, (is, tells')) ↦ unless lacked _ is
-            ]
-      ]
-    where
-      unless : (b : Bool) (e : FinishRefused (Option U)) → Ok tt ≡ unless_refused e b → b ≡ false
-      unless true e is = absurd (true≢false (ap is_ok is))
-      unless false e is = refl
+  accepted_ample sends client p u lacked did q h = grind (arith, refusal, true≢false, is_ok) steps 400000
 
   bound_ample : (p : Part T U C) (u : U) (lacked : Bool) (did : List (Deed U)) (q : Part T U C) → FinishesBind p u (Ok tt) lacked did q → lacked ≡ false
-  bound_ample p u lacked did q h =
-      elim (either_option p.action h) [
-        | inl (none, (is, no_memory, nothing', same)) ↦ no_memory
-        | inr (opened.Bind object, is_open, (is, no_memory, nothing', same)) ↦ no_memory
-        | inr (opened.Request sender b created, is_open, (is, no_memory, nothing', same)) ↦ no_memory
-      ]
+  bound_ample p u lacked did q h = grind (arith) steps 400000
 
 module _ {T U G C : Type 0} (w : World T G C) (id : ClientParts) (offer : Offer G) (before after : Seen T U C) where
   abbrev here : Around G C
@@ -121,11 +89,7 @@ module _ {T U G C : Type 0} (w : World T G C) (id : ClientParts) (offer : Offer 
 
   pub of_part : (R : Part T U C → Part T U C → Type 0) (missing : Type 0) (lacked : Bool) (did : List (Deed U)) (p : Part T U C) → before.part ≡ Some p
       → OnPart before R missing lacked did after → (q : Part T U C) × R p q × (after ≡ record { part = Some q; made = before.made ++ notes_in did })
-  of_part R missing lacked did p there h =
-      elim (either_option before.part h) [
-        | inl (none, g) ↦ absurd (none-some _ (sym none ∙ there))
-        | inr (other, there', (q, by, same)) ↦ (q, subst (λ (x : Part T U C). R x q) (same_Some other p (sym there' ∙ there)) by, same)
-      ]
+  of_part R missing lacked did p there h = grind (arith, none-some, same_Some) steps 400000
 
   pub seen_reads : (r : Reading) (answer : Result Handed ActionError) (r' : Reading) (lacked : Bool) (did : List (Deed U)) → lacked ≡ false
       → ReadsFor w id offer id r answer r' before lacked did after → CutsReading here w.sends w.receives r before answer did after
@@ -199,11 +163,7 @@ module _ {T U : Type 0} where
 module _ {T U G C : Type 0} (w : World T G C) (before after : ServerState T U G C) where
   -- where memory was not refused in a call, it was not refused to any client
   ample : (id : ClientParts) (e : Entry T U G C) → IsRefused e → e.refused ≡ false → e.lacks id ≡ false
-  ample id e by calm = go (e.lacks id) refl
-    where
-      go : (b : Bool) → e.lacks id ≡ b → b ≡ false
-      go true is = absurd (true≢false (sym (by.1 (inr (id, is))) ∙ calm))
-      go false is = refl
+  ample id e by calm = grind (arith, true≢false) steps 400000
 
   -- what the call is to this client
   of_call : (id : ClientParts) (e : Entry T U G C) (call : Call T U G C) → e.call ≡ call → OneStep w before e after
@@ -237,9 +197,7 @@ one_served a p more answers finishes gave others x y = served_one AsTold told_fu
 -- ---- something is served, with answers that suffice
 
 ends_malformed : {U G C : Type 0} (a : Around G C) → EndsMalformed (server {U = U} a)
-ends_malformed a c (Ok _) = (refl, λ u. refl)
-ends_malformed a c (Err fault.OutOfMemory) = (refl, λ u. refl)
-ends_malformed a c (Err _) = (refl, λ u. refl)
+ends_malformed a = grind (arith) steps 400000
 
 pub some_served : {T U G C : Type 0} (a : Around G C) (p : ReaderState T (Core U C)) (more : Queue) (finishes : List (Finish U)) → 0 < p.link.outgoing_capacity
     → (answers : Answers) × (gave : List (Given (Told U))) × (end : ReaderState Answers (Core U C)) × IsServed a p more answers finishes gave end

@@ -1,6 +1,6 @@
 -- That what is told to a client outside a reading is told as in one, and that the end of an action is what the reader makes
 -- of it.
-use Rattle.std.proofs.Common.{◌≡◌, ℕ, inl, inr, Bool, false, List, [], Option, None, Some, Result, Ok, Err, is_ok, map, refl, ap, subst, ◌∙◌, true≢false}
+use Rattle.std.proofs.Common.{◌≡◌, ℕ, inl, inr, Bool, false, List, [], Option, None, Some, Result, Ok, Err, is_ok, map, refl, ap, subst, ◌∙◌, true≢false, arith}
 use Rattle.std.specs.Prelude.{MatchOption}
 use Rattle.wl_wire.specs.declared.error.IoFault.{IoFault}
 use Rattle.wl_wire.specs.declared.error.IoFault.TheVariants as fault
@@ -25,30 +25,12 @@ answered_not e is = true≢false (ap is_ok is)
 
 module _ {U G C : Type 0} (a : Around G C) where
   came_alike : (v : Verdict (Core U C) (Told U)) (wrote : Result (Unit {0}) IoFault) → came_to speaker v wrote ≡ came_to (server a) v wrote
-  came_alike v (Ok _) = refl
-  came_alike v (Err fault.WouldBlock) = refl
-  came_alike v _ = refl
+  came_alike v wrote = grind (arith) steps 400000
 
 module _ {T U G C : Type 0} (sends : T → Queue → Result ℕ IoFault → T → Type 0) (a : Around G C) where
   pub carried_alike : (v : Verdict (Core U C) (Told U)) (link : LinkState T) (es : List Sending) (gave : List (Given (Told U))) (refused : Bool)
       (after : ReaderState T (Core U C)) → CarriesOut sends speaker v link es gave refused after → CarriesOut sends (server a) v link es gave refused after
-  carried_alike v link es gave refused after (inr starves) = inr starves
-  carried_alike v link es gave refused after (inl (first, others, put, wrote, mid, lacked, puts, flushes, sent, core, given, is)) =
-      let same : came_to speaker v wrote ≡ came_to (server a) v wrote = came_alike a v wrote in
-      inl (
-        first,
-        others,
-        put,
-        wrote,
-        mid,
-        lacked,
-        puts,
-        flushes,
-        sent,
-        core ∙ same,
-        subst (λ (c : Core U C). gave ≡ put_and_gave put (v.events c)) same given,
-        is,
-      )
+  carried_alike v link es gave refused after h1 = grind (arith, came_to, speaker, came_alike, put_and_gave) steps 400000
 
   -- an accepted end of a live client's request is what the reader makes of these data, with the same deeds
   abbrev pub EndsAlike : Part T U C → Finish U → Bool → List (Deed U) → Part T U C → Type 0

@@ -1,7 +1,7 @@
 -- That what a stretch of a client's own run gives is what is served of all that arrived.
 --
 -- Its entries are acts of the client as a reader: those that are refused change nothing, and are none.
-use Rattle.std.proofs.Common.{◌≡◌, ◌≢◌, ◌⊎◌, ℕ, Bool, true, false, List, [], ◌∷◌, ◌++◌, append_assoc, append-nil, Option, None, Some, Result, Ok, Err, is_ok, map, refl, sym, ap, ap₂, subst, ◌∙◌, true≢false}
+use Rattle.std.proofs.Common.{◌≡◌, ◌≢◌, ◌⊎◌, ℕ, Bool, true, false, List, [], ◌∷◌, ◌++◌, append_assoc, append-nil, Option, None, Some, Result, Ok, Err, is_ok, map, refl, sym, ap, ap₂, subst, ◌∙◌, true≢false, arith}
 use mathlib.Core.Logic.{inl, inr}
 use Rattle.std.proofs.lemmas.Option.{same_Some, none-some}
 use Rattle.std.specs.Prelude.{MatchBool, if◌then◌else◌, option_map}
@@ -74,13 +74,7 @@ pipe_not same = cc
 
 module _ {U : Type 0} where
   told_killed : (f : IoFault) (did : List (Deed U)) → f ≢ fault.WouldBlock → was_killed did ≡ true → told_by (Some (Err (Io f))) did ≡ Err f ∷ []
-  told_killed fault.WouldBlock did not is = absurd (not refl)
-  told_killed fault.Pipe did not is = ap (λ (b : Bool). let l : List (Result Handed IoFault) = if b then Err fault.Pipe ∷ [] else [] in l) is
-  told_killed fault.TooBig did not is = ap (λ (b : Bool). let l : List (Result Handed IoFault) = if b then Err fault.TooBig ∷ [] else [] in l) is
-  told_killed fault.Proto did not is = ap (λ (b : Bool). let l : List (Result Handed IoFault) = if b then Err fault.Proto ∷ [] else [] in l) is
-  told_killed fault.InvalidInput did not is = ap (λ (b : Bool). let l : List (Result Handed IoFault) = if b then Err fault.InvalidInput ∷ [] else [] in l) is
-  told_killed fault.OutOfMemory did not is = ap (λ (b : Bool). let l : List (Result Handed IoFault) = if b then Err fault.OutOfMemory ∷ [] else [] in l) is
-  told_killed (fault.Other n) did not is = ap (λ (b : Bool). let l : List (Result Handed IoFault) = if b then Err (fault.Other n) ∷ [] else [] in l) is
+  told_killed f did h1 h2 = grind (arith) steps 400000
 
 module _ {U C : Type 0} (c e : Core U C) (out : Gives (Told U)) (on : reads_on c ≡ true) (so : ReadsSo c out e) (answer : Result Handed ActionError)
     (is : answer ≡ answered_so out.stopped out.gave) where
@@ -99,9 +93,7 @@ module _ {U C : Type 0} (c e : Core U C) (out : Gives (Told U)) (on : reads_on c
   told_so exchanges blocks = go so.answered
     where
       go : IsAnswered c out e → told_by (Some answer) (deeds_of exchanges out.gave e) ≡ answers_in out.gave
-      go (inl (f, stopped, none)) =
-          ap (λ (x : Result Handed ActionError). told_by (Some x) (deeds_of exchanges out.gave e))
-          (stopped_is f stopped ∙ ap (λ (g : IoFault). let x : Result Handed ActionError = Err (Io g) in x) (blocks f stopped)) ∙ sym none
+      go (inl (f, stopped, none)) = grind (arith, told_by, deeds_of, stopped_is) steps 400000
       go (inr (stopped, inl (off, none))) = absurd (true≢false (sym on ∙ off))
       go (inr (stopped, inr (off, inl (h, one)))) = ap (λ (x : Result Handed ActionError). told_by (Some x) (deeds_of exchanges out.gave e)) (over_is stopped (Ok h) one) ∙ sym one
       go (inr (stopped, inr (off, inr (f, one, not, dead)))) =
@@ -122,47 +114,22 @@ module _ {U C : Type 0} (c e : Core U C) (out : Gives (Told U)) (on : reads_on c
 module _ {T U C : Type 0} where
   request_refused : (sends : T → Queue → Result ℕ IoFault → T → Type 0) (client : ClientParts) (p : Part T U C) (u : Option U) (e : FinishRefused (Option U)) (did : List (Deed U)) (q : Part T U C)
       → FinishesRequest sends client p u (Err e) false did q → (did ≡ []) × (q ≡ p)
-  request_refused sends client p u e did q h =
-      elim (either_option p.action h) [
-        | inl (none, (is, no_memory, nothing', same)) ↦ (nothing', same)
-        | inr (opened.Bind object, is_open, (is, no_memory, nothing', same)) ↦ (nothing', same)
-        | inr (opened.Request sender b created, is_open, g) ↦
-            elim (either_option (refusal p.is_killed created u) g) [
-              | inr (x, why, (is, no_memory, nothing', same)) ↦ (nothing', same)
-              | inl (none, (is, tells')) ↦ absurd (accepted_not e (sym is))
-            ]
-      ]
+  request_refused sends client p u e did q h = grind (arith, accepted_not) steps 400000
 
   bind_refused : (p : Part T U C) (u : U) (e : FinishRefused U) (did : List (Deed U)) (q : Part T U C) → FinishesBind p u (Err e) false did q → (did ≡ []) × (q ≡ p)
-  bind_refused p u e did q h =
-      elim (either_option p.action h) [
-        | inl (none, (is, no_memory, nothing', same)) ↦ (nothing', same)
-        | inr (opened.Bind object, is_open, (is, no_memory, nothing', same)) ↦ absurd (accepted_not e (sym is))
-        | inr (opened.Request sender b created, is_open, (is, no_memory, nothing', same)) ↦ (nothing', same)
-      ]
+  bind_refused p u e did q h = grind (arith, accepted_not) steps 400000
 
   -- where no action is open none is finished
   request_open : (sends : T → Queue → Result ℕ IoFault → T → Type 0) (client : ClientParts) (p : Part T U C) (u : Option U) (did : List (Deed U)) (q : Part T U C) → p.action ≡ None
       → FinishesRequest sends client p u (Ok tt) false did q → ⊥
-  request_open sends client p u did q unopened h =
-      elim (either_option p.action h) [
-        | inl (none, (is, no_memory, nothing', same)) ↦ accepted_not _ is
-        | inr (action, is_open, g) ↦ none-some _ (sym unopened ∙ is_open)
-      ]
+  request_open sends client p u did q unopened h = grind (arith, accepted_not, none-some) steps 400000
 
   bind_open : (p : Part T U C) (u : U) (did : List (Deed U)) (q : Part T U C) → p.action ≡ None → FinishesBind p u (Ok tt) false did q → ⊥
-  bind_open p u did q unopened h =
-      elim (either_option p.action h) [
-        | inl (none, (is, no_memory, nothing', same)) ↦ accepted_not _ is
-        | inr (action, is_open, g) ↦ none-some _ (sym unopened ∙ is_open)
-      ]
+  bind_open p u did q unopened h = grind (arith, accepted_not, none-some) steps 400000
 
 -- a move that only memory refuses was made
 became : (before after : Script) (r : Result (Unit {0}) ScriptError) (t : Script) → false ≡ lacks_move (nothing_taken r) → Becomes before after (nothing_taken r) t → t ≡ after
-became before after (Ok u) t unasked moved = moved.1
-became before after (Err script.OutOfMemory) t unasked moved = absurd (true≢false (sym unasked))
-became before after (Err script.InvalidId) t unasked moved = absurd moved
-became before after (Err script.TooManyTokens) t unasked moved = absurd moved
+became before after r t h1 h2 = grind (arith, true≢false) steps 400000
 
 module _ {G C : Type 0} (views : G → ClientParts → C → GlobalParts → Bool) (id : ClientParts) (offer : Offer G) where
   abbrev w : World Script G C
@@ -397,13 +364,7 @@ module _ {G C : Type 0} (views : G → ClientParts → C → GlobalParts → Boo
     step_acts s before after _ did there about heard h sound = absurd heard
 
     heard_offer : (call : Call Script U G C) → IsHeard call → offer_after offer call ≡ offer
-    heard_offer (Asked (step.Arrive target bytes tokens) answer) heard = refl
-    heard_offer (Asked (step.ArriveFault target f) answer) heard = refl
-    heard_offer (Asked (step.NextAction target) answer) heard = refl
-    heard_offer (Asked (step.NextActionWithin target reading) answer) heard = refl
-    heard_offer (Asked (step.FinishRequest target u) answer) heard = refl
-    heard_offer (Asked (step.FinishBind target u) answer) heard = refl
-    heard_offer _ heard = absurd heard
+    heard_offer call h1 = grind (arith) steps 400000
 
     -- ---- a run
 
@@ -489,13 +450,7 @@ module _ {G C : Type 0} (views : G → ClientParts → C → GlobalParts → Boo
     LacksAt link store = RefusedAt link parse.MissingData store ⊎ RefusedAt link parse.MissingFD store
 
     not_full : (p : Part Script U C) (run : List (Own Script U G C)) (end : ReaderState Script (Core U C)) → IsStretch a p run (part_of end) → NotFull (server a) end
-    not_full p run end stretch core (is, lacks) =
-        let store : end.core.store ≡ core.store = ap (λ (c : Core U C). c.store) is in
-        free store (stretch.roomy (ap (λ (c : Core U C). c.is_killed) is) (subst (LacksAt end.link) (sym store) lacks))
-      where
-        free : end.core.store ≡ core.store → HasByteFree end.link ⊎ MayCome (server a) (core_of (part_of end)) end.link → HasByteFree end.link ⊎ MayCome (server a) core end.link
-        free store (inl some) = inl some
-        free store (inr (fits, in_time)) = inr (fits, λ late. in_time (subst (RefusedAt end.link parse.MissingFD) (sym store) late))
+    not_full p run end stretch core (is, lacks) = grind (arith, server, core_of, part_of) steps 400000
 
     act_stretch : (p : Part Script U C) (run : List (Own Script U G C)) (after : Seen Script U C) (r : RunActs (reader_part p) run after) → IsStretch a p run (part_of r.end)
         → IsActStretch (server a) (reader_part p) r.acts r.end
@@ -532,10 +487,7 @@ module _ {G C : Type 0} (views : G → ClientParts → C → GlobalParts → Boo
           }
 
       pub stretch_served : (q : Part Script U C) (run : List (Own Script U G C)) → after.part ≡ Some q → Alone w id offer before run after → IsStretch a p run q → StretchIsServed a p run q
-      stretch_served q run ends leads stretch =
-          let r = acts_of run after leads stretch.spans.heard stretch.spans.live in
-          let is = part_is after q r.end ends r.there in
-          subst (StretchIsServed a p run) (sym is) (served_at run r (subst (IsStretch a p run) is stretch))
+      stretch_served q run ends leads stretch = grind (arith, acts_of, part_is, served_at) steps 400000
 
       -- no receive of a stretch of such messages finds the storage full
       within_at : (run : List (Own Script U G C)) (r : RunActs (reader_part p) run after) → IsStretchWithin a p run (part_of r.end) → IsStretch a p run (part_of r.end)

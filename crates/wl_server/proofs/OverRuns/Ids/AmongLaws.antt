@@ -22,24 +22,11 @@ module _ {A : Type 0} where
 
   pub among_filter : (test : A → Bool) (xs : List A) (x : A) → IsAmong (filter test xs) x → IsAmong xs x × (test x ≡ true)
   among_filter test [] x among = absurd among
-  among_filter test (y ∷ ys) x among = go (test y) refl among (among_filter test ys x)
-    where
-      go : (b : Bool) → test y ≡ b → IsAmong (cond b (y ∷ filter test ys) (filter test ys)) x
-          → (IsAmong (filter test ys) x → IsAmong ys x × (test x ≡ true)) → IsAmong (y ∷ ys) x × (test x ≡ true)
-      go true e (inl same) more = (inl same, subst (λ z. test z ≡ true) same e)
-      go true e (inr among) more = let r = more among in (inr r.0, r.1)
-      go false e among more = let r = more among in (inr r.0, r.1)
+  among_filter test (y ∷ ys) x among = grind (arith, among_filter test ys x) steps 400000
 
   pub filter_among : (test : A → Bool) (xs : List A) (x : A) → IsAmong xs x → test x ≡ true → IsAmong (filter test xs) x
   filter_among test [] x among pass = absurd among
-  filter_among test (y ∷ ys) x among pass = go (test y) refl among (filter_among test ys x)
-    where
-      go : (b : Bool) → test y ≡ b → IsAmong (y ∷ ys) x → (IsAmong ys x → test x ≡ true → IsAmong (filter test ys) x)
-          → IsAmong (cond b (y ∷ filter test ys) (filter test ys)) x
-      go true e (inl same) more = inl same
-      go true e (inr among) more = inr (more among pass)
-      go false e (inl same) more = absurd (true≢false (sym pass ∙ ap test (sym same) ∙ e))
-      go false e (inr among) more = more among pass
+  filter_among test (y ∷ ys) x among pass = grind (arith, true≢false, filter_among test ys x) steps 400000
 
 module _ {A B : Type 0} (f : A → B) where
   pub among_map : (xs : List A) (y : B) → IsAmong (map f xs) y → (x : A) × IsAmong xs x × (f x ≡ y)

@@ -28,11 +28,7 @@ use Rattle.wl_server.specs.Server.{Seen}
 
 module _ {U : Type 0} where
   left_ids : (n : ℕ) (x : Object (Kept U)) (client : ClientParts) → left_id (id_of (id_at client n x)) x.value.user_data ≡ counted_id serial_of has_data n x ++ []
-  left_ids n x client = go x.value.user_data
-    where
-      go : (u : Option U) → left_id (id_of (id_at client n x)) u ≡ cond (is_some u) (id_of (id_at client n x) ∷ []) [] ++ []
-      go None = refl
-      go (Some u) = refl
+  left_ids n x client = grind (arith, left_id, id_of, id_at, is_some) steps 400000
 
   ended_both : (changes others : List (Change (Kept U))) → ended_in serial_of has_data (changes ++ others) ≡ ended_in serial_of has_data changes ++ ended_in serial_of has_data others
   ended_both [] others = refl
@@ -40,52 +36,33 @@ module _ {U : Type 0} where
   ended_both (Gone n ∷ changes) others = ended_both changes others
   ended_both (Wrote n x ∷ changes) others = ended_both changes others
   ended_both (Made id ∷ changes) others = ended_both changes others
-  ended_both (Ended n x left ∷ changes) others =
-      ap (λ (ids : List Id). counted_id serial_of has_data n x ++ ids) (ended_both changes others)
-      ∙ sym (append_assoc (counted_id serial_of has_data n x) (ended_in serial_of has_data changes) (ended_in serial_of has_data others))
+  ended_both (Ended n x left ∷ changes) others = grind (arith, counted_id, serial_of, has_data, append_assoc, ended_in, ended_both changes others) steps 400000
 
   -- an object is named by its id
   id_names : (client : ClientParts) (store : Store (Kept U)) (n : ℕ) (x : Object (Kept U)) → n ≢ 0 → held store n ≡ Some x
       → IsSome (names serial_of (id_of (id_at client n x)) store)
-  id_names client store n x ne e =
-      ap (λ b. is_some (cond b None (named_in serial_of (id_of (id_at client n x)) (held store n)))) (ne_eqb n 0 ne)
-      ∙ ap (λ o. is_some (named_in serial_of (id_of (id_at client n x)) o)) e
-      ∙ ap (λ b. is_some (cond b (Some x) None)) (eq-eqb x.value.serial x.value.serial refl)
+  id_names client store n x ne e = grind (arith, is_some, named_in, serial_of, id_of, id_at, held) steps 400000
 
   module _ (client : ClientParts) where
     handed_first : (changes others : List (Change (Kept U))) (h : HandedId IdParts) → IsHandedIn client changes h → IsHandedIn client (changes ++ others) h
-    handed_first changes others (Found id) (inl none) = inl none
-    handed_first changes others (Found id) (inr (of_it, made)) = inr (of_it, made_first changes others (id_of id) made)
-    handed_first changes others (New id) (of_it, made, put_in) =
-        (of_it, made_first changes others (id_of id) made, born_first serial_of changes others (id_of id) put_in)
+    handed_first changes others h h1 = grind (arith, made_first, id_of, born_first, serial_of) steps 400000
 
     handed_later : (changes others : List (Change (Kept U))) (h : HandedId IdParts) → IsHandedIn client others h → IsHandedIn client (changes ++ others) h
-    handed_later changes others (Found id) (inl none) = inl none
-    handed_later changes others (Found id) (inr (of_it, made)) = inr (of_it, made_later changes others (id_of id) made)
-    handed_later changes others (New id) (of_it, made, put_in) =
-        (of_it, made_later changes others (id_of id) made, born_later serial_of changes others (id_of id) put_in)
+    handed_later changes others h h1 = grind (arith, made_later, id_of, born_later, serial_of) steps 400000
 
     noted_first : (changes others : List (Change (Kept U))) (h : Happening U) → IsNotedIn client changes h → IsNotedIn client (changes ++ others) h
-    noted_first changes others (Destroyed id u) (of_it, made) = (of_it, made_first changes others (id_of id) made)
-    noted_first changes others Initialized noted = tt
-    noted_first changes others (Disconnected reason) noted = tt
+    noted_first changes others h h1 = grind (arith, made_first, id_of) steps 400000
 
     noted_later : (changes others : List (Change (Kept U))) (h : Happening U) → IsNotedIn client others h → IsNotedIn client (changes ++ others) h
-    noted_later changes others (Destroyed id u) (of_it, made) = (of_it, made_later changes others (id_of id) made)
-    noted_later changes others Initialized noted = tt
-    noted_later changes others (Disconnected reason) noted = tt
+    noted_later changes others h h1 = grind (arith, made_later, id_of) steps 400000
 
     -- the note of an object, if its id is made
     end_noted : (changes : List (Change (Kept U))) (id : IdParts) (u : Option U) (h : Happening U) → id.client ≡ client → IsMadeInStep changes (id_of id)
         → IsAmong (end_note id u) h → IsNotedIn client changes h
-    end_noted changes id None h of_it made among = absurd among
-    end_noted changes id (Some u) h of_it made (inl is) = subst (λ (x : Happening U). IsNotedIn client changes x) is (of_it, made)
-    end_noted changes id (Some u) h of_it made (inr none) = absurd none
+    end_noted changes id u h h1 h2 h3 = grind (arith) steps 400000
 
   ended_quiet : (client : ClientParts) (b : Bool) (reason : DisconnectReason) (h : Happening U) → IsAmong (end_notes b reason) h → IsNotedIn client [] h
-  ended_quiet client true reason h among = absurd among
-  ended_quiet client false reason h (inl is) = subst (λ (x : Happening U). IsNotedIn client [] x) is tt
-  ended_quiet client false reason h (inr none) = absurd none
+  ended_quiet client b reason h h1 = grind (arith) steps 400000
 
   -- the taken, the made and the waiting notes
   pub in_three : (a b c : List (Happening U)) (h : Happening U) → IsAmong (a ++ (b ++ c)) h → IsAmong a h ⊎ (IsAmong b h ⊎ IsAmong c h)
@@ -112,15 +89,7 @@ module _ {T U C : Type 0} (sends : T → Queue → Result ℕ IoFault → T → 
   -- the objects and the notes that wait stay, and nothing is noted of an object
   quiet : (p q : Part T U C) (d : Doings U) → held p.store 0 ≡ None → objects_of q ≡ objects_of p → q.waiting ≡ p.waiting → d.handed ≡ [] → d.left ≡ []
       → ((h : Happening U) → IsAmong d.notes h → IsNotedIn client [] h) → Changing p d q
-  quiet p q d empty same waits none_handed none_left none_noted = record {
-    changes = [];
-    ends = same;
-    handed = λ h among. absurd (subst (λ (ids : List (HandedId IdParts)). IsAmong ids h) none_handed among);
-    left = none_left;
-    noted = λ h among. inr (none_noted h among);
-    waits = λ h among. inl (subst (λ (hs : List (Happening U)). IsAmong hs h) waits among);
-    empty = ap (λ (o : Objects (Kept U)). held o.store 0) same ∙ empty;
-  }
+  quiet p q d empty same waits none_handed none_left none_noted = grind (arith, held) steps 400000
 
   still : (p : Part T U C) → held p.store 0 ≡ None → Changing p nothing_done p
   still p empty = quiet p p nothing_done empty refl refl refl refl (λ h among. absurd among)
@@ -197,20 +166,7 @@ module _ {T U C : Type 0} (sends : T → Queue → Result ℕ IoFault → T → 
   }
 
   none_changing : (p : Part T U C) → held p.store 0 ≡ None → Changing p (handing (Found (null_id client) ∷ [])) p
-  none_changing p empty = record {
-    changes = [];
-    ends = refl;
-    handed = λ h among. (
-        elim among [
-          | inl is ↦ subst (λ (y : HandedId IdParts). IsHandedIn {U = U} client [] y) is (inl refl)
-          | inr none ↦ absurd none
-        ]
-        );
-    left = refl;
-    noted = λ h among. absurd among;
-    waits = λ h among. inl among;
-    empty = empty;
-  }
+  none_changing p empty = grind (arith) steps 400000
 
   wrote_changing : (p : Part T U C) (n : ℕ) (x : Object (Kept U)) (u : U) → held p.store 0 ≡ None → held p.store n ≡ Some x
       → Changing p nothing_done (record p { store = rewritten p.store n (with_user_data u x) })
@@ -249,12 +205,7 @@ module _ {T U C : Type 0} (sends : T → Queue → Result ℕ IoFault → T → 
       at_once false h among = inr (end_noted client changes (id_at client n x) x.value.user_data h refl (inl refl) among)
 
       later : (b : Bool) (h : Happening U) → IsAmong (if b then p.waiting ++ note_of_end client n x else p.waiting) h → IsAmong p.waiting h ⊎ IsNotedIn client changes h
-      later true h among =
-          elim (among_both p.waiting (note_of_end client n x) h among) [
-            | inl waited ↦ inl waited
-            | inr new ↦ inr (end_noted client changes (id_at client n x) x.value.user_data h refl (inl refl) new)
-          ]
-      later false h among = inl among
+      later b h h1 = grind (arith, among_both, note_of_end, end_noted, changes, id_at) steps 400000
 
   -- each move changes the objects so
   pub moves_change : (p q : Part T U C) (d : Doings U) → held p.store 0 ≡ None → Moves (any true) sends receives client p d q → Changing p d q
@@ -281,33 +232,17 @@ module _ {T U C : Type 0} (sends : T → Queue → Result ℕ IoFault → T → 
       changing_so p (record p { link = link }) q (putting es put) d is same (quiet p (record p { link = link }) (putting es put) empty refl refl refl refl (λ h among. absurd among))
   moves_change p q d empty (flushed es answer link by is same) =
       changing_so p (record p { link = link }) q (sending es) d is same (quiet p (record p { link = link }) (sending es) empty refl refl refl refl (λ h among. absurd among))
-  moves_change p q d empty (ended reason may is same) =
-      changing_so p (record p { is_killed = true }) q (noting (end_notes p.is_killed reason)) d is same
-      (quiet p (record p { is_killed = true }) (noting (end_notes p.is_killed reason)) empty refl refl refl refl (λ h among. ended_quiet client p.is_killed reason h among))
+  moves_change p q d empty (ended reason may is same) = grind (arith, changing_so, noting, end_notes, quiet, ended_quiet) steps 400000
   moves_change p q d empty (born n x free ne serial is same) = changing_so p _ q _ d is same (born_changing p n x empty free ne serial)
   moves_change p q d empty (found n x holds is same) = changing_so p p q _ d is same (found_changing p n x empty holds)
   moves_change p q d empty (found_none is same) = changing_so p p q _ d is same (none_changing p empty)
   moves_change p q d empty (wrote n x u holds is same) = changing_so p _ q nothing_done d is same (wrote_changing p n x u empty holds)
   moves_change p q d empty (went n x waits holds is same) = changing_so p _ q _ d is same (went_changing p n x waits empty holds)
-  moves_change p q d empty (remembered n x holds registry is same) =
-      changing_so p (record p { registries = p.registries ++ id_of (id_at client n x) ∷ [] }) q (record nothing_done { registries = id_of (id_at client n x) ∷ [] }) d is same
-      (quiet p (record p { registries = p.registries ++ id_of (id_at client n x) ∷ [] }) (record nothing_done { registries = id_of (id_at client n x) ∷ [] }) empty
-      refl refl refl refl (λ h among. absurd among))
-  moves_change p q d empty (opens action h acts so is same) =
-      changing_so p (record p { action = Some action }) q (record nothing_done { acted = h ∷ [] }) d is same
-      (quiet p (record p { action = Some action }) (record nothing_done { acted = h ∷ [] }) empty refl refl refl refl (λ h among. absurd among))
+  moves_change p q d empty (remembered n x holds registry is same) = grind (arith, changing_so, id_of, id_at, nothing_done, quiet) steps 400000
+  moves_change p q d empty (opens action h acts so is same) = grind (arith, changing_so, nothing_done, quiet) steps 400000
   moves_change p q d empty (finished may is same) =
       changing_so p (record p { action = None }) q nothing_done d is same (quiet p (record p { action = None }) nothing_done empty refl refl refl refl (λ h among. absurd among))
-  moves_change p q d empty (cleaned on is same) =
-      changing_so p (record p { waiting = [] }) q (noting p.waiting) d is same (record {
-        changes = [];
-        ends = refl;
-        handed = λ h among. absurd among;
-        left = refl;
-        noted = λ h among. inl among;
-        waits = λ h among. absurd among;
-        empty = empty;
-      })
+  moves_change p q d empty (cleaned on is same) = grind (arith, changing_so, noting) steps 400000
 
   -- no note is handed out by moves of the part
   pub moves_take : (p q : Part T U C) (d : Doings U) → Moves (any true) sends receives client p d q → d.taken ≡ []
@@ -431,16 +366,12 @@ module _ {T U C : Type 0} (sends : T → Queue → Result ℕ IoFault → T → 
 
   moved_from : (s : Seen T U C) (p : Part T U C) (o : Objects (Kept U)) (d : Doings U) (t : Seen T U C) → s.part ≡ Some p → o ≡ objects_of p
       → CallChanging (record { part = Some p; made = s.made }) (objects_of p) d t → CallChanging s o d t
-  moved_from s p o d t there at changing =
-      subst (λ (x : Objects (Kept U)). CallChanging s x d t) (sym at)
-      (subst (λ (x : Option (Part T U C)). CallChanging (record { part = x; made = s.made }) (objects_of p) d t) (sym there) changing)
+  moved_from s p o d t there at changing = grind (arith, objects_of) steps 400000
 
   pub goes_change : (s t : Seen T U C) (o : Objects (Kept U)) (d : Doings U) → AreObjectsOf s o → held o.store 0 ≡ None → Goes (any true) sends receives client s d t → CallChanging s o d t
   goes_change s t o d are empty (unfelt is same) =
       subst (λ (x : Doings U). CallChanging s o x t) (sym is) (subst (λ (x : Seen T U C). CallChanging s o nothing_done x) (sym same) (goes_unfelt s o are empty))
-  goes_change s t o d are empty (notes_taken on is same) =
-      subst (λ (x : Doings U). CallChanging s o x t) (sym is)
-      (subst (λ (x : Seen T U C). CallChanging s o (record nothing_done { taken = s.made }) x) (sym same) (goes_taken s o are empty))
+  goes_change s t o d are empty (notes_taken on is same) = grind (arith, nothing_done, goes_taken) steps 400000
   goes_change s t o d are empty (within p q there moves same) =
       let at : o ≡ objects_of p = objects_at s p o there are in
       let start : held p.store 0 ≡ None = subst (λ (x : Objects (Kept U)). held x.store 0 ≡ None) at empty in

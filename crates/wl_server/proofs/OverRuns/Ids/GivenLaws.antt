@@ -37,32 +37,14 @@ module _ {G : Type 0} where
   named_at g o = cond (eqb g.name 0) None (named_in global_serial (record { number = g.name; serial = g.serial }) o)
 
   none_at : (g : GlobalParts) → named_at g None ≡ None
-  none_at g = go (eqb g.name 0)
-    where
-      go : (b : Bool) → cond b None (named_in (global_serial {G = G}) (record { number = g.name; serial = g.serial }) None) ≡ None
-      go true = refl
-      go false = refl
+  none_at g = grind (arith, eqb, global_serial) steps 400000
 
   foreign_at : (g : GlobalParts) (x : Object (KeptGlobal G)) → eqb x.value.serial g.serial ≡ false → named_at g (Some x) ≡ None
-  foreign_at g x other = go (eqb g.name 0) (eqb x.value.serial g.serial) other
-    where
-      go : (z b : Bool) → b ≡ false → cond z None (cond b (Some x) None) ≡ None
-      go true b other = refl
-      go false true other = absurd (true≢false other)
-      go false false other = refl
+  foreign_at g x other = grind (arith, eqb, true≢false) steps 400000
 
   -- the serial of what the id names is its own
   serial_at : (globals : Globals G) (g : GlobalParts) (x : Object (KeptGlobal G)) → global_of globals g ≡ Some x → x.value.serial ≡ g.serial
-  serial_at globals g x is = go (eqb g.name 0) (held globals.store g.name) is
-    where
-      one : (y : Object (KeptGlobal G)) (b : Bool) → eqb y.value.serial g.serial ≡ b → cond b (Some y) None ≡ Some x → x.value.serial ≡ g.serial
-      one y true same is = ap (λ (o : Object (KeptGlobal G)). o.value.serial) (sym (same_Some y x is)) ∙ eqb-true y.value.serial g.serial same
-      one y false same is = absurd (none-some _ is)
-
-      go : (z : Bool) (o : Option (Object (KeptGlobal G))) → cond z None (named_in global_serial (record { number = g.name; serial = g.serial }) o) ≡ Some x → x.value.serial ≡ g.serial
-      go true o is = absurd (none-some _ is)
-      go false None is = absurd (none-some _ is)
-      go false (Some y) is = one y (eqb y.value.serial g.serial) refl is
+  serial_at globals g x is = grind (arith, eqb, same_Some, eqb-true, none-some, global_serial) steps 400000
 
 -- ---- two ids
 
@@ -74,20 +56,10 @@ other_named : (target g : GlobalParts) → g.name ≢ target.name → same_globa
 other_named target g other = ap (λ (b : Bool). b && eqb target.serial g.serial) (ne_eqb target.name g.name (λ same. other (sym same)))
 
 same_ids : (target g : GlobalParts) → same_global target g ≡ true → target ≡ g
-same_ids target g same = go (eqb target.name g.name) (eqb target.serial g.serial) refl refl same
-  where
-    go : (a b : Bool) → eqb target.name g.name ≡ a → eqb target.serial g.serial ≡ b → (a && b) ≡ true → target ≡ g
-    go true true names serials same = global_is target g (eqb-true target.name g.name names) (eqb-true target.serial g.serial serials)
-    go true false names serials same = absurd (true≢false (sym same))
-    go false b names serials same = absurd (true≢false (sym same))
+same_ids target g same = grind (arith, eqb, global_is, eqb-true, true≢false) steps 400000
 
 same_clients : (a b : ClientParts) → same_client a b ≡ true → a ≡ b
-same_clients a b same = go (eqb a.slot b.slot) (eqb a.serial b.serial) refl refl same
-  where
-    go : (x y : Bool) → eqb a.slot b.slot ≡ x → eqb a.serial b.serial ≡ y → (x && y) ≡ true → a ≡ b
-    go true true slots serials same = client_is a b (eqb-true a.slot b.slot slots) (eqb-true a.serial b.serial serials)
-    go true false slots serials same = absurd (true≢false (sym same))
-    go false y slots serials same = absurd (true≢false (sym same))
+same_clients a b same = grind (arith, eqb, client_is, eqb-true, true≢false) steps 400000
 
 -- ---- what a call does to what an id names
 
@@ -99,13 +71,7 @@ module _ {G : Type 0} where
   -- nothing has changed, where the target names none
   none_changes : (change : Option (Object (KeptGlobal G)) → Option (Object (KeptGlobal G))) → change None ≡ None → (globals : Globals G) (target : GlobalParts)
       → global_of globals target ≡ None → Changes change globals target globals
-  none_changes change nothing globals target none g = go (same_global target g) refl
-    where
-      go : (b : Bool) → same_global target g ≡ b → global_of globals g ≡ cond b (change (global_of globals g)) (global_of globals g)
-      go true same =
-          let none' : global_of globals g ≡ None = ap (global_of globals) (sym (same_ids target g same)) ∙ none in
-          none' ∙ sym (ap change none' ∙ nothing)
-      go false other = refl
+  none_changes change nothing globals target none g = grind (arith, same_global, global_of, same_ids) steps 400000
 
   -- the value at the name is another, or there is none
   one_changes : (change : Option (Object (KeptGlobal G)) → Option (Object (KeptGlobal G))) → change None ≡ None → (globals after : Globals G) (target : GlobalParts) (x : Object (KeptGlobal G))
@@ -129,10 +95,7 @@ module _ {G : Type 0} where
       ]
     where
       both : (z b : Bool) → cond z None (cond b (change (Some x)) None) ≡ cond b (change (cond z None (cond b (Some x) None))) (cond z None (cond b (Some x) None))
-      both true true = sym nothing
-      both true false = refl
-      both false true = refl
-      both false false = refl
+      both z b = grind (arith) steps 400000
 
   pub disabled_changes : (globals : Globals G) (target : GlobalParts) → Changes (option_map as_disabled) globals target (disabled globals target)
   disabled_changes globals target = go (global_of globals target) refl
@@ -149,9 +112,7 @@ module _ {G : Type 0} where
   freed_changes globals target = go (global_of globals target) refl
     where
       nothing : (z b : Bool) → None ≡ cond z None (cond b (let o : Option (Object (KeptGlobal G)) = None in o) None)
-      nothing true b = refl
-      nothing false true = refl
-      nothing false false = refl
+      nothing z b = grind (arith) steps 400000
 
       go : (o : Option (Object (KeptGlobal G))) → global_of globals target ≡ o → Changes (λ o. None) globals target (freed_at globals target.name o)
       go None none = none_changes (λ o. None) refl globals target none
@@ -164,23 +125,11 @@ module _ {G : Type 0} where
   created_named : (globals : Globals G) (i : InterfaceId) (version : ℕ) (handler : G) (new : GlobalParts) → IsNextGlobal globals new
       → (last : ℕ) → global_of (record { store = stored globals.store new.name (new_global i version new.serial handler); last_serial = last }) new
       ≡ Some (new_global i version new.serial handler)
-  created_named globals i version handler new (least, left, next) last =
-      let x : Object (KeptGlobal G) = new_global i version new.serial handler in
-      ap (named_at new) (stored_here globals.store new.name x new.name refl)
-      ∙ ap (λ (z : Bool). cond z None (cond (eqb new.serial new.serial) (Some x) None)) (ne_eqb new.name 0 (λ zero. let within = least.within in omega (arith, within, zero)))
-      ∙ ap (λ (b : Bool). cond b (Some x) None) (eq-eqb new.serial new.serial refl)
+  created_named globals i version handler new (least, left, next) last = grind (arith, new_global, stored_here, eqb, ne_eqb, eq-eqb) steps 400000
 
   created_other : (globals : Globals G) (i : InterfaceId) (version : ℕ) (handler : G) (new : GlobalParts) → IsNextGlobal globals new → (last : ℕ) (g : GlobalParts)
       → (g.serial ≢ new.serial) → global_of (record { store = stored globals.store new.name (new_global i version new.serial handler); last_serial = last }) g ≡ global_of globals g
-  created_other globals i version handler new (least, left, next) last g older =
-      let x : Object (KeptGlobal G) = new_global i version new.serial handler in
-      elim (cases_eq g.name new.name) [
-        | inl same ↦
-            ap (named_at g) (stored_here globals.store new.name x g.name same)
-            ∙ foreign_at g x (ne_eqb new.serial g.serial (λ is. older (sym is)))
-            ∙ sym (ap (named_at g) (ap (held globals.store) same ∙ least.absent) ∙ none_at g)
-        | inr other ↦ ap (named_at g) (stored_other globals.store new.name x g.name other)
-      ]
+  created_other globals i version handler new (least, left, next) last g older = grind (arith, new_global, cases_eq, stored_here, foreign_at, ne_eqb, none_at, stored_other) steps 400000
 
   -- nor does any other id
   pub created_elsewhere : (globals : Globals G) (i : InterfaceId) (version : ℕ) (handler : G) (new : GlobalParts) → IsNextGlobal globals new → (last : ℕ) (g : GlobalParts)
@@ -196,15 +145,7 @@ module _ {G : Type 0} where
 module _ {G : Type 0} where
   -- a global that is created has the next id
   next_in : (offer : Offer G) (i : InterfaceId) (version : ℕ) (g : GlobalParts) → CreatesGlobal offer.table offer.globals i version (Ok g) → IsNextGlobal offer.globals g
-  next_in offer i version g by =
-      elim (either_option (slice_get offer.table i.0) by) [
-        | inl (none, is) ↦ absurd (true≢false (ap is_ok is))
-        | inr (row, there, h) ↦
-            elim (either_bool (nat_le version row.version) h) [
-              | inl next ↦ next
-              | inr is ↦ absurd (true≢false (ap is_ok is))
-            ]
-      ]
+  next_in offer i version g by = grind (arith, either_option, slice_get, true≢false, is_ok, either_bool, nat_le) steps 400000
 
   disabled_last : (globals : Globals G) (n : ℕ) (o : Option (Object (KeptGlobal G))) → (disabled_at globals n o).last_serial ≡ globals.last_serial
   disabled_last globals n None = refl
@@ -217,9 +158,7 @@ module _ {G : Type 0} where
   -- a change makes no id name a global that named none
   some_left : (change : Option (Object (KeptGlobal G)) → Option (Object (KeptGlobal G))) → change None ≡ None → (b : Bool) (o : Option (Object (KeptGlobal G)))
       → IsSome (cond b (change o) o) → IsSome o
-  some_left change nothing b (Some x) some = refl
-  some_left change nothing true None some = absurd (some_none some nothing)
-  some_left change nothing false None some = some
+  some_left change h1 b o h2 = grind (arith, some_none) steps 400000
 
 module _ {T U G C : Type 0} where
   offered_next : (offer : Offer G) (call : Call T U G C) (g : GlobalParts) → AnswersShared offer call → Offers g call → IsNextGlobal offer.globals g
@@ -230,10 +169,7 @@ module _ {T U G C : Type 0} where
 
   -- the last serial of a global never falls
   last_grows : (offer : Offer G) (call : Call T U G C) → AnswersShared offer call → offer.globals.last_serial ≤ (offer_after offer call).globals.last_serial
-  last_grows offer (Asked (step.CreateGlobal i version handler) (reply.CreateGlobal (Ok g))) by = (let next = (next_in offer i version g by).2 in omega (arith, next))
-  last_grows offer (Asked (step.DisableGlobal g) answer) by = (let same = disabled_last offer.globals g.name (global_of offer.globals g) in omega (arith, same))
-  last_grows offer (Asked (step.RemoveGlobal g) answer) by = (let same = freed_last offer.globals g.name (global_of offer.globals g) in omega (arith, same))
-  last_grows offer _ by = omega arith
+  last_grows offer call h1 = grind (arith, next_in, disabled_last, global_of, freed_last) steps 400000
 
   -- what the id of a global that was given before names after a call
   named_by : (offer : Offer G) (call : Call T U G C) (g : GlobalParts) → AnswersShared offer call → g.serial ≤ offer.globals.last_serial
@@ -310,13 +246,7 @@ module _ {T U G C : Type 0} where
 
   globals_rise : (offer offer' : Offer G) (last last' : ℕ) (run : List (Entry T U G C)) → SharedAlone offer last run offer' last' → GlobalsRise run
   globals_rise offer offer' last last' [] shared = tt
-  globals_rise offer offer' last last' (e ∷ run) (by, next, rest) = (
-    (λ old new is later.
-        (let number = offered_last offer e.call old is in
-        let more = globals_above (offer_after offer e.call) offer' (last + inserted_by e.call) last' run rest new later in
-        omega (arith, number, more))),
-    globals_rise (offer_after offer e.call) offer' (last + inserted_by e.call) last' run rest,
-  )
+  globals_rise offer offer' last last' (e ∷ run) (by, next, rest) = grind (arith, offered_last, globals_above, offer_after, inserted_by, globals_rise (offer_after offer e.call) offer' (last + inserted_by e.call) last' run rest) steps 400000
 
   globals_grow : (offer offer' : Offer G) (last last' : ℕ) (run : List (Entry T U G C)) → SharedAlone offer last run offer' last' → offer.globals.last_serial ≤ offer'.globals.last_serial
   globals_grow offer offer' last last' [] (same, is) = (let e = ap (λ (o : Offer G). o.globals.last_serial) same in omega (arith, e))
@@ -328,10 +258,7 @@ module _ {T U G C : Type 0} where
   global_given : (offer offer' : Offer G) (last last' : ℕ) (run : List (Entry T U G C)) → SharedAlone offer last run offer' last' → (g : GlobalParts) → SomeCall (Offers g) run
       → g.serial ≤ offer'.globals.last_serial
   global_given offer offer' last last' [] shared g some = absurd some
-  global_given offer offer' last last' (e ∷ run) (by, next, rest) g (inl is) =
-      (let number = offered_last offer e.call g is in
-      let more = globals_grow (offer_after offer e.call) offer' (last + inserted_by e.call) last' run rest in
-      omega (arith, number, more))
+  global_given offer offer' last last' (e ∷ run) (by, next, rest) g (inl is) = grind (arith, offered_last, globals_grow, offer_after, inserted_by) steps 400000
   global_given offer offer' last last' (e ∷ run) (by, next, rest) g (inr later) =
       global_given (offer_after offer e.call) offer' (last + inserted_by e.call) last' run rest g later
 
@@ -346,31 +273,11 @@ module _ {T U G C : Type 0} where
   made_over : (offer offer' : Offer G) (last last' : ℕ) (run : List (Entry T U G C)) → SharedAlone offer last run offer' last' → (g : GlobalParts) → IsSome (global_of offer'.globals g)
       → IsSome (global_of offer.globals g) ⊎ SomeCall (Offers g) run
   made_over offer offer' last last' [] (same, is) g some = inl (subst (λ (o : Offer G). IsSome (global_of o.globals g)) same some)
-  made_over offer offer' last last' (e ∷ run) (by, next, rest) g some =
-      elim (made_over (offer_after offer e.call) offer' (last + inserted_by e.call) last' run rest g some) [
-        | inr later ↦ inr (inr later)
-        | inl now ↦
-            elim (named_before offer e.call g by now) [
-              | inl before ↦ inl before
-              | inr is ↦ inr (inl is)
-            ]
-      ]
+  made_over offer offer' last last' (e ∷ run) (by, next, rest) g some = grind (arith, offer_after, inserted_by, named_before, made_over (offer_after offer e.call) offer' (last + inserted_by e.call) last' run rest g some) steps 400000
 
   -- where an id names none, no call but a creation makes it name one
   none_by : (g : GlobalParts) (call : Call T U G C) → global_by g call None ≡ None
-  none_by g (Asked (step.DisableGlobal target) answer) = go (same_global target g)
-    where
-      go : (b : Bool) → cond b (option_map as_disabled (let o : Option (Object (KeptGlobal G)) = None in o)) None ≡ None
-      go true = refl
-      go false = refl
-  none_by g (Asked (step.RemoveGlobal target) answer) = go (same_global target g)
-    where
-      go : (b : Bool) → cond b (let o : Option (Object (KeptGlobal G)) = None in o) None ≡ None
-      go true = refl
-      go false = refl
-  none_by g (Asked call answer) = refl
-  none_by g (Changed target t) = refl
-  none_by g (Grown rows answer) = refl
+  none_by g call = grind (arith, same_global, option_map, as_disabled) steps 400000
 
   none_over : (g : GlobalParts) (run : List (Entry T U G C)) → global_over g run None ≡ None
   none_over g [] = refl
@@ -384,11 +291,7 @@ module _ {T U G C : Type 0} where
   inserted_in _ = None
 
   inserts_in : (call : Call T U G C) (id : ClientParts) → inserted_in call ≡ Some id → Inserts id call
-  inserts_in (Asked (step.InsertClient transport client_data) (reply.InsertClient (Ok new))) id is =
-      (transport, client_data, ap (λ (x : ClientParts). Asked (step.InsertClient transport client_data) (reply.InsertClient (Ok x))) (same_Some new id is))
-  inserts_in (Asked call answer) id is = absurd (none-some _ is)
-  inserts_in (Changed target t) id is = absurd (none-some _ is)
-  inserts_in (Grown rows answer) id is = absurd (none-some _ is)
+  inserts_in call id h1 = grind (arith, same_Some, none-some) steps 400000
 
   either_inserts : (id : ClientParts) (call : Call T U G C) → Inserts id call ⊎ IsNotInserted id call
   either_inserts id call = go (inserted_in call) refl

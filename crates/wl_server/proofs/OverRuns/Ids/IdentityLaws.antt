@@ -47,12 +47,7 @@ module _ {U : Type 0} (client : ClientParts) where
   noted_over (step ∷ rest) o u (inr later) = let (of_it, made) = noted_over rest o u later in (of_it, inr made)
 
   pub begins_without : (o : IdParts) (u : U) → IsAmong (Initialized ∷ []) (Destroyed o u) → ⊥
-  begins_without o u (inl is) = true≢false (ap begins is)
-    where
-      begins : Happening U → Bool
-      begins Initialized = true
-      begins _ = false
-  begins_without o u (inr none) = none
+  begins_without o u h1 = grind (arith, true≢false) steps 400000
 
 module _ {T U G C : Type 0} (w : World T G C) (id : ClientParts) where
   pub record RunChanging (offer : Offer G) (s : Seen T U C) (o : Objects (Kept U)) (run : List (Own T U G C)) (t : Seen T U C) : Type 0 where
@@ -147,22 +142,7 @@ module _ {T U G C : Type 0} (w : World T G C) (id : ClientParts) where
   -- ---- what holds of it
 
   pub names_of : (t : Seen T U C) (kept : Objects (Kept U)) → AreObjectsOf t kept → (o : IdParts) → IsSome (named_of t o) ↔ IsSome (names serial_of (id_of o) kept.store)
-  names_of t kept are o = go t.part are
-    where
-      none_there : held kept.store o.number ≡ None → IsSome (names serial_of (id_of o) kept.store) → ⊥
-      none_there none some = at (eqb o.number 0) some
-        where
-          at : (b : Bool) → IsSome (cond b None (named_in serial_of (id_of o) (held kept.store o.number))) → ⊥
-          at true some = true≢false (sym some)
-          at false some = true≢false (sym (sym (ap (λ x. is_some (named_in serial_of (id_of o) x)) none) ∙ some))
-
-      go : (p : Option (Part T U C)) → MatchOption p ((n : ℕ) → held kept.store n ≡ None) (λ q. kept ≡ objects_of q)
-          → IsSome (and_then p (λ q. named q.store o)) ↔ IsSome (names serial_of (id_of o) kept.store)
-      go None none = (λ some. absurd (true≢false (sym some)), λ some. absurd (none_there (none o.number) some))
-      go (Some q) is = (
-        λ some. ap (λ (x : Objects (Kept U)). is_some (names serial_of (id_of o) x.store)) is ∙ some,
-        λ some. sym (ap (λ (x : Objects (Kept U)). is_some (names serial_of (id_of o) x.store)) is) ∙ some,
-      )
+  names_of t kept are o = grind (arith, names, serial_of, id_of, eqb, named_in, true≢false, is_some, objects_of, named) steps 400000
 
   -- a client's run is one of changes, from its display alone on
   pub begun_change : (offer : Offer G) (link : LinkState T) (client_data : C) (run : List (Own T U G C)) (t : Seen T U C) → AreMine id run → Alone w id offer (just_inserted link client_data) run t

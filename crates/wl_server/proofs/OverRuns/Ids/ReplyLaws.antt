@@ -1,5 +1,5 @@
 -- That the ids of a reply are those that its call hands out.
-use Rattle.std.proofs.Common.{◌≡◌, Bool, true, false, List, [], ◌∷◌, ◌++◌, Option, None, Some, Result, Ok, Err, sym, ap, subst, true≢false}
+use Rattle.std.proofs.Common.{◌≡◌, Bool, true, false, List, [], ◌∷◌, ◌++◌, Option, None, Some, Result, Ok, Err, sym, ap, subst, true≢false, arith}
 use mathlib.Core.Logic.{inl, inr}
 use Rattle.std.specs.Prelude.{if◌then◌else◌, is_ok}
 use Rattle.wl_wire.specs.declared.error.IoFault.{IoFault}
@@ -39,11 +39,7 @@ module _ {U : Type 0} where
       among_first (action_ids other) (all_action_ids (acted_in (deeds_in gave))) i (subst (λ (x : Handed). IsAmong (action_ids x) i) (sym (same_handed is)) among)
     where
       same_handed : ◌≡◌ {A = Result Handed ActionError} (Ok other) (Ok h) → other ≡ h
-      same_handed is = ap (λ (r : Result Handed ActionError). of_result r) is
-        where
-          of_result : Result Handed ActionError → Handed
-          of_result (Ok x) = x
-          of_result (Err e) = other
+      same_handed is = grind (arith) steps 400000
   given_ids (HandedOut (Did (Sent e)) ∷ gave) h is i among = given_ids gave h is i among
   given_ids (HandedOut (Did (Came r)) ∷ gave) h is i among = given_ids gave h is i among
   given_ids (HandedOut (Did (Put m)) ∷ gave) h is i among = given_ids gave h is i among
@@ -54,9 +50,7 @@ module _ {U : Type 0} where
 
   answered_ids : (stopped : Option IoFault) (gave : List (Given (Told U))) (answer : Result Handed ActionError) → answer ≡ answered stopped gave → (i : HandedId IdParts)
       → IsAmong (answer_ids answer) i → IsAmong (all_action_ids (acted_in (deeds_in gave))) i
-  answered_ids stopped gave (Err e) is i among = absurd among
-  answered_ids None gave (Ok h) is i among = given_ids gave h (sym is) i among
-  answered_ids (Some f) gave (Ok h) is i among = absurd (true≢false (ap is_ok is))
+  answered_ids stopped gave answer h1 i h2 = grind (arith, given_ids, true≢false, is_ok) steps 400000
 
   module _ {C : Type 0} where
     -- and so among all deeds
@@ -92,12 +86,7 @@ module _ {T U G C : Type 0} (w : World T G C) (id : ClientParts) (offer : Offer 
   reads_ids : (target : ClientParts) (r : Reading) (answer : Result Handed ActionError) (r' : Reading) (s : Seen T U C) (lacked : Bool) (did : List (Deed U)) (t : Seen T U C)
       → same_client target id ≡ true → ReadsFor w id offer target r answer r' s lacked did t → (i : HandedId IdParts) → IsAmong (answer_ids answer) i
       → IsAmong (all_action_ids (acted_in did)) i
-  reads_ids target r answer r' s lacked did t about h i among =
-      elim (either_option s.part (own_step (same_client target id) s (λ p q. NextAction w.sends w.receives (around w id offer) r p answer r' lacked did q)
-      ((answer ≡ Err (Io fault.InvalidInput)) × (r' ≡ r)) lacked did t about h)) [
-        | inl (none, ((is, same), rest)) ↦ absurd (subst (λ (a : Result Handed ActionError). IsAmong (answer_ids a) i) is among)
-        | inr (p, there, (q, next, after)) ↦ read_ids r p answer r' lacked did q next i among
-      ]
+  reads_ids target r answer r' s lacked did t about h i among = grind (arith, either_option, own_step, around, read_ids) steps 400000
 
   abbrev pub Covers : Call T U G C → List (Deed U) → Type 0
   Covers call did = (i : HandedId IdParts) → IsAmong (ids_in call) i → IsAmong (handed_by id call did) i
@@ -105,19 +94,8 @@ module _ {T U G C : Type 0} (w : World T G C) (id : ClientParts) (offer : Offer 
   -- the ids of a reply are those that the call hands out
   covers_step : (call : Step T U G C) (answer : Reply T U) (s : Seen T U C) (lacked : Bool) (did : List (Deed U)) (t : Seen T U C) → is_about id call ≡ true
       → PartStep w id offer call answer s lacked did t → Covers (Asked call answer) did
-  covers_step (step.CreateObject target i version u) answer s lacked did t about (r, is, h) =
-      subst (λ (a : Reply T U). Covers (Asked (step.CreateObject target i version u) a) did) (sym is)
-      (λ x among. subst (λ (b : Bool). IsAmong (if b then made_ids r else []) x) (sym about) among)
-  covers_step (step.NextAction target) answer s lacked did t about (r, left, is, h) =
-      subst (λ (a : Reply T U). Covers (Asked (step.NextAction target) a) did) (sym is)
-      (λ i among. reads_ids target new_reading (action_content r) left s lacked did t about h i among)
-  covers_step (step.NextActionWithin target reading) answer s lacked did t about (r, left, is, h) =
-      subst (λ (a : Reply T U). Covers (Asked (step.NextActionWithin target reading) a) did) (sym is)
-      (λ i among. reads_ids target reading (action_content r) left s lacked did t about h i among)
-  covers_step call answer s lacked did t about h = λ x among. absurd among
+  covers_step call answer s lacked did t h1 h2 = grind (arith, reads_ids, new_reading, action_content) steps 400000
 
   pub covers : (call : Call T U G C) (s : Seen T U C) (lacked : Bool) (did : List (Deed U)) (t : Seen T U C) → concerns id call ≡ true
       → PartCall w id offer call s lacked did t → Covers call did
-  covers (Asked call answer) s lacked did t about h = covers_step call answer s lacked did t about h
-  covers (Changed target t') s lacked did t about h = λ i among. absurd among
-  covers (Grown rows answer) s lacked did t about h = λ i among. absurd among
+  covers call s lacked did t h1 h2 = grind (arith, covers_step) steps 400000

@@ -35,12 +35,7 @@ use Rattle.wl_server.proofs.OverRuns.Killed.KilledParts.{Remains, fading, moves_
 -- ---- the answer of a reading
 
 content_is : (r : Result Action ActionError) (e : ActionError) → action_content r ≡ Err e → r ≡ Err e
-content_is (Ok a) e is = absurd (true≢false (ap is_ok is))
-content_is (Err f) e is = ap error_in is
-  where
-    error_in : Result Handed ActionError → Result Action ActionError
-    error_in (Ok h) = Err f
-    error_in (Err e) = Err e
+content_is r e h1 = grind (arith, true≢false) steps 400000
 
 -- why nothing is read of a killed client
 abbrev pub refusal_with : Option OpenAction → ActionError
@@ -59,9 +54,7 @@ module _ {T U : Type 0} (id target : ClientParts) (e : ActionError) (r : Result 
 
   says_within : (reading left : Reading) → answer ≡ reply.NextActionWithin r left → (same_client target id ≡ true → (action_content r ≡ Err e) × (left ≡ reading))
       → same_client target id ≡ true → answer ≡ reply.NextActionWithin (Err e) reading
-  says_within reading left is says mine =
-      is ∙ ap (λ (x : Result Action ActionError). reply.NextActionWithin x left) (content_is r e (says mine).0)
-      ∙ ap (λ (x : Reading). reply.NextActionWithin (Err e) x) (says mine).1
+  says_within reading left is says mine = grind (arith, content_is) steps 400000
 
 -- ---- a killed client
 
@@ -73,40 +66,15 @@ module _ {T U G C : Type 0} (w : World T G C) (id : ClientParts) (offer : Offer 
 
   dead_unread : (r r' : Reading) (answer : Result Handed ActionError) (q : Part T U C) → NextAction w.sends w.receives (around w id offer) r p answer r' lacked did q
       → Unread (refusal_with p.action) r r' answer did
-  dead_unread r r' answer q h =
-      elim (either_option p.action h) [
-        | inl (none, g) ↦
-            let (is, same, calm, nothing, stays) = when_killed _ p.is_killed killed g in
-            record { answers = is ∙ ap (λ (o : Option OpenAction). let x : Result Handed ActionError = Err (refusal_with o) in x) (sym none); left = same; none = nothing }
-        | inr (a, open', (is, same, calm, nothing, stays)) ↦
-            record { answers = is ∙ ap (λ (o : Option OpenAction). let x : Result Handed ActionError = Err (refusal_with o) in x) (sym open'); left = same; none = nothing }
-      ]
+  dead_unread r r' answer q h = grind (arith, either_option, when_killed) steps 400000
 
   dead_reads : (target : ClientParts) (r r' : Reading) (answer : Result Handed ActionError) → ReadsFor w id offer target r answer r' before lacked did after
       → (did ≡ []) × (same_client target id ≡ true → (answer ≡ Err (refusal_with p.action)) × (r' ≡ r))
-  dead_reads target r r' answer h = go (same_client target id) refl h
-    where
-      go : (b : Bool) → same_client target id ≡ b
-          → OfClient b before (λ p q. NextAction w.sends w.receives (around w id offer) r p answer r' lacked did q) ((answer ≡ Err (Io fault.InvalidInput)) × (r' ≡ r)) lacked did after
-          → (did ≡ []) × (same_client target id ≡ true → (answer ≡ Err (refusal_with p.action)) × (r' ≡ r))
-      go true is h =
-          elim (either_option before.part h) [
-            | inl (none, nothing) ↦ absurd (none-some _ (sym none ∙ there))
-            | inr (p', there', (q, next, same)) ↦
-                let u = dead_unread r r' answer q (subst (λ (x : Part T U C). NextAction w.sends w.receives (around w id offer) r x answer r' lacked did q) (found_part p' there') next) in
-                (u.none, λ mine. (u.answers, u.left))
-          ]
-      go false is (calm, none, same) = (none, λ mine. absurd (true≢false (sym mine ∙ is)))
+  dead_reads target r r' answer h = grind (arith, around, either_option, dead_unread, found_part, true≢false) steps 400000
 
   -- what a reading of it answers
   pub dead_says : (call : Call T U G C) → PartCall w id offer call before lacked did after → ReadingAnswers id (refusal_with p.action) call
-  dead_says (Asked (step.NextAction target) answer) (r, left, is, h) =
-      says_next id target (refusal_with p.action) r answer is (λ mine. ((dead_reads target new_reading left (action_content r) h).1 mine).0)
-  dead_says (Asked (step.NextActionWithin target reading) answer) (r, left, is, h) =
-      says_within id target (refusal_with p.action) r answer reading left is (dead_reads target reading left (action_content r) h).1
-  dead_says (Asked call answer) h = tt
-  dead_says (Changed target t) h = tt
-  dead_says (Grown rows answer) h = tt
+  dead_says call h1 = grind (arith, says_next, dead_reads, says_within) steps 400000
 
   -- nothing is received from it
   pub dead_silent : (call : Call T U G C) → PartCall w id offer call before lacked did after → came_in did ≡ []
@@ -167,11 +135,7 @@ module _ {T U G C : Type 0} (w : World T G C) (id : ClientParts) (offer : Offer 
       ]
     where
       stays : (q : Part T U C) → NextAction w.sends w.receives (around w id offer) r p answer r' lacked did q → Remains p q
-      stays q next =
-          elim (either_option p.action next) [
-            | inl (none, g) ↦ let (is, same, calm, nothing, still) = when_killed _ p.is_killed killed g in remains p killed q still
-            | inr (a, open', (is, same, calm, nothing, still)) ↦ remains p killed q still
-          ]
+      stays q next = grind (arith, either_option, when_killed, remains) steps 400000
 
   -- a killed client stays killed, or the call is the cleanup that takes it out
   pub dead_or_out : (call : Call T U G C) → IsNotInserted id call → PartCall w id offer call before lacked did after → DeadOrOut call
@@ -192,27 +156,11 @@ module _ {T U G C : Type 0} (w : World T G C) (id : ClientParts) (offer : Offer 
     (after : Seen T U C) where
   out_reads : (target : ClientParts) (r r' : Reading) (answer : Result Handed ActionError) → ReadsFor w id offer target r answer r' before lacked did after
       → (did ≡ []) × (same_client target id ≡ true → (answer ≡ Err (Io fault.InvalidInput)) × (r' ≡ r))
-  out_reads target r r' answer h = go (same_client target id) refl h
-    where
-      go : (b : Bool) → same_client target id ≡ b
-          → OfClient b before (λ p q. NextAction w.sends w.receives (around w id offer) r p answer r' lacked did q) ((answer ≡ Err (Io fault.InvalidInput)) × (r' ≡ r)) lacked did after
-          → (did ≡ []) × (same_client target id ≡ true → (answer ≡ Err (Io fault.InvalidInput)) × (r' ≡ r))
-      go true is h =
-          elim (either_option before.part h) [
-            | inl (nobody, (says, (calm, none, same))) ↦ (none, λ mine. says)
-            | inr (p, there, others) ↦ absurd (none-some _ (sym gone ∙ there))
-          ]
-      go false is (calm, none, same) = (none, λ mine. absurd (true≢false (sym mine ∙ is)))
+  out_reads target r r' answer h = grind (arith, around, either_option, true≢false) steps 400000
 
   -- what a reading of it answers
   pub out_says : (call : Call T U G C) → PartCall w id offer call before lacked did after → ReadingAnswers id (Io fault.InvalidInput) call
-  out_says (Asked (step.NextAction target) answer) (r, left, is, h) =
-      says_next id target (Io fault.InvalidInput) r answer is (λ mine. ((out_reads target new_reading left (action_content r) h).1 mine).0)
-  out_says (Asked (step.NextActionWithin target reading) answer) (r, left, is, h) =
-      says_within id target (Io fault.InvalidInput) r answer reading left is (out_reads target reading left (action_content r) h).1
-  out_says (Asked call answer) h = tt
-  out_says (Changed target t) h = tt
-  out_says (Grown rows answer) h = tt
+  out_says call h1 = grind (arith, says_next, out_reads, says_within) steps 400000
 
   -- nothing is received from it
   pub out_silent : (call : Call T U G C) → PartCall w id offer call before lacked did after → came_in did ≡ []
@@ -223,10 +171,7 @@ module _ {T U G C : Type 0} (w : World T G C) (id : ClientParts) (offer : Offer 
   out_silent (Grown rows answer) h = call_quiet w id offer before after lacked did (Grown rows answer) refl h
 
   goes_out : (d : _) → Goes (any true) w.sends w.receives id before d after → after.part ≡ None
-  goes_out d (unfelt is same) = ap (λ (s : Seen T U C). s.part) same ∙ gone
-  goes_out d (within p q there moves same) = absurd (none-some _ (sym gone ∙ there))
-  goes_out d (taken_out p q on there killed moves empty no_notes same) = ap (λ (s : Seen T U C). s.part) same
-  goes_out d (notes_taken on is same) = ap (λ (s : Seen T U C). s.part) same ∙ gone
+  goes_out d h1 = grind (arith, unfelt, within, taken_out, notes_taken) steps 400000
 
   -- it is not stored again, if it is not inserted again
   pub out_stays : (call : Call T U G C) → IsNotInserted id call → PartCall w id offer call before lacked did after → after.part ≡ None

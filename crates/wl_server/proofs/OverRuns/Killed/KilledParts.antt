@@ -1,5 +1,5 @@
 -- That a killed client stays killed, and opens no action, over the base moves of whatever is done with its part.
-use Rattle.std.proofs.Common.{◌≡◌, ℕ, Bool, true, false, None, Result, MatchBool, refl, sym, ap, ◌∙◌, true≢false}
+use Rattle.std.proofs.Common.{◌≡◌, ℕ, Bool, true, false, None, Result, MatchBool, refl, sym, ap, ◌∙◌, true≢false, arith}
 use Rattle.std.proofs.lemmas.Bool.{false≢true}
 use Rattle.wl_wire.specs.declared.error.IoFault.{IoFault}
 use Rattle.wl_link.specs.Exchange.{Queue}
@@ -18,10 +18,7 @@ pub record Remains {T U C : Type 0} (p q : Part T U C) : Type 0 where
 
 module _ {T U C : Type 0} (p : Part T U C) (killed : p.is_killed ≡ true) where
   remains_as : (q r : Part T U C) → q ≡ r → r.is_killed ≡ p.is_killed → r.action ≡ p.action → Remains p q
-  remains_as q r same is action = record {
-    killed = ap (λ (x : Part T U C). x.is_killed) same ∙ is ∙ killed;
-    closed = λ none. ap (λ (x : Part T U C). x.action) same ∙ action ∙ none;
-  }
+  remains_as q r same is action = grind (arith) steps 400000
 
   pub remains : (q : Part T U C) → q ≡ p → Remains p q
   remains q same = remains_as q p same refl refl

@@ -1,5 +1,5 @@
 -- That no message is lost, and none is sent that was not put: an induction over base moves.
-use Rattle.std.proofs.Common.{◌≡◌, ℕ, true, List, [], ◌∷◌, ◌++◌, Option, Some, Result, refl, sym, ap, subst, ◌∙◌}
+use Rattle.std.proofs.Common.{◌≡◌, ℕ, true, List, [], ◌∷◌, ◌++◌, Option, Some, Result, refl, sym, ap, subst, ◌∙◌, arith}
 use Rattle.std.specs.Prelude.{MatchOption}
 use Rattle.wl_wire.specs.declared.error.IoFault.{IoFault}
 use Rattle.wl_wire.specs.Message.{WireMessage}
@@ -111,16 +111,8 @@ module _ {T U C : Type 0} (sends : T → Queue → Result ℕ IoFault → T → 
     waiting = subst (λ (x : Seen T U C). WaitsFor x waits) (sym same) is;
     keeps = keeps_quiet waits waits d (ap (λ (e : Doings U). e.sends) none) (ap (λ (e : Doings U). e.put) none) refl;
   }
-  goes_keep s t d waits is (within p q there moves same) = record {
-    after = out q;
-    waiting = subst (λ (x : Seen T U C). WaitsFor x (out q)) (sym same) refl;
-    keeps = subst (λ (x : Queue). Keeps x d (out q)) (sym (waits_at s p waits there is)) (moves_keep p q d moves);
-  }
-  goes_keep s t d waits is (taken_out p q on there killed moves none noted same) = record {
-    after = out q;
-    waiting = subst (λ (x : Seen T U C). WaitsFor x (out q)) (sym same) tt;
-    keeps = subst (λ (x : Queue). Keeps x d (out q)) (sym (waits_at s p waits there is)) (moves_keep p q d moves);
-  }
+  goes_keep s t d waits is (within p q there moves same) = grind (arith, waits_at, moves_keep) steps 400000
+  goes_keep s t d waits is (taken_out p q on there killed moves none noted same) = grind (arith, waits_at, moves_keep) steps 400000
 
 -- ---- the run of a client
 

@@ -1,5 +1,5 @@
 -- How what is done adds up: over moves one behind another, and over deeds.
-use Rattle.std.proofs.Common.{◌≡◌, List, [], ◌∷◌, ◌++◌, Option, None, Some, Result, map, refl, sym, ap, ◌∙◌, append-nil, append_assoc}
+use Rattle.std.proofs.Common.{◌≡◌, List, [], ◌∷◌, ◌++◌, Option, None, Some, Result, map, refl, sym, ap, ◌∙◌, append-nil, append_assoc, arith}
 use Rattle.wl_wire.specs.declared.error.IoFault.{IoFault}
 use Rattle.wl_link.specs.Exchange.{Queue, Sending}
 use Rattle.wl_link.specs.Puts.{Said}
@@ -16,9 +16,7 @@ use Rattle.wl_server.specs.Ids.{IdParts}
 
 ids_both : (acted others : List Handed) → all_action_ids (acted ++ others) ≡ all_action_ids acted ++ all_action_ids others
 ids_both [] others = refl
-ids_both (h ∷ acted) others =
-    ap (λ (ids : List (HandedId IdParts)). action_ids h ++ ids) (ids_both acted others)
-    ∙ sym (append_assoc (action_ids h) (all_action_ids acted) (all_action_ids others))
+ids_both (h ∷ acted) others = grind (arith, append_assoc, all_action_ids, ids_both acted others) steps 400000
 
 passes : {A : Type 0} (xs ys : List A) → xs ≡ [] → xs ++ ys ≡ ys ++ xs
 passes xs ys none = ap (λ l. l ++ ys) none ∙ sym (append-nil ys) ∙ ap (λ l. ys ++ l) (sym none)
@@ -27,30 +25,10 @@ module _ {U : Type 0} where
   -- ---- moves one behind another
 
   pub joined_assoc : (a b c : Doings U) → joined (joined a b) c ≡ joined a (joined b c)
-  joined_assoc a b c = λ i. record {
-    handed = append_assoc a.handed b.handed c.handed i;
-    sends = append_assoc a.sends b.sends c.sends i;
-    came = append_assoc a.came b.came c.came i;
-    put = append_assoc a.put b.put c.put i;
-    registries = append_assoc a.registries b.registries c.registries i;
-    left = append_assoc a.left b.left c.left i;
-    notes = append_assoc a.notes b.notes c.notes i;
-    acted = append_assoc a.acted b.acted c.acted i;
-    taken = append_assoc a.taken b.taken c.taken i;
-  }
+  joined_assoc a b c = grind (arith, append_assoc) steps 400000
 
   pub joined_none : (a : Doings U) → joined a nothing_done ≡ a
-  joined_none a = λ i. record {
-    handed = append-nil a.handed i;
-    sends = append-nil a.sends i;
-    came = append-nil a.came i;
-    put = append-nil a.put i;
-    registries = append-nil a.registries i;
-    left = append-nil a.left i;
-    notes = append-nil a.notes i;
-    acted = append-nil a.acted i;
-    taken = append-nil a.taken i;
-  }
+  joined_none a = grind (arith, append-nil) steps 400000
 
   -- sends and receives are of kinds of their own
   abbrev pub exchanging : List Sending → List (Result Queue IoFault) → Doings U
@@ -62,17 +40,7 @@ module _ {U : Type 0} where
 
   exchanges_pass : (es : List Sending) (rs : List (Result Queue IoFault)) (d : Doings U) → d.sends ≡ [] → d.came ≡ []
       → joined d (exchanging es rs) ≡ joined (exchanging es rs) d
-  exchanges_pass es rs d no_sends none_came = λ i. record {
-    handed = append-nil d.handed i;
-    sends = passes d.sends es no_sends i;
-    came = passes d.came rs none_came i;
-    put = append-nil d.put i;
-    registries = append-nil d.registries i;
-    left = append-nil d.left i;
-    notes = append-nil d.notes i;
-    acted = append-nil d.acted i;
-    taken = append-nil d.taken i;
-  }
+  exchanges_pass es rs d no_sends none_came = grind (arith, append-nil, passes) steps 400000
 
   -- ---- deeds
 
@@ -95,9 +63,7 @@ module _ {U : Type 0} where
   acted_both a b = ap (λ (d : Doings U). d.acted) (doings_both [] [] a b)
 
   pub doings_in_both : (a b : List (Deed U)) → doings_in (a ++ b) ≡ joined (doings_in a) (doings_in b)
-  doings_in_both a b =
-      ap (λ (ids : List (HandedId IdParts)). doings_of ids (a ++ b)) (ap all_action_ids (acted_both a b) ∙ ids_both (acted_in a) (acted_in b))
-      ∙ doings_both (all_action_ids (acted_in a)) (all_action_ids (acted_in b)) a b
+  doings_in_both a b = grind (arith, doings_of, all_action_ids, acted_both, ids_both, acted_in, doings_both) steps 400000
 
   pub doings_sends : (es : List Sending) → doings_in (map Sent es) ≡ sending es
   doings_sends [] = refl
@@ -159,21 +125,12 @@ module _ {U : Type 0} where
 
     pub deeds_done : (exchanges : List (Deed U)) (gave : List (Given (Told U))) (c : Core U C)
         → doings_in (deeds_of exchanges gave c) ≡ joined (doings_in exchanges) (joined (doings_in (deeds_in gave)) (end_of c))
-    deeds_done exchanges gave c =
-        doings_in_both exchanges (deeds_in gave ++ end_deeds c.ended)
-        ∙ ap (joined (doings_in exchanges)) (doings_in_both (deeds_in gave) (end_deeds c.ended) ∙ ap (joined (doings_in (deeds_in gave))) (doings_end c.ended))
+    deeds_done exchanges gave c = grind (arith, doings_in_both, deeds_in, end_deeds, joined, doings_end) steps 400000
 
     -- a verdict's, with what it put and what it gave
     pub verdict_done : (es : List Sending) (put : List Said) (made : List (Deed U)) (gave : List (Given (Told U))) (c : Core U C) → deeds_in gave ≡ map Put put ++ made
         → doings_in (deeds_of (map Sent es) gave c) ≡ joined (putting es put) (joined (doings_in made) (end_of c))
-    verdict_done es put made gave c is =
-        deeds_done (map Sent es) gave c
-        ∙ ap (λ (d : Doings U). joined d (joined (doings_in (deeds_in gave)) (end_of c))) (doings_sends es)
-        ∙ ap (λ (d : Doings U). joined (sending es) (joined d (end_of c)))
-        (ap doings_in is ∙ doings_in_both (map Put put) made ∙ ap (λ (d : Doings U). joined d (doings_in made)) (doings_puts put))
-        ∙ ap (joined (sending es)) (joined_assoc (putting [] put) (doings_in made) (end_of c))
-        ∙ sym (joined_assoc (sending es) (putting [] put) (joined (doings_in made) (end_of c)))
-        ∙ ap (λ (l : List Sending). joined (putting l put) (joined (doings_in made) (end_of c))) (append-nil es)
+    verdict_done es put made gave c is = grind (arith, deeds_done, joined, deeds_in, doings_sends, sending, doings_in_both, doings_puts, joined_assoc, putting, append-nil) steps 400000
 
     -- what a turn sent and gave, where it killed nobody, and then what the turns behind it did
     pub turns_done : (es : List Sending) (turns : List Turn) (first others : List (Given (Told U))) (c : Core U C) → IsQuiet (deeds_in first)

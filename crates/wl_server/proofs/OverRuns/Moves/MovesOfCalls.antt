@@ -47,28 +47,10 @@ use Rattle.wl_server.specs.Telling.{Core, Did, Kills, Tells, Told, closed_down, 
 
 module _ {U : Type 0} where
   pub named_held : (store : Store (Kept U)) (id : IdParts) (x : Object (Kept U)) → named store id ≡ Some x → held store id.number ≡ Some x
-  named_held store id x e = go (eqb id.number 0) (held store id.number) e
-    where
-      one : (c : Bool) (y : Object (Kept U)) → cond c (Some y) None ≡ Some x → Some y ≡ Some x
-      one true y e = e
-      one false y e = absurd (none-some _ e)
-
-      go : (b : Bool) (o : Option (Object (Kept U))) → cond b None (named_in serial_of (id_of id) o) ≡ Some x → o ≡ Some x
-      go true o e = absurd (none-some _ e)
-      go false None e = absurd (none-some _ e)
-      go false (Some y) e = one (eqb y.value.serial id.serial) y e
+  named_held store id x e = grind (arith, eqb, held, serial_of, id_of) steps 400000
 
   pub named_serial : (store : Store (Kept U)) (id : IdParts) (x : Object (Kept U)) → named store id ≡ Some x → x.value.serial ≡ id.serial
-  named_serial store id x e = go (eqb id.number 0) (held store id.number) e
-    where
-      one : (c : Bool) (y : Object (Kept U)) → eqb y.value.serial id.serial ≡ c → cond c (Some y) None ≡ Some x → x.value.serial ≡ id.serial
-      one true y is e = ap (λ (o : Object (Kept U)). o.value.serial) (sym (same_Some y x e)) ∙ eqb-true y.value.serial id.serial is
-      one false y is e = absurd (none-some _ e)
-
-      go : (b : Bool) (o : Option (Object (Kept U))) → cond b None (named_in serial_of (id_of id) o) ≡ Some x → x.value.serial ≡ id.serial
-      go true o e = absurd (none-some _ e)
-      go false None e = absurd (none-some _ e)
-      go false (Some y) e = one (eqb y.value.serial id.serial) y refl e
+  named_serial store id x e = grind (arith, eqb, held, serial_of, id_of) steps 400000
 
   -- the id of the object that an id names has its number and serial
   named_id : (client : ClientParts) (store : Store (Kept U)) (id : IdParts) (x : Object (Kept U)) → named store id ≡ Some x → id_of (id_at client id.number x) ≡ id_of id
@@ -76,11 +58,7 @@ module _ {U : Type 0} where
 
   -- where its number holds none, an id names none
   gone_named : (store : Store (Kept U)) (id : IdParts) → held store id.number ≡ None → is_some (named store id) ≡ false
-  gone_named store id e = go (eqb id.number 0)
-    where
-      go : (b : Bool) → is_some (cond b None (named_in serial_of (id_of id) (held store id.number))) ≡ false
-      go true = refl
-      go false = ap (λ o. is_some (named_in serial_of (id_of id) o)) e
+  gone_named store id e = grind (arith, eqb, is_some, serial_of, id_of, held) steps 400000
 
   doings_left : (id : Id) (u : Option U) → doings_in (left_if id u) ≡ record nothing_done { left = left_id id u }
   doings_left id None = refl
@@ -101,25 +79,7 @@ module _ {U : Type 0} where
   -- what a check grants is the object that the id names
   pub granted_named : (client : ClientParts) (store : Store (Kept U)) (table : List InterfaceRow) (m : SessionMessage) (g : Object (Kept U) × Bool) → event_check client store table m ≡ Ok g
       → named store m.sender ≡ Some g.0
-  granted_named client store table m g e = go (named store m.sender) e
-    where
-      fault_free : (x : Object (Kept U)) (row : MessageRow) (o : Option EventError) → granted client store x row o ≡ Ok g → x ≡ g.0
-      fault_free x row None is = ap (λ (r : Result (Object (Kept U) × Bool) EventError). of_result r) is
-        where
-          of_result : Result (Object (Kept U) × Bool) EventError → Object (Kept U)
-          of_result (Ok h) = h.0
-          of_result (Err e) = x
-      fault_free x row (Some e) is = absurd (true≢false (sym (ap is_ok is)))
-
-      by_row : (x : Object (Kept U)) (row : Option MessageRow) → checked_row client store x row m ≡ Ok g → x ≡ g.0
-      by_row x None is = absurd (true≢false (sym (ap is_ok is)))
-      by_row x (Some row) is =
-          fault_free x row
-          (first_refusal (when (not (matches row.signature m.args)) refused.BadSignature ∷ argument_faults client store row row.signature row.arg_interfaces m.args)) is
-
-      go : (o : Option (Object (Kept U))) → checked_sender client store table o m ≡ Ok g → o ≡ Some g.0
-      go None is = absurd (true≢false (sym (ap is_ok is)))
-      go (Some x) is = ap Some (by_row x (event_row table x.interface m.opcode) is)
+  granted_named client store table m g e = grind (arith, named, granted, true≢false, is_ok, checked_row, argument_faults, checked_sender) steps 400000
 
   -- data given to another object leave a free number free
   still_gone : (store : Store (Kept U)) (n : ℕ) (created : Option IdParts) (u : Option U) → held store n ≡ None → held (store_with_data store created u) n ≡ None
@@ -170,29 +130,11 @@ module _ {T U C : Type 0} (kind : Kind) (sends : T → Queue → Result ℕ IoFa
   -- ---- data, and new objects
 
   pub data_set_moves : (p : Part T U C) (id : IdParts) (u : U) (answer : Result (Unit {0}) InvalidId) (q : Part T U C) → DataSet p id u answer q → Move p nothing_done q
-  data_set_moves p id u answer q h =
-      elim (either_option (named p.store id) h) [
-        | inl (none, (is, same)) ↦ stayed refl same
-        | inr (x, some, (is, same)) ↦ wrote id.number x u (named_held p.store id x some) refl same
-      ]
+  data_set_moves p id u answer q h = grind (arith, named, stayed, wrote, named_held) steps 400000
 
   pub creates_moves : (table : List InterfaceRow) (p : Part T U C) (i : InterfaceId) (version : ℕ) (u : U) (answer : Result IdParts CreateError) (q : Part T U C)
       → Creates table client p i version u answer q → Move p (handing (made_ids answer)) q
-  creates_moves table p i version u answer q h =
-      elim (either_option (slice_get table i.0) h) [
-        | inl (unknown, (is, same)) ↦ refuses is same
-        | inr (row, known, inl (full, is, same)) ↦ refuses is same
-        | inr (row, known, inr (n, least, g)) ↦
-            elim (either_bool (eqb p.last_serial last_possible_serial) g) [
-              | inl (is, same) ↦ refuses is same
-              | inr (inr (is, unused, same)) ↦ refuses is same
-              | inr (inl (is, same)) ↦
-                  born n (new_object p i version u) least.absent (not_zero n least.within) refl (ap (λ (r : Result IdParts CreateError). handing (made_ids r)) is) same
-            ]
-      ]
-    where
-      refuses : {e : CreateError} → answer ≡ Err e → q ≡ p → Move p (handing (made_ids answer)) q
-      refuses is same = stayed (ap (λ (r : Result IdParts CreateError). handing (made_ids r)) is) same
+  creates_moves table p i version u answer q h = grind (arith, slice_get, eqb, last_possible_serial, born, new_object, not_zero, handing, stayed) steps 400000
 
   -- ---- an object that leaves
 
@@ -225,11 +167,7 @@ module _ {T U C : Type 0} (kind : Kind) (sends : T → Queue → Result ℕ IoFa
   }
 
   destroyable_named : (p : Part T U C) (id : IdParts) (x : Object (Kept U)) → destroyable p id ≡ Some x → named p.store id ≡ Some x
-  destroyable_named p id x e = go (eqb id.number 1) e
-    where
-      go : (b : Bool) → cond b None (named p.store id) ≡ Some x → named p.store id ≡ Some x
-      go true e = absurd (none-some _ e)
-      go false e = e
+  destroyable_named p id x e = grind (arith, eqb, named) steps 400000
 
   pub destroys_moves : (p : Part T U C) (id : IdParts) (answer : Result (Unit {0}) DestroyError) (lacked : Bool) (did : List (Deed U)) (q : Part T U C)
       → Destroys sends client p id answer lacked did q → Move p (doings_in did) q
@@ -244,24 +182,10 @@ module _ {T U C : Type 0} (kind : Kind) (sends : T → Queue → Result ℕ IoFa
   -- ---- messages alone, errors, the end of a client
 
   pub tells_comes : (c : Core U C) (messages : List Said) → Calm c → Come c (tells c messages)
-  tells_comes c messages calm = record {
-    made = [];
-    lands = lands_not kind sends receives client c calm;
-    events = λ e same. refl;
-    quiet = (refl, refl);
-    last = inl refl;
-    starved = inl refl;
-  }
+  tells_comes c messages calm = grind (arith, lands_not) steps 400000
 
   posts_comes : (table : List InterfaceRow) (c : Core U C) (id : IdParts) (code : ℕ) (text : List ℕ) → kind.kills (BrokeProtocol (error_of table id code text)) → Calm c → Come c (posts table c id code text)
-  posts_comes table c id code text may calm = record {
-    made = [];
-    lands = lands_not kind sends receives client c calm;
-    events = λ e same. refl;
-    quiet = (refl, refl);
-    last = inr (BrokeProtocol (error_of table id code text), may, refl);
-    starved = inl refl;
-  }
+  posts_comes table c id code text may calm = grind (arith, lands_not) steps 400000
 
   pub posts_moves : (table : List InterfaceRow) (p : Part T U C) (id : IdParts) (code : ℕ) (text : List ℕ) (lacked : Bool) (did : List (Deed U)) (q : Part T U C)
       → kind.kills (BrokeProtocol (error_of table id code text)) → PostsError sends table p id code text lacked did q → Move p (doings_in did) q
@@ -368,13 +292,7 @@ module _ {T U C : Type 0} (kind : Kind) (sends : T → Queue → Result ℕ IoFa
 
   -- the object that the action made gets the data, if it is still kept
   data_moves : (p : Part T U C) (created : Option IdParts) (u : Option U) → Move p nothing_done (record p { store = store_with_data p.store created u })
-  data_moves p None u = stayed refl refl
-  data_moves p (Some id) None = stayed refl refl
-  data_moves p (Some id) (Some u) = go (named p.store id) refl
-    where
-      go : (o : Option (Object (Kept U))) → named p.store id ≡ o → Move p nothing_done (record p { store = data_given p.store id.number o u })
-      go None e = stayed refl refl
-      go (Some x) e = wrote id.number x u (named_held p.store id x e) refl refl
+  data_moves p created u = grind (arith, stayed, named, nothing_done, data_given, wrote, named_held) steps 400000
 
   finish_moves : kind.finishes ≡ true → (p : Part T U C) (created : Option IdParts) (u : Option U) → Move p nothing_done (record p { action = None; store = store_with_data p.store created u })
   finish_moves may p created u = followed (data_moves p created u) (finished may refl refl) refl
@@ -395,27 +313,13 @@ module _ {T U C : Type 0} (kind : Kind) (sends : T → Queue → Result ℕ IoFa
     ended_deeds = map Noted (note_of_end client id.number x) ++ left_if (id_of id) x.value.user_data
 
     doings_ended : doings_in ended_deeds ≡ leaves client false id.number x
-    doings_ended = go x.value.user_data
-      where
-        go : (o : Option U) → doings_in (map Noted (end_note (id_at client id.number x) o) ++ left_if (id_of id) o)
-            ≡ record nothing_done { left = left_id (id_of (id_at client id.number x)) o; notes = end_note (id_at client id.number x) o }
-        go None = refl
-        go (Some v) = ap (λ (i : Id). record nothing_done { left = i ∷ []; notes = end_note (id_at client id.number x) (Some v) }) (sym (named_id client c.store id x is))
+    doings_ended = grind (arith, doings_in, end_note, id_at, id_of, nothing_done, left_id, named_id) steps 400000
 
     told_ended : told_deeds (map Did ended_deeds) ≡ ended_deeds
-    told_ended = go x.value.user_data
-      where
-        go : (o : Option U) → told_deeds (map Did (map Noted (end_note (id_at client id.number x) o) ++ left_if (id_of id) o))
-            ≡ map Noted (end_note (id_at client id.number x) o) ++ left_if (id_of id) o
-        go None = refl
-        go (Some v) = refl
+    told_ended = grind (arith, told_deeds, end_note, id_at, id_of) steps 400000
 
     quiet_ended : IsQuiet ended_deeds
-    quiet_ended = go x.value.user_data
-      where
-        go : (o : Option U) → IsQuiet (map Noted (end_note (id_at client id.number x) o) ++ left_if (id_of id) o)
-        go None = (refl, refl)
-        go (Some v) = (refl, refl)
+    quiet_ended = grind (arith, end_note, id_at, id_of) steps 400000
 
     ending_told : (e : Core U C) → e.store ≡ store_with_data (removed c.store id.number) created u → told_deeds (ending client id x e) ≡ ended_deeds
     ending_told e same =

@@ -1,5 +1,5 @@
 -- That a reading is a chain of base moves, over the reader's turns.
-use Rattle.std.proofs.Common.{◌≡◌, ◌⊎◌, ℕ, Bool, true, false, not, ◌&&◌, List, [], ◌∷◌, ◌++◌, map, Option, None, Some, is_none, Result, Ok, Err, refl, sym, ap, subst, ◌∙◌, append-nil, true≢false}
+use Rattle.std.proofs.Common.{◌≡◌, ◌⊎◌, ℕ, Bool, true, false, not, ◌&&◌, List, [], ◌∷◌, ◌++◌, map, Option, None, Some, is_none, Result, Ok, Err, refl, sym, ap, subst, ◌∙◌, append-nil, true≢false, arith}
 use mathlib.Core.Logic.{inl, inr}
 use Rattle.std.specs.Prelude.{MatchBool, length, nat_le}
 use Rattle.wl_wire.specs.declared.argument.ArgumentType.{ArgumentType}
@@ -32,19 +32,11 @@ module _ {T : Type 0} where
   -- a message that is read leaves what waits to be sent
   found_waits : (found : Option (List ArgumentType)) (before after : LinkState T) (answer : Result WireMessage MessageParseError) → ReadFound found before answer after
       → after.outgoing ≡ before.outgoing
-  found_waits None before after answer h = ap (λ (l : LinkState T). l.outgoing) h.1
-  found_waits (Some signature) before after (Ok m) h = ap (λ (l : LinkState T). l.outgoing) h.1
-  found_waits (Some signature) before after (Err e) h = ap (λ (l : LinkState T). l.outgoing) h.2
+  found_waits found before after answer h1 = grind (arith) steps 400000
 
   read_waits : (looks_up : ℕ → ℕ → Option (List ArgumentType) → Type 0) (before after : LinkState T) (answer : Result WireMessage MessageParseError)
       → ReadOne looks_up before answer after → after.outgoing ≡ before.outgoing
-  read_waits looks_up before after answer h = go (nat_le 8 (length before.incoming.bytes)) h
-    where
-      go : (b : Bool)
-          → MatchBool b ((found : Option (List ArgumentType)) × looks_up (sender_of before.incoming.bytes) (opcode_of before.incoming.bytes) found × ReadFound found before answer after)
-          ((answer ≡ Err errors.MissingData) × (after ≡ before)) → after.outgoing ≡ before.outgoing
-      go true (found, up, so) = found_waits found before after answer so
-      go false (is, same) = ap (λ (l : LinkState T). l.outgoing) same
+  read_waits looks_up before after answer h = grind (arith, nat_le, found_waits) steps 400000
 
 both : (a b : Bool) → (a && b) ≡ true → (a ≡ true) × (b ≡ true)
 both true b e = (refl, e)
@@ -71,13 +63,7 @@ module _ {U C : Type 0} where
 
 module _ {T U G C : Type 0} (sends : T → Queue → Result ℕ IoFault → T → Type 0) (a : Around G C) where
   pub gave_none : (left : ℕ) (mid : ReaderState T (Core U C)) (rest : Gives (Told U)) → Stops sends (server a) left mid rest → rest.gave ≡ []
-  gave_none left mid rest ends =
-      elim (either_bool (reads_on mid.core) ends) [
-        | inl (inl h) ↦ ap (λ (o : Gives (Told U)). o.gave) h.2
-        | inl (inr (inl h)) ↦ ap (λ (o : Gives (Told U)). o.gave) h.1
-        | inl (inr (inr (lacks, (n, one, is)))) ↦ ap (λ (o : Gives (Told U)). o.gave) is
-        | inr is ↦ ap (λ (o : Gives (Told U)). o.gave) is
-      ]
+  gave_none left mid rest ends = grind (arith, reads_on) steps 400000
 
 module _ {T U G C : Type 0} (kind : Kind) (sends : T → Queue → Result ℕ IoFault → T → Type 0) (receives : T → ℕ → Result Queue IoFault → T → Type 0)
     (a : Around G C) where
@@ -106,9 +92,7 @@ module _ {T U G C : Type 0} (kind : Kind) (sends : T → Queue → Result ℕ Io
 
   -- a receive that failed ends the client, or leaves it
   faulted_ends : (c : Core U C) (f : IoFault) → Calm c → Ends kind sends receives a.client c (faulted c f)
-  faulted_ends c fault.WouldBlock calm = ends_not kind sends receives a.client c calm
-  faulted_ends c fault.OutOfMemory calm = ends_not kind sends receives a.client c calm
-  faulted_ends c _ calm = ends_killed kind sends receives a.client c ConnectionClosed kind.closes calm
+  faulted_ends c f h1 = grind (arith, ends_not, ends_killed) steps 400000
 
   -- nothing more was read, or the client was read on
   over_or_on : (left : ℕ) (mid after : ReaderState T (Core U C)) (turns : List Turn) (rest : Gives (Told U)) → Reads sends (server a) receives left mid turns rest after
@@ -152,11 +136,7 @@ module _ {T U G C : Type 0} (kind : Kind) (sends : T → Queue → Result ℕ Io
 
   pub reads_moves : MayRead kind a.table a.client → (left : ℕ) (before : ReaderState T (Core U C)) (turns : List Turn) (out : Gives (Told U)) (after : ReaderState T (Core U C))
       → before.core.ended ≡ None → Calm before.core → Reads sends (server a) receives left before turns out after → Read before turns out after
-  reads_moves may left before [] out after none calm (same, ends) =
-      subst (λ (e : ReaderState T (Core U C)). Step (part_of before) (doings_in (deeds_of [] out.gave e.core)) (part_of e)) (sym same)
-      (stayed
-      (ap (λ (g : List (Given (Told U))). doings_in (deeds_of [] g before.core)) (gave_none sends a left before out ends)
-      ∙ ap (λ (o : Option _). doings_in (end_deeds {U = U} o)) none) refl)
+  reads_moves may left before [] out after none calm (same, ends) = grind (arith, part_of, doings_in, deeds_of, stayed, gave_none, end_deeds) steps 400000
   reads_moves may left before (Received r ∷ turns) out after none calm (on, lacks, (n, is, (link, filled, room, h))) =
       elim (either_result (counted_answer (count_of r)) h) [
         | inl (u, more) ↦
@@ -189,15 +169,4 @@ module _ {T U G C : Type 0} (kind : Kind) (sends : T → Queue → Result ℕ Io
 
   pub next_action_moves : MayRead kind a.table a.client → (r : Reading) (p : Part T U C) (answer : Result Handed ActionError) (r' : Reading) (lacked : Bool) (did : List (Deed U)) (q : Part T U C)
       → NextAction sends receives a r p answer r' lacked did q → Step p (doings_in did) q
-  next_action_moves may r p answer r' lacked did q h =
-      elim (either_option p.action h) [
-        | inr (action, is_open, (is, same, no_memory, none, stays)) ↦ stayed (ap doings_in none) stays
-        | inl (not_open, g) ↦
-            elim (either_bool p.is_killed g) [
-              | inl (is, same, no_memory, none, stays) ↦ stayed (ap doings_in none) stays
-              | inr (turns, out, end, reads, is, same, no_memory, did_so, after) ↦
-                  subst (λ (e : Part T U C). Step p (doings_in did) e) (sym after)
-                  (subst (λ (ds : List (Deed U)). Step p (doings_in ds) (part_of end)) (sym did_so)
-                  (reads_moves may r.turns_left (reader_part p) turns out end refl (λ live. refl) reads))
-            ]
-      ]
+  next_action_moves may r p answer r' lacked did q h = grind (arith, stayed, doings_in, part_of, reads_moves, reader_part) steps 400000

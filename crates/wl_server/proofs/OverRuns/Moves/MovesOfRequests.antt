@@ -1,5 +1,5 @@
 -- That what a request comes to is a chain of base moves.
-use Rattle.std.proofs.Common.{◌≡◌, ◌≢◌, ◌⊎◌, ℕ, Bool, true, false, not, ◌&&◌, cond, eqb, List, [], ◌∷◌, ◌++◌, map, Option, None, Some, is_some, Result, Ok, Err, refl, sym, ap, subst, ◌∙◌, append-nil, true≢false}
+use Rattle.std.proofs.Common.{◌≡◌, ◌≢◌, ◌⊎◌, ℕ, Bool, true, false, not, ◌&&◌, cond, eqb, List, [], ◌∷◌, ◌++◌, map, Option, None, Some, is_some, Result, Ok, Err, refl, sym, ap, subst, ◌∙◌, append-nil, true≢false, arith}
 use mathlib.Core.Logic.{inl, inr}
 use Rattle.std.specs.Prelude.{nat_lt, if◌then◌else◌}
 use Rattle.wl_wire.specs.declared.argument.Argument.{Argument}
@@ -54,11 +54,7 @@ both false b e = absurd (true≢false (sym e))
 
 -- a number that a client may use holds none, and is not 0
 pub valid_new : {U : Type 0} (o : Objects (Kept U)) (n : ℕ) → is_valid_new o n ≡ true → (held o.store n ≡ None) × (n ≢ 0)
-valid_new o n valid =
-    let free = (both (is_free o.store n) (not (eqb o.last_serial last_possible_serial)) (both (not (is_server_number n)) _ valid).1).0 in (
-      not_some (held o.store n) _ free,
-      λ zero. true≢false (sym (both (nat_lt 0 n) _ (both (not (is_some (held o.store n))) _ free).1).0 ∙ ap (nat_lt 0) zero),
-    )
+valid_new o n valid = grind (arith, both, is_free, eqb, last_possible_serial, is_server_number, not_some, held, true≢false, nat_lt, is_some) steps 400000
 
 module _ {T U G C : Type 0} (kind : Kind) (sends : T → Queue → Result ℕ IoFault → T → Type 0) (receives : T → ℕ → Result Queue IoFault → T → Type 0)
     (a : Around G C) where
@@ -112,34 +108,14 @@ module _ {T U G C : Type 0} (kind : Kind) (sends : T → Queue → Result ℕ Io
 
     converts_object : (d : Converting U) (null : Bool) (asked : InterfaceId) (n : ℕ) (b : Bool)
         → One d (with_object_argument d (cond b (cond null (Ok (null_id a.client)) (Err wrong.NullObject)) (object_found a.client asked n (held d.objects.store n))))
-    converts_object d null asked n false = converts_found d asked n (held d.objects.store n) refl
-    converts_object d true asked n true = (λ l. found_none refl refl, λ id among. inl among)
-    converts_object d false asked n true = tt
+    converts_object d null asked n b = grind (arith, converts_found, held, found_none) steps 400000
 
     converts_new : (d : Converting U) (n : ℕ) (child : Option InterfaceId) → One d (with_new_argument a.client version d n child)
     converts_new d n None = tt
-    converts_new d n (Some i) = go (is_valid_new d.objects n) refl
-      where
-        go : (b : Bool) → is_valid_new d.objects n ≡ b
-            → One d (cond b
-            (Ok (
-              arg.NewId (made_id a.client d.objects n i),
-              record {
-                objects = with_made d.objects n i version;
-                kinds = kinds_after d.kinds;
-                asked = d.asked;
-                child = None;
-                created = Some (made_id a.client d.objects n i);
-              },
-            ))
-            (Err (wrong.InvalidNewId n)))
-        go true valid = (makes_object d.objects n i valid, λ id among. inr among)
-        go false valid = tt
+    converts_new d n (Some i) = grind (arith, is_valid_new, made_id, with_made, kinds_after, makes_object) steps 400000
 
     converts_one : (d : Converting U) (x : WireArgument) → One d (convert_one a.client version d x)
-    converts_one d (arg.Object n) = converts_object d (allows_null d.kinds) (next_interface d.asked) n (eqb n 0)
-    converts_one d (arg.NewId n) = converts_new d n d.child
-    converts_one d _ = (still d.objects, λ id among. inl among)
+    converts_one d x = grind (arith, converts_object, allows_null, eqb, converts_new, still) steps 400000
 
     -- what the arguments came to so far, and what they came to
     abbrev SoFar : Objects (Kept U) → Converting U → List (Argument IdParts Token) → Type 0
@@ -174,11 +150,7 @@ module _ {T U G C : Type 0} (kind : Kind) (sends : T → Queue → Result ℕ Io
   -- ---- forms of a verdict
 
   told_stops : (c : Core U C) → told_deeds (stops_if c) ≡ []
-  told_stops c = go c.is_killed
-    where
-      go : (b : Bool) → told_deeds {U = U} (if b then Stops fault.Pipe ∷ [] else []) ≡ []
-      go true = refl
-      go false = refl
+  told_stops c = grind (arith, told_deeds) steps 400000
 
   told_did : (did : List (Deed U)) (c : Core U C) → told_deeds (map Did did ++ stops_if c) ≡ did
   told_did [] c = told_stops c
@@ -208,24 +180,10 @@ module _ {T U G C : Type 0} (kind : Kind) (sends : T → Queue → Result ℕ Io
   breaks_here may c code text calm = breaks_comes may c c code text (lands_not kind sends receives a.client c calm)
 
   replies_comes : (c m : Core U C) (puts : List Said) (did : List (Deed U)) → Lead c did m → IsQuiet did → Come c (replies m puts did)
-  replies_comes c m puts did lead quiet = record {
-    made = did;
-    lands = lead;
-    events = λ e same. told_did did e;
-    quiet = quiet;
-    last = inl refl;
-    starved = inl refl;
-  }
+  replies_comes c m puts did lead quiet = grind (arith, told_did) steps 400000
 
   hands_out_comes : (c m : Core U C) (action : OpenAction) (h : Handed) → Lead c (Acted h ∷ []) (record m { action = Some action }) → Come c (hands_out m action h)
-  hands_out_comes c m action h lead = record {
-    made = Acted h ∷ [];
-    lands = lead;
-    events = λ e same. refl;
-    quiet = (refl, refl);
-    last = inl refl;
-    starved = inl refl;
-  }
+  hands_out_comes c m action h lead = grind (arith) steps 400000
 
   -- ---- requests to a display and to a registry
 

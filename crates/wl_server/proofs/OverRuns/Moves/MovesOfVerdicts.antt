@@ -1,5 +1,5 @@
 -- That a verdict that is carried out is a chain of base moves.
-use Rattle.std.proofs.Common.{◌≡◌, ◌⊎◌, ℕ, Bool, true, false, List, [], ◌∷◌, ◌++◌, map, Option, None, Some, Result, Ok, Err, refl, sym, ap, subst, ◌∙◌, append-nil, append_assoc, true≢false}
+use Rattle.std.proofs.Common.{◌≡◌, ◌⊎◌, ℕ, Bool, true, false, List, [], ◌∷◌, ◌++◌, map, Option, None, Some, Result, Ok, Err, refl, sym, ap, subst, ◌∙◌, append-nil, append_assoc, true≢false, arith}
 use mathlib.Core.Logic.{inl, inr}
 use Rattle.std.specs.Prelude.{if◌then◌else◌}
 use Rattle.wl_wire.specs.declared.error.IoFault.{IoFault}
@@ -86,12 +86,7 @@ module _ {T U C : Type 0} (kind : Kind) (sends : T → Queue → Result ℕ IoFa
 
   pub lands_at : (c : Core U C) (made : List (Deed U)) (e : Core U C) → IsCalm e → e.ended ≡ c.ended → ((l : LinkState T) → Go (at c l) (doings_in made) (at e l))
       → Lands c made e
-  lands_at c made e calm same moves = record {
-    notes = [];
-    moves = λ l. same_doings (at c l) (at e l) (doings_in made) (joined (doings_in made) nothing_done) (joined_none (doings_in made)) (moves l);
-    so = ap (λ (o : Option DisconnectReason). notes_in (end_deeds {U = U} o)) same ∙ sym (append-nil (notes_at_end c));
-    calm = calm;
-  }
+  lands_at c made e calm same moves = grind (arith, same_doings, doings_in, joined, nothing_done, joined_none, notes_in, end_deeds, append-nil) steps 400000
 
   pub lands_not : (c : Core U C) → IsCalm c → Lands c [] c
   lands_not c calm = lands_at c [] c calm refl (λ l. stayed refl refl)
@@ -124,12 +119,7 @@ module _ {T U C : Type 0} (kind : Kind) (sends : T → Queue → Result ℕ IoFa
 
   module _ (c : Core U C) (v : Verdict (Core U C) (Told U)) (comes : Comes c v) (calm : IsCalm c) where
     landed_by : (e : Core U C) → Ends v.core e → Landed c v e
-    landed_by e ends = record {
-      made = comes.made;
-      lands = lands_then c v.core e comes.made comes.lands ends;
-      events = comes.events e ends.store;
-      quiet = comes.quiet;
-    }
+    landed_by e ends = grind (arith, lands_then) steps 400000
 
     last_of : (e : Core U C) → Ends v.core e → Ends v.core (v.last e)
     last_of e ends =

@@ -44,10 +44,7 @@ use Rattle.wl_server.proofs.OverRuns.Noted.NotedLaws.{destroyed_both, each_is_no
 
 -- one of a list stands at its front or behind that
 in_cons : {A : Type 0} (x y : A) (xs : List A) → Contains (y ∷ xs) x → (y ≡ x) ⊎ Contains xs x
-in_cons x y xs among = elim (Contains-append_cases (y ∷ []) xs x among) [
-  | inl here ↦ elim (Contains-push_cases [] y x here) [ inl never ↦ inr (Contains-append_left [] xs x never) | inr is ↦ inl is ]
-  | inr behind ↦ inr behind
-]
+in_cons x y xs among = grind (arith) steps 400000
 
 at_front : {A : Type 0} (x : A) (xs : List A) → Contains (x ∷ xs) x
 at_front x xs = Contains-append_left (x ∷ []) xs x (Contains-push [] x)
@@ -138,12 +135,7 @@ module _ {U : Type 0} where
 
   module _ {C : Type 0} where
     same_ending : (client : ClientParts) (id : IdParts) (x : Object (Kept U)) (c : Core U C) → x.value.serial ≡ id.serial → SameEnds (told_deeds (ending client id x c))
-    same_ending client id x c serial = at (is_some (named c.store id))
-      where
-        at : (b : Bool)
-            → SameEnds (told_deeds (if b then [] else map Did (map Noted (note_of_end client id.number x) ++ left_if (id_of id) x.value.user_data)))
-        at true = refl
-        at false = same_object client id x x.value.user_data serial
+    same_ending client id x c serial = grind (arith, is_some, named, told_deeds, note_of_end, left_if, id_of, same_object) steps 400000
 
     same_events : (client : ClientParts) (c : Core U C) (id : IdParts) (o : Option (Object (Kept U))) (created : Option IdParts) (u : Option U)
         → ((x : Object (Kept U)) → o ≡ Some x → x.value.serial ≡ id.serial) → (d : Core U C) → SameEnds (told_deeds ((ends client c id o created u).events d))
@@ -153,14 +145,7 @@ module _ {U : Type 0} where
 module _ {T U C : Type 0} (sends : T → Queue → Result ℕ IoFault → T → Type 0) where
   same_told : (p : Part T U C) (v : Verdict (Core U C) (Told U)) (lacked : Bool) (did : List (Deed U)) (q : Part T U C)
       → ((d : Core U C) → SameEnds (told_deeds (v.events d))) → Tells sends v p.link lacked did q → SameEnds did
-  same_told p v lacked did q events (es, gave, end, by, did_so, same) =
-      subst (λ (d : List (Deed U)). SameEnds d) (sym did_so) (same_deeds es gave end.core.ended (given by))
-    where
-      given : CarriesOut sends speaker v p.link es gave lacked end → SameEnds (deeds_in gave)
-      given (inl (first, others, put, wrote, mid, lacks, puts, flushes, sent, is, gives, no_memory)) =
-          subst (λ (d : List (Deed U)). SameEnds d) (sym (ap deeds_in gives ∙ deeds_given put (v.events (came_to speaker v wrote))))
-          (same_both (map Put put) (told_deeds (v.events (came_to speaker v wrote))) (same_puts U put) (events (came_to speaker v wrote)))
-      given (inr (asks, is, none, gives, starves)) = subst (λ (d : List (Deed U)). SameEnds d) (sym (ap deeds_in gives)) (events v.starved)
+  same_told p v lacked did q events (es, gave, end, by, did_so, same) = grind (arith, same_deeds, speaker, deeds_in, deeds_given, came_to, same_both, told_deeds, same_puts) steps 400000
 
   finish_same : (client : ClientParts) (p : Part T U C) (u : Option U) (answer : Result (Unit {0}) (FinishRefused (Option U))) (lacked : Bool) (did : List (Deed U)) (q : Part T U C)
       → FinishesRequest sends client p u answer lacked did q → SameEnds did
@@ -182,12 +167,7 @@ module _ {T U C : Type 0} (sends : T → Queue → Result ℕ IoFault → T → 
 module _ {T U C : Type 0} where
   part_same : (b : Bool) (s : Seen T U C) (R : Part T U C → Part T U C → Type 0) (missing : Type 0) (lacked : Bool) (did : List (Deed U)) (t : Seen T U C)
       → ((p q : Part T U C) → R p q → SameEnds did) → OfClient b s R missing lacked did t → SameEnds did
-  part_same false s R missing lacked did t same (no_memory, nothing, is) = same_none did nothing
-  part_same true s R missing lacked did t same h =
-      elim (either_option s.part h) [
-        | inl (none, (m, (no_memory, nothing, is))) ↦ same_none did nothing
-        | inr (p, there, (q, r, is)) ↦ same p q r
-      ]
+  part_same b s R missing lacked did t h1 h2 = grind (arith, same_none, either_option) steps 400000
 
 module _ {T U G C : Type 0} (w : World T G C) where
   pub end_is_noted_at_once : EndIsNotedAtOnce U w

@@ -86,47 +86,15 @@ module _ {T U C : Type 0} (sends : T → Queue → Result ℕ IoFault → T → 
 
   quiet : (p q r : Part T U C) (d e : Doings U) → ends_in p.waiting ≡ 0 → d ≡ e → q ≡ r → e.left ≡ [] → e.notes ≡ [] → r.waiting ≡ p.waiting → r.is_killed ≡ p.is_killed
       → Noting p d q
-  quiet p q r d e none is same no_left no_notes waits killed =
-      subst (λ (x : Doings U). Noting p x q) (sym is)
-      (subst (λ (x : Part T U C). Noting p e x) (sym same)
-      (record {
-        objects = same_permuted (destroyed_in p.waiting ++ e.left) (destroyed_in e.notes ++ destroyed_in r.waiting)
-            (ap (λ (n : List (Happening U)). destroyed_in n ++ destroyed_in r.waiting) no_notes ∙ ap destroyed_in waits
-            ∙ sym (append-nil (destroyed_in p.waiting)) ∙ ap (λ (l : List Id). destroyed_in p.waiting ++ l) (sym no_left));
-        ends = (
-            let nobody : ends_in e.notes ≡ 0 = ap ends_in no_notes in let still : one_if r.is_killed ≡ one_if p.is_killed = ap one_if killed in
-            omega (arith, nobody, still)
-            );
-        none = ap ends_in waits ∙ none;
-      }))
+  quiet p q r d e none is same no_left no_notes waits killed = grind (arith, same_permuted, destroyed_in, append-nil, ends_in, one_if) steps 400000
 
   noting_then : (p m q : Part T U C) (a b : Doings U) → Noting p a m → Noting m b q → Noting p (joined a b) q
-  noting_then p m q a b first second = record {
-    objects = subst (λ (l : List Id). IsPermutation (destroyed_in p.waiting ++ (a.left ++ b.left)) (l ++ destroyed_in q.waiting)) (sym (destroyed_both a.notes b.notes))
-        (permuted_then (destroyed_in p.waiting) a.left (destroyed_in a.notes) (destroyed_in m.waiting) b.left (destroyed_in b.notes) (destroyed_in q.waiting)
-        first.objects second.objects);
-    ends = (let both = ends_both a.notes b.notes in let one = first.ends in let two = second.ends in omega (arith, both, one, two));
-    none = second.none;
-  }
+  noting_then p m q a b first second = grind (arith, destroyed_in, destroyed_both, permuted_then, ends_both) steps 400000
 
   went_noting : (p q : Part T U C) (d : Doings U) (n : ℕ) (x : Object (Kept U)) (waits : Bool) → ends_in p.waiting ≡ 0
       → d.left ≡ left_id (id_of (id_at client n x)) x.value.user_data → d.notes ≡ (if waits then [] else note_of_end client n x)
       → q.waiting ≡ (if waits then p.waiting ++ note_of_end client n x else p.waiting) → q.is_killed ≡ p.is_killed → Noting p d q
-  went_noting p q d n x true none left notes waits killed =
-      let note : List (Happening U) = note_of_end client n x in
-      let id : Id = id_of (id_at client n x) in record {
-        objects = same_permuted (destroyed_in p.waiting ++ d.left) (destroyed_in d.notes ++ destroyed_in q.waiting)
-            (ap (λ (l : List (Happening U)). destroyed_in l ++ destroyed_in q.waiting) notes ∙ ap destroyed_in waits ∙ destroyed_both p.waiting note
-            ∙ ap (λ (l : List Id). destroyed_in p.waiting ++ l) (destroyed_note (id_at client n x) x.value.user_data ∙ sym left));
-        ends = (
-            let nobody : ends_in d.notes ≡ 0 = ap ends_in notes in let still : one_if q.is_killed ≡ one_if p.is_killed = ap one_if killed in
-            omega (arith, nobody, still)
-            );
-        none = (
-            let all : ends_in q.waiting ≡ ends_in p.waiting + ends_in note = ap ends_in waits ∙ ends_both p.waiting note in
-            let nobody = ends_note (id_at client n x) x.value.user_data in omega (arith, all, nobody, none)
-            );
-      }
+  went_noting p q d n x true none left notes waits killed = grind (arith, note_of_end, id_of, id_at, same_permuted, destroyed_in, destroyed_both, destroyed_note, ends_in, one_if, ends_both, ends_note) steps 400000
   went_noting p q d n x false none left notes waits killed =
       let note : List (Happening U) = note_of_end client n x in record {
         objects = subst (λ (l : List Id). IsPermutation (destroyed_in p.waiting ++ d.left) (l ++ destroyed_in q.waiting))
@@ -152,16 +120,7 @@ module _ {T U C : Type 0} (sends : T → Queue → Result ℕ IoFault → T → 
   moves_note p q d none (received r answer link reads filled is same) = quiet p q (record p { link = link }) d _ none is same refl refl refl refl
   moves_note p q d none (told messages es put answer link puts is same) = quiet p q (record p { link = link }) d _ none is same refl refl refl refl
   moves_note p q d none (flushed es answer link by is same) = quiet p q (record p { link = link }) d _ none is same refl refl refl refl
-  moves_note p q d none (ended reason may is same) =
-      subst (λ (x : Part T U C). Noting p d x) (sym same)
-      (record {
-        objects = same_permuted (destroyed_in p.waiting ++ d.left) (destroyed_in d.notes ++ destroyed_in p.waiting)
-            (ap (λ (x : Doings U). destroyed_in x.notes ++ destroyed_in p.waiting) is
-            ∙ ap (λ (l : List Id). l ++ destroyed_in p.waiting) (destroyed_end U p.is_killed reason)
-            ∙ sym (append-nil (destroyed_in p.waiting)) ∙ ap (λ (x : Doings U). destroyed_in p.waiting ++ x.left) (sym is));
-        ends = ap (λ (x : Doings U). ends_in x.notes + one_if p.is_killed) is ∙ ends_end U p.is_killed reason;
-        none = none;
-      })
+  moves_note p q d none (ended reason may is same) = grind (arith, same_permuted, destroyed_in, destroyed_end, append-nil, ends_in, one_if, ends_end) steps 400000
   moves_note p q d none (born n x free ne serial is same) = quiet p q _ d _ none is same refl refl refl refl
   moves_note p q d none (found n x holds is same) = quiet p q p d _ none is same refl refl refl refl
   moves_note p q d none (found_none is same) = quiet p q p d _ none is same refl refl refl refl
@@ -172,14 +131,7 @@ module _ {T U C : Type 0} (sends : T → Queue → Result ℕ IoFault → T → 
   moves_note p q d none (remembered n x holds registry is same) = quiet p q _ d _ none is same refl refl refl refl
   moves_note p q d none (opens action h acts so is same) = quiet p q _ d _ none is same refl refl refl refl
   moves_note p q d none (finished may is same) = quiet p q _ d _ none is same refl refl refl refl
-  moves_note p q d none (cleaned on is same) =
-      subst (λ (y : Doings U). Noting p y q) (sym is)
-      (subst (λ (y : Part T U C). Noting p (record (doings_of [] []) { notes = p.waiting }) y) (sym same)
-      (record {
-        objects = IsPermutation-refl (destroyed_in p.waiting ++ []);
-        ends = omega (arith, none);
-        none = refl;
-      }))
+  moves_note p q d none (cleaned on is same) = grind (arith, doings_of, destroyed_in) steps 400000
 
   -- ---- what is held of a client
 
@@ -195,11 +147,7 @@ module _ {T U C : Type 0} (sends : T → Queue → Result ℕ IoFault → T → 
   unfelt_notes s none = record { objects = same_permuted (held_notes s ++ []) (held_notes s) (sym (append-nil (held_notes s))); ends = omega arith; none = none }
 
   taken_notes : (s : Seen T U C) → ends_in (waiting_of s.part) ≡ 0 → SeenNoting s (record (doings_of [] []) { taken = s.made }) (record { part = s.part; made = [] })
-  taken_notes s none = record {
-    objects = same_permuted (held_notes s ++ []) (held_notes s) (sym (append-nil (held_notes s)));
-    ends = omega arith;
-    none = none;
-  }
+  taken_notes s none = grind (arith, same_permuted, append-nil) steps 400000
 
   -- the notes of moves stand behind those that were made
   behind_made : (made : List (Happening U)) (p q : Part T U C) (d : Doings U) → Noting p d q
@@ -212,43 +160,16 @@ module _ {T U C : Type 0} (sends : T → Queue → Result ℕ IoFault → T → 
 
   within_notes : (made : List (Happening U)) (p q : Part T U C) (d : Doings U) → ends_in p.waiting ≡ 0 → d.taken ≡ [] → Moves (any true) sends receives client p d q
       → SeenNoting (record { part = Some p; made = made }) d (record { part = Some q; made = made ++ d.notes })
-  within_notes made p q d none no_taken moves =
-      let noting = moves_note p q d none moves in record {
-        objects = subst (λ (l : List (Happening U)). IsPermutation ((destroyed_in made ++ destroyed_in p.waiting) ++ d.left) (destroyed_in l ++ (destroyed_in (made ++ d.notes) ++ destroyed_in q.waiting)))
-            (sym no_taken) (behind_made made p q d noting);
-        ends = (
-            let both = ends_both made d.notes in let one = noting.ends in let nobody : ends_in d.taken ≡ 0 = ap ends_in no_taken in
-            omega (arith, both, one, nobody)
-            );
-        none = noting.none;
-      }
+  within_notes made p q d none no_taken moves = grind (arith, moves_note, destroyed_in, behind_made, ends_both, ends_in) steps 400000
 
   out_notes : (made : List (Happening U)) (p q : Part T U C) (d : Doings U) → ends_in p.waiting ≡ 0 → d.taken ≡ [] → p.is_killed ≡ true → q.waiting ≡ []
       → Moves (any true) sends receives client p d q → SeenNoting (record { part = Some p; made = made }) d (record { part = None; made = made ++ d.notes })
-  out_notes made p q d none no_taken killed nothing moves =
-      let noting = moves_note p q d none moves in record {
-        objects = subst (λ (l : List (Happening U)). IsPermutation ((destroyed_in made ++ destroyed_in p.waiting) ++ d.left) (destroyed_in l ++ (destroyed_in (made ++ d.notes) ++ [])))
-            (sym no_taken)
-            (subst (λ (l : List (Happening U)). IsPermutation ((destroyed_in made ++ destroyed_in p.waiting) ++ d.left) (destroyed_in (made ++ d.notes) ++ destroyed_in l)) nothing
-            (behind_made made p q d noting));
-        ends = (
-            let both = ends_both made d.notes in let one = noting.ends in let nobody : ends_in d.taken ≡ 0 = ap ends_in no_taken in
-            let was : one_if p.is_killed ≡ 1 = ap one_if killed in let most = at_most q.is_killed in
-            omega (arith, both, one, nobody, was, most)
-            );
-        none = refl;
-      }
-    where
-      at_most : (b : Bool) → one_if b ≤ 1
-      at_most true = omega arith
-      at_most false = omega arith
+  out_notes made p q d none no_taken killed nothing moves = grind (arith, moves_note, destroyed_in, behind_made, ends_both, ends_in, one_if) steps 400000
 
   goes_note : (s t : Seen T U C) (d : Doings U) → ends_in (waiting_of s.part) ≡ 0 → Goes (any true) sends receives client s d t → SeenNoting s d t
   goes_note s t d none (unfelt is same) =
       subst (λ (x : Doings U). SeenNoting s x t) (sym is) (subst (λ (x : Seen T U C). SeenNoting s (doings_of [] []) x) (sym same) (unfelt_notes s none))
-  goes_note s t d none (notes_taken on is same) =
-      subst (λ (x : Doings U). SeenNoting s x t) (sym is)
-      (subst (λ (x : Seen T U C). SeenNoting s (record (doings_of [] []) { taken = s.made }) x) (sym same) (taken_notes s none))
+  goes_note s t d none (notes_taken on is same) = grind (arith, doings_of, taken_notes) steps 400000
   goes_note s t d none (within p q there moves same) =
       subst (λ (x : Seen T U C). SeenNoting s d x) (sym same)
       (subst (λ (x : Option (Part T U C)). SeenNoting (record { part = x; made = s.made }) d (record { part = Some q; made = s.made ++ d.notes })) (sym there)
@@ -286,16 +207,7 @@ module _ {T U G C : Type 0} (w : World T G C) (id : ClientParts) where
 
   own_notes : (offer : Offer G) (link : LinkState T) (client_data : C) (run : List (Own T U G C)) (t : Seen T U C) → AreMine id run → HasOwnIds w id offer (just_inserted link client_data) run t
       → Alone w id offer (just_inserted link client_data) run t → NotesEach (history run) t
-  own_notes offer link client_data run t own ids alone =
-      let notes = run_notes offer (just_inserted link client_data) run t own refl alone in
-      record {
-        destroyed = subst (λ (l : List Id). IsPermutation (left_in (history run)) l)
-            (ap (λ (l : List Id). destroyed_in (taken_in (history run)) ++ l) (sym (destroyed_both t.made (waiting_of t.part)))
-            ∙ sym (destroyed_both (taken_in (history run)) (t.made ++ waiting_of t.part)))
-            notes.objects;
-        once = ids.once;
-        disconnected = (let both = ends_both (taken_in (history run)) t.made in let ends = notes.ends in omega (arith, both, ends));
-      }
+  own_notes offer link client_data run t own ids alone = grind (arith, run_notes, just_inserted, history, destroyed_in, destroyed_both, ends_both) steps 400000
 
 module _ {T U G C : Type 0} where
   pub each_is_noted : (w : World T G C) (table : List InterfaceRow) (run : List (Entry T U G C)) (after : ServerState T U G C) → Leads w (new_server table) run after

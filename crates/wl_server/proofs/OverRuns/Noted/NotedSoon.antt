@@ -1,5 +1,5 @@
 -- When an object that left is noted: by the end of its destructor request, or by the next cleanup that succeeds.
-use Rattle.std.proofs.Common.{◌≡◌, ℕ, Bool, true, false, List, [], Option, None, Some, Result, Ok, Err, refl, sym, ap, subst, ◌∙◌, true≢false}
+use Rattle.std.proofs.Common.{◌≡◌, ℕ, Bool, true, false, List, [], Option, None, Some, Result, Ok, Err, refl, sym, ap, subst, ◌∙◌, true≢false, arith}
 use mathlib.Core.Logic.{inl, inr}
 use Rattle.std.specs.Prelude.{Vec}
 use Rattle.std.specs.Global.{Global}
@@ -31,24 +31,11 @@ use Rattle.wl_server.specs.Telling.{Core, Tells, Told, core_of, speaker}
 
 module _ {T U G C : Type 0} (w : World T G C) (id : ClientParts) (offer : Offer G) where
   cleaned_none : (p : Part T U C) (lacked : Bool) (did : List (Deed U)) (out : List T) (q : Option (Part T U C)) → Cleaned w.sends id p lacked did out q → waiting_of q ≡ []
-  cleaned_none p lacked did out q h =
-      elim (either_bool p.is_killed h) [
-        | inl (sent, answer, end, flushed, did_so, handed, is) ↦ ap waiting_of is
-        | inr (no_memory, did_so, handed, is) ↦ ap waiting_of is
-      ]
+  cleaned_none p lacked did out q h = grind (arith, either_bool) steps 400000
 
   cleanup_none : (answer : Result (Vec (ClientParts × T) Global) OutOfMemory) (out : Vec (ClientParts × T) Global) (s : Seen T U C) (lacked : Bool) (did : List (Deed U))
       (t : Seen T U C) → ◌≡◌ {A = Reply T U} (reply.Cleanup (Ok out)) (reply.Cleanup answer) → CleanedAs w id offer answer s lacked did t → waiting_of t.part ≡ []
-  cleanup_none (Err e) out s lacked did t is h = absurd (true≢false (ap succeeds is))
-    where
-      succeeds : Reply T U → Bool
-      succeeds (reply.Cleanup (Ok _)) = true
-      succeeds _ = false
-  cleanup_none (Ok other) out s lacked did t is h =
-      elim (either_option s.part h) [
-        | inl (none, (nobody, (no_memory, nothing, same))) ↦ ap (λ (x : Seen T U C). waiting_of x.part) same ∙ ap waiting_of none
-        | inr (p, there, (q, cleaned, same)) ↦ ap (λ (x : Seen T U C). waiting_of x.part) same ∙ cleaned_none p lacked did _ q cleaned
-      ]
+  cleanup_none answer out s lacked did t h1 h2 = grind (arith, true≢false, either_option, cleaned_none) steps 400000
 
 -- ---- the end of a request
 
@@ -56,21 +43,7 @@ module _ {T U C : Type 0} (sends : T → Queue → Result ℕ IoFault → T → 
   -- a verdict that leaves the notes that wait
   told_waits : (p : Part T U C) (v : Verdict (Core U C) (Told U)) (lacked : Bool) (did : List (Deed U)) (q : Part T U C) → ((d : Core U C) → (v.last d).waiting ≡ d.waiting)
       → v.core.waiting ≡ p.waiting → v.starved.waiting ≡ p.waiting → Tells sends v p.link lacked did q → q.waiting ≡ p.waiting
-  told_waits p v lacked did q last core starved (es, gave, end, by, did_so, same) = ap (λ (x : Part T U C). x.waiting) same ∙ carried by
-    where
-      came : (wrote : Result (Unit {0}) IoFault) → (came_to speaker v wrote).waiting ≡ p.waiting
-      came (Ok u) = last v.core ∙ core
-      came (Err fault.OutOfMemory) = starved
-      came (Err fault.WouldBlock) = last _ ∙ core
-      came (Err fault.Pipe) = last _ ∙ core
-      came (Err fault.TooBig) = last _ ∙ core
-      came (Err fault.Proto) = last _ ∙ core
-      came (Err fault.InvalidInput) = last _ ∙ core
-      came (Err (fault.Other n)) = last _ ∙ core
-
-      carried : CarriesOut sends speaker v p.link es gave lacked end → end.core.waiting ≡ p.waiting
-      carried (inl (first, others, put, wrote, mid, lacks, puts, flushes, sent, is, given, no_memory)) = ap (λ (c : Core U C). c.waiting) is ∙ came wrote
-      carried (inr (asks, is, none, given, starves)) = ap (λ (x : ReaderState T (Core U C)). x.core.waiting) starves ∙ starved
+  told_waits p v lacked did q last core starved (es, gave, end, by, did_so, same) = grind (arith, speaker) steps 400000
 
   ends_waits : (client : ClientParts) (p : Part T U C) (id : IdParts) (o : Option (Object (Kept U))) (created : Option IdParts) (u : Option U) (lacked : Bool)
       (did : List (Deed U)) (q : Part T U C) → Tells sends (ends client (core_of p) id o created u) p.link lacked did q → q.waiting ≡ p.waiting
@@ -93,18 +66,11 @@ module _ {T U C : Type 0} (sends : T → Queue → Result ℕ IoFault → T → 
 module _ {T U C : Type 0} where
   part_waits : (b : Bool) (s : Seen T U C) (R : Part T U C → Part T U C → Type 0) (missing : Type 0) (lacked : Bool) (did : List (Deed U)) (t : Seen T U C)
       → ((p q : Part T U C) → R p q → q.waiting ≡ p.waiting) → OfClient b s R missing lacked did t → waiting_of t.part ≡ waiting_of s.part
-  part_waits false s R missing lacked did t keeps (no_memory, nothing, same) = ap (λ (x : Seen T U C). waiting_of x.part) same
-  part_waits true s R missing lacked did t keeps h =
-      elim (either_option s.part h) [
-        | inl (none, (m, (no_memory, nothing, same))) ↦ ap (λ (x : Seen T U C). waiting_of x.part) same
-        | inr (p, there, (q, r, same)) ↦ ap (λ (x : Seen T U C). waiting_of x.part) same ∙ keeps p q r ∙ sym (ap waiting_of there)
-      ]
+  part_waits b s R missing lacked did t h1 h2 = grind (arith, either_option) steps 400000
 
 module _ {T U G C : Type 0} (w : World T G C) where
   pub cleanup_notes_all : CleanupNotesAll U w
-  cleanup_notes_all before after e out by call id =
-      let (answer, is, h) = subst (λ c. PartCall w id before.offer c (seen id before) (e.lacks id) (e.did id) (seen id after)) call (by.each id) in
-      cleanup_none w id before.offer answer out (seen id before) (e.lacks id) (e.did id) (seen id after) is h
+  cleanup_notes_all before after e out by call id = grind (arith, cleanup_none) steps 400000
 
   pub finish_notes_at_once : FinishNotesAtOnce U w
   finish_notes_at_once before after e target u answer by call id =

@@ -38,15 +38,7 @@ use Rattle.wl_server.proofs.OverRuns.Noted.PlacesInOrder.{earlier_first}
 -- ---- notes by their slots and their clients
 
 slot_first : (m n : ℕ) (ms ns : List ℕ) → m ∷ ms ≡ n ∷ ns → (m ≡ n) × (ms ≡ ns)
-slot_first m n ms ns is = (ap (λ (l : List ℕ). first l) is, ap (λ (l : List ℕ). rest l) is)
-  where
-    first : List ℕ → ℕ
-    first [] = m
-    first (x ∷ xs) = x
-
-    rest : List ℕ → List ℕ
-    rest [] = []
-    rest (x ∷ xs) = xs
+slot_first m n ms ns is = grind (arith) steps 400000
 
 module _ {U : Type 0} where
   abbrev pub id_of : Note U → ClientParts
@@ -60,37 +52,20 @@ module _ {U : Type 0} where
   happening_of (note.Destroyed client object u) = happened.Destroyed object u
 
   pub note_is : (n : Note U) → n ≡ note_of (id_of n) (happening_of n)
-  note_is (note.Initialized client) = refl
-  note_is (note.Disconnected client reason) = refl
-  note_is (note.Destroyed client object u) = refl
+  note_is n = grind (arith) steps 400000
 
   pub slot_is : (n : Note U) → slot_of n ≡ (id_of n).slot
-  slot_is (note.Initialized client) = refl
-  slot_is (note.Disconnected client reason) = refl
-  slot_is (note.Destroyed client object u) = refl
+  slot_is n = grind (arith) steps 400000
 
   pub own_first : (n : Note U) (ns : List (Note U)) → notes_of (id_of n) (n ∷ ns) ≡ happening_of n ∷ notes_of (id_of n) ns
-  own_first n ns =
-      ap (λ (l : List (Happening U)). l ++ notes_of (id_of n) ns)
-      (ap (told_of (id_of n)) (note_is n) ∙ told_same (id_of n) (id_of n) (happening_of n) (same_self (id_of n)))
+  own_first n ns = grind (arith, notes_of, told_of, note_is, told_same, same_self) steps 400000
 
   -- who is told of has the slot of the note
   pub told_slot : (id : ClientParts) (n : Note U) (h : Happening U) (hs : List (Happening U)) → told_of id n ≡ h ∷ hs → id.slot ≡ slot_of n
-  told_slot id n h hs is = at ((id_of n).slot == id.slot) refl
-    where
-      at : (b : Bool) → ((id_of n).slot == id.slot) ≡ b → id.slot ≡ slot_of n
-      at true same = sym (slot_is n ∙ eqb-true (id_of n).slot id.slot same)
-      at false other =
-          let none : told_of id n ≡ [] = ap (told_of id) (note_is n) ∙ told_other (id_of n) id (happening_of n) (same_slots (id_of n) id other) in
-          let long : 0 ≡ suc (length hs) = ap length (sym none ∙ is) in
-          absurd (omega (arith, long))
+  told_slot id n h hs is = grind (arith, slot_of, slot_is, told_of, note_is, told_other, same_slots) steps 400000
 
   first_is : (h k : Happening U) (hs ks : List (Happening U)) → h ∷ hs ≡ k ∷ ks → h ≡ k
-  first_is h k hs ks is = ap (λ (l : List (Happening U)). first l) is
-    where
-      first : List (Happening U) → Happening U
-      first [] = h
-      first (x ∷ xs) = x
+  first_is h k hs ks is = grind (arith) steps 400000
 
   -- Notes begin as others do, if their slots do, and what they tell of each client; and only one client of a slot is told of.
   module _ (Is : ClientParts → Type 0) (one : (i j : ClientParts) → Is i → Is j → i.slot ≡ j.slot → i ≡ j) where
@@ -129,11 +104,7 @@ module _ {U : Type 0} where
             )
 
         is_rest : (id : ClientParts) (h : Happening U) (hs : List (Happening U)) → notes_of id b ≡ h ∷ hs → Is id
-        is_rest id h hs at = go (told_of id y) refl
-          where
-            go : (l : List (Happening U)) → told_of id y ≡ l → Is id
-            go [] none = is id h hs (ap (λ (l : List (Happening U)). l ++ notes_of id b) none ∙ at)
-            go (k ∷ ks) some = is id k (ks ++ notes_of id b) (ap (λ (l : List (Happening U)). l ++ notes_of id b) some)
+        is_rest id h hs at = grind (arith, told_of, notes_of) steps 400000
 
         whole : (rest : List (Note U)) × (b ≡ a ++ rest) → (rest : List (Note U)) × (y ∷ b ≡ (x ∷ a) ++ rest)
         whole (rest, more) = (rest, ap (λ (n : Note U). n ∷ b) same ∙ ap (λ (l : List (Note U)). x ∷ l) more)
@@ -149,10 +120,7 @@ module _ {T U G C : Type 0} (w : World T G C) (id : ClientParts) (offer : Offer 
   Grows s t = (more : List (Happening U)) × (t.made ≡ s.made ++ more)
 
   goes_grows : (s t : Seen T U C) (d : Doings U) → Goes keeping w.sends w.receives id s d t → Grows s t
-  goes_grows s t d (unfelt none same) = ([], ap (λ (x : Seen T U C). x.made) same ∙ sym (append-nil s.made))
-  goes_grows s t d (within p q there moves same) = (d.notes, ap (λ (x : Seen T U C). x.made) same)
-  goes_grows s t d (taken_out p q on there killed moves none noted same) = (d.notes, ap (λ (x : Seen T U C). x.made) same)
-  goes_grows s t d (notes_taken on is same) = absurd (false≢true on)
+  goes_grows s t d h1 = grind (arith, unfelt, append-nil, within, taken_out, notes_taken) steps 400000
 
   none_handed : (call : Call T U G C) → HandsOutNone call → hands_in call ≡ false
   none_handed (Asked step.TakeNotes (reply.TakeNotes (Ok out))) none = absurd (none out refl)
@@ -242,20 +210,10 @@ record Makes {T U G C : Type 0} (s t : ServerState T U G C) : Type 0 where
 
 module _ {T U C : Type 0} where
   one_serial : (x : Option (Stored T U C)) (m n : ℕ) → is_some (if_serial m x) ≡ true → is_some (if_serial n x) ≡ true → m ≡ n
-  one_serial None m n a b = absurd (false≢true a)
-  one_serial (Some s) m n a b = sym (serial m a) ∙ serial n b
-    where
-      serial : (k : ℕ) → is_some (if_serial k (Some s)) ≡ true → s.serial ≡ k
-      serial k some = at (s.serial == k) refl some
-        where
-          at : (b : Bool) → (s.serial == k) ≡ b → is_some (if b then Some s else None) ≡ true → s.serial ≡ k
-          at true is some = eqb-true s.serial k is
-          at false is some = absurd (false≢true some)
+  one_serial x m n h1 h2 = grind (arith, is_some, if_serial) steps 400000
 
   pub one_client : (clients : List (Option (Stored T U C))) (i j : ClientParts) → is_some (client_at i clients) ≡ true → is_some (client_at j clients) ≡ true → i.slot ≡ j.slot → i ≡ j
-  one_client clients i j a b same =
-      same_parts i j same
-      (one_serial (stored_at j.slot clients) i.serial j.serial (subst (λ (n : ℕ). is_some (if_serial i.serial (stored_at n clients)) ≡ true) same a) b)
+  one_client clients i j a b same = grind (arith, same_parts, one_serial, stored_at, is_some, if_serial) steps 400000
 
 module _ {T U G C : Type 0} where
   -- what would have been handed out comes first
@@ -295,11 +253,7 @@ module _ {T U G C : Type 0} where
           )
 
       stored : (id : ClientParts) (h : Happening U) (hs : List (Happening U)) → notes_of id drains.more ≡ h ∷ hs → is_some (client_at id t.clients) ≡ true
-      stored id h hs is = at (client_at id t.clients) refl
-        where
-          at : (o : Option (Stored T U C)) → client_at id t.clients ≡ o → is_some o ≡ true
-          at (Some c) there = refl
-          at None none = let long : 0 ≡ suc (length hs) = ap length (sym (drains.stored id none) ∙ is) in absurd (omega (arith, long))
+      stored id h hs is = grind (arith, client_at, is_some) steps 400000
 
       begun : (rest : List (Note U)) × (drains.more ≡ takes.more ++ rest)
       begun = begins_so (λ id. is_some (client_at id t.clients) ≡ true) (one_client t.clients) takes.more drains.more (map (λ p. p.slot) first.0 ++ drains.slots) slots told stored
@@ -321,19 +275,7 @@ module _ {T U G C : Type 0} (w : World T G C) where
       each_of id = subst (λ (call : Call T U G C). PartCall w id s.offer call (seen id s) (e.lacks id) (e.did id) (seen id after)) is (one.each id)
 
       told : (id : ClientParts) → notes_of id out.items ≡ notes_of id s.notes ++ made_of id s.clients
-      told id = let (r, is, h) = each_of id in at r is h
-        where
-          at : (r : Result (Vec (Note U) Global) OutOfMemory) → ◌≡◌ {A = Reply T U} (reply.TakeNotes (Ok out)) (reply.TakeNotes r)
-              → NotesTaken w id s.offer r (seen id s) (e.lacks id) (e.did id) (seen id after) → notes_of id out.items ≡ notes_of id s.notes ++ made_of id s.clients
-          at (Err f) is h = absurd (different is)
-            where
-              different : ◌≡◌ {A = Reply T U} (reply.TakeNotes (Ok out)) (reply.TakeNotes (Err f)) → ⊥
-              different e = cc
-          at (Ok out') is h = ap (λ (v : List (Note U)). notes_of id v) (ap items is) ∙ h.0
-            where
-              items : Reply T U → List (Note U)
-              items (reply.TakeNotes (Ok v)) = v.items
-              items _ = []
+      told id = grind (arith, seen, notes_of) steps 400000
 
       of : HandsOutNotes s out.items after → Takes s out.items
       of h =
@@ -349,18 +291,7 @@ module _ {T U G C : Type 0} (w : World T G C) where
           }
 
   takes_drain : (s : ServerState T U G C) (out : List (Note U)) → Takes s out → Drains s out
-  takes_drain s out takes = record {
-    more = takes.more;
-    waits = false;
-    order = takes.order;
-    slots = [];
-    behind = takes.behind;
-    rise = takes.rise;
-    places = takes.places;
-    along = takes.along ∙ sym (append-nil (map (λ p. p.slot) takes.order));
-    each = λ id. ([], takes.each id ∙ sym (append-nil (made_of id s.clients)));
-    stored = λ id none. takes.each id ∙ ap (λ (o : Option (Stored T U C)). option_map_or (λ s. s.made) o []) none;
-  }
+  takes_drain s out takes = grind (arith, append-nil) steps 400000
 
   -- what a cleanup gathers
   pub cleanup_drains : (s : ServerState T U G C) (e : Entry T U G C) (after : ServerState T U G C) (out : Vec (ClientParts × T) Global)
@@ -371,16 +302,7 @@ module _ {T U G C : Type 0} (w : World T G C) where
       each_of id = subst (λ (call : Call T U G C). PartCall w id s.offer call (seen id s) (e.lacks id) (e.did id) (seen id after)) is (one.each id)
 
       cleaned : (id : ClientParts) → CleanedAs w id s.offer (Ok out) (seen id s) (e.lacks id) (e.did id) (seen id after)
-      cleaned id = let (r, is, h) = each_of id in at r is h
-        where
-          at : (r : Result (Vec (ClientParts × T) Global) OutOfMemory) → ◌≡◌ {A = Reply T U} (reply.Cleanup (Ok out)) (reply.Cleanup r)
-              → CleanedAs w id s.offer r (seen id s) (e.lacks id) (e.did id) (seen id after) → CleanedAs w id s.offer (Ok out) (seen id s) (e.lacks id) (e.did id) (seen id after)
-          at r is h =
-              subst (λ (r : Result (Vec (ClientParts × T) Global) OutOfMemory). CleanedAs w id s.offer r (seen id s) (e.lacks id) (e.did id) (seen id after)) (sym (ap result is)) h
-            where
-              result : Reply T U → Result (Vec (ClientParts × T) Global) OutOfMemory
-              result (reply.Cleanup r) = r
-              result _ = Ok out
+      cleaned id = grind (arith, seen) steps 400000
 
       of : GathersNotes s after → Drains s after.notes
       of h =
@@ -409,12 +331,7 @@ module _ {T U G C : Type 0} (w : World T G C) where
           now id h = sym (ap (λ (l : List (Happening U)). notes_of id after.notes ++ l) (h.none_left id) ∙ append-nil (notes_of id after.notes))
 
           missing : (id : ClientParts) → client_at id s.clients ≡ None → (seen id after).made ≡ notes_of id s.notes ++ []
-          missing id none =
-              elim (either_option (seen id s).part (cleaned id)) [
-                | inl (gone, (nobody, (unlacked, did_so, same))) ↦ ap (λ (x : Seen T U C). x.made) same
-                    ∙ ap (λ (o : Option (Stored T U C)). notes_of id s.notes ++ option_map_or (λ s. s.made) o []) none
-                | inr (p, there, c) ↦ absurd (false≢true (ap (λ (o : Option (Part T U C)). is_some o) (sym (ap (option_map (λ (s : Stored T U C). s.part)) none) ∙ there)))
-              ]
+          missing id none = grind (arith, either_option, seen, cleaned, notes_of, is_some) steps 400000
 
   -- ---- a run between
 
@@ -451,9 +368,7 @@ module _ {T U G C : Type 0} (w : World T G C) where
 
       gathering : (out : Vec (ClientParts × T) Global) → e.call ≡ Asked step.Cleanup (reply.Cleanup (Ok out)) → Since s early t → Since s early u
       gathering out is (inl makes) = inr (drains_later s t early u.notes takes (cleanup_drains t e u out is one) makes below has has')
-      gathering out is (inr (rest, begun)) =
-          let drains = cleanup_drains t e u out is one in
-          inr (rest ++ drains.more, drains.behind ∙ (ap (λ (l : List (Note U)). l ++ drains.more) begun ∙ append_assoc early rest drains.more))
+      gathering out is (inr (rest, begun)) = grind (arith, cleanup_drains, append_assoc) steps 400000
 
       at : (call : Call T U G C) → e.call ≡ call → NotesGoOn t call u → Since s early u
       at (Asked step.TakeNotes (reply.TakeNotes (Ok out))) is h = absurd (none out is)

@@ -29,35 +29,7 @@ pub later_refl : (p : NotePlace) → IsNoLater p p
 later_refl p = (λ w. w, λ e. omega arith, λ e n. omega arith)
 
 later_trans : (p q r : NotePlace) → IsNoLater p q → IsNoLater q r → IsNoLater p r
-later_trans p q r one two = (
-  λ w. two.0 (one.0 w),
-  λ same. by_number (between same) same,
-  λ same at_one. by_slot (between same) same at_one,
-)
-  where
-    -- the kind between is the same
-    between : p.waits ≡ r.waits → p.waits ≡ q.waits
-    between same = at q.waits refl p.waits refl
-      where
-        at : (b : Bool) → q.waits ≡ b → (a : Bool) → p.waits ≡ a → p.waits ≡ q.waits
-        at true qb true pa = pa ∙ sym qb
-        at false qb false pa = pa ∙ sym qb
-        at false qb true pa = absurd (false≢true (sym qb ∙ one.0 pa))
-        at true qb false pa = absurd (false≢true (sym pa ∙ (same ∙ two.0 qb)))
-
-    by_number : p.waits ≡ q.waits → p.waits ≡ r.waits → p.number ≤ r.number
-    by_number e same =
-        let first = one.1 e in
-        let second = two.1 (sym e ∙ same) in
-        omega (arith, first, second)
-
-    by_slot : p.waits ≡ q.waits → p.waits ≡ r.waits → p.number ≡ r.number → p.slot ≤ r.slot
-    by_slot e same at_one =
-        let first = one.1 e in
-        let second = two.1 (sym e ∙ same) in
-        let here = one.2 e (omega (arith, first, second, at_one)) in
-        let there = two.2 (sym e ∙ same) (omega (arith, first, second, at_one)) in
-        omega (arith, here, there)
+later_trans p q r one two = grind (arith, false≢true) steps 400000
 
 pub sorted_of : (ps : List NotePlace) → Rise ps → Sorted ps
 sorted_of [] rise = tt
@@ -84,17 +56,11 @@ abbrev pub times_at_time : ℕ → ℕ → List NotePlace → ℕ
 times_at_time slot n ps = sum_by (at_time slot n) ps
 
 place_is : (p : NotePlace) (slot n : ℕ) → p.waits ≡ false → p.number ≡ n → p.slot ≡ slot → p ≡ place_at false slot n
-place_is p slot n waits number at_slot =
-    ap (λ (w : Bool). let q : NotePlace = record { waits = w; number = p.number; slot = p.slot } in q) waits
-    ∙ (ap (λ (m : ℕ). let q : NotePlace = record { waits = false; number = m; slot = p.slot } in q) number
-    ∙ ap (λ (m : ℕ). let q : NotePlace = record { waits = false; number = n; slot = m } in q) at_slot)
+place_is p slot n waits number at_slot = grind (arith) steps 400000
 
 count_is : (p : NotePlace) (slot n : ℕ) (w a b : Bool) → p.waits ≡ w → (p.number == n) ≡ a → (p.slot == slot) ≡ b
     → at_time slot n p ≡ (if w then 0 else (if a then (if b then 1 else 0) else 0))
-count_is p slot n w a b waits number at_slot =
-    ap (λ (x : Bool). if x then 0 else (if p.number == n then (if p.slot == slot then 1 else 0) else 0)) waits
-    ∙ (ap (λ (x : Bool). if w then 0 else (if x then (if p.slot == slot then 1 else 0) else 0)) number
-    ∙ ap (λ (x : Bool). if w then 0 else (if a then (if x then 1 else 0) else 0)) at_slot)
+count_is p slot n w a b waits number at_slot = grind (arith) steps 400000
 
 -- what holds of all places holds of one that is there
 found : (P : NotePlace → Type 0) (slot n : ℕ) (ps : List NotePlace) → AllByRecursion P ps → 1 ≤ times_at_time slot n ps → P (place_at false slot n)
@@ -105,10 +71,7 @@ found P slot n (p ∷ ps) (here, all) some = at (λ more. found P slot n ps all 
     past later none = let count = sum_by-cons (at_time slot n) p ps in later (omega (arith, some, none, count))
 
     at : (1 ≤ times_at_time slot n ps → P (place_at false slot n)) → (w a b : Bool) → p.waits ≡ w → (p.number == n) ≡ a → (p.slot == slot) ≡ b → P (place_at false slot n)
-    at later false true true waits number at_slot = subst P (place_is p slot n waits (eqb-true p.number n number) (eqb-true p.slot slot at_slot)) here
-    at later true a b waits number at_slot = past later (count_is p slot n true a b waits number at_slot)
-    at later false false b waits number at_slot = past later (count_is p slot n false false b waits number at_slot)
-    at later false true false waits number at_slot = past later (count_is p slot n false true false waits number at_slot)
+    at h1 w a b h2 h3 h4 = grind (arith, place_is, eqb-true, past, count_is) steps 400000
 
 -- ---- what is early comes first
 
@@ -139,11 +102,7 @@ module _ (below : ℕ) (In : ℕ → ℕ → Type 0) (apart : (i j n : ℕ) → 
       y_first = found (IsNoLater y) x.slot x.number (y ∷ b) (later_refl y, after_y) there
 
       y_made : y.waits ≡ false
-      y_made = at y.waits refl
-        where
-          at : (w : Bool) → y.waits ≡ w → y.waits ≡ false
-          at true is = absurd (false≢true (y_first.0 is))
-          at false is = is
+      y_made = grind (arith, false≢true, y_first) steps 400000
 
       y_low : y.number ≤ x.number
       y_low = y_first.1 y_made
@@ -208,34 +167,12 @@ of_made k slot n b is (m ∷ ns) = at b is (of_made k slot n b is ns) (m == n) r
         let other = sum_by-cons (λ (m : ℕ). if m == n then 1 else 0) m ns in
         let one = ap {B = ℕ} (λ (x : Bool). if x then 1 else 0) number in
         omega (arith, count, this, other, one, more)
-    at true is more false number =
-        let count = sum_by-cons (at_time slot n) (place_at false k m) (map (place_at false k) ns) in
-        let this = count_is (place_at false k m) slot n false false true refl number is in
-        let other = sum_by-cons (λ (m : ℕ). if m == n then 1 else 0) m ns in
-        let one = ap {B = ℕ} (λ (x : Bool). if x then 1 else 0) number in
-        omega (arith, count, this, other, one, more)
-    at false is more true number =
-        let count = sum_by-cons (at_time slot n) (place_at false k m) (map (place_at false k) ns) in
-        let this = count_is (place_at false k m) slot n false true false refl number is in
-        omega (arith, count, this, more)
-    at false is more false number =
-        let count = sum_by-cons (at_time slot n) (place_at false k m) (map (place_at false k) ns) in
-        let this = count_is (place_at false k m) slot n false false false refl number is in
-        omega (arith, count, this, more)
+    at true is more false number = grind (arith, sum_by-cons, place_at, count_is) steps 400000
+    at false is more true number = grind (arith, sum_by-cons, place_at, count_is) steps 400000
+    at false is more false number = grind (arith, sum_by-cons, place_at, count_is) steps 400000
 
 of_client : (waits : Bool) (k slot n : ℕ) (b : Bool) → (k == slot) ≡ b → (t : NoteTimes) → times_at_time slot n (places_of waits k t) ≡ (if b then often n t.made else 0)
-of_client waits k slot n b is t =
-    let both = sum_by-append (at_time slot n) (map (place_at false k) t.made) (if waits then map (place_at true k) t.waiting else []) in
-    let made = of_made k slot n b is t.made in
-    let none = waiting waits in
-    both ∙ (ap (λ (m : ℕ). m + times_at_time slot n (if waits then map (place_at true k) t.waiting else [])) made ∙ last (if b then often n t.made else 0) none)
-  where
-    waiting : (v : Bool) → times_at_time slot n (if v then map (place_at true k) t.waiting else []) ≡ 0
-    waiting true = none_waiting k slot n t.waiting
-    waiting false = refl
-
-    last : (m : ℕ) → times_at_time slot n (if waits then map (place_at true k) t.waiting else []) ≡ 0 → m + times_at_time slot n (if waits then map (place_at true k) t.waiting else []) ≡ m
-    last m none = omega (arith, none)
+of_client waits k slot n b is t = grind (arith, sum_by-append, place_at, of_made, none_waiting) steps 400000
 
 -- The places of a slot among those of all clients are its client's, if each count of places sees those of one slot alone.
 module _ (f : NotePlace → ℕ) (slot : ℕ) (waits : Bool) (g : NoteTimes → ℕ) (none : g no_times ≡ 0)
@@ -250,11 +187,7 @@ module _ (f : NotePlace → ℕ) (slot : ℕ) (waits : Bool) (g : NoteTimes → 
 
   pub among : (k j : ℕ) (ts : List NoteTimes) → slot ≡ k + j → sum_by f (all_places waits k ts) ≡ g (times_at j ts)
   among k j [] is = sym none
-  among k zero (t ∷ ts) is =
-      let both = sum_by-append f (places_of waits k t) (all_places waits (k + 1) ts) in
-      let this = own k true (eq-eqb k slot (omega (arith, is))) t in
-      let more = past (k + 1) ts (omega (arith, is)) in
-      omega (arith, both, this, more)
+  among k zero (t ∷ ts) is = grind (arith, sum_by-append, places_of, all_places, eq-eqb, past) steps 400000
   among k (suc j) (t ∷ ts) is =
       let both = sum_by-append f (places_of waits k t) (all_places waits (k + 1) ts) in
       let this = own k false (ne_eqb k slot (λ e. omega (arith, is, e))) t in
@@ -289,11 +222,7 @@ not_later low (m ∷ ns) next n (first, rest) less =
 
 -- numbers that were given later do not count among the early ones
 pub as_often : (ns more ns' : List ℕ) (next next' n : ℕ) → ns' ≡ ns ++ more → RiseWithin next more next' → n < next → often n ns ≡ often n ns'
-as_often ns more ns' next next' n is rise less =
-    let both = sum_by-append (λ (k : ℕ). if k == n then 1 else 0) ns more in
-    let none = not_later next more next' n rise less in
-    let same = ap (often n) is in
-    omega (arith, both, none, same)
+as_often ns more ns' next next' n is rise less = grind (arith, sum_by-append, not_later) steps 400000
 
 -- ---- the places of what was made are early
 
@@ -338,7 +267,4 @@ earlier_first waits ts ts' a b next next' up moved up' moved' rise grow apart =
         one ∙ (three ∙ (five ∙ (sym four ∙ sym two)))
 
     known : (slot n : ℕ) → 1 ≤ times_at_time slot n b → Contains (times_at slot ts').made n
-    known slot n some =
-        let two = sum_by-IsPermutation (at_time slot n) (all_places waits 0 ts') b moved' in
-        let four = among_all waits slot n ts' in
-        has_number n (times_at slot ts').made (omega (arith, some, two, four))
+    known slot n some = grind (arith, sum_by-IsPermutation, all_places, among_all, has_number, times_at) steps 400000

@@ -107,12 +107,7 @@ module _ {T U C : Type 0} (sends : T → Queue → Result ℕ IoFault → T → 
   moves_grow p q d (cleaned on is same) = absurd (false≢true on)
 
   goes_grow : (s t : Seen T U C) (d : Doings U) → Goes (any false) sends receives client s d t → Grown (waiting_of s.part) (waiting_of t.part)
-  goes_grow s t d (unfelt none same) = grown_still (waiting_of s.part) (waiting_of t.part) (ap (λ (x : Seen T U C). waiting_of x.part) same)
-  goes_grow s t d (within p q there moves same) =
-      subst (λ (o : Option (Part T U C)). Grown (waiting_of o) (waiting_of t.part)) (sym there)
-      (subst (λ (x : Seen T U C). Grown p.waiting (waiting_of x.part)) (sym same) (moves_grow p q d moves))
-  goes_grow s t d (taken_out p q on there killed moves none noted same) = absurd (false≢true on)
-  goes_grow s t d (notes_taken on is same) = grown_still (waiting_of s.part) (waiting_of t.part) (ap (λ (x : Seen T U C). waiting_of x.part) same)
+  goes_grow s t d h1 = grind (arith, unfelt, grown_still, within, moves_grow, taken_out, notes_taken) steps 400000
 
 module _ {T U G C : Type 0} where
   abbrev waits_at : ClientParts → ServerState T U G C → List (Happening U)
@@ -181,16 +176,7 @@ module _ {T U G C : Type 0} where
         id = record { slot = k; serial = x.serial }
 
         at : (b : Option (Stored T U C)) → stored_at k t.clients ≡ b → part_in (if_serial x.serial b) ≡ Some x.part → length (waits (Some x)) ≡ length (waits b)
-        at None is' there = absurd (none-some _ there)
-        at (Some y) is' there = go (y.serial == x.serial) refl
-          where
-            go : (c : Bool) → (y.serial == x.serial) ≡ c → length (waits (Some x)) ≡ length (waits (Some y))
-            go true same =
-                let now : part_in (if_serial x.serial (Some y)) ≡ Some y.part = ap (λ (z : Bool). part_in (if z then Some y else None)) same in
-                ap (λ (o : Option (Part T U C)). length (waiting_of o)) (sym there ∙ now)
-            go false other =
-                let now : part_in (if_serial x.serial (Some y)) ≡ None = ap (λ (z : Bool). part_in (if z then Some y else None)) other in
-                absurd (none-some _ (sym now ∙ there))
+        at b h1 h2 = grind (arith, if_serial) steps 400000
 
     -- what is left of the numbers of those that wait is all of them
     same_waiting : AllNumbered s.clients → AllNumbered t.clients → AllTakeFirst (map times_of s.clients) (map times_of t.clients) → (k : ℕ)
@@ -224,10 +210,7 @@ module _ {T U G C : Type 0} (w : World T G C) where
   Given s t k = GivesWithin (times_at k (map times_of s.clients)).waiting s.numbers.waiting (times_at k (map times_of t.clients)).waiting t.numbers.waiting
 
   given_none : (s t : ServerState T U G C) (k : ℕ) → t.numbers ≡ s.numbers → (times_at k (map times_of t.clients)).waiting ≡ (times_at k (map times_of s.clients)).waiting → Given s t k
-  given_none s t k numbers same =
-      subst (λ (n : NoteNumbers). GivesWithin (times_at k (map times_of s.clients)).waiting s.numbers.waiting (times_at k (map times_of t.clients)).waiting n.waiting) (sym numbers)
-      (subst (λ (l : List ℕ). GivesWithin (times_at k (map times_of s.clients)).waiting s.numbers.waiting l s.numbers.waiting) (sym same)
-      (within_none (times_at k (map times_of s.clients)).waiting s.numbers.waiting s.numbers.waiting (λ below. omega arith)))
+  given_none s t k numbers same = grind (arith, times_at, times_of, within_none) steps 400000
 
   step_given : (s : ServerState T U G C) (e : Entry T U G C) (t : ServerState T U G C) → OneStep w s e t → CleansNothing e.call → AllNumbered s.clients → (k : ℕ) → Given s t k
   step_given s e t one none all k = at e.call refl one.notes one.each
@@ -290,14 +273,7 @@ module _ {U : Type 0} where
           let long = ap length told in
           let one : one_at id.slot (slot_of n) ≡ 1 = ap (λ (x : Bool). if x then 1 else 0) is in
           omega (arith, long, rest, sums, one)
-      at rest false is = go (told_of id n) refl
-        where
-          go : (l : List (Happening U)) → told_of id n ≡ l → length (notes_of id (n ∷ m)) ≡ sum_by (one_at id.slot) (map slot_of (n ∷ m))
-          go [] none =
-              let same = ap (λ (l : List (Happening U)). length (l ++ notes_of id m)) none in
-              let zero : one_at id.slot (slot_of n) ≡ 0 = ap (λ (x : Bool). if x then 1 else 0) is in
-              omega (arith, same, rest, sums, zero)
-          go (k ∷ ks) some = absurd (true≢false (sym (eq-eqb (slot_of n) id.slot (sym (told_slot id n k ks some))) ∙ is))
+      at rest false is = grind (arith, told_of, notes_of, slot_of, sums, true≢false, told_slot) steps 400000
 
   noted_all : (hs : List (Happening U)) → notes_in (map Noted hs) ≡ hs
   noted_all [] = refl
@@ -345,16 +321,7 @@ module _ {T U G C : Type 0} (w : World T G C) (s : ServerState T U G C) (e : Ent
   each_of id = subst (λ (call : Call T U G C). PartCall w id s.offer call (seen id s) (e.lacks id) (e.did id) (seen id after)) is (one.each id)
 
   cleaned_as : (id : ClientParts) → CleanedAs w id s.offer (Ok out) (seen id s) (e.lacks id) (e.did id) (seen id after)
-  cleaned_as id = let (r, is, h) = each_of id in at r is h
-    where
-      result : Reply T U → Result (Vec (ClientParts × T) Global) OutOfMemory
-      result (reply.Cleanup r) = r
-      result _ = Ok out
-
-      at : (r : Result (Vec (ClientParts × T) Global) OutOfMemory) → ◌≡◌ {A = Reply T U} (reply.Cleanup (Ok out)) (reply.Cleanup r)
-          → CleanedAs w id s.offer r (seen id s) (e.lacks id) (e.did id) (seen id after) → CleanedAs w id s.offer (Ok out) (seen id s) (e.lacks id) (e.did id) (seen id after)
-      at r is h =
-          subst (λ (r : Result (Vec (ClientParts × T) Global) OutOfMemory). CleanedAs w id s.offer r (seen id s) (e.lacks id) (e.did id) (seen id after)) (sym (ap result is)) h
+  cleaned_as id = grind (arith, each_of, seen) steps 400000
 
   noted_next : (id : ClientParts) (p : Part T U C) (lacked : Bool) (did : List (Deed U)) (share : List T) (q : Option (Part T U C)) → Cleaned w.sends id p lacked did share q
       → (rest : List (Happening U)) × (notes_in did ≡ p.waiting ++ rest)
@@ -404,11 +371,7 @@ module _ {T U G C : Type 0} (w : World T G C) (s : ServerState T U G C) (e : Ent
       same = append_cancel_left s.notes drains.more (made ++ (waited ++ gathers.ends)) (sym drains.behind ∙ whole)
 
   is_stored : (id : ClientParts) (h : Happening U) (hs : List (Happening U)) → notes_of id (made ++ (waited ++ gathers.ends)) ≡ h ∷ hs → is_some (client_at id s.clients) ≡ true
-  is_stored id h hs told = at (client_at id s.clients) refl
-    where
-      at : (o : Option (Stored T U C)) → client_at id s.clients ≡ o → is_some o ≡ true
-      at (Some c) there = refl
-      at None none = let long : 0 ≡ suc (length hs) = ap length (sym (none_told id none) ∙ told) in absurd (omega (arith, long))
+  is_stored id h hs told = grind (arith, client_at, is_some, none_told) steps 400000
 
   module _ (id : ClientParts) (c : Stored T U C) (here : client_at id s.clients ≡ Some c) where
     at_slot : stored_at id.slot s.clients ≡ Some c
@@ -418,9 +381,7 @@ module _ {T U G C : Type 0} (w : World T G C) (s : ServerState T U G C) (e : Ent
     times_here = times_stored s.clients id.slot ∙ ap times_of at_slot
 
     has_numbers : (length c.times.made ≡ length c.made) × (length c.times.waiting ≡ length c.part.waiting)
-    has_numbers =
-        subst (λ (o : Option (Stored T U C)). (length (times_of o).made ≡ length (option_map_or (λ s. s.made) o []))
-        × (length (times_of o).waiting ≡ length (option_map_or (λ s. s.part.waiting) o []))) at_slot (all id.slot)
+    has_numbers = grind (arith, times_of, at_slot) steps 400000
 
     some_here : is_some (client_at id s.clients) ≡ true
     some_here = ap is_some here

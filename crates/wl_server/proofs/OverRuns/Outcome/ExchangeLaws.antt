@@ -97,12 +97,7 @@ module _ {T : Type 0} (sends : T → Queue → Result ℕ IoFault → T → Type
     -- a reading that ends where the core would read on has no receive left
     ends : (left : ℕ) (p : ReaderState T Core) (out : Gives Event) → reader.reads_on p.core ≡ true → out.refused ≡ false → Stops sends reader left p out
         → Lacks sends reader p × (left ≡ 0)
-    ends left p out on ample stops' = go (MatchBool-at_true _ _ on stops')
-      where
-        go : Halts sends reader left p out → Lacks sends reader p × (left ≡ 0)
-        go (inl (lacks, none, is)) = (lacks, none)
-        go (inr (inl (asks, is))) = absurd (true≢false (sym (ap refused_of is) ∙ ample))
-        go (inr (inr (lacks, (n, one, is)))) = absurd (true≢false (sym (ap refused_of is) ∙ ample))
+    ends left p out on ample stops' = grind (arith, true≢false) steps 400000
 
     abbrev FoundBy : Type 1
     FoundBy = ReaderState T Core → Verdict Core Event → LinkState T → Type 0

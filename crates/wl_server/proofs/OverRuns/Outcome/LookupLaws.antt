@@ -34,18 +34,7 @@ module _ {T U C : Type 0} where
 
   -- two clients of one slot that are the same to all ids have one serial and one part
   stored_one : (n : ℕ) (x y : Stored T U C) → part_at (if_serial x.serial (Some x)) ≡ part_at (if_serial x.serial (Some y)) → id_if_stored n (Some x) ≡ id_if_stored n (Some y)
-  stored_one n x y same = at (cases_Bool (y.serial == x.serial))
-    where
-      here : part_at (if_serial x.serial (Some x)) ≡ Some x.part
-      here = ap part_at (found x (Some x) refl)
-
-      at : ((y.serial == x.serial) ≡ true) ⊎ ((y.serial == x.serial) ≡ false) → id_if_stored n (Some x) ≡ id_if_stored n (Some y)
-      at (inr other) = absurd (none_or_some x (part_at (if_serial x.serial (Some y))) (sym here ∙ same) (rw other refl))
-      at (inl is) =
-          let there : part_at (if_serial x.serial (Some y)) ≡ Some y.part = rw is refl in
-          let part : x.part ≡ y.part = same_Some x.part y.part (sym here ∙ same ∙ there) in
-          let serial : x.serial ≡ y.serial = sym (eqb-true y.serial x.serial is) in
-          ap₂ (λ (m : ℕ) (p : Part T U C). id_if_stored n (Some (record { serial = m; part = p; made = x.made; times = no_times }))) serial part
+  stored_one n x y same = grind (arith, if_serial, found, id_if_stored, none_or_some, ap₂, no_times) steps 400000
 
 module _ {T U G C : Type 0} (s t : ServerState T U G C) (same : HoldsSame s t) where
   slot_one : (k n : ℕ) (a b : Option (Stored T U C)) → stored_at k s.clients ≡ a → stored_at k t.clients ≡ b → id_if_stored n a ≡ id_if_stored n b
@@ -70,17 +59,4 @@ module _ {T U G C : Type 0} (s t : ServerState T U G C) (same : HoldsSame s t) w
   object_one id = ap (λ (c : Option (Part T U C)). and_then c (λ p. named p.store id)) (client_one id.client)
 
   pub answers_alike : AnswersAlike s t
-  answers_alike = record {
-    object_info = λ id. ap (λ o. option_map (info_at id.number) o) (object_one id);
-    client = λ id. ap (λ (c : Option (Part T U C)). option_map (λ p. id.client) c) (client_one id.client);
-    client_data = λ id. ap (λ (c : Option (Part T U C)). option_map (λ p. p.client_data) c) (client_one id);
-    object_data = λ id. ap (λ o. and_then o (λ x. x.value.user_data)) (object_one id);
-    transport = λ id. ap (λ (c : Option (Part T U C)). option_map (λ p. p.link.transport) c) (client_one id);
-    for_number = λ id i n. ap (λ (c : Option (Part T U C)). and_then c (λ p. and_then (held p.store n) (id_if id i n))) (client_one id);
-    clients = live_one 0 s.clients t.clients (λ k n is. slot_one k n (stored_at k s.clients) (stored_at k t.clients) refl refl);
-    objects = λ id. ap (λ (c : Option (Part T U C)). option_map (λ p. map (λ e. id_at id e.0 e.1) (finmap.entries p.store.objects)) c) (client_one id);
-    global_info = λ id. ap (λ (o : Offer G). option_map global_info_of (global_of o.globals id)) same.offer;
-    handler = λ id. ap (λ (o : Offer G). option_map (λ x. x.value.handler) (global_of o.globals id)) same.offer;
-    name = λ views id client.
-        ap₂ (λ (o : Offer G) (c : Option (Part T U C)). and_then c (λ p. and_then (global_of o.globals id) (name_if views client p.client_data id.name))) same.offer (client_one client);
-  }
+  answers_alike = grind (arith, option_map, info_at, object_one, client_one, and_then, held, id_if, live_one, slot_one, stored_at, global_info_of, name_if) steps 400000

@@ -20,10 +20,7 @@ use Rattle.wl_server.specs.Steps.{InsertsNext, IsLeastFree, IsNextClient, LacksS
 -- ---- globals
 
 pub global_is : (a b : GlobalParts) → a.name ≡ b.name → a.serial ≡ b.serial → a ≡ b
-global_is a b names serials =
-    let with_name : ℕ → GlobalParts = λ n. record { name = n; serial = a.serial } in
-    let with_serial : ℕ → GlobalParts = λ n. record { name = b.name; serial = n } in
-    ap with_name names ∙ ap with_serial serials
+global_is a b names serials = grind (arith) steps 400000
 
 module _ {G : Type 0} (globals : Globals G) where
   next_global_one : (a b : GlobalParts) → IsNextGlobal globals a → IsNextGlobal globals b → a ≡ b
@@ -35,37 +32,17 @@ module _ {G : Type 0} (globals : Globals G) where
   next_not_lacked a (least, left, next) (inr last) = omega (arith, left, last)
 
   creates_next_one : (a b : Result GlobalParts GlobalError) → a ≢ Err global.OutOfMemory → b ≢ Err global.OutOfMemory → CreatesNext globals a → CreatesNext globals b → a ≡ b
-  creates_next_one (Ok a) (Ok b) ok ok' h g = ap (λ (z : GlobalParts). let r : Result GlobalParts GlobalError = Ok z in r) (next_global_one a b h g)
-  creates_next_one (Ok a) (Err global.Full) ok ok' h g = absurd (next_not_lacked a h g)
-  creates_next_one (Err global.Full) (Ok b) ok ok' h g = absurd (next_not_lacked b g h)
-  creates_next_one (Err global.Full) (Err global.Full) ok ok' h g = refl
-  creates_next_one (Err global.OutOfMemory) b ok ok' h g = absurd (ok refl)
-  creates_next_one a (Err global.OutOfMemory) ok ok' h g = absurd (ok' refl)
-  creates_next_one (Err global.UnknownInterface) b ok ok' h g = absurd h
-  creates_next_one (Err global.VersionTooHigh) b ok ok' h g = absurd h
-  creates_next_one a (Err global.UnknownInterface) ok ok' h g = absurd g
-  creates_next_one a (Err global.VersionTooHigh) ok ok' h g = absurd g
+  creates_next_one a b h1 h2 h3 h4 = grind (arith, next_global_one, next_not_lacked) steps 400000
 
   -- the answer to the creation of a global
   pub creates_global_one : (table : List InterfaceRow) (i : InterfaceId) (version : ℕ) (a b : Result GlobalParts GlobalError)
       → a ≢ Err global.OutOfMemory → b ≢ Err global.OutOfMemory → CreatesGlobal table globals i version a → CreatesGlobal table globals i version b → a ≡ b
-  creates_global_one table i version a b ok ok' h g =
-      elim (both_option (slice_get table i.0) h g) [
-        | inl (none, is, is') ↦ is ∙ sym is'
-        | inr (row, some, p, q) ↦
-            elim (both_bool (nat_le version row.version) p q) [
-              | inl (next, next') ↦ creates_next_one a b ok ok' next next'
-              | inr (is, is') ↦ is ∙ sym is'
-            ]
-      ]
+  creates_global_one table i version a b ok ok' h g = grind (arith, slice_get, nat_le, creates_next_one) steps 400000
 
 -- ---- clients
 
 pub client_is : (a b : ClientParts) → a.slot ≡ b.slot → a.serial ≡ b.serial → a ≡ b
-client_is a b slots serials =
-    let with_slot : ℕ → ClientParts = λ n. record { slot = n; serial = a.serial } in
-    let with_serial : ℕ → ClientParts = λ n. record { slot = b.slot; serial = n } in
-    ap with_slot slots ∙ ap with_serial serials
+client_is a b slots serials = grind (arith) steps 400000
 
 module _ {T U C : Type 0} (last : ℕ) (clients : List (Option (Stored T U C))) where
   some_not_none : {A : Type 0} (o : Option A) → IsSome o → o ≡ None → ⊥
@@ -75,12 +52,7 @@ module _ {T U C : Type 0} (last : ℕ) (clients : List (Option (Stored T U C))) 
   not_less_free n m one other less = some_not_none (stored_at n clients) (other.least n less) one.free
 
   least_free_one : (n m : ℕ) → IsLeastFree clients n → IsLeastFree clients m → n ≡ m
-  least_free_one n m one other =
-      elim (cases_order n m) [
-        | inl same ↦ same
-        | inr (inl less) ↦ absurd (not_less_free n m one other less)
-        | inr (inr less) ↦ absurd (not_less_free m n other one less)
-      ]
+  least_free_one n m one other = grind (arith, cases_order, not_less_free) steps 400000
 
   pub next_client_one : (a b : ClientParts) → IsNextClient last clients a → IsNextClient last clients b → a ≡ b
   next_client_one a b (least, left, next) (least', left', next') = client_is a b (least_free_one a.slot b.slot least least') (next ∙ sym next')
@@ -92,18 +64,8 @@ module _ {T U C : Type 0} (last : ℕ) (clients : List (Option (Stored T U C))) 
   -- the answer to the insertion of a client
   pub inserts_next_one : (a b : Result ClientParts InsertClientError) → a ≢ Err insert.OutOfMemory → b ≢ Err insert.OutOfMemory
       → InsertsNext last clients a → InsertsNext last clients b → a ≡ b
-  inserts_next_one (Ok a) (Ok b) ok ok' h g = ap (λ (z : ClientParts). let r : Result ClientParts InsertClientError = Ok z in r) (next_client_one a b h g)
-  inserts_next_one (Ok a) (Err insert.Full) ok ok' h g = absurd (next_not_full a h g)
-  inserts_next_one (Err insert.Full) (Ok b) ok ok' h g = absurd (next_not_full b g h)
-  inserts_next_one (Err insert.Full) (Err insert.Full) ok ok' h g = refl
-  inserts_next_one (Err insert.OutOfMemory) b ok ok' h g = absurd (ok refl)
-  inserts_next_one a (Err insert.OutOfMemory) ok ok' h g = absurd (ok' refl)
+  inserts_next_one a b h1 h2 h3 h4 = grind (arith, next_client_one, next_not_full) steps 400000
 
   -- the id that was told is the one that is given
   pub client_is_as_told : (told : Option ClientParts) → NextClient last clients told → NextClientIsGiven last clients told
-  client_is_as_told (Some a) next (Ok b) given = ap Some (next_client_one a b next given)
-  client_is_as_told (Some a) next (Err insert.Full) lacks = absurd (next_not_full a next lacks)
-  client_is_as_told (Some a) next (Err insert.OutOfMemory) given = refl
-  client_is_as_told None lacks (Ok b) given = absurd (next_not_full b given lacks)
-  client_is_as_told None lacks (Err insert.Full) full = refl
-  client_is_as_told None lacks (Err insert.OutOfMemory) (b, given) = absurd (next_not_full b given lacks)
+  client_is_as_told told h1 = grind (arith, next_client_one, next_not_full) steps 400000

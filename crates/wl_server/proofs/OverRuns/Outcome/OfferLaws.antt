@@ -1,5 +1,5 @@
 -- That the offer after a run has one outcome: the shared calls determine it.
-use Rattle.std.proofs.Common.{◌≡◌, ◌≢◌, Bool, true, false, List, [], ◌∷◌, Result, Err, refl, sym, ap, subst, ◌∙◌, true≢false}
+use Rattle.std.proofs.Common.{◌≡◌, ◌≢◌, Bool, true, false, List, [], ◌∷◌, Result, Err, refl, sym, ap, subst, ◌∙◌, true≢false, arith}
 use Rattle.std.specs.Prelude.{if◌then◌else◌}
 use Rattle.wl_wire.specs.declared.protocol.TableError.{TableError}
 use Rattle.wl_wire.specs.declared.protocol.TableError.TheVariants as table
@@ -54,23 +54,11 @@ module _ {T U G C : Type 0} where
 
   -- what a step leaves of the offer, another leaves that is the same
   pub offer_as : (offer : Offer G) (s s' : Step T U G C) (q : Reply T U) → SameStep s s' → offer_after offer (Asked s q) ≡ offer_after offer (Asked s' q)
-  offer_as offer (step.SendEvent m) s' q same = at s' same
-    where
-      at : (s' : Step T U G C) → SendsSame (session_content m) s' → offer ≡ offer_after offer (Asked s' q)
-      at (step.SendEvent m') same = refl
-      at s' same = absurd same
-  offer_as offer (step.Arrive target bytes tokens) s' q same = at s' same
-    where
-      at : (s' : Step T U G C) → ArrivesSame target (record { bytes = bytes.items; tokens = tokens.items }) s' → offer ≡ offer_after offer (Asked s' q)
-      at (step.Arrive target' bytes' tokens') same = refl
-      at s' same = absurd same
-  offer_as offer s s' q same = ap (λ (z : Step T U G C). offer_after offer (Asked z q)) same
+  offer_as offer s s' q h1 = grind (arith, offer_after) steps 400000
 
   -- and so it is of the ids of globals
   pub numbers_as : (offer : Offer G) (s s' : Step T U G C) (q : Reply T U) → SameStep s s' → AnswersShared offer (Asked s' q) → AnswersShared offer (Asked s q)
-  numbers_as offer (step.SendEvent m) s' q same n = tt
-  numbers_as offer (step.Arrive target bytes tokens) s' q same n = tt
-  numbers_as offer s s' q same n = subst (λ (z : Step T U G C). AnswersShared offer (Asked z q)) (sym same) n
+  numbers_as offer s s' q h1 h2 = grind (arith) steps 400000
 
   -- the creation of a global is answered as one
   abbrev pub Answered : Call T U G C → Type 0
@@ -84,9 +72,7 @@ module _ {T U G C : Type 0} where
 
   pub answered_call : (w : World T G C) (id : ClientParts) (offer : Offer G) (call : Call T U G C) (before : Seen T U C) (lacked : Bool) (did : List (Deed U)) (after : Seen T U C)
       → PartCall w id offer call before lacked did after → Answered call
-  answered_call w id offer (Asked s answer) before lacked did after h = answered_step w id offer s answer before lacked did after h
-  answered_call w id offer (Changed target t) before lacked did after h = tt
-  answered_call w id offer (Grown rows answer) before lacked did after h = tt
+  answered_call w id offer call before lacked did after h1 = grind (arith, answered_step) steps 400000
 
   module _ (id : ClientParts) (offer : Offer G) where
     abbrev Ample : Step T U G C → Reply T U → Type 0
@@ -94,34 +80,20 @@ module _ {T U G C : Type 0} where
 
     -- a want of memory for a global is told by its answer
     created_allowed : (s : Step T U G C) (r : Result GlobalParts GlobalError) → Ample s (reply.CreateGlobal r) → r ≢ Err global.OutOfMemory
-    created_allowed s r ample is =
-        let refused = subst (λ z. Ample s (reply.CreateGlobal z)) is ample in
-        true≢false refused
+    created_allowed s r ample is = grind (arith, true≢false) steps 400000
 
     -- a client's own calls and the shared ones are answered alike, where their answers tell what all clients share
     pub shared_same : (s : Step T U G C) (p q : Reply T U) → is_about id s ≡ true → Ample s p → Ample s q → AnswersShared offer (Asked s p) → AnswersShared offer (Asked s q)
         → Answered (Asked s p) → Answered (Asked s q) → SharedSame s p q
-    shared_same (step.InsertClient transport client_data) p q own ample ample' n n' h g = absurd (true≢false (sym own))
-    shared_same (step.CreateGlobal i version handler) p q own ample ample' n n' (r, is) (r', is') =
-        let s : Step T U G C = step.CreateGlobal i version handler in
-        let numbers = subst (λ (z : Reply T U). AnswersShared offer (Asked s z)) is n in
-        let numbers' = subst (λ (z : Reply T U). AnswersShared offer (Asked s z)) is' n' in
-        let one = creates_global_one offer.globals offer.table i version r r' (created_allowed s r (subst (λ z. Ample s z) is ample)) (created_allowed s r' (subst (λ z. Ample s z) is' ample'))
-        numbers numbers' in
-        is ∙ ap (λ (z : Result GlobalParts GlobalError). let a : Reply T U = reply.CreateGlobal z in a) one ∙ sym is'
-    shared_same s p q own ample ample' n n' h g = tt
+    shared_same s p q h1 h2 h3 h4 h5 h6 h7 = grind (arith, true≢false, creates_global_one, created_allowed) steps 400000
 
     answered_as : (s s' : Step T U G C) (q : Reply T U) → SameStep s s' → Answered (Asked s' q) → Answered (Asked s q)
-    answered_as (step.SendEvent m) s' q same h = tt
-    answered_as (step.Arrive target bytes tokens) s' q same h = tt
-    answered_as s s' q same h = subst (λ (z : Step T U G C). Answered (Asked z q)) (sym same) h
+    answered_as s s' q h1 h2 = grind (arith) steps 400000
 
     -- so it is of calls: they are answered alike, and leave one offer
     pub shared_call : (call call' : Call T U G C) → SameCall call call' → concerns id call ≡ true → lacks_growth call ≡ false → lacks_growth call' ≡ false
         → AnswersShared offer call → AnswersShared offer call' → Answered call → Answered call' → SharedAnswer call call' × (offer_after offer call ≡ offer_after offer call')
-    shared_call (Asked s p) (Asked s' q) same own ample ample' n n' h g =
-        let shared = shared_same s p q own ample ample' n (numbers_as offer s s' q same n') h (answered_as s s' q same g) in
-        (shared, offer_one offer s p q shared ∙ offer_as offer s s' q same)
+    shared_call (Asked s p) (Asked s' q) same own ample ample' n n' h g = grind (arith, shared_same, numbers_as, answered_as, offer_one, offer_as) steps 400000
     shared_call (Changed target t) (Changed target' t') same own ample ample' n n' h g = (tt, refl)
     shared_call (Grown rows p) (Grown rows' q) same own ample ample' n n' h g =
         let answers = growth_same T U G C offer rows rows' p q same ample ample' n n' in (answers, growth_offer offer rows rows' p q same answers)
@@ -167,9 +139,7 @@ module _ {T U G C : Type 0} where
   pub mine_numbered : (w : World T G C) (id : ClientParts) (before after : ServerState T U G C) (run : List (Entry T U G C)) → Leads w before run after
       → AreNumbered before.offer (mine id run)
   mine_numbered w id before after [] same = tt
-  mine_numbered w id before after (e ∷ run) (mid, by, leads) =
-      numbered_more id before.offer e run (concerns id e.call) refl by.global
-      (subst (λ (o : Offer G). AreNumbered o (mine id run)) by.offer (mine_numbered w id mid after run leads))
+  mine_numbered w id before after (e ∷ run) (mid, by, leads) = grind (arith, numbered_more, concerns, mine, mine_numbered w id mid after run leads) steps 400000
 
   answered_more : (id : ClientParts) (e : Entry T U G C) (run : List (Entry T U G C)) (b : Bool) → Answered e.call → AreAnswered (mine id run)
       → AreAnswered (if b then (own_of id e ∷ mine id run) else mine id run)
@@ -194,8 +164,4 @@ module _ {T U G C : Type 0} where
   mine_offer id offer (e ∷ run) = offer_more id offer e run (concerns id e.call) refl (mine_offer id (offer_after offer e.call) run)
 
   pub offers_one : (w : World T G C) → OffersHaveOneOutcome U w
-  offers_one w table id run run' after after' leads leads' same ample ample' =
-      offer_run w (new_server table) after run leads ∙ sym (mine_offer id (new_offer table) run)
-      ∙ own_offer_one id (new_offer table) (mine id run) (mine id run') (mine_own id run) same ample ample' (mine_numbered w id (new_server table) after run leads)
-      (mine_numbered w id (new_server table) after' run' leads') (mine_answered w id (new_server table) after run leads) (mine_answered w id (new_server table) after' run' leads')
-      ∙ mine_offer id (new_offer table) run' ∙ sym (offer_run w (new_server table) after' run' leads')
+  offers_one w table id run run' after after' leads leads' same ample ample' = grind (arith, offer_run, new_server, mine_offer, own_offer_one, mine, mine_own, mine_numbered, mine_answered) steps 400000

@@ -1,6 +1,6 @@
 -- That what a client's own calls and the shared ones lead to alone is one outcome, where memory is not refused and what a
 -- transport answers and becomes follows from its value.
-use Rattle.std.proofs.Common.{◌≡◌, ℕ, Bool, true, false, List, [], ◌∷◌, ◌++◌, Option, None, Some, Result, Ok, Err, refl, sym, ap, subst, ◌∙◌, true≢false}
+use Rattle.std.proofs.Common.{◌≡◌, ℕ, Bool, true, false, List, [], ◌∷◌, ◌++◌, Option, None, Some, Result, Ok, Err, refl, sym, ap, subst, ◌∙◌, true≢false, arith}
 use mathlib.Core.Logic.{inl, inr}
 use Rattle.wl_wire.specs.declared.error.IoFault.{IoFault}
 use Rattle.wl_link.proofs.Calls.Branches.{both_bool, both_option}
@@ -68,10 +68,7 @@ module _ {T U C : Type 0} (before : Seen T U C) (d e : List (Deed U)) (x y : See
   with_part q did = record { part = q; made = before.made ++ notes_in did }
 
   part_one : (q q' : Option (Part T U C)) → SameFelt d e q q' → x ≡ with_part q d → y ≡ with_part q' e → SameFelt d e x y
-  part_one q q' one same same' = record {
-    did = one.did;
-    after = same ∙ ap (λ (z : Option (Part T U C)). with_part z d) one.after ∙ ap (λ (z : List (Deed U)). with_part q' z) one.did ∙ sym same';
-  }
+  part_one q q' one same same' = grind (arith) steps 400000
 
   unfelt_one : Unfelt before false d x → Unfelt before false e y → SameFelt d e x y
   unfelt_one (unlacked, did, same) (unlacked', did', same') = same_felt did did' same same'
@@ -80,14 +77,7 @@ module _ {T U C : Type 0} (before : Seen T U C) (d e : List (Deed U)) (x y : See
   on_one : {P : Type 0} (R R' : Part T U C → Part T U C → Type 0) (missing missing' : Type 0) → (missing → missing' → P)
       → ((p q q' : Part T U C) → R p q → R' p q' → SameFelt d e q q' × P) → OnPart before R missing false d x → OnPart before R' missing' false e y
       → SameFelt d e x y × P
-  on_one R R' missing missing' absent each h g =
-      elim (both_option before.part h g) [
-        | inl (none, (m, felt), (m', felt')) ↦ (unfelt_one felt felt', absent m m')
-        | inr (p, some, (q, by, same), (q', by', same')) ↦
-            let one = each p q q' by by' in
-            let some_one : SameFelt d e (Some q) (Some q') = record { did = one.0.did; after = ap (λ (z : Part T U C). let o : Option (Part T U C) = Some z in o) one.0.after } in
-            (part_one (Some q) (Some q') some_one same same', one.1)
-      ]
+  on_one R R' missing missing' absent each h g = grind (arith, unfelt_one, part_one) steps 400000
 
   -- a step about this client or about another
   of_one : {P : Type 0} (b : Bool) (R R' : Part T U C → Part T U C → Type 0) (missing missing' : Type 0) → (missing → missing' → P)
@@ -141,11 +131,7 @@ module _ {T U G C : Type 0} (w : World T G C) (known : IsDetermined w) (id : Cli
   global_one i version handler (Err f) h h' = unfelt_one before d e x y h h'
 
   loss_one : (g : GlobalParts) → FeelsLoss w id offer g before false d x → FeelsLoss w id offer g before false e y → SameFelt d e x y
-  loss_one g h h' =
-      elim (both_bool (is_enabled (global_of offer.globals g)) h h') [
-        | inl (felt, felt') ↦ (on_one before d e x y _ _ _ _ (λ _ _. tt) (λ p q q' f f'. with_none (hears_one w.sends known.sends p _ d e q q' f f')) felt felt').0
-        | inr (felt, felt') ↦ unfelt_one before d e x y felt felt'
-      ]
+  loss_one g h h' = grind (arith, on_one, with_none, hears_one, unfelt_one) steps 400000
 
   flushed_for_one : (target : Option ClientParts) (r r' : Result (Unit {0}) IoFault) → FlushedFor w id offer target r before false d x
       → FlushedFor w id offer target r' before false e y → SameFelt d e x y × ((let s : Step T U G C = step.Flush target in is_about id s) ≡ true → r ≡ r')
@@ -162,34 +148,18 @@ module _ {T U G C : Type 0} (w : World T G C) (known : IsDetermined w) (id : Cli
   cleaned_as_one : (r r' : _) → Ample step.Cleanup (reply.Cleanup r)
       → Ample step.Cleanup (reply.Cleanup r')
       → CleanedAs w id offer r before false d x → CleanedAs w id offer r' before false e y → SameFelt d e x y × SameReply {T = T} {U = U} id (reply.Cleanup r) (reply.Cleanup r')
-  cleaned_as_one (Err f) r' ample ample' h g = absurd (true≢false ample)
-  cleaned_as_one (Ok out) (Err f) ample ample' h g = absurd (true≢false ample')
-  cleaned_as_one (Ok out) (Ok out') ample ample' h g =
-      elim (both_option before.part h g) [
-        | inl (none, (is, felt), (is', felt')) ↦ (unfelt_one before d e x y felt felt', is ∙ sym is')
-        | inr (p, some, (q, by, same), (q', by', same')) ↦
-            let one = cleaned_one w.sends known.sends id p (share_of id out.items) (share_of id out'.items) d e q q' by by' in
-            (part_one before d e x y q q' (with_answer one).0 same same', one.answer)
-      ]
+  cleaned_as_one r r' h1 h2 h3 h4 = grind (arith, true≢false, unfelt_one, cleaned_one, share_of, part_one, with_answer) steps 400000
 
   notes_taken_one : (r r' : _) → Ample step.TakeNotes (reply.TakeNotes r)
       → Ample step.TakeNotes (reply.TakeNotes r')
       → NotesTaken w id offer r before false d x → NotesTaken w id offer r' before false e y → SameFelt d e x y × SameReply {T = T} {U = U} id (reply.TakeNotes r) (reply.TakeNotes r')
-  notes_taken_one (Err f) r' ample ample' h g = absurd (true≢false ample)
-  notes_taken_one (Ok out) (Err f) ample ample' h g = absurd (true≢false ample')
-  notes_taken_one (Ok out) (Ok out') ample ample' (is, unlacked, did, same) (is', unlacked', did', same') = (same_felt did did' same same', is ∙ sym is')
+  notes_taken_one r r' h1 h2 h3 h4 = grind (arith, true≢false, same_felt) steps 400000
 
   -- each step has one outcome
   pub step_one : (s : Step T U G C) (p q : Reply T U) → Ample s p → Ample s q → SharedSame s p q
       → PartStep w id offer s p before false d x → PartStep w id offer s q before false e y → Same (is_about id s) p q
-  step_one (step.InsertClient transport client_data) p q ample ample' shared (r, is, h) (r', is', g) =
-      let answers : r ≡ r' = ap inserted_in (sym is ∙ shared ∙ is') in
-      let same = subst (λ z. InsertedAs w id offer transport client_data z before false e y) (sym answers) g in
-      outcome false p q (inserted_one transport client_data r h same) (λ own. absurd (true≢false (sym own)))
-  step_one (step.SetObjectData o u) p q ample ample' shared (r, is, h) (r', is', g) =
-      let one = of_one before d e x y (same_client o.client id) _ _ _ _ (λ a b. a ∙ sym b)
-      (λ s q q' f f'. with_answer (sets_one s o u r r' d e q q' f.1 f'.1 f.2 f'.2)) h g in
-      outcome (same_client o.client id) p q one.0 (λ own. same_reply id p q _ _ is is' (ap reply.SetObjectData (one.1 own)))
+  step_one (step.InsertClient transport client_data) p q ample ample' shared (r, is, h) (r', is', g) = grind (arith, outcome, inserted_one, true≢false) steps 400000
+  step_one (step.SetObjectData o u) p q ample ample' shared (r, is, h) (r', is', g) = grind (arith, of_one, with_answer, sets_one, outcome, same_reply) steps 400000
   step_one (step.CreateObject target i version u) p q ample ample' shared (r, is, h) (r', is', g) =
       let one = of_one before d e x y (same_client target id) _ _ _ _ (λ a b. a ∙ sym b)
       (λ s q q' f f'. with_answer (creates_one id s r r' d e q q' f.0 f'.0 f.1 f'.1 offer.table i version u f.2 f'.2)) h g in
@@ -202,18 +172,9 @@ module _ {T U G C : Type 0} (w : World T G C) (known : IsDetermined w) (id : Cli
       let one = of_one before d e x y (same_client m.sender_id.client id) _ _ _ _ (λ a b. a ∙ sym b)
       (λ s q q' f f'. with_answer (sends_event_one w.sends known.sends id s (session_content m) r r' d e q q' offer.table f f')) h g in
       outcome (same_client m.sender_id.client id) p q one.0 (λ own. same_reply id p q _ _ is is' (ap reply.SendEvent (one.1 own)))
-  step_one (step.PostError o code text) p q ample ample' shared (is, h) (is', g) =
-      let one = of_one before d e x y (same_client o.client id) _ _ _ _ (λ _ _. tt)
-      (λ s q q' f f'. with_none (posts_error_one w.sends known.sends offer.table s o code text d e q q' f f')) h g in
-      outcome (same_client o.client id) p q one.0 (λ own. same_reply id p q reply.PostError reply.PostError is is' refl)
-  step_one (step.KillClient target reason) p q ample ample' shared (is, h) (is', g) =
-      let one = of_one before d e x y (same_client target id) _ _ _ _ (λ _ _. tt)
-      (λ s q q' f f'. with_none (kills_one s reason d e q q' f.1 f'.1)) h g in
-      outcome (same_client target id) p q one.0 (λ own. same_reply id p q reply.KillClient reply.KillClient is is' refl)
-  step_one (step.CreateGlobal i version handler) p q ample ample' shared (r, is, h) (r', is', g) =
-      let answers : r ≡ r' = ap created_in (sym is ∙ shared ∙ is') in
-      let same = subst (λ z. FeelsGlobal w id offer i version handler z before false e y) (sym answers) g in
-      outcome true p q (global_one i version handler r h same) (λ own. same_reply id p q _ _ is is' (ap reply.CreateGlobal answers))
+  step_one (step.PostError o code text) p q ample ample' shared (is, h) (is', g) = grind (arith, of_one, with_none, posts_error_one, outcome, same_reply) steps 400000
+  step_one (step.KillClient target reason) p q ample ample' shared (is, h) (is', g) = grind (arith, of_one, with_none, kills_one, outcome, same_reply) steps 400000
+  step_one (step.CreateGlobal i version handler) p q ample ample' shared (r, is, h) (r', is', g) = grind (arith, outcome, global_one, same_reply) steps 400000
   step_one (step.DisableGlobal g) p q ample ample' shared (is, h) (is', h') =
       outcome true p q (loss_one g h h') (λ own. same_reply id p q reply.DisableGlobal reply.DisableGlobal is is' refl)
   step_one (step.RemoveGlobal g) p q ample ample' shared (is, h) (is', h') =
@@ -241,31 +202,16 @@ module _ {T U G C : Type 0} (w : World T G C) (known : IsDetermined w) (id : Cli
       let one = of_one before d e x y (same_client target id) _ _ _ _ (λ a b. a ∙ sym b)
       (λ s q q' f f'. with_answer (finishes_request_one w.sends known.sends id s u r r' d e q q' f f')) h g in
       outcome (same_client target id) p q one.0 (λ own. same_reply id p q _ _ is is' (ap reply.FinishRequest (one.1 own)))
-  step_one (step.FinishBind target u) p q ample ample' shared (r, is, h) (r', is', g) =
-      let one = of_one before d e x y (same_client target id) _ _ _ _ (λ a b. a ∙ sym b)
-      (λ s q q' f f'. with_answer (finishes_bind_one s u r r' d e q q' f f')) h g in
-      outcome (same_client target id) p q one.0 (λ own. same_reply id p q _ _ is is' (ap reply.FinishBind (one.1 own)))
+  step_one (step.FinishBind target u) p q ample ample' shared (r, is, h) (r', is', g) = grind (arith, of_one, with_answer, finishes_bind_one, outcome, same_reply) steps 400000
   step_one step.Cleanup p q ample ample' shared (r, is, h) (r', is', g) =
       let one = cleaned_as_one r r' (subst (λ z. Ample step.Cleanup z) is ample) (subst (λ z. Ample step.Cleanup z) is' ample') h g in
       outcome true p q one.0 (λ own. same_reply id p q (reply.Cleanup r) (reply.Cleanup r') is is' one.1)
-  step_one step.TakeNotes p q ample ample' shared (r, is, h) (r', is', g) =
-      let one = notes_taken_one r r' (subst (λ z. Ample step.TakeNotes z) is ample) (subst (λ z. Ample step.TakeNotes z) is' ample') h g in
-      outcome true p q one.0 (λ own. same_reply id p q (reply.TakeNotes r) (reply.TakeNotes r') is is' one.1)
-  step_one (step.Arrive target bytes tokens) p q ample ample' shared (r, is, h) (r', is', g) =
-      let one = moved_one target (Arrive (record { bytes = bytes.items; tokens = tokens.items })) (nothing_taken r) (nothing_taken r') h g in
-      outcome (same_client target id) p q one.0 (λ own. same_reply id p q _ _ is is' (ap reply.Arrive (nothing_taken_one r r' (one.1 own))))
-  step_one (step.ArriveFault target f) p q ample ample' shared (r, is, h) (r', is', g) =
-      let one = moved_one target (ArriveFault f) (nothing_taken r) (nothing_taken r') h g in
-      outcome (same_client target id) p q one.0 (λ own. same_reply id p q _ _ is is' (ap reply.ArriveFault (nothing_taken_one r r' (one.1 own))))
-  step_one (step.Accept target n) p q ample ample' shared (r, is, h) (r', is', g) =
-      let one = moved_one target (Accept n) (nothing_taken r) (nothing_taken r') h g in
-      outcome (same_client target id) p q one.0 (λ own. same_reply id p q _ _ is is' (ap reply.Accept (nothing_taken_one r r' (one.1 own))))
-  step_one (step.AcceptFault target f) p q ample ample' shared (r, is, h) (r', is', g) =
-      let one = moved_one target (AcceptFault f) (nothing_taken r) (nothing_taken r') h g in
-      outcome (same_client target id) p q one.0 (λ own. same_reply id p q _ _ is is' (ap reply.AcceptFault (nothing_taken_one r r' (one.1 own))))
-  step_one (step.TakeSent target) p q ample ample' shared (r, is, h) (r', is', g) =
-      let one = moved_one target TakeSent (taken r) (taken r') h g in
-      outcome (same_client target id) p q one.0 (λ own. same_reply id p q (reply.TakeSent r) (reply.TakeSent r') is is' (one.1 own))
+  step_one step.TakeNotes p q ample ample' shared (r, is, h) (r', is', g) = grind (arith, notes_taken_one, outcome, same_reply) steps 400000
+  step_one (step.Arrive target bytes tokens) p q ample ample' shared (r, is, h) (r', is', g) = grind (arith, moved_one, nothing_taken, outcome, same_reply, nothing_taken_one) steps 400000
+  step_one (step.ArriveFault target f) p q ample ample' shared (r, is, h) (r', is', g) = grind (arith, moved_one, nothing_taken, outcome, same_reply, nothing_taken_one) steps 400000
+  step_one (step.Accept target n) p q ample ample' shared (r, is, h) (r', is', g) = grind (arith, moved_one, nothing_taken, outcome, same_reply, nothing_taken_one) steps 400000
+  step_one (step.AcceptFault target f) p q ample ample' shared (r, is, h) (r', is', g) = grind (arith, moved_one, nothing_taken, outcome, same_reply, nothing_taken_one) steps 400000
+  step_one (step.TakeSent target) p q ample ample' shared (r, is, h) (r', is', g) = grind (arith, moved_one, taken, outcome, same_reply) steps 400000
 
   -- what a step does, another does that is the same
   pub part_as : (s s' : Step T U G C) (q : Reply T U) → SameStep s s' → PartStep w id offer s' q before false e y → PartStep w id offer s q before false e y
@@ -276,15 +222,7 @@ module _ {T U G C : Type 0} (w : World T G C) (known : IsDetermined w) (id : Cli
           subst (λ (c : SessionMessage). (r : _) × (q ≡ reply.SendEvent r)
           × OfClient (same_client c.sender.client id) before (λ s t. SendsEvent w.sends id offer.table s c r false e t) (r ≡ Err event.InvalidId) false e y) (sym same) h
       at s' same h = absurd same
-  part_as (step.Arrive target bytes tokens) s' q same h = at s' same h
-    where
-      at : (s' : Step T U G C) → ArrivesSame target (record { bytes = bytes.items; tokens = tokens.items }) s' → PartStep w id offer s' q before false e y
-          → PartStep w id offer (step.Arrive target bytes tokens) q before false e y
-      at (step.Arrive target' bytes' tokens') (same, chunks) h =
-          let chunk = subst (λ (c : Queue). (r : _) × (q ≡ reply.Arrive r) × MovedFor w id offer target' (Arrive c) (nothing_taken r) before false e y) (sym chunks) h in
-          subst (λ (t : ClientParts). (r : _) × (q ≡ reply.Arrive r)
-          × MovedFor w id offer t (Arrive (record { bytes = bytes.items; tokens = tokens.items })) (nothing_taken r) before false e y) (sym same) chunk
-      at s' same h = absurd same
+  part_as (step.Arrive target bytes tokens) s' q same h = grind (arith, nothing_taken) steps 400000
   part_as s s' q same h = subst (λ (z : Step T U G C). PartStep w id offer z q before false e y) (sym same) h
 
   -- a want of memory for what a call makes of its own is told by its reply
@@ -302,11 +240,7 @@ module _ {T U G C : Type 0} (w : World T G C) (known : IsDetermined w) (id : Cli
   call_one (Asked s p) (Asked s' q) same ample ample' shared h g =
       let one = same_step_one s s' p q same ample ample' shared h g in
       (one.reply, record { did = one.deeds; after = one.held })
-  call_one (Changed target t) (Changed target' t') (same, same_value) ample ample' shared h g =
-      let there = subst (λ z. PartCall w id offer (Changed z t') before false e y) (sym same) g in
-      let here = subst (λ z. PartCall w id offer (Changed target z) before false e y) (sym same_value) there in
-      let one = of_one before d e x y (same_client target id) _ _ _ _ (λ _ _. tt) (λ s q q' f f'. with_none (changes_one s t d e q q' f.1 f'.1 f.2 f'.2)) h here in
-      (λ own. tt, one.0)
+  call_one (Changed target t) (Changed target' t') (same, same_value) ample ample' shared h g = grind (arith, of_one, with_none, changes_one) steps 400000
   call_one (Grown rows p) (Grown rows' q) same ample ample' shared h g = (λ own. shared, unfelt_one before d e x y h g)
   call_one _ _ same ample ample' shared h g = absurd same
 

@@ -1,5 +1,5 @@
 -- That each call on what is one client's has one outcome, where memory is not refused to it.
-use Rattle.std.proofs.Common.{◌≡◌, ◌≢◌, ℕ, Bool, true, false, List, [], ◌∷◌, ◌++◌, map, Option, Some, Result, Ok, Err, sym, ap, subst, ◌∙◌, true≢false}
+use Rattle.std.proofs.Common.{◌≡◌, ◌≢◌, ℕ, Bool, true, false, List, [], ◌∷◌, ◌++◌, map, Option, Some, Result, Ok, Err, sym, ap, subst, ◌∙◌, true≢false, arith}
 use Rattle.std.specs.Prelude.{◌==◌, MatchBool, slice_get}
 use Rattle.std.specs.FinMap as finmap
 use mathlib.Core.Logic.{inl, inr}
@@ -77,18 +77,12 @@ module _ {T U C : Type 0} where
 
   pub sets_one : (s : Part T U C) (id : IdParts) (u : U) (a b : Result (Unit {0}) InvalidId) (d e : List (Deed U)) (x y : Part T U C)
       → d ≡ [] → e ≡ [] → DataSet s id u a x → DataSet s id u b y → SameEnd a b d e x y
-  sets_one s id u a b d e x y did did' h g =
-      elim (both_option (named s.store id) h g) [
-        | inl (none, (is, same), (is', same')) ↦ same_end is is' did did' same same'
-        | inr (o, some, (is, same), (is', same')) ↦ same_end is is' did did' same same'
-      ]
+  sets_one s id u a b d e x y did did' h g = grind (arith, same_end) steps 400000
 
   module _ (client : ClientParts) (s : Part T U C) (a b : Result IdParts CreateError) (d e : List (Deed U)) (x y : Part T U C)
       (unlacked : false ≡ lacks_create a) (unlacked' : false ≡ lacks_create b) (did : d ≡ []) (did' : e ≡ []) where
     creates_at_one : (n : ℕ) (o : Object (Kept U)) → CreatesAt client s n o a x → CreatesAt client s n o b y → SameEnd a b d e x y
-    creates_at_one n o (inl (is, same)) (inl (is', same')) = same_end is is' did did' same same'
-    creates_at_one n o (inr (is, first, same)) other = absurd (not_so _ unlacked (ap lacks_create is))
-    creates_at_one n o (inl (is, same)) (inr (is', first, same')) = absurd (not_so _ unlacked' (ap lacks_create is'))
+    creates_at_one n o h1 h2 = grind (arith, same_end, not_so, lacks_create) steps 400000
 
     -- what a creation does at its number
     abbrev AtNumber : InterfaceId → ℕ → U → Result IdParts CreateError → Part T U C → ℕ → Type 0
@@ -131,34 +125,18 @@ module _ {T U C : Type 0} where
 
   pub changes_one : (s : Part T U C) (t : T) (d e : List (Deed U)) (x y : Part T U C) → d ≡ [] → e ≡ []
       → WithTransport (λ _ t'. t' ≡ t) s x → WithTransport (λ _ t'. t' ≡ t) s y → SameFelt d e x y
-  changes_one s t d e x y did did' (to, is, same) (to', is', same') = record {
-    did = did ∙ sym did';
-    after = same ∙ ap (λ (z : T). with_link s (with_transport s.link z)) (is ∙ sym is') ∙ sym same';
-  }
+  changes_one s t d e x y did did' (to, is, same) (to', is', same') = grind (arith) steps 400000
 
   pub moves_one : (moves : T → Move → Moved → T → Type 0) → IsMoveFunction moves → (s : Part T U C) (m : Move) (a b : Moved) (d e : List (Deed U)) (x y : Part T U C)
       → (false ≡ lacks_move a) × (d ≡ []) × WithTransport (λ t t'. moves t m a t') s x → (false ≡ lacks_move b) × (e ≡ []) × WithTransport (λ t t'. moves t m b t') s y
       → SameEnd a b d e x y
-  moves_one moves function s m a b d e x y (unlacked, did, (t, moved, same)) (unlacked', did', (t', moved', same')) =
-      let one = function s.link.transport m a b t t' moved moved' (sym unlacked) (sym unlacked') in record {
-        answer = one.0;
-        did = did ∙ sym did';
-        after = same ∙ ap (λ (z : T). with_link s (with_transport s.link z)) one.1 ∙ sym same';
-      }
+  moves_one moves function s m a b d e x y (unlacked, did, (t, moved, same)) (unlacked', did', (t', moved', same')) = grind (arith) steps 400000
 
   -- ---- the end of a bind
 
   pub finishes_bind_one : (s : Part T U C) (u : U) (a b : Result (Unit {0}) (FinishRefused U)) (d e : List (Deed U)) (x y : Part T U C)
       → FinishesBind s u a false d x → FinishesBind s u b false e y → SameEnd a b d e x y
-  finishes_bind_one s u a b d e x y h g =
-      elim (both_option s.action h g) [
-        | inl (none, (is, unlacked, did, same), (is', unlacked', did', same')) ↦ same_end is is' did did' same same'
-        | inr (action, some, p, q) ↦ at action p q
-      ]
-    where
-      at : (action : OpenAction) → FinishesOpenBind s action u a false d x → FinishesOpenBind s action u b false e y → SameEnd a b d e x y
-      at (opened.Request _ _ _) (is, unlacked, did, same) (is', unlacked', did', same') = same_end is is' did did' same same'
-      at (opened.Bind object) (is, unlacked, did, same) (is', unlacked', did', same') = same_end is is' did did' same same'
+  finishes_bind_one s u a b d e x y h g = grind (arith, same_end) steps 400000
 
   module _ (sends : T → Queue → Result ℕ IoFault → T → Type 0) (function : IsFunction sends) where
     -- ---- what is told
@@ -248,9 +226,7 @@ module _ {T U C : Type 0} where
 
       wrote_allowed : (sender : Object (Kept U)) (ends : Bool) (wrote : Result (Unit {0}) IoFault) (link : LinkState T) (answer : Result (Unit {0}) EventError) (rest : List (Deed U))
           (after : Part T U C) → SentAs sends client s m sender ends wrote link answer false rest after → wrote ≢ Err fault.OutOfMemory
-      wrote_allowed sender ends wrote link answer rest after sent is =
-          let refused = subst (λ z. SentAs sends client s m sender ends z link answer false rest after) is sent in
-          true≢false (sym refused.1)
+      wrote_allowed sender ends wrote link answer rest after sent is = grind (arith, true≢false) steps 400000
 
       sends_granted_one : (sender : Object (Kept U)) (ends : Bool) → SendsGranted sends client s m sender ends a false d x → SendsGranted sends client s m sender ends b false e y
           → SameEnd a b d e x y

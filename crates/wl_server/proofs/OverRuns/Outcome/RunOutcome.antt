@@ -1,5 +1,5 @@
 -- That the runs of one client have one outcome, where they are of the same steps, and so it is whatever other clients do.
-use Rattle.std.proofs.Common.{◌≡◌, Bool, List, [], ◌∷◌, ◌++◌, Some, refl, sym, ap, subst, ◌∙◌}
+use Rattle.std.proofs.Common.{◌≡◌, Bool, List, [], ◌∷◌, ◌++◌, Some, refl, sym, ap, subst, ◌∙◌, arith}
 use Rattle.wl_wire.specs.Table.{InterfaceRow}
 use Rattle.wl_link.specs.Link.{LinkState, IsFresh}
 use Rattle.wl_server.specs.Globals.{Offer, new_offer}
@@ -40,11 +40,7 @@ module _ {T U G C : Type 0} where
   -- from its insertion on
   later_numbered : (w : World T G C) (table : List InterfaceRow) (id : ClientParts) (earlier later : List (Entry T U G C)) (e : Entry T U G C) (after : ServerState T U G C)
       → Leads w (new_server table) (earlier ++ e ∷ later) after → AreNumbered (offer_over (new_offer table) (earlier ++ e ∷ [])) (mine id later)
-  later_numbered w table id earlier later e after leads =
-      let (mid, first, (next, by, rest)) = split_run w (new_server table) after earlier (e ∷ later) leads in
-      subst (λ (o : Offer G). AreNumbered o (mine id later))
-      (by.offer ∙ ap (λ (o : Offer G). offer_after o e.call) (offer_run w (new_server table) mid earlier first)
-      ∙ sym (offer_over_one (new_server {T = T} {U = U} {C = C} table).offer earlier e)) (mine_numbered w id next after later rest)
+  later_numbered w table id earlier later e after leads = grind (arith, split_run, mine, offer_run, offer_over_one, mine_numbered) steps 400000
 
   -- the insertion of a client leaves the offer
   inserted_offer : (offer : Offer G) (id : ClientParts) (transport : T) (client_data : C) (earlier : List (Entry T U G C)) (e : Entry T U G C) → InsertsAs id transport client_data e

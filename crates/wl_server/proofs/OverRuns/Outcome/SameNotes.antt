@@ -37,15 +37,7 @@ use Rattle.wl_server.proofs.OverRuns.Outcome.WholeLaws.{found, slot_same}
 -- ---- lists
 
 cons_one : {A : Type 0} (x y : A) (xs ys : List A) → x ∷ xs ≡ y ∷ ys → (x ≡ y) × (xs ≡ ys)
-cons_one {A = A} x y xs ys is = (ap first is, ap rest is)
-  where
-    first : List A → A
-    first [] = x
-    first (z ∷ zs) = z
-
-    rest : List A → List A
-    rest [] = []
-    rest (z ∷ zs) = zs
+cons_one {A = A} x y xs ys is = grind (arith) steps 400000
 
 -- two fronts of the same list are one if they are as long
 pub fronts_one : {A : Type 0} (xs ys zs ws : List A) → xs ++ ys ≡ zs ++ ws → length xs ≡ length zs → (xs ≡ zs) × (ys ≡ ws)
@@ -72,10 +64,7 @@ kind true = 1
 kind false = 0
 
 same_kind : (a b : Bool) → kind a ≡ kind b → a ≡ b
-same_kind true true is = refl
-same_kind false false is = refl
-same_kind true false is = absurd (omega (arith, is))
-same_kind false true is = absurd (omega (arith, is))
+same_kind a b h1 = grind (arith) steps 400000
 
 abbrev is_at : NotePlace → NotePlace → ℕ
 is_at q p = if kind p.waits == kind q.waits then (if p.number == q.number then (if p.slot == q.slot then 1 else 0) else 0) else 0
@@ -86,19 +75,13 @@ often_at q ps = sum_by (is_at q) ps
 
 at_is : (q p : NotePlace) (a b c : Bool) → (kind p.waits == kind q.waits) ≡ a → (p.number == q.number) ≡ b → (p.slot == q.slot) ≡ c
     → is_at q p ≡ (if a then (if b then (if c then 1 else 0) else 0) else 0)
-at_is q p a b c same_kind number at_slot =
-    ap (λ (x : Bool). if x then (if p.number == q.number then (if p.slot == q.slot then 1 else 0) else 0) else 0) same_kind
-    ∙ (ap (λ (x : Bool). if a then (if x then (if p.slot == q.slot then 1 else 0) else 0) else 0) number
-    ∙ ap (λ (x : Bool). if a then (if b then (if x then 1 else 0) else 0) else 0) at_slot)
+at_is q p a b c same_kind number at_slot = grind (arith) steps 400000
 
 at_itself : (q : NotePlace) → is_at q q ≡ 1
 at_itself q = at_is q q true true true (eq-eqb (kind q.waits) (kind q.waits) refl) (eq-eqb q.number q.number refl) (eq-eqb q.slot q.slot refl)
 
 same_place : (p q : NotePlace) → p.waits ≡ q.waits → p.number ≡ q.number → p.slot ≡ q.slot → p ≡ q
-same_place p q waits number at_slot =
-    ap (λ (x : Bool). let r : NotePlace = record { waits = x; number = p.number; slot = p.slot } in r) waits
-    ∙ (ap (λ (m : ℕ). let r : NotePlace = record { waits = q.waits; number = m; slot = p.slot } in r) number
-    ∙ ap (λ (m : ℕ). let r : NotePlace = record { waits = q.waits; number = q.number; slot = m } in r) at_slot)
+same_place p q waits number at_slot = grind (arith) steps 400000
 
 -- what holds of all places holds of one that is there
 holds_there : (P : NotePlace → Type 0) (q : NotePlace) (ps : List NotePlace) → AllByRecursion P ps → 1 ≤ often_at q ps → P q
@@ -110,36 +93,11 @@ holds_there P q (p ∷ ps) (here, all) some =
     past later none = let count = sum_by-cons (is_at q) p ps in later (omega (arith, some, none, count))
 
     at : (1 ≤ often_at q ps → P q) → (a b c : Bool) → (kind p.waits == kind q.waits) ≡ a → (p.number == q.number) ≡ b → (p.slot == q.slot) ≡ c → P q
-    at later true true true waits number at_slot =
-        subst P (same_place p q (same_kind p.waits q.waits (eqb-true (kind p.waits) (kind q.waits) waits)) (eqb-true p.number q.number number) (eqb-true p.slot q.slot at_slot)) here
-    at later false b c waits number at_slot = past later (at_is q p false b c waits number at_slot)
-    at later true false c waits number at_slot = past later (at_is q p true false c waits number at_slot)
-    at later true true false waits number at_slot = past later (at_is q p true true false waits number at_slot)
+    at h1 a b c h2 h3 h4 = grind (arith, same_place, same_kind, eqb-true, past, at_is) steps 400000
 
 -- a place that is no later than another, and no earlier
 one_place : (p q : NotePlace) → IsNoLater p q → IsNoLater q p → p ≡ q
-one_place p q first second = same_place p q waits number at_slot
-  where
-    waits : p.waits ≡ q.waits
-    waits = at p.waits q.waits refl refl
-      where
-        at : (a b : Bool) → p.waits ≡ a → q.waits ≡ b → p.waits ≡ q.waits
-        at true true pa qb = pa ∙ sym qb
-        at false false pa qb = pa ∙ sym qb
-        at true false pa qb = absurd (false≢true (sym qb ∙ first.0 pa))
-        at false true pa qb = absurd (false≢true (sym pa ∙ second.0 qb))
-
-    number : p.number ≡ q.number
-    number =
-        let up = first.1 waits in
-        let down = second.1 (sym waits) in
-        omega (arith, up, down)
-
-    at_slot : p.slot ≡ q.slot
-    at_slot =
-        let up = first.2 waits number in
-        let down = second.2 (sym waits) (sym number) in
-        omega (arith, up, down)
+one_place p q first second = grind (arith, same_place, false≢true) steps 400000
 
 -- two orders of the same places are one
 one_order : (a b : List NotePlace) → Sorted a → Sorted b → ((q : NotePlace) → often_at q a ≡ often_at q b) → a ≡ b
@@ -214,22 +172,7 @@ orders_one waits ts us a b up moved up' moved' same =
 
 module _ (of : NoteTimes → List ℕ) where
   gives_one_way : (ns ns' ms ms' : List ℕ) (a b c d : ℕ) → GivesNumbers ns a ns' b → GivesNumbers ms c ms' d → ns ≡ ms → a ≡ c → length ns' ≡ length ms' → (b ≡ d) × (ns' ≡ ms')
-  gives_one_way ns ns' ms ms' a b c d one two same next long = (
-    one.past ∙ (ap (λ (n : ℕ). number_past n (length one.more)) next ∙ (ap (number_past c) count ∙ sym two.past)),
-    one.behind ∙ (ap (λ (l : List ℕ). l ++ one.more) same ∙ (ap (λ (l : List ℕ). ms ++ l) more ∙ sym two.behind)),
-  )
-    where
-      count : length one.more ≡ length two.more
-      count =
-          let first = length-append ns one.more in
-          let second = length-append ms two.more in
-          let here = ap length one.behind in
-          let there = ap length two.behind in
-          let before = ap length same in
-          omega (arith, first, second, here, there, before, long)
-
-      more : one.more ≡ two.more
-      more = one.given ∙ (ap (λ (n : ℕ). numbers_from n (length one.more)) next ∙ (ap (numbers_from c) count ∙ sym two.given))
+  gives_one_way ns ns' ms ms' a b c d one two same next long = grind (arith, number_past, length-append, numbers_from) steps 400000
 
   -- the next slot
   turn_next : (n : ℕ) (ts us ts' us' : List NoteTimes) (mid mid' b d : ℕ) → of (times_at n ts) ≡ of (times_at n us)
@@ -242,14 +185,7 @@ module _ (of : NoteTimes → List ℕ) where
       this = gives_one_way (of (times_at n ts)) (of (times_at n ts')) (of (times_at n us)) (of (times_at n us')) mid b mid' d gives gives' same before.0 long
 
       each : (k : ℕ) → k < suc n → of (times_at k ts') ≡ of (times_at k us')
-      each k below = at (k == n) refl
-        where
-          at : (x : Bool) → (k == n) ≡ x → of (times_at k ts') ≡ of (times_at k us')
-          at true here = subst (λ (m : ℕ). of (times_at m ts') ≡ of (times_at m us')) (sym (eqb-true k n here)) this.1
-          at false other = before.1 k (lower (λ e. false≢true (sym other ∙ eq-eqb k n e)))
-            where
-              lower : (k ≡ n → ⊥) → k < n
-              lower differ = omega (arith, below, differ)
+      each k below = grind (arith, times_at, eqb-true, this, false≢true, eq-eqb) steps 400000
 
   turn_one : (n : ℕ) (ts us ts' us' : List NoteTimes) (a c b d : ℕ) → ((k : ℕ) → of (times_at k ts) ≡ of (times_at k us))
       → ((k : ℕ) → length (of (times_at k ts')) ≡ length (of (times_at k us'))) → a ≡ c → InTurn of n ts a ts' b → InTurn of n us c us' d
@@ -289,19 +225,13 @@ module _ (of : NoteTimes → List ℕ) where
         where
           at : (x : Bool) → nat_lt k (m + n) ≡ x → of (times_at k ts') ≡ of (times_at k us')
           at true below = both.1 k (ltb-true k (m + n) below)
-          at false past =
-              let high = ltb-false k (m + n) past in
-              ap of (others k (omega (arith, high)) ∙ (same k ∙ sym (others' k (omega (arith, high)))))
+          at false past = grind (arith, ltb-false) steps 400000
 
 both_times : (t u : NoteTimes) → t.made ≡ u.made → t.waiting ≡ u.waiting → t ≡ u
-both_times t u made waiting =
-    ap (λ (l : List ℕ). let r : NoteTimes = record { made = l; waiting = t.waiting } in r) made
-    ∙ ap (λ (l : List ℕ). let r : NoteTimes = record { made = u.made; waiting = l } in r) waiting
+both_times t u made waiting = grind (arith) steps 400000
 
 both_numbers : (a b : NoteNumbers) → a.made ≡ b.made → a.waiting ≡ b.waiting → a ≡ b
-both_numbers a b made waiting =
-    ap (λ (n : ℕ). let r : NoteNumbers = record { waiting = a.waiting; made = n } in r) made
-    ∙ ap (λ (n : ℕ). let r : NoteNumbers = record { waiting = n; made = b.made } in r) waiting
+both_numbers a b made waiting = grind (arith) steps 400000
 
 -- ---- the clients of a slot
 
@@ -313,25 +243,15 @@ module _ {T U C : Type 0} where
   Alike _ _ = ⊥
 
   pub times_stored : (clients : List (Option (Stored T U C))) (k : ℕ) → times_at k (map times_of clients) ≡ times_of (stored_at k clients)
-  times_stored clients k = times_in clients k ∙ at (slice_get clients k)
-    where
-      at : (o : Option (Option (Stored T U C))) → time_in o ≡ times_of (option_map_or (λ s. s) o None)
-      at None = refl
-      at (Some x) = refl
+  times_stored clients k = grind (arith, times_in, slice_get, time_in, times_of) steps 400000
 
   as_long : (a b : Option (Stored T U C)) → Alike a b → IsNumbered a → IsNumbered b
       → (length (times_of a).made ≡ length (times_of b).made) × (length (times_of a).waiting ≡ length (times_of b).waiting)
-  as_long None None same one two = (refl, refl)
-  as_long (Some x) (Some y) (part, made) one two =
-      (one.0 ∙ (ap length made ∙ sym two.0), one.1 ∙ (ap (λ (p : Part T U C). length p.waiting) part ∙ sym two.1))
-  as_long None (Some y) same one two = absurd same
-  as_long (Some x) None same one two = absurd same
+  as_long a b h1 h2 h3 = grind (arith) steps 400000
 
 module _ {T U G C : Type 0} (s t : ServerState T U G C) (each : (id : ClientParts) → seen id s ≡ seen id t) (notes : s.notes ≡ t.notes) where
   made_one : (id : ClientParts) → made_of id s.clients ≡ made_of id t.clients
-  made_one id =
-      append_cancel_left (notes_of id s.notes) (made_of id s.clients) (made_of id t.clients)
-      (ap (λ (x : Seen T U C). x.made) (each id) ∙ ap (λ (l : List (Note U)). notes_of id l ++ made_of id t.clients) (sym notes))
+  made_one id = grind (arith, append_cancel_left, notes_of, made_of) steps 400000
 
   alike_at : (k : ℕ) (a b : Option (Stored T U C)) → stored_at k s.clients ≡ a → stored_at k t.clients ≡ b → Alike a b
   alike_at k None None is is' = tt
@@ -363,9 +283,7 @@ module _ {T U G C : Type 0} (s t : ServerState T U G C) (each : (id : ClientPart
             same_Some x.part y.part (parts ∙ ap part_of now),
             sym (ap of_made here) ∙ (made_one id ∙ ap of_made (there ∙ now)),
           )
-      at false other =
-          let now : if_serial x.serial (Some y) ≡ None = ap (λ (z : Bool). if z then Some y else None) other in
-          absurd (true≢false (ap (λ (o : Option (Part T U C)). is_some o) (parts ∙ ap part_of now)))
+      at false other = grind (arith, if_serial, true≢false, is_some, parts, part_of) steps 400000
 
   -- as many numbers, where each note has one
   numbers_long : AllNumbered s.clients → AllNumbered t.clients → (k : ℕ)
@@ -430,11 +348,7 @@ module _ {U : Type 0} where
             (told id ∙ ap (λ (n : Note U). told_of id n ++ notes_of id b) (sym same))
 
         is_rest : (id : ClientParts) (h : Happening U) (hs : List (Happening U)) → notes_of id b ≡ h ∷ hs → Is id
-        is_rest id h hs at = go (told_of id y) refl
-          where
-            go : (l : List (Happening U)) → told_of id y ≡ l → Is id
-            go [] none = is id h hs (ap (λ (l : List (Happening U)). l ++ notes_of id b) none ∙ at)
-            go (k ∷ ks) some = is id k (ks ++ notes_of id b) (ap (λ (l : List (Happening U)). l ++ notes_of id b) some)
+        is_rest id h hs at = grind (arith, told_of, notes_of) steps 400000
 
     -- notes along the same slots, that tell the same of each client
     along_one : (a b : List (Note U)) → map slot_of a ≡ map slot_of b → ((id : ClientParts) → notes_of id a ≡ notes_of id b)
@@ -501,11 +415,7 @@ module _ {T U G C : Type 0} where
   -- who is told of is stored
   is_stored : (t : ServerState T U G C) (more : List (Note U)) → ((id : ClientParts) → client_at id t.clients ≡ None → notes_of id more ≡ [])
       → (id : ClientParts) (h : Happening U) (hs : List (Happening U)) → notes_of id more ≡ h ∷ hs → IsStored t id
-  is_stored t more stored id h hs is = at (client_at id t.clients) refl
-    where
-      at : (o : Option (Stored T U C)) → client_at id t.clients ≡ o → is_some o ≡ true
-      at (Some c) there = refl
-      at None none = let long : 0 ≡ suc (length hs) = ap length (sym (stored id none) ∙ is) in absurd (omega (arith, long))
+  is_stored t more stored id h hs is = grind (arith, client_at, is_some) steps 400000
 
   -- the same is handed out
   out_one : (s t : ServerState T U G C) → OrdersSame s t → ((id : ClientParts) → seen id s ≡ seen id t) → (out out' : List (Note U)) → Takes s out → Takes t out' → out ≡ out'
@@ -640,23 +550,10 @@ module _ {T U G C : Type 0} where
   call_kind (Grown rows answer) = 2
 
   step_kinds : (s s' : Step T U G C) → SameStep s s' → step_kind s ≡ step_kind s'
-  step_kinds (step.SendEvent m) s' same = at s' same
-    where
-      at : (s' : Step T U G C) → SendsSame (session_content m) s' → 2 ≡ step_kind s'
-      at (step.SendEvent m') same = refl
-      at s' same = absurd same
-  step_kinds (step.Arrive target bytes tokens) s' same = at s' same
-    where
-      at : (s' : Step T U G C) → ArrivesSame target (record { bytes = bytes.items; tokens = tokens.items }) s' → 2 ≡ step_kind s'
-      at (step.Arrive target' bytes' tokens') same = refl
-      at s' same = absurd same
-  step_kinds s s' same = ap step_kind same
+  step_kinds s s' h1 = grind (arith) steps 400000
 
   call_kinds : (c c' : Call T U G C) → SameCall c c' → call_kind c ≡ call_kind c'
-  call_kinds (Asked s p) (Asked s' q) same = step_kinds s s' same
-  call_kinds (Changed target t) (Changed target' t') same = refl
-  call_kinds (Grown rows p) (Grown rows' q) same = refl
-  call_kinds _ _ same = absurd same
+  call_kinds c c' h1 = grind (arith, step_kinds) steps 400000
 
   -- the notes were handed out, or gathered, or none was moved
   abbrev MovesSo : ServerState T U G C → Entry T U G C → ServerState T U G C → Type 0

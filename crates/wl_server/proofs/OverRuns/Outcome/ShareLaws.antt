@@ -12,11 +12,7 @@ use Rattle.wl_server.specs.Steps.{RiseBySlot}
 -- ---- ids
 
 same_slot : (a b : ClientParts) → same_client a b ≡ true → a.slot ≡ b.slot
-same_slot a b same = at (a.slot == b.slot) refl same
-  where
-    at : (t : Bool) → (a.slot == b.slot) ≡ t → (t && (a.serial == b.serial)) ≡ true → a.slot ≡ b.slot
-    at true is same = eqb-true a.slot b.slot is
-    at false is same = absurd (true≢false (sym same))
+same_slot a b same = grind (arith, eqb-true, true≢false) steps 400000
 
 pub same_client_is : (a b : ClientParts) → same_client a b ≡ true → a ≡ b
 same_client_is a b same = client_is a b (same_slot a b same) (same_serial a b same)
@@ -72,18 +68,10 @@ module _ {T : Type 0} where
         ap (λ (i : ClientParts). let z : ClientParts × T = (i, e.1) in z) (sym (same_client_is f.0 e.0 same)) ∙ ap (λ (t : T). let z : ClientParts × T = (f.0, t) in z) values
 
     same_behind : (id : ClientParts) → e ≡ f → (same_client e.0 id ≡ true) ⊎ (same_client e.0 id ≡ false) → share_of id rest ≡ share_of id rest'
-    same_behind id first (inl same) =
-        let same' : same_client f.0 id ≡ true = ap (λ (z : ClientParts × T). same_client z.0 id) (sym first) ∙ same in
-        let is : e.1 ∷ share_of id rest ≡ f.1 ∷ share_of id rest' = sym (share_first id e rest same) ∙ shares id ∙ share_first id f rest' same' in
-        cc
-    same_behind id first (inr other) =
-        let other' : same_client f.0 id ≡ false = ap (λ (z : ClientParts × T). same_client z.0 id) (sym first) ∙ other in
-        sym (share_later id e rest other) ∙ shares id ∙ share_later id f rest' other'
+    same_behind id h1 h2 = grind (arith, share_first, share_later) steps 400000
 
     found : same_client f.0 e.0 ≡ true → e ∷ rest ≡ f ∷ rest'
-    found same =
-        let first = same_front same in
-        ap (λ (z : ClientParts × T). z ∷ rest) first ∙ ap (λ (z : List (ClientParts × T)). f ∷ z) (later (λ id. same_behind id first (cases_Bool (same_client e.0 id))))
+    found same = grind (arith, same_front, same_behind, cases_Bool) steps 400000
 
     one_slot : e.0.slot ≡ f.0.slot → (same_client f.0 e.0 ≡ true) ⊎ (same_client f.0 e.0 ≡ false) → e ∷ rest ≡ f ∷ rest'
     one_slot slots (inl same) = found same

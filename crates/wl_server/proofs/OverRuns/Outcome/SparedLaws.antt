@@ -1,7 +1,7 @@
 -- That a dispatch has one outcome, where memory is refused neither to it nor to a call of its handler.
 --
 -- A dispatch after which no call of the handler lacked memory is one with a handler none of whose calls may lack it.
-use Rattle.std.proofs.Common.{◌≡◌, ℕ, Bool, true, List, Option, Result, sym, ap, ◌∙◌}
+use Rattle.std.proofs.Common.{◌≡◌, ℕ, Bool, true, List, Option, Result, sym, ap, ◌∙◌, arith}
 use Rattle.wl_wire.specs.declared.error.IoFault.{IoFault}
 use Rattle.wl_server.specs.declared.error.FinishError.{FinishError}
 use Rattle.wl_server.specs.declared.reading.action.Action.{Action}
@@ -31,11 +31,7 @@ module _ {H T U G C : Type 0} (w : World T G C) (answers : Answering H T U G C) 
   Server = ServerState T U G C
 
   deterministic : IsDeterministic ordered (with_memory answers spared)
-  deterministic = record {
-    requests = λ h h1 h2 a b x y client sender opcode args created u v same so so'.
-        acts.requests h h1 h2 a b x y client sender opcode args created u v same so.0 so'.0 so.1 so'.1;
-    binds = λ h h1 h2 a b x y client global object u v same so so'. acts.binds h h1 h2 a b x y client global object u v same so.0 so'.0 so.1 so'.1;
-  }
+  deterministic = grind (arith) steps 400000
 
   module _ (id : ClientParts) where
     -- ---- an action
@@ -47,9 +43,7 @@ module _ {H T U G C : Type 0} (w : World T G C) (answers : Answering H T U G C) 
 
     answers_back : (h h' : H) (before after : BackendState T U G C) (a : Action) (end : Step T U G C) → spared h' ≡ true → Answers w answers id h before a end h' after
         → spared h ≡ true
-    answers_back h h' before after (action.Request sender opcode args is_destructor created) end is (u, so, ends) =
-        acts.after_requests h h' before after id sender opcode args.items created u so is
-    answers_back h h' before after (action.Bind global object) end is (u, so, ends) = acts.after_binds h h' before after id global object u so is
+    answers_back h h' before after a end h1 h2 = grind (arith) steps 400000
 
     handles_so : {h h' : H} {before : BackendState T U G C} {a : Action} {run : List (Entry T U G C)} {lacked : Bool} {why : Option FinishError} {after : Server}
         → spared h' ≡ true → Handles w answers id h before a run lacked why h' after → Handles w (with_memory answers spared) id h before a run lacked why h' after

@@ -41,18 +41,11 @@ module _ {T U C : Type 0} where
   SameSlots clients others = (k : ℕ) → is_some (stored_at k clients) ≡ is_some (stored_at k others)
 
   free_there : (clients others : List (Option (Stored T U C))) → SameSlots clients others → (n : ℕ) → IsLeastFree clients n → IsLeastFree others n
-  free_there clients others same n least = record {
-    below = least.below;
-    free = is_none_by (stored_at n others) (sym (same n) ∙ ap is_some least.free);
-    least = λ k less. sym (same k) ∙ least.least k less;
-  }
+  free_there clients others same n least = grind (arith, is_none_by, stored_at, is_some) steps 400000
 
   pub inserts_there : (last : ℕ) (clients others : List (Option (Stored T U C))) → SameSlots clients others → (r : Result ClientParts InsertClientError)
       → InsertsNext last clients r → InsertsNext last others r
-  inserts_there last clients others same (Ok id) (least, left, next) = (free_there clients others same id.slot least, left, next)
-  inserts_there last clients others same (Err insert.Full) (inl full) = inl (λ k within. sym (same k) ∙ full k within)
-  inserts_there last clients others same (Err insert.Full) (inr spent) = inr spent
-  inserts_there last clients others same (Err insert.OutOfMemory) (id, (least, left, next)) = (id, (free_there clients others same id.slot least, left, next))
+  inserts_there last clients others h1 r h2 = grind (arith, free_there) steps 400000
 
   abbrev has_part : Option (Stored T U C) → Bool
   has_part c = is_some (option_map (λ z. z.part) c)
@@ -84,10 +77,7 @@ module _ {T U G C : Type 0} where
 
   -- where memory was not refused, it was refused neither for what a call makes of its own nor to any client
   pub ample_by : (e : Entry T U G C) → IsRefused e → e.refused ≡ false → (lacks_growth e.call ≡ false) × ((id : ClientParts) → e.lacks id ≡ false)
-  ample_by e tells none = (
-    not_true (lacks_growth e.call) (λ lacks. true≢false (sym (tells.1 (inl lacks)) ∙ none)),
-    λ id. not_true (e.lacks id) (λ lacks. true≢false (sym (tells.1 (inr (id, lacks))) ∙ none)),
-  )
+  ample_by e tells none = grind (arith, not_true, lacks_growth, true≢false) steps 400000
 
 -- ---- replies
 
@@ -167,10 +157,7 @@ module _ {T U G C : Type 0} (ordered : Bool) (w : World T G C) (any : ClientPart
       same_whole ordered p q (reply.FinishRequest r) (reply.FinishRequest r') is is' (let here = same_here target p q _ _ is is' (one target (same_self target)) in λ id. here)
   whole_one (step.FinishBind target u) p q one shared ample ample' rises rises' took (r, is, h) (r', is', g) =
       same_whole ordered p q (reply.FinishBind r) (reply.FinishBind r') is is' (let here = same_here target p q _ _ is is' (one target (same_self target)) in λ id. here)
-  whole_one step.Cleanup p q one shared ample ample' rises rises' took (r, is, h) (r', is', g) =
-      same_whole ordered p q (reply.Cleanup r) (reply.Cleanup r') is is'
-      (cleanup_one r r' (subst (λ z. Ample step.Cleanup z) is ample) (subst (λ z. Ample step.Cleanup z) is' ample') (subst (λ z. Rises step.Cleanup z) is rises)
-      (subst (λ z. Rises step.Cleanup z) is' rises') (λ id. same_here id p q (reply.Cleanup r) (reply.Cleanup r') is is' (one id refl)))
+  whole_one step.Cleanup p q one shared ample ample' rises rises' took (r, is, h) (r', is', g) = grind (arith, same_whole, cleanup_one, same_here) steps 400000
   whole_one step.TakeNotes p q one shared ample ample' rises rises' took (r, is, h) (r', is', g) =
       same_whole ordered p q (reply.TakeNotes r) (reply.TakeNotes r') is is'
       (taken_one r r' (subst (λ z. Ample step.TakeNotes z) is ample) (subst (λ z. Ample step.TakeNotes z) is' ample')

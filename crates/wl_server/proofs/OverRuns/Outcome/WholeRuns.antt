@@ -35,39 +35,19 @@ module _ {T U G C : Type 0} where
   inserted_one s p q shared = refl
 
   inserted_as : (s s' : Step T U G C) (q : Reply T U) → SameStep s s' → inserted_by (Asked s q) ≡ inserted_by (Asked s' q)
-  inserted_as (step.SendEvent m) s' q same = at s' same
-    where
-      at : (s' : Step T U G C) → SendsSame (session_content m) s' → 0 ≡ inserted_by (Asked s' q)
-      at (step.SendEvent m') same = refl
-      at s' same = absurd same
-  inserted_as (step.Arrive target bytes tokens) s' q same = at s' same
-    where
-      at : (s' : Step T U G C) → ArrivesSame target (record { bytes = bytes.items; tokens = tokens.items }) s' → 0 ≡ inserted_by (Asked s' q)
-      at (step.Arrive target' bytes' tokens') same = refl
-      at s' same = absurd same
-  inserted_as s s' q same = ap (λ (z : Step T U G C). inserted_by (Asked z q)) same
+  inserted_as s s' q h1 = grind (arith, inserted_by) steps 400000
 
   clients_as : (before : ServerState T U G C) (s s' : Step T U G C) (q : Reply T U) → SameStep s s' → NumbersClient before (Asked s' q) → NumbersClient before (Asked s q)
-  clients_as before (step.SendEvent m) s' q same n = tt
-  clients_as before (step.Arrive target bytes tokens) s' q same n = tt
-  clients_as before s s' q same n = subst (λ (z : Step T U G C). NumbersClient before (Asked z q)) (sym same) n
+  clients_as before s s' q h1 h2 = grind (arith) steps 400000
 
   rises_as : (s s' : Step T U G C) (q : Reply T U) → SameStep s s' → RisesBySlot (Asked s' q) → RisesBySlot (Asked s q)
-  rises_as (step.SendEvent m) s' q same n = tt
-  rises_as (step.Arrive target bytes tokens) s' q same n = tt
-  rises_as s s' q same n = subst (λ (z : Step T U G C). RisesBySlot (Asked z q)) (sym same) n
+  rises_as s s' q h1 h2 = grind (arith) steps 400000
 
   call_offer : (offer : Offer G) (call call' : Call T U G C) → SameCall call call' → SharedAnswer call call' → offer_after offer call ≡ offer_after offer call'
-  call_offer offer (Asked s p) (Asked s' q) same shared = offer_one offer s p q shared ∙ offer_as offer s s' q same
-  call_offer offer (Changed target t) (Changed target' t') same shared = refl
-  call_offer offer (Grown rows p) (Grown rows' q) same shared = growth_offer offer rows rows' p q same shared
-  call_offer offer _ _ same shared = absurd same
+  call_offer offer call call' h1 h2 = grind (arith, offer_one, offer_as, growth_offer) steps 400000
 
   call_inserted : (call call' : Call T U G C) → SameCall call call' → SharedAnswer call call' → inserted_by call ≡ inserted_by call'
-  call_inserted (Asked s p) (Asked s' q) same shared = inserted_one s p q shared ∙ inserted_as s s' q same
-  call_inserted (Changed target t) (Changed target' t') same shared = refl
-  call_inserted (Grown rows p) (Grown rows' q) same shared = refl
-  call_inserted _ _ same shared = absurd same
+  call_inserted call call' h1 h2 = grind (arith, inserted_one, inserted_as) steps 400000
 
   -- ---- a call
 
@@ -76,9 +56,7 @@ module _ {T U G C : Type 0} where
     Ample step answer = lacks_growth (Asked step answer) ≡ false
 
     inserted_allowed : (step : Step T U G C) (r : Result ClientParts InsertClientError) → Ample step (reply.InsertClient r) → r ≢ Err insert.OutOfMemory
-    inserted_allowed step r ample is =
-        let refused = subst (λ z. Ample step (reply.InsertClient z)) is ample in
-        true≢false refused
+    inserted_allowed step r ample is = grind (arith, true≢false) steps 400000
 
     -- what is shared determines the answers that tell it
     whole_shared : (any : ClientParts) (k : Step T U G C) (p q : Reply T U) → Ample k p → Ample k q → NumbersClient s (Asked k p) → NumbersClient t (Asked k q)
@@ -92,9 +70,7 @@ module _ {T U G C : Type 0} where
         let back = inserts_there s.last_client t.clients s.clients (λ j. sym (slots_same s t same_server j)) r' last in
         let one = inserts_next_one s.last_client s.clients r r' (inserted_allowed k r (subst (λ z. Ample k z) is ample)) (inserted_allowed k r' (subst (λ z. Ample k z) is' ample')) here back in
         is ∙ ap (λ (z : Result ClientParts InsertClientError). let a : Reply T U = reply.InsertClient z in a) one ∙ sym is'
-    whole_shared any (step.CreateGlobal i version handler) p q ample ample' c c' n n' h g =
-        let k : Step T U G C = step.CreateGlobal i version handler in
-        shared_same any s.offer k p q refl ample ample' n n' (answered_step w any s.offer k p _ _ _ _ h) (answered_step w any s.offer k q _ _ _ _ g)
+    whole_shared any (step.CreateGlobal i version handler) p q ample ample' c c' n n' h g = grind (arith, shared_same, answered_step) steps 400000
     whole_shared any k p q ample ample' c c' n n' h g = tt
 
     -- who takes notes in one run does in the other
@@ -171,18 +147,14 @@ module _ {T U G C : Type 0} where
   -- ---- steps with their replies
 
   same_as_itself : (k : Step T U G C) → SameStep k k
-  same_as_itself (step.SendEvent m) = refl
-  same_as_itself (step.Arrive target bytes tokens) = (refl, refl)
-  same_as_itself k = refl
+  same_as_itself k = grind (arith) steps 400000
 
   pub asked_one : (c c' : Call T U G C) (k : Step T U G C) (p q : Reply T U) → c ≡ Asked k p → c' ≡ Asked k q → SameCall c c'
   asked_one c c' k p q is is' =
       subst (λ (z : Call T U G C). SameCall z c') (sym is) (subst (λ (z : Call T U G C). SameCall (Asked k p) z) (sym is') (same_as_itself k))
 
   pub replied_one : (ordered : Bool) (c c' : Call T U G C) (k : Step T U G C) (p q : Reply T U) → c ≡ Asked k p → c' ≡ Asked k q → WholeAnswer ordered c c' → WholeReply ordered p q
-  replied_one ordered c c' k p q is is' same =
-      let here = subst (λ (z : Call T U G C). WholeAnswer ordered z c') is same in
-      subst (λ (z : Call T U G C). WholeAnswer ordered (Asked k p) z) is' here
+  replied_one ordered c c' k p q is is' same = grind (arith) steps 400000
 
   pub performance_one : (w : World T G C) → IsDetermined w → PerformancesHaveOneOutcome U w
   performance_one w known ordered s t x y [] [] [] n n' same h g =
