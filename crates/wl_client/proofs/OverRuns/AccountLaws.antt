@@ -13,7 +13,6 @@ use Rattle.wl_link.specs.Exchange.{Queue}
 use Rattle.wl_link.specs.Script.{Script, ScriptSends, ScriptReceives}
 use Rattle.wl_client.specs.declared.step.Reply.{Reply}
 use Rattle.wl_client.specs.declared.step.Step.{Step}
-use Rattle.wl_client.specs.declared.step.Step.TheVariants as step
 use Rattle.wl_client.proofs.OverRuns.FailedLaws.{IsKept, calls_kept, steps_kept}
 use Rattle.wl_client.proofs.OverRuns.IdentityLaws.{accounted}
 use Rattle.wl_client.proofs.OverRuns.StretchLaws.{parts_cut}

@@ -6,10 +6,8 @@ use Rattle.std.specs.Prelude.{All}
 use Rattle.std.proofs.lemmas.Bool.{eq-eqb, ne_eqb, cases_eq}
 use Rattle.std.proofs.lemmas.Option.{same_Some}
 use Rattle.wl_wire.specs.declared.argument.Argument.{Argument}
-use Rattle.wl_wire.specs.declared.argument.Argument.TheVariants as arg
 use Rattle.wl_wire.specs.declared.argument.Token.{Token}
 use Rattle.wl_wire.specs.declared.error.IoFault.{IoFault}
-use Rattle.wl_wire.specs.declared.error.IoFault.TheVariants as fault
 use Rattle.wl_wire.specs.declared.interface.InterfaceId.{InterfaceId}
 use Rattle.wl_wire.specs.Argument.{WireArgument}
 use Rattle.wl_wire.specs.MessageRows.{fits, next_interface}
@@ -32,7 +30,6 @@ use Rattle.wl_link.specs.Puts.{lacks_memory}
 use Rattle.wl_client.specs.declared.error.EventError.{EventError}
 use Rattle.wl_client.specs.declared.error.FlushError.{FlushError}
 use Rattle.wl_client.specs.declared.error.RequestError.{RequestError}
-use Rattle.wl_client.specs.declared.error.RequestError.TheVariants as refused
 use Rattle.wl_client.specs.declared.event_fault.EventFault.TheVariants as wrong
 use Rattle.wl_client.specs.declared.objects.Kept.{Kept}
 use Rattle.wl_client.specs.declared.objects.Note.{Note}
@@ -46,7 +43,7 @@ use Rattle.wl_client.specs.ObjectId.{IdParts}
 use Rattle.wl_client.specs.Events.{Converting, Converted, Outcome, Whole, Wrong, object_argument_of, is_destroyed, vacated, is_valid_new, made_object, with_object_argument, with_new_at, with_new_argument, convert_one, going_on, convert, start, DisplayEvent, Fails, Deletes, Unreadable, display_event}
 use Rattle.wl_client.specs.Finish.{FinishesEvent, Finishes, FlushEnds, SessionFlushed, after_destructor, data_given, refusal, with_data_for, with_dead}
 use Rattle.wl_client.specs.Handed.{IsHandedIn, ended_notes, event_ids, ids_by, ids_in, is_over, note_ids, notes_by, notes_in, request_ids}
-use Rattle.wl_client.specs.Histories.{Called, Changed, Deed, Does, Grown}
+use Rattle.wl_client.specs.Histories.{Deed, Does}
 use Rattle.wl_client.specs.Objects.{DataSet, DestroyedBy, destroyable}
 use Rattle.wl_client.specs.Handling.{Handling, Swallows, HandsOut, event_of, handed, handling, of_converted, of_display, of_event, opened_of, row_in}
 use Rattle.wl_client.specs.Reading.{NextEvent, event_content, handed_by, objects_in as cored}

@@ -1,21 +1,17 @@
 -- That a session which has an error keeps one, and answers each reading and each flush by it: step by step, and so over every
 -- history.
-use Rattle.std.proofs.Common.{◌≡◌, ℕ, Bool, [], ◌∷◌, List, IsSome, Result, Ok, Err, is_ok, sym, ap, subst, ◌∙◌, true≢false, arith}
-use mathlib.Core.Logic.{inl, inr}
+use Rattle.std.proofs.Common.{◌≡◌, ℕ, Bool, [], ◌∷◌, List, IsSome, Result, Err, is_ok, sym, subst, true≢false, arith}
 use Rattle.wl_wire.specs.declared.argument.Token.{Token}
 use Rattle.wl_wire.specs.declared.error.IoFault.{IoFault}
 use Rattle.wl_wire.specs.declared.message.Message.{Message}
 use Rattle.wl_link.specs.Exchange.{Queue}
-use Rattle.wl_link.specs.Script.{Script, ScriptSends, ScriptReceives}
+use Rattle.wl_link.specs.Script.{Script}
 use Rattle.wl_link.proofs.Calls.Branches.{either_option}
 use Rattle.wl_client.specs.declared.error.EventError.{EventError}
-use Rattle.wl_client.specs.declared.error.EventError.TheVariants as no_event
 use Rattle.wl_client.specs.declared.error.FlushError.{FlushError}
 use Rattle.wl_client.specs.declared.error.FlushError.TheVariants as flush
 use Rattle.wl_client.specs.declared.step.Reply.{Reply}
-use Rattle.wl_client.specs.declared.step.Reply.TheVariants as reply
 use Rattle.wl_client.specs.declared.step.Step.{Step}
-use Rattle.wl_client.specs.declared.step.Step.TheVariants as step
 use Rattle.wl_client.specs.ObjectId.{IdParts}
 use Rattle.wl_client.proofs.OverRuns.ChangeLaws.{StepMoves, call_moves, step_moves}
 use Rattle.wl_client.specs.Failed.{AnswersFailed, StaysFailed}

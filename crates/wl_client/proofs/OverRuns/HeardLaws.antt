@@ -1,17 +1,15 @@
 -- That it does not matter to a part of a history over any transport how bytes and tokens are cut.
-use Rattle.std.proofs.Common.{◌≡◌, ◌⊎◌, ℕ, Bool, false, List, [], ◌∷◌, ◌++◌, Option, None, Some, IsSome, is_some, Result, Ok, Err, MatchOption, append_assoc, refl, sym, ap, subst, ◌∙◌, true≢false, arith}
+use Rattle.std.proofs.Common.{◌≡◌, ◌⊎◌, ℕ, Bool, false, List, [], ◌∷◌, ◌++◌, Option, None, IsSome, is_some, Result, Ok, Err, append_assoc, refl, sym, ap, subst, ◌∙◌, true≢false, arith}
 use mathlib.Core.Logic.{inl, inr}
 use Rattle.wl_wire.specs.declared.error.IoFault.{IoFault}
 use Rattle.wl_link.proofs.Calls.Branches.{both_option}
 use Rattle.wl_link.proofs.Calls.QueueLaws.{joined_assoc}
 use Rattle.wl_link.specs.Exchange.{Queue, joined, nothing}
-use Rattle.wl_link.specs.Reader.{AllFed, Given, Gives, Handled, ReaderState, Reads, Received, Turn, Unread, came_by, received_in}
+use Rattle.wl_link.specs.Reader.{AllFed, Given, Handled, ReaderState, Received, Turn, Unread, came_by, received_in}
 use Rattle.wl_link.specs.Served.{Served}
 use Rattle.wl_client.specs.declared.error.EventError.{EventError}
 use Rattle.wl_client.specs.declared.error.EventError.TheVariants as no_event
 use Rattle.wl_client.specs.declared.error.FinishRefused.{FinishRefused}
-use Rattle.wl_client.specs.declared.error.WaylandError.{WaylandError}
-use Rattle.wl_client.specs.declared.event.OpenEvent.{OpenEvent}
 use Rattle.wl_client.specs.declared.step.Reply.{Reply}
 use Rattle.wl_client.specs.declared.step.Reply.TheVariants as reply
 use Rattle.wl_client.specs.declared.step.Step.{Step}
@@ -21,7 +19,7 @@ use Rattle.wl_client.specs.Finish.{Finishes}
 use Rattle.wl_client.specs.Heard.{AllHeard, Hears, IsHeard, IsOfEvents, ReadTurns, TurnsOf, TurnsOfStep, events_in, events_in_deed, finished_in, finished_in_deed}
 use Rattle.wl_client.specs.Histories.{Called, Changed, Deed, Does, Grown, History}
 use Rattle.wl_client.specs.Plain.{ReadsEvent}
-use Rattle.wl_client.specs.Reading.{NextEvent, ReadsTo, client, event_content, handed_by, reader_state_of, receives_allowed}
+use Rattle.wl_client.specs.Reading.{NextEvent, client, event_content, handed_by, reader_state_of, receives_allowed}
 use Rattle.wl_client.specs.Requests.{SessionMessage}
 use Rattle.wl_client.specs.Session.{Core, SessionState}
 use Rattle.wl_client.specs.Steps.{CallOf}

@@ -1,5 +1,5 @@
 -- What holds of the ids and the notes of every history: laws over the changes of its steps.
-use Rattle.std.proofs.Common.{◌≡◌, ◌≢◌, ℕ, Bool, List, [], ◌∷◌, ◌++◌, Option, None, Some, is_some, IsSome, AllPairs, refl, sym, ap, subst, ◌∙◌, append-nil, append_assoc, cond, map, arith}
+use Rattle.std.proofs.Common.{◌≡◌, ◌≢◌, ℕ, Bool, List, [], ◌∷◌, ◌++◌, is_some, IsSome, AllPairs, refl, sym, ap, subst, ◌∙◌, append-nil, append_assoc, map, arith}
 use Rattle.wl_wire.specs.Table.{InterfaceRow}
 use Rattle.wl_link.specs.declared.object.Object.{Object}
 use Rattle.wl_link.proofs.Ids.EndsLaw.{ends_once_law, run_keeps_joins, run_leads, run_owns}

@@ -9,7 +9,6 @@ use Rattle.wl_wire.specs.Message.{WireMessage}
 use Rattle.wl_wire.specs.Table.{InterfaceRow, grown, refused_growth}
 use Rattle.wl_wire.proofs.Growth.{AnswersGrowth-unique}
 use Rattle.wl_link.specs.declared.memory.ArriveError.{ArriveError}
-use Rattle.wl_link.specs.declared.memory.ArriveError.TheVariants as arrive
 use Rattle.wl_link.specs.Exchange.{Queue, IsFunction, IsReceiveFunction}
 use Rattle.wl_link.specs.Link.{LinkState}
 use Rattle.wl_link.proofs.Calls.NumberLaws.{full_not_absent, least_absent_one, limit_set_one}

@@ -4,12 +4,11 @@ use Rattle.std.proofs.Common.{◌≡◌, ℕ, Bool, true, false, cond, List, [],
 use mathlib.Core.Logic.{inl, inr}
 use Rattle.std.proofs.lemmas.Option.{same_Some}
 use Rattle.wl_wire.specs.declared.error.IoFault.{IoFault}
-use Rattle.wl_wire.specs.declared.error.IoFault.TheVariants as fault
 use Rattle.wl_wire.specs.Message.{WireMessage}
 use Rattle.wl_link.specs.Exchange.{Queue, Sending, IsFunction, IsReceiveFunction}
 use Rattle.wl_link.specs.Link.{LinkState, counted_answer, count_of}
 use Rattle.wl_link.proofs.Calls.Branches.{both_option}
-use Rattle.wl_link.specs.Puts.{FlushesOut, PutsOut, Said, lacks_memory}
+use Rattle.wl_link.specs.Puts.{Said, lacks_memory}
 use Rattle.wl_link.specs.Reader.{AllFed, CarriesOut, Ends, Given, Gives, HandedOut, Handled, ReaderState, Reads, Received, Turn, Unread, Verdict, received_in, came_to as comes_to, put_and_gave, sends_in, stops, with_link}
 use Rattle.wl_link.proofs.Readings.ReaderLaws.{reads_one}
 use Rattle.wl_link.specs.Respect.{Keeps, RespectsReading}

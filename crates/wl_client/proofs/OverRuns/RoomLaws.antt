@@ -1,30 +1,25 @@
 -- That a reading which ends a session because no bytes came found a byte free for what lacked, and that none ends it so
 -- where each receive brings a byte or would block; nor does the end of an event.
-use Rattle.std.proofs.Common.{◌≡◌, ◌≢◌, ◌⊎◌, ℕ, Bool, false, List, [], ◌∷◌, Option, None, Some, is_none, Result, Ok, Err, MatchResult, refl, sym, ap, subst, ◌∙◌, true≢false, ◌&&◌, true, cond, is_ok, arith}
-use mathlib.Core.Logic.{inl, inr}
+use Rattle.std.proofs.Common.{◌≡◌, ◌≢◌, ◌⊎◌, ℕ, Bool, false, List, [], ◌∷◌, Option, None, Some, is_none, Result, Ok, Err, MatchResult, refl, sym, ap, subst, ◌∙◌, true≢false, is_ok, arith}
 use Rattle.std.proofs.lemmas.Option.{same_Some}
 use Rattle.wl_wire.specs.declared.error.IoFault.{IoFault}
 use Rattle.wl_wire.specs.declared.error.IoFault.TheVariants as fault
-use Rattle.wl_link.specs.declared.object.Object.{Object}
 use Rattle.wl_link.proofs.Calls.Branches.{both_option}
 use Rattle.wl_link.proofs.Readings.CuttingLaws.{byte_came}
 use Rattle.wl_link.specs.Exchange.{Queue, Sending}
 use Rattle.wl_link.proofs.Streams.LengthLaws.{failed_finds}
 use Rattle.wl_link.specs.Link.{FindsRoom, LinkState, counted_answer, count_of}
-use Rattle.wl_link.specs.Puts.{PutsOut, Said, lacks_memory}
+use Rattle.wl_link.specs.Puts.{lacks_memory}
 use Rattle.wl_link.specs.Reader.{AllFed, CarriesOut, Ends, Given, IsFed, Gives, Handled, ReaderState, Reads, Received, Turn, Unread, Verdict, came_to as comes_to, stops, with_link}
 use Rattle.wl_link.specs.Respect.{Keeps}
 use Rattle.wl_link.proofs.Readings.RespectLaws.{carries_respect}
 use Rattle.wl_client.specs.declared.error.EventError.{EventError}
 use Rattle.wl_client.specs.declared.error.WaylandError.{WaylandError}
-use Rattle.wl_client.specs.declared.error.WaylandError.TheVariants.{Io, Protocol}
-use Rattle.wl_client.specs.declared.event_fault.EventFault.TheVariants as wrong
-use Rattle.wl_client.specs.declared.objects.Kept.{Kept}
+use Rattle.wl_client.specs.declared.error.WaylandError.TheVariants.{Io}
 use Rattle.wl_client.specs.declared.event.OpenEvent.{OpenEvent}
-use Rattle.wl_client.specs.ObjectId.{IdParts}
 use Rattle.wl_client.specs.Events.{error_of}
 use Rattle.wl_client.specs.Finish.{core_finished, refusal, with_data_for, with_dead}
-use Rattle.wl_client.specs.Handling.{Handling, Swallows, HandsOut, Breaks, handling}
+use Rattle.wl_client.specs.Handling.{Handling, handling}
 use Rattle.wl_client.specs.Reading.{EndsWithRoom, NextEvent, core_after, client, finish, finish_verdict, objects_in, reader_state_of, starved_to, verdict}
 use Rattle.wl_client.proofs.OverRuns.ReadingLaws.{keeps}
 use Rattle.wl_client.specs.Requests.{SessionMessage}

@@ -24,7 +24,6 @@ use Rattle.wl_link.proofs.Stretches.StretchLaws.{acts_keep, arrived-append, cut_
 use Rattle.wl_client.specs.declared.error.EventError.{EventError}
 use Rattle.wl_client.specs.declared.error.EventError.TheVariants as no_event
 use Rattle.wl_client.specs.declared.error.FinishRefused.{FinishRefused}
-use Rattle.wl_client.specs.declared.event_fault.EventFault.TheVariants as wrong
 use Rattle.wl_client.specs.declared.event.OpenEvent.{OpenEvent}
 use Rattle.wl_client.specs.declared.step.Reply.{Reply}
 use Rattle.wl_client.specs.declared.step.Reply.TheVariants as reply
@@ -33,7 +32,7 @@ use Rattle.wl_client.specs.declared.step.Step.TheVariants as step
 use Rattle.wl_client.specs.ObjectId.{IdParts}
 use Rattle.wl_client.specs.Events.{error_of}
 use Rattle.wl_client.specs.Finish.{FinishesEvent, Finishes, refusal}
-use Rattle.wl_client.specs.Handling.{Handling, Swallows, HandsOut, Breaks, handling, signature_in}
+use Rattle.wl_client.specs.Handling.{Handling, handling, signature_in}
 use Rattle.wl_client.specs.Reading.{NextEvent, answered, client, event_content, faulted, handed_by, objects_in, reader_state_of, reads_on, receives_allowed, verdict}
 use Rattle.wl_client.proofs.OverRuns.ReadingLaws.{finish_as, finish_ends, keeps}
 use Rattle.wl_client.specs.Requests.{SessionMessage}

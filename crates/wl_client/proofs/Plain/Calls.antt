@@ -1,15 +1,13 @@
 -- The calls that are about neither a request nor an event.
-use Rattle.std.proofs.Common.{◌≡◌, ℕ, Bool, true, false, cond, eqb, Option, None, Some, is_some, Result, Ok, Err, refl, sym, ap, subst, true≢false, arith}
+use Rattle.std.proofs.Common.{◌≡◌, ℕ, eqb, Option, None, Some, is_some, Result, Ok, Err, refl, sym, ap, subst, true≢false, arith}
 use mathlib.Core.Logic.{inl, inr}
 use Rattle.wl_wire.specs.declared.error.IoFault.{IoFault}
-use Rattle.wl_wire.specs.declared.error.IoFault.TheVariants as fault
 use Rattle.wl_link.proofs.Calls.Branches.{either_option}
 use Rattle.wl_link.specs.declared.object.Object.{Object}
 use Rattle.wl_link.specs.Exchange.{Queue}
 use Rattle.wl_link.specs.Link.{Flushed, LinkState}
 use Rattle.wl_link.specs.Store.{rewritten}
 use Rattle.wl_client.specs.declared.error.DestroyError.{DestroyError}
-use Rattle.wl_client.specs.declared.error.DestroyError.TheVariants as destroy
 use Rattle.wl_client.specs.declared.error.FlushError.{FlushError}
 use Rattle.wl_client.specs.declared.error.FlushError.TheVariants as flush
 use Rattle.wl_client.specs.declared.error.InvalidId.{InvalidId}

@@ -1,5 +1,5 @@
 -- A reading: what it hands out, and what the session is after it.
-use Rattle.std.proofs.Common.{◌≡◌, ◌⊎◌, ℕ, Bool, true, false, List, [], ◌∷◌, ◌++◌, map, Option, None, Some, IsSome, is_none, is_some, Result, Ok, Err, ◌&&◌, MatchBool, MatchOption, MatchResult, refl, sym, ap, ap₂, subst, ◌∙◌, true≢false, arith}
+use Rattle.std.proofs.Common.{◌≡◌, ◌⊎◌, ℕ, Bool, true, false, List, [], ◌∷◌, ◌++◌, map, Option, None, Some, IsSome, is_none, is_some, Result, Ok, Err, ◌&&◌, MatchBool, MatchResult, refl, sym, ap, ap₂, subst, ◌∙◌, true≢false, arith}
 use mathlib.Core.Logic.{inl, inr}
 use Rattle.wl_wire.specs.declared.error.IoFault.{IoFault}
 use Rattle.wl_wire.specs.declared.error.IoFault.TheVariants as fault
@@ -7,9 +7,8 @@ use Rattle.wl_link.proofs.Calls.Branches.{either_option}
 use Rattle.wl_link.specs.Exchange.{Queue, Sending}
 use Rattle.wl_link.specs.Identity.{Objects}
 use Rattle.wl_link.specs.Link.{LinkState, counted_answer, count_of}
-use Rattle.wl_link.specs.Puts.{Said, lacks_memory}
+use Rattle.wl_link.specs.Puts.{lacks_memory}
 use Rattle.wl_link.specs.Reader.{CarriesOut, Given, Gives, Halts, HandedOut, Handled, ReaderState, Reads, Received, Turn, Unread, Verdict, came_to, given_first, put_and_gave, stops, with_link}
-use Rattle.wl_link.specs.Store.{Store}
 use Rattle.wl_client.specs.declared.error.EventError.{EventError}
 use Rattle.wl_client.specs.declared.error.WaylandError.{WaylandError}
 use Rattle.wl_client.specs.declared.event.OpenEvent.{OpenEvent}
@@ -17,9 +16,8 @@ use Rattle.wl_client.specs.declared.objects.Kept.{Kept}
 use Rattle.wl_client.specs.declared.event_fault.EventFault.TheVariants as wrong
 use Rattle.wl_client.specs.Events.{error_of}
 use Rattle.wl_client.specs.Handling.{Breaks, Handling, HandsOut, Swallows, handed, handling}
-use Rattle.wl_client.specs.Plain.{CanRead, EventIsOpen, HasFailed, IdsStay, IsMade, KeepsRest, ReadsEvent, new_id_in}
+use Rattle.wl_client.specs.Plain.{CanRead, EventIsOpen, HasFailed, IdsStay, KeepsRest, ReadsEvent, new_id_in}
 use Rattle.wl_client.specs.Reading.{NextEvent, answered, client, core_after, event_in, faulted, objects_in, reader_state_of, reads_on, receives_allowed, starved_to, verdict}
-use Rattle.wl_client.specs.ObjectId.{IdParts}
 use Rattle.wl_client.specs.Requests.{SessionMessage}
 use Rattle.wl_client.specs.Session.{Core, SessionState, core_of}
 use Rattle.wl_client.proofs.Plain.Opening.{Opens, OpensIn, Stay, had_none, makes_new, opens}

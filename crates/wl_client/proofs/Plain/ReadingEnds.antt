@@ -2,7 +2,7 @@
 use Rattle.std.proofs.Common.{◌≡◌, ◌≢◌, ◌⊎◌, ℕ, Bool, true, false, cond, eqb, eqb-true, ◌||◌, List, [], ◌∷◌, ◌++◌, map, append-nil, append_assoc, Option, None, Some, is_some, Result, Ok, Err, MatchResult, refl, sym, ap, ap₂, subst, ◌∙◌, true≢false, arith}
 use mathlib.Core.Logic.{inl, inr}
 use Rattle.std.proofs.lemmas.Bool.{eq-eqb}
-use Rattle.std.specs.Prelude.{◌+◌, length, nat_le, option_map}
+use Rattle.std.specs.Prelude.{length, nat_le, option_map}
 use Rattle.wl_wire.specs.declared.argument.Argument.{Argument}
 use Rattle.wl_wire.specs.declared.argument.Argument.TheVariants as arg
 use Rattle.wl_wire.specs.declared.argument.ArgumentType.{ArgumentType}
@@ -22,7 +22,7 @@ use Rattle.wl_link.specs.declared.object.Object.{Object}
 use Rattle.wl_link.specs.Exchange.{Queue, Sending}
 use Rattle.wl_link.specs.Identity.{Objects}
 use Rattle.wl_link.specs.Link.{FilledBy, LinkState, ReadFound, count_of, counted_answer}
-use Rattle.wl_link.specs.Puts.{Said, lacks_memory}
+use Rattle.wl_link.specs.Puts.{lacks_memory}
 use Rattle.wl_link.specs.Reader.{CarriesOut, Given, Gives, Halts, HandedOut, Handled, ReaderState, Reads, ReadsAs, Received, Turn, Unread, Verdict, came_to, given_first, put_and_gave, stops, with_link}
 use Rattle.wl_link.specs.Store.{Store, held, stored}
 use Rattle.wl_client.specs.declared.error.EventError.{EventError}
@@ -38,7 +38,7 @@ use Rattle.wl_client.specs.Handling.{Breaks, Handling, HandsOut, Swallows, event
 use Rattle.wl_client.specs.ObjectId.{IdParts}
 use Rattle.wl_client.specs.Plain.{CanRead, EventIsOpen}
 use Rattle.wl_client.specs.Reading.{NextEvent, answered, client, core_after, event_in, fails_by, faulted, objects_in, reader_state_of, reads_on, receives_allowed, starved_to, verdict, with_objects}
-use Rattle.wl_client.specs.ReadingEnds.{EndsForAReason, FoundError, FoundEvent, HasFailedBy, HasWrongArgument, IsWrong, IsWrongArgument, IsWrongBehind, LastReceiveFailed, ObjectsFit, OfLast, ReadingEnds, TellsError, TurnLeads, has_new, left_behind, on_the_wire}
+use Rattle.wl_client.specs.ReadingEnds.{EndsForAReason, FoundError, FoundEvent, HasFailedBy, HasWrongArgument, IsWrong, IsWrongArgument, LastReceiveFailed, ObjectsFit, OfLast, ReadingEnds, TellsError, TurnLeads, has_new, left_behind, on_the_wire}
 use Rattle.wl_client.specs.Requests.{SessionMessage}
 use Rattle.wl_client.specs.Session.{Core, SessionState, id_at, null_parts}
 use Rattle.wl_client.proofs.Plain.Opening.{Opens, OpensIn, makes_new, opens, vacated_elsewhere}

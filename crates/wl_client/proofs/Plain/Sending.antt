@@ -20,7 +20,6 @@ use Rattle.wl_client.specs.declared.error.RequestError.TheVariants as refused
 use Rattle.wl_client.specs.declared.error.WaylandError.{WaylandError}
 use Rattle.wl_client.specs.declared.error.WaylandError.TheVariants.{Io}
 use Rattle.wl_client.specs.declared.objects.Kept.{Kept}
-use Rattle.wl_client.specs.declared.objects.Note.{Note}
 use Rattle.wl_client.specs.declared.request.Granted.{Granted}
 use Rattle.wl_client.specs.ObjectId.{IdParts}
 use Rattle.wl_client.specs.Objects.{info_in, info_of}

@@ -16,7 +16,7 @@ use Rattle.wl_server.proofs.CallSteps.Slots.{same_parts, same_self, same_serials
 
 share_append : {T : Type 0} (id : ClientParts) (a b : List (ClientParts × T)) → share_of id (a ++ b) ≡ share_of id a ++ share_of id b
 share_append id [] b = refl
-share_append id (e ∷ a) b = grind (arith, share_append id a b) steps 400000
+share_append id (e ∷ a) b = grind (arith, share_append id a b)
 
 module _ {T U C : Type 0} where
   -- ---- of what all slots give, a part that only one slot has
@@ -33,7 +33,7 @@ module _ {T U C : Type 0} where
     pub collected_at : (n k : ℕ) (clients : List (Option (Stored T U C))) → slot ≡ n + k
         → part (collected give n clients) ≡ option_map_or (λ x. part (give slot x)) (slice_get clients k) []
     collected_at n k [] at = none
-    collected_at n zero (x ∷ clients) at = grind (arith, collected, collected_past, append-nil) steps 400000
+    collected_at n zero (x ∷ clients) at = grind (arith, collected, collected_past, append-nil)
     collected_at n (suc k) (x ∷ clients) at =
         both (give n x) (collected give (n + 1) clients)
         ∙ (ap (λ (l : List B). l ++ part (collected give (n + 1) clients)) (other n x (ne_eqb n slot (λ e. omega (arith, at, e))))
@@ -74,10 +74,10 @@ module _ {T U C : Type 0} where
   -- ---- transports
 
   other_given : (id : ClientParts) (n : ℕ) (x : Option (Stored T U C)) → (n == id.slot) ≡ false → share_of id (given_at n x) ≡ []
-  other_given id n x h1 = grind (arith, id_in, same_slots) steps 400000
+  other_given id n x h1 = grind (arith, id_in, same_slots)
 
   own_given : (id : ClientParts) (x : Option (Stored T U C)) → share_of id (given_at id.slot x) ≡ given_in (if_serial id.serial x)
-  own_given id x = grind (arith, id_in, given_in, same_parts, same_self, same_serials) steps 400000
+  own_given id x = grind (arith, id_in, given_in, same_parts, same_self, same_serials)
 
   pub given_for : (id : ClientParts) (clients : List (Option (Stored T U C))) → share_of id (collected given_at 0 clients) ≡ given_in (client_at id clients)
   given_for id clients =
@@ -90,7 +90,7 @@ module _ {T U C : Type 0} where
   -- ---- who stays
 
   staying_if : (serial : ℕ) (x : Option (Stored T U C)) → if_serial serial (staying x) ≡ staying (if_serial serial x)
-  staying_if serial x = grind (arith, if_serial, staying) steps 400000
+  staying_if serial x = grind (arith, if_serial, staying)
 
   pub staying_for : (id : ClientParts) (clients : List (Option (Stored T U C))) → client_at id (all_staying clients) ≡ staying (client_at id clients)
   staying_for id clients =
@@ -115,11 +115,11 @@ module _ {T : Type 0} where
   from_more n (e ∷ first) rest a b (suc j) d below = from_more n first rest (λ i d lt. a (suc i) d (omega (arith, lt))) b j d (omega (arith, below))
 
   one_from : (n : ℕ) (i : ClientParts) (t : T) (b : Bool) → n ≡ i.slot → AreFrom n (if b then ((i, t) ∷ []) else [])
-  one_from n i t b h1 = grind (arith) steps 400000
+  one_from n i t b h1 = grind (arith)
 
   one_rises : (n : ℕ) (i : ClientParts) (t : T) (c : Bool) (rest : List (ClientParts × T)) → n ≡ i.slot → AreFrom (n + 1) rest → Rises rest
       → Rises ((if c then ((i, t) ∷ []) else []) ++ rest)
-  one_rises n i t c rest h1 h2 h3 = grind (arith) steps 400000
+  one_rises n i t c rest h1 h2 h3 = grind (arith)
 
 module _ {T U C : Type 0} where
   given_from : (n : ℕ) (x : Option (Stored T U C)) → AreFrom n (given_at n x)

@@ -3,7 +3,7 @@ use Rattle.std.proofs.Common.{◌≡◌, ◌≢◌, ◌∙◌, ℕ, ◌+◌, ◌
 use mathlib.Core.Logic.{inl, inr}
 use Rattle.std.specs.Option.{option_map_or}
 use Rattle.std.specs.Prelude.{◌⊎◌, ◌==◌, if◌then◌else◌, nat_lt, slice_get, slice_set}
-use Rattle.std.proofs.lemmas.Bool.{eqb-true, false≢true, ltb-false, ltb-true}
+use Rattle.std.proofs.lemmas.Bool.{eqb-true, false≢true}
 use Rattle.std.proofs.lemmas.List.{length-set}
 use Rattle.std.proofs.lemmas.Option.{slice_get_past}
 use Rattle.wl_server.specs.declared.notes.Happening.{Happening}
@@ -73,7 +73,7 @@ module _ {T U C : Type 0} (R : Kind T U C) where
           subst (λ (m : ℕ). FeltAt R m (slice_get start m) lacked (slice_get (slice_set now slot place') m)) (sym (eqb-true k slot is))
           (subst (λ (x : Option (Option (Stored T U C))). FeltAt R slot x lacked (slice_get (slice_set now slot place') slot))
           (sym here ∙ all.rest slot (omega arith)) (place', feels, get_set_same now slot place place' here))
-      at k false is below = grind (arith, slice_get, get_set_other, other_of, less) steps 400000
+      at k false is below = grind (arith, slice_get, get_set_other, other_of, less)
 
       either : (r : Bool) → lacked ≡ true → (r || lacked) ≡ true
       either true h = refl
@@ -92,7 +92,7 @@ module _ {T U C : Type 0} (R : Kind T U C) where
       there_lacks k false is below h = h
 
       blames : (r l : Bool) → refused ≡ r → lacked ≡ l → (r || l) ≡ true → (k : ℕ) × (k < slot + 1) × (now_lacks k ≡ true)
-      blames true l was is h = grind (arith, there_lacks) steps 400000
+      blames true l was is h = grind (arith, there_lacks)
       blames false true was is h = (slot, omega arith, here_lacks (slot == slot) refl is)
       blames false false was is h = absurd (false≢true h)
 
@@ -135,7 +135,7 @@ module _ {T U C : Type 0} (R : Kind T U C) where
           subst (λ (i : ClientParts). R i s.part lacked did q) (same_parts (record { slot = id.slot; serial = s.serial }) id refl (eqb-true s.serial id.serial same)) feels in
           let as_now : (s'.serial == id.serial) ≡ true = rw serial' same in
           subst (λ (b : Bool). FeltIf id gathered lacked s s' true b) (sym as_now) (did, on_part gathered s s' (λ p d r. R id p lacked d r) (Unit {0}) lacked did q here made)
-      at false other = grind (arith, serial') steps 400000
+      at false other = grind (arith, serial')
 
   module _ (refused : Bool) (start now : List (Option (Stored T U C))) (all : AllFeel R refused (length start) start now) where
     -- whether memory was refused to the client of an id
@@ -146,7 +146,7 @@ module _ {T U C : Type 0} (R : Kind T U C) where
     each_felt gathered id = at (nat_lt id.slot (length start)) refl
       where
         at : (b : Bool) → nat_lt id.slot (length start) ≡ b → FeltBy id gathered (all.lacks id.slot) (slice_get start id.slot) (slice_get now id.slot)
-        at b h1 = grind (arith, felt_by, slice_get_past, slice_get) steps 400000
+        at b h1 = grind (arith, felt_by, slice_get_past, slice_get)
 
     pub some_lacks : refused ≡ true → (id : ClientParts) × (lacks_of id ≡ true)
     some_lacks is =

@@ -2,8 +2,8 @@
 use Rattle.std.proofs.Common.{◌≡◌, ◌≢◌, ◌∙◌, ℕ, zero, suc, ◌+◌, ◌<◌, ◌≤◌, Bool, true, false, List, [], ◌∷◌, ◌++◌, length, map, Option, None, Some, is_some, refl, sym, ap, subst, arith, append_assoc, append-nil}
 use mathlib.Core.Logic.{inl, inr}
 use Rattle.std.specs.Option.{option_map, option_map_or}
-use Rattle.std.specs.Prelude.{◌⊎◌, ◌==◌, Contains, if◌then◌else◌, nat_lt, slice_get, slice_set}
-use Rattle.std.proofs.lemmas.Bool.{eqb-true, false≢true, ltb-false, ltb-true}
+use Rattle.std.specs.Prelude.{◌⊎◌, ◌==◌, Contains, nat_lt, slice_get, slice_set}
+use Rattle.std.proofs.lemmas.Bool.{eqb-true, ltb-false, ltb-true}
 use Rattle.std.proofs.lemmas.List.{length-append}
 use Rattle.std.proofs.lemmas.List.Elements.{Contains-append_cases, Contains-append_right}
 use Rattle.wl_server.specs.declared.notes.queues.NoteNumbers.{NoteNumbers}
@@ -91,19 +91,19 @@ pub record GivesWithin (ns : List ℕ) (next : ℕ) (ns' : List ℕ) (next' : �
   pub rise : next' < last_number → RiseWithin next more next'
 
 within : (ns : List ℕ) (next : ℕ) (ns' : List ℕ) (next' : ℕ) → GivesNumbers ns next ns' next' → GivesWithin ns next ns' next'
-within ns next ns' next' gives = grind (arith, numbers_from, rise_from, last_number) steps 400000
+within ns next ns' next' gives = grind (arith, numbers_from, rise_from, last_number)
 
 pub within_none : (ns : List ℕ) (next next' : ℕ) → (next' < last_number → next ≤ next') → GivesWithin ns next ns next'
 within_none ns next next' up = record { more = []; behind = sym (append-nil ns); rise = up }
 
 pub within_both : (ns ms ks : List ℕ) (a b c : ℕ) → GivesWithin ns a ms b → GivesWithin ms b ks c → GivesWithin ns a ks c
-within_both ns ms ks a b c one two = grind (arith, append_assoc, rise_up, rise_append) steps 400000
+within_both ns ms ks a b c one two = grind (arith, append_assoc, rise_up, rise_append)
 
 within_lower : (ns : List ℕ) (a b : ℕ) (ns' : List ℕ) (c : ℕ) → (c < last_number → a ≤ b) → GivesWithin ns b ns' c → GivesWithin ns a ns' c
 within_lower ns a b ns' c up gives = record { more = gives.more; behind = gives.behind; rise = λ below. rise_lower a b gives.more c (up below) (gives.rise below) }
 
 within_higher : (ns : List ℕ) (a : ℕ) (ns' : List ℕ) (b c : ℕ) → (c < last_number → b ≤ c) → GivesWithin ns a ns' b → GivesWithin ns a ns' c
-within_higher ns a ns' b c up gives = grind (arith, rise_higher) steps 400000
+within_higher ns a ns' b c up gives = grind (arith, rise_higher)
 
 -- ---- the notes of one client
 
@@ -123,12 +123,12 @@ in_time_same t u a b same none =
 -- a note was made, or notes were that were not
 pub made_in_time : (ms ms' ws ws' : List ℕ) (a b : NoteNumbers) → GivesNumbers ms a.made ms' b.made → ws' ≡ ws → b.waiting ≡ a.waiting
     → NotesInTime (record { made = ms; waiting = ws }) a (record { made = ms'; waiting = ws' }) b
-made_in_time ms ms' ws ws' a b gives same none = grind (arith, gives_none) steps 400000
+made_in_time ms ms' ws ws' a b gives same none = grind (arith, gives_none)
 
 -- a note waits
 pub waits_in_time : (ms ms' ws ws' : List ℕ) (a b : NoteNumbers) → GivesNumbers ws a.waiting ws' b.waiting → ms' ≡ ms → b.made ≡ a.made
     → NotesInTime (record { made = ms; waiting = ws }) a (record { made = ms'; waiting = ws' }) b
-waits_in_time ms ms' ws ws' a b gives same none = grind (arith, gives_none) steps 400000
+waits_in_time ms ms' ws ws' a b gives same none = grind (arith, gives_none)
 
 -- nothing was noted
 pub still_made : (ms ms' ws : List ℕ) (a : NoteNumbers) → ms' ≡ ms → NotesInTime (record { made = ms; waiting = ws }) a (record { made = ms'; waiting = ws }) a
@@ -155,7 +155,7 @@ module _ {T U C : Type 0} where
   times_there clients k x here = times_in clients k ∙ ap time_in here
 
   times_none : (clients : List (Option (Stored T U C))) (k : ℕ) → stored_at k clients ≡ None → times_at k (map times_of clients) ≡ no_times
-  times_none clients k none = grind (arith, times_in, slice_get, option_map_or, no_times, is_some) steps 400000
+  times_none clients k none = grind (arith, times_in, slice_get, option_map_or, no_times, is_some)
 
   times_same : (clients clients' : List (Option (Stored T U C))) (k : ℕ) → slice_get clients' k ≡ slice_get clients k
       → times_at k (map times_of clients') ≡ times_at k (map times_of clients)
@@ -179,7 +179,7 @@ module _ (of : NoteTimes → List ℕ) where
       up = rise_up next gives.more next' more
 
       rise_at : (k : ℕ) (b : Bool) → (k == i) ≡ b → RiseWithin 0 (of (times_at k ts')) next'
-      rise_at k true same = grind (arith, times_at, rise_append) steps 400000
+      rise_at k true same = grind (arith, times_at, rise_append)
       rise_at k false other =
           subst (λ (t : NoteTimes). RiseWithin 0 (of t) next') (sym (others k (other_of k i other)))
           (rise_higher 0 (of (times_at k ts)) next next' up (is.rise k))
@@ -412,19 +412,19 @@ module _ {T U C : Type 0} where
 
   pub numbered_put : (clients clients' : List (Option (Stored T U C))) (i : ℕ) (s : Stored T U C) → IsPut clients i s clients' → IsNumbered (Some s)
       → AllNumbered clients → AllNumbered clients'
-  numbered_put clients clients' i s (here, others) is all k = grind (arith, stored_at, option_map_or, other_of) steps 400000
+  numbered_put clients clients' i s (here, others) is all k = grind (arith, stored_at, option_map_or, other_of)
 
   -- killed clients leave
   pub numbered_staying : (clients : List (Option (Stored T U C))) → AllNumbered clients → AllNumbered (all_staying clients)
-  numbered_staying clients all k = grind (arith, option_map_or, get_map, staying, slice_get, option_map) steps 400000
+  numbered_staying clients all k = grind (arith, option_map_or, get_map, staying, slice_get, option_map)
 
 -- a new server
 pub no_numbers : (n : NoteNumbers) → HasNumbers n []
-no_numbers n = grind (arith, no_times) steps 400000
+no_numbers n = grind (arith, no_times)
 
 -- no note waits, and the numbers of those that wait begin anew
 pub waiting_anew : (ts : List NoteTimes) (a : NoteNumbers) → NoneWaits ts → HasNumbers a ts → HasNumbers (record a { waiting = 0 }) ts
-waiting_anew ts a none has = grind (arith) steps 400000
+waiting_anew ts a none has = grind (arith)
 
 -- ---- notes that are taken
 
@@ -490,4 +490,4 @@ module _ {T U C : Type 0} where
 
   -- killed clients are gone with what is left of their notes
   pub all_take_leave : (clients : List (Option (Stored T U C))) → AllTakeFirst (map times_of clients) (map times_of (all_staying clients))
-  all_take_leave clients k = grind (arith, times_at, times_of, all_staying, times_in, slice_get, get_map, staying, takes_all, takes_none, option_map, no_times) steps 400000
+  all_take_leave clients k = grind (arith, times_at, times_of, all_staying, times_in, slice_get, get_map, staying, takes_all, takes_none, option_map, no_times)

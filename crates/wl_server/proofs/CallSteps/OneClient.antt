@@ -80,7 +80,7 @@ module _ {T U G C : Type 0} (w : World T G C) (before : ServerState T U G C) (s 
       is_refused is = inr (target, rw (same_self target) is)
 
       was_refused : (lacks_growth (Asked s answer) ≡ true) ⊎ ((id : ClientParts) × (lacks_at (same_client target id) lacked ≡ true)) → lacked ≡ true
-      was_refused h1 = grind (arith, false≢true, lacks_at) steps 400000
+      was_refused h1 = grind (arith, false≢true, lacks_at)
 
   -- the same of the client that was looked up by the id, as this was read
   pub done_to : {was : Bool} (read : ClientParts) (c c' : Stored T U C) (lacked : Bool) → read ≡ target → Some c ≡ client_at read before.clients

@@ -17,7 +17,7 @@ use Rattle.wl_server.specs.Globals.{Offer}
 use Rattle.wl_server.specs.Ids.{ClientParts, GlobalParts, same_client}
 use Rattle.wl_server.specs.Moves.{Accept, AcceptFault, Arrive, ArriveFault, Move, Moved, TakeSent}
 use Rattle.wl_server.specs.Part.{Part}
-use Rattle.wl_server.specs.PartStep.{Asked, Call, Changed, Grown, MovedFor, OfClient, OnPart, PartCall, PartStep, Quietly, Unfelt, WithTransport, World, lacks_move, over, over_scripts}
+use Rattle.wl_server.specs.PartStep.{Asked, Call, Changed, MovedFor, OfClient, OnPart, PartCall, PartStep, Quietly, Unfelt, WithTransport, World, lacks_move, over, over_scripts}
 use Rattle.wl_server.specs.Runs.{Leads}
 use Rattle.wl_server.specs.Server.{Seen, ServerState, seen}
 use Rattle.wl_server.specs.Steps.{EachStandsFor, Entry, IsChangeFor, MakesNotes, OneStep, StandsFor, StepOf}
@@ -43,7 +43,7 @@ module _ {U G C : Type 0} (views : G → ClientParts → C → GlobalParts → B
     -- no other transport makes the moves of a script: but those that name nobody are alike
     moved : (target : ClientParts) (m : Move) (answer : Moved) (before : Seen Script U C) (lacked : Bool) (did : List (Deed U)) (after : Seen Script U C)
         → MovedFor (by_script views) id offer target m answer before lacked did after → MovedFor (over_scripts views) id offer target m answer before lacked did after
-    moved target m answer before lacked did after h = grind (arith, over_scripts) steps 400000
+    moved target m answer before lacked did after h = grind (arith, over_scripts)
 
     part_step : (s : Step Script U G C) (answer : Reply Script U) (before : Seen Script U C) (lacked : Bool) (did : List (Deed U)) (after : Seen Script U C)
         → PartStep (by_script views) id offer s answer before lacked did after → PartStep (over_scripts views) id offer s answer before lacked did after
@@ -56,7 +56,7 @@ module _ {U G C : Type 0} (views : G → ClientParts → C → GlobalParts → B
 
     part_call : (call : Call Script U G C) (before : Seen Script U C) (lacked : Bool) (did : List (Deed U)) (after : Seen Script U C)
         → PartCall (by_script views) id offer call before lacked did after → PartCall (over_scripts views) id offer call before lacked did after
-    part_call call before lacked did after h1 = grind (arith, part_step) steps 400000
+    part_call call before lacked did after h1 = grind (arith, part_step)
 
   pub one_over_script : (before : ServerState Script U G C) (e : Entry Script U G C) (after : ServerState Script U G C)
       → OneStep (by_script views) before e after → OneStep (over_scripts views) before e after

@@ -22,10 +22,10 @@ pub data Same (a b : ClientParts) : Type 0 where
   Serials : (slot : a.slot ≡ b.slot) (serial : (a.serial == b.serial) ≡ false) → Same a b
 
 pub compare : (a b : ClientParts) → Same a b
-compare a b = grind (arith, eqb-true) steps 400000
+compare a b = grind (arith, eqb-true)
 
 pub same_parts : (a b : ClientParts) → a.slot ≡ b.slot → a.serial ≡ b.serial → a ≡ b
-same_parts a b slot serial = grind (arith) steps 400000
+same_parts a b slot serial = grind (arith)
 
 pub same_self : (a : ClientParts) → same_client a a ≡ true
 same_self a = rw (eq-eqb a.slot a.slot refl) (eq-eqb a.serial a.serial refl)
@@ -68,7 +68,7 @@ module _ {T U C : Type 0} where
   -- ---- the slot of a stored client
 
   pub slot_within : (clients : List (Option (Stored T U C))) (id : ClientParts) → is_some (client_at id clients) ≡ true → id.slot < length clients
-  slot_within clients id some = grind (arith, slice_get, false≢true, is_some, client_past, slice_get_within) steps 400000
+  slot_within clients id some = grind (arith, slice_get, false≢true, is_some, client_past, slice_get_within)
 
   -- an id that was read is the id
   pub stored_by : (clients : List (Option (Stored T U C))) (read id : ClientParts) (b : Bool) → read ≡ id → b ≡ is_some (client_at read clients)
@@ -82,12 +82,12 @@ module _ {T U C : Type 0} where
   -- what was read at the slot of a stored client is the client
   pub slot_reads : (clients : List (Option (Stored T U C))) (id : ClientParts) (n : ℕ) (x : Option (Stored T U C)) → is_some (client_at id clients) ≡ true
       → n ≡ id.slot → x ≡ slice_index_or clients n x → x ≡ client_at id clients
-  slot_reads clients id n x some at value = grind (arith, client_at, if_serial, option_map_or, slot_holds, slice_index_or, is_some, false≢true) steps 400000
+  slot_reads clients id n x some at value = grind (arith, client_at, if_serial, option_map_or, slot_holds, slice_index_or, is_some, false≢true)
 
   -- the client of an id is at its slot, under its serial
   pub slot_of_client : (clients : List (Option (Stored T U C))) (id : ClientParts) (s : Stored T U C) → Some s ≡ client_at id clients
       → (slice_get clients id.slot ≡ Some (Some s)) × (s.serial ≡ id.serial)
-  slot_of_client clients id s is = grind (arith, slice_get, eqb-true, option_map_or, client_present, false≢true, is_some, client_absent, client_past, client_empty) steps 400000
+  slot_of_client clients id s is = grind (arith, slice_get, eqb-true, option_map_or, client_present, false≢true, is_some, client_absent, client_past, client_empty)
 
   -- ---- a step of one client
 
@@ -165,20 +165,20 @@ module _ {T U C : Type 0} where
   -- no client of that id is stored: so no client makes anything of it
   pub each_missing : (clients : List (Option (Stored T U C))) (notes : List (Note U)) (target : ClientParts) (R : Kind T U C) (missing : Type 0)
       → client_at target clients ≡ None → missing → (id : ClientParts) → Missing target R missing id (same_client target id) (held_of notes clients id)
-  each_missing clients notes target R missing none is id = grind (arith, compare, same_parts, same_slots, same_serials, false≢true, same_self, seen_as, notes_of, true≢false) steps 400000
+  each_missing clients notes target R missing none is id = grind (arith, compare, same_parts, same_slots, same_serials, false≢true, same_self, seen_as, notes_of, true≢false)
 
 -- ---- a client that is looked up
 
 module _ {T U C : Type 0} where
   pub reads_place : (clients : List (Option (Stored T U C))) (id : ClientParts) (slot : ℕ) (x : Option (Stored T U C))
       → slot ≡ id.slot → slice_get clients slot ≡ Some x → client_at id clients ≡ if_serial id.serial x
-  reads_place clients id slot x same here = grind (arith, if_serial, option_map_or, slice_get) steps 400000
+  reads_place clients id slot x same here = grind (arith, if_serial, option_map_or, slice_get)
 
   pub reads_past : (clients : List (Option (Stored T U C))) (id : ClientParts) (slot : ℕ) → slot ≡ id.slot → length clients ≤ slot → client_at id clients ≡ None
-  reads_past clients id slot same past = grind (arith, if_serial, option_map_or, slice_get, slice_get_past) steps 400000
+  reads_past clients id slot same past = grind (arith, if_serial, option_map_or, slice_get, slice_get_past)
 
   pub serial_same : (serial : ℕ) (s : Stored T U C) → s.serial ≡ serial → if_serial serial (Some s) ≡ Some s
   serial_same serial s same = rw (eq-eqb s.serial serial same) refl
 
   pub serial_differs : (serial : ℕ) (s : Stored T U C) → s.serial ≢ serial → if_serial serial (Some s) ≡ None
-  serial_differs serial s differ = grind (arith, if_serial, eqb-true) steps 400000
+  serial_differs serial s differ = grind (arith, if_serial, eqb-true)

@@ -6,7 +6,7 @@ use Rattle.std.proofs.lemmas.List.{nil_from_length}
 use Rattle.wl_server.specs.declared.notes.Happening.{Happening}
 use Rattle.wl_server.specs.Inside.Gathering.{AllLeft, count_leaving}
 use Rattle.wl_server.specs.NoteOrder.{to_gather}
-use Rattle.wl_server.specs.Inside.Leaving.{collected, ends_at, given_at, id_in}
+use Rattle.wl_server.specs.Inside.Leaving.{collected, ends_at, given_at}
 use Rattle.wl_server.specs.Server.{Stored}
 use Rattle.wl_server.specs.Steps.{SomeClient}
 use Rattle.wl_server.proofs.CleanupSteps.Gathering.{count_at}
@@ -52,7 +52,7 @@ module _ {T U C : Type 0} where
   pub none_ends : (n : ℕ) (clients : List (Option (Stored T U C))) → length (collected given_at n clients) ≤ 0 → length (collected ends_at n clients) ≤ 0
   none_ends n [] none = none
   none_ends n (None ∷ clients) none = none_ends (n + 1) clients none
-  none_ends n (Some s ∷ clients) none = grind (arith, none_ends (n + 1) clients) steps 400000
+  none_ends n (Some s ∷ clients) none = grind (arith, none_ends (n + 1) clients)
 
   -- ---- who asks
 

@@ -1,5 +1,5 @@
 -- A cleanup, as a step of the server.
-use Rattle.std.proofs.Common.{◌≡◌, ℕ, Bool, true, false, List, [], ◌∷◌, ◌++◌, map, Option, None, Some, Result, Ok, Vec, refl, sym, ap, subst, ◌∙◌, append_assoc, append-nil}
+use Rattle.std.proofs.Common.{arith, ◌≡◌, ℕ, Bool, true, false, List, [], ◌∷◌, ◌++◌, map, Option, None, Some, Result, Ok, Vec, refl, sym, ap, subst, ◌∙◌, append_assoc, append-nil}
 use Rattle.std.specs.FinMap.{entries}
 use Rattle.std.specs.Global.{Global}
 use Rattle.std.specs.Option.{option_map}
@@ -36,10 +36,10 @@ module _ {U : Type 0} where
 
   leave_notes : (client : ClientParts) (objects : List (ℕ × Object (Kept U))) → notes_in (objects_leave client objects) ≡ ends_of client objects
   leave_notes client [] = refl
-  leave_notes client (e ∷ objects) = grind (arith, notes_append, note_of_end, id_of, id_at, noted_notes, left_notes, leave_notes client objects) steps 400000
+  leave_notes client (e ∷ objects) = grind (arith, notes_append, note_of_end, id_of, id_at, noted_notes, left_notes, leave_notes client objects)
 
   killed_notes : (n m w e s d n2 n3 : List (Happening U)) → n2 ≡ n ++ (m ++ w) → n3 ≡ n2 ++ e → s ≡ [] → d ≡ w ++ (e ++ s) → n3 ++ [] ≡ (n ++ m) ++ d
-  killed_notes n m w e s d n2 n3 is is' none all = grind (arith, append-nil, append_assoc) steps 400000
+  killed_notes n m w e s d n2 n3 is is' none all = grind (arith, append-nil, append_assoc)
 
 module _ {T U G C : Type 0} (w : World T G C) (id : ClientParts) (offer : Offer G) (out : Vec (ClientParts × T) Global) where
   -- ---- one client
@@ -91,7 +91,7 @@ module _ {T U G C : Type 0} (w : World T G C) (id : ClientParts) (offer : Offer 
     where
       both : {P : Type 0} (a b : List (Happening U)) → a ++ b ≡ [] → (a ≡ [] → b ≡ [] → P) → P
       both [] b none goes = goes refl none
-      both (h ∷ a) b none goes = grind (arith) steps 400000
+      both (h ∷ a) b none goes = grind (arith)
 
   cleaned_from : (s s1 : Stored T U C) (lacked : Bool) (sent : List (Deed U)) (n n2 n3 : List (Happening U)) → FlushesKilled w.sends s.part lacked sent s1.part → s1.made ≡ s.made ++ notes_in sent
       → n2 ++ [] ≡ n ++ (s1.made ++ s1.part.waiting) → n3 ≡ n2 ++ ends_in id (Some (emptied true s1)) → share_of id out.items ≡ given_in (Some (emptied true s1))
@@ -126,7 +126,7 @@ module _ {T U G C : Type 0} (w : World T G C) (id : ClientParts) (offer : Offer 
 
   -- the numbers of its notes are of no account
   seen_untimed : (n : List (Happening U)) (x : Option (Stored T U C)) → seen_as n (staying (option_map untimed x)) ≡ seen_as n (staying x)
-  seen_untimed n x = grind (arith, seen_as, untimed) steps 400000
+  seen_untimed n x = grind (arith, seen_as, untimed)
 
   ends_untimed : (x : Option (Stored T U C)) → ends_in id x ≡ ends_in id (option_map untimed x)
   ends_untimed None = refl
@@ -160,7 +160,7 @@ module _ {T U G C : Type 0} (w : World T G C) (id : ClientParts) (offer : Offer 
       at : (x0 x1 : Option (Stored T U C)) → Feels (seen_as [] x0) (λ p q. FlushesKilled w.sends p lacked sent q) lacked sent (seen_as [] x1)
           → n2 ++ [] ≡ n ++ to_gather true x1 → n3 ≡ n2 ++ ends_in id (option_map (emptied true) x1) → share_of id out.items ≡ given_in (option_map (emptied true) x1)
           → CleanedBy x0 n lacked (staying (option_map (emptied true) x1)) n3
-      at None None (u, (not, nothing, same)) told noted given = grind (arith, append-nil) steps 400000
+      at None None (u, (not, nothing, same)) told noted given = grind (arith, append-nil)
       at None (Some s1) (u, (not, nothing, same)) told noted given = absurd (none-some s1.part (sym (ap (λ (x : Seen T U C). x.part) same)))
       at (Some s) None (q, flushes, now) told noted given = absurd (none-some q (ap (λ (x : Seen T U C). x.part) now))
       at (Some s) (Some s1) (q, flushes, now) told noted given =

@@ -1,5 +1,5 @@
 -- The objects of a client that leaves are noted, one after another.
-use Rattle.std.proofs.Common.{◌≡◌, ℕ, ◌+◌, ◌≤◌, List, ◌∷◌, ◌++◌, length, map, refl, sym, ap, subst, ◌∙◌, arith, append_assoc}
+use Rattle.std.proofs.Common.{◌≡◌, ℕ, ◌+◌, ◌≤◌, List, ◌∷◌, ◌++◌, length, map, refl, arith, append_assoc}
 use Rattle.std.proofs.lemmas.List.{length-append, length-map, map-append}
 use Rattle.wl_link.specs.declared.object.Object.{Object}
 use Rattle.wl_server.specs.declared.objects.Kept.{Kept}
@@ -25,9 +25,9 @@ module _ {U : Type 0} where
   pub ended_one : (client : ClientParts) (notes notes' : List (Note U)) (e : ℕ × Object (Kept U)) (objects rest : List (ℕ × Object (Kept U))) (total : List (Note U)) (room : ℕ)
       → objects ≡ e ∷ rest → Ending client notes objects total room → notes' ≡ notes ++ map (note_of client) (note_of_end client e.0 e.1)
       → Ending client notes' rest total room
-  ended_one client notes notes' e objects rest total room first before is = grind (arith, length-append, length-map, append_assoc, map-append) steps 400000
+  ended_one client notes notes' e objects rest total room first before is = grind (arith, length-append, length-map, append_assoc, map-append)
 
   -- there is room for its note
   pub ending_room : (client : ClientParts) (notes : List (Note U)) (e : ℕ × Object (Kept U)) (objects rest : List (ℕ × Object (Kept U))) (total : List (Note U)) (room n : ℕ)
       → objects ≡ e ∷ rest → Ending client notes objects total room → n ≡ length notes → n + length (note_of_end client e.0 e.1) ≤ room
-  ending_room client notes e objects rest total room n first before is = grind (arith, length-append) steps 400000
+  ending_room client notes e objects rest total room n first before is = grind (arith, length-append)

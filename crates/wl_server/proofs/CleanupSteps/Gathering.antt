@@ -7,7 +7,6 @@ use Rattle.std.proofs.lemmas.Grind.{flat_map-append}
 use Rattle.std.proofs.lemmas.List.{length-append, length-map}
 use Rattle.std.proofs.lemmas.Option.{same_Some, none-some}
 use Rattle.wl_server.specs.declared.notes.Happening.{Happening}
-use Rattle.wl_server.specs.declared.notes.Happening.TheVariants as happened
 use Rattle.wl_server.specs.declared.notes.Note.{Note}
 use Rattle.wl_server.specs.Inside.Gathering.{Gathers, MovesNote, count_leaving, emptied, notes_from}
 use Rattle.wl_server.specs.NoteOrder.{to_gather}
@@ -20,17 +19,17 @@ use Rattle.wl_server.proofs.CallSteps.Slots.{Are, Serials, Slots, client_absent,
 
 module _ {U : Type 0} where
   pub told_same : (target id : ClientParts) (h : Happening U) → same_client target id ≡ true → told_of id (note_of target h) ≡ h ∷ []
-  told_same target id h h1 = grind (arith) steps 400000
+  told_same target id h h1 = grind (arith)
 
   pub told_other : (target id : ClientParts) (h : Happening U) → same_client target id ≡ false → told_of id (note_of target h) ≡ []
-  told_other target id h h1 = grind (arith) steps 400000
+  told_other target id h h1 = grind (arith)
 
   pub notes_append : (id : ClientParts) (a b : List (Note U)) → notes_of id (a ++ b) ≡ notes_of id a ++ notes_of id b
   notes_append id a b = flat_map-append (told_of id) a b
 
   pub notes_same : (target id : ClientParts) (told : List (Happening U)) → same_client target id ≡ true → notes_of id (map (note_of target) told) ≡ told
   notes_same target id [] same = refl
-  notes_same target id (h ∷ told) same = grind (arith, notes_of, note_of, told_same, notes_same target id told same) steps 400000
+  notes_same target id (h ∷ told) same = grind (arith, notes_of, note_of, told_same, notes_same target id told same)
 
   pub notes_other : (target id : ClientParts) (told : List (Happening U)) → same_client target id ≡ false → notes_of id (map (note_of target) told) ≡ []
   notes_other target id [] other = refl
@@ -65,7 +64,7 @@ module _ {T U C : Type 0} (waits : Bool) where
   pub gathers_more : (clients : List (Option (Stored T U C))) (notes : List (Note U)) (clients' : List (Option (Stored T U C))) (notes' : List (Note U))
       (clients'' : List (Option (Stored T U C))) (notes'' : List (Note U)) → Gathers waits clients notes clients' notes' → Gathers waits clients' notes' clients'' notes''
       → Gathers waits clients notes clients'' notes''
-  gathers_more clients notes clients' notes' clients'' notes'' first more = grind (arith) steps 400000
+  gathers_more clients notes clients' notes' clients'' notes'' first more = grind (arith)
 
   -- ---- counts
 
@@ -97,14 +96,14 @@ module _ {T U C : Type 0} (waits : Bool) where
   pub room_at : (clients : List (Option (Stored T U C))) (notes : List (Note U)) (clients' : List (Option (Stored T U C))) (notes' : List (Note U)) (n n' room room' k : ℕ)
       (x : Option (Stored T U C)) → Gathers waits clients notes clients' notes' → n ≡ length notes → n' ≡ length notes' → n + count_leaving waits clients ≤ room
       → room' ≡ room → slice_get clients' k ≡ Some x → n' + length (to_gather waits x) ≤ room'
-  room_at clients notes clients' notes' n n' room room' k x by is is' fits same here = grind (arith, count_at) steps 400000
+  room_at clients notes clients' notes' n n' room room' k x by is is' fits same here = grind (arith, count_at)
 
   -- ---- one note is moved
 
   from_length : (slot : ℕ) (x : Option (Stored T U C)) (told behind : List (Happening U)) → to_gather waits x ≡ told ++ behind
       → length (notes_from waits slot x told) ≡ length told
   from_length slot None [] behind left = refl
-  from_length slot None (h ∷ told) behind left = grind (arith) steps 400000
+  from_length slot None (h ∷ told) behind left = grind (arith)
   from_length slot (Some s) told behind left = length-map told (note_of (record { slot = slot; serial = s.serial }))
 
   -- what is told of an id
@@ -122,7 +121,7 @@ module _ {T U C : Type 0} (waits : Bool) where
 
   told_at : (clients : List (Option (Stored T U C))) (notes notes' : List (Note U)) (slot : ℕ) (x x' : Option (Stored T U C)) → slice_get clients slot ≡ Some x
       → MovesNote waits slot x notes x' notes' → (id : ClientParts) → ToldOf clients notes (slice_set clients slot x') notes' id
-  told_at clients notes notes' slot None None here (h, left, rest, is) id = grind (arith, notes_of, client_at, set_itself, append-nil) steps 400000
+  told_at clients notes notes' slot None None here (h, left, rest, is) id = grind (arith, notes_of, client_at, set_itself, append-nil)
   told_at clients notes notes' slot None (Some s') here (h, left, rest, is) id = absurd (none-some (emptied waits s') (sym rest))
   told_at clients notes notes' slot (Some s) None here (h, left, rest, is) id = absurd (none-some (emptied waits s) rest)
   told_at clients notes notes' slot (Some s) (Some s') here (h, left, rest, is) id =

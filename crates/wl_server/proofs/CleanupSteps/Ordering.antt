@@ -6,11 +6,10 @@ use Rattle.std.specs.Prelude.{◌⊎◌, ◌==◌, if◌then◌else◌, slice_ge
 use Rattle.std.specs.List.Sorted.{IsPermutation}
 use Rattle.std.proofs.lemmas.Bool.{eqb-true, eq-eqb, false≢true, ne_eqb}
 use Rattle.std.proofs.lemmas.List.{length-append, length-map, map-append, nil_from_length}
-use Rattle.std.proofs.lemmas.List.Sorted.{IsPermutation-refl, sum_by-IsPermutation}
+use Rattle.std.proofs.lemmas.List.Sorted.{sum_by-IsPermutation}
 use Rattle.std.proofs.lemmas.List.Sums.{sum_by-append, sum_by-cons}
 use Rattle.std.proofs.lemmas.Option.{same_Some, slice_get-get_or}
 use Rattle.wl_server.specs.declared.notes.Happening.{Happening}
-use Rattle.wl_server.specs.declared.notes.Happening.TheVariants as happened
 use Rattle.wl_server.specs.declared.notes.Note.{Note}
 use Rattle.wl_server.specs.declared.notes.queues.NotePlace.{NotePlace}
 use Rattle.wl_server.specs.Inside.Gathering.{AllLeft, MovesNote}
@@ -59,7 +58,7 @@ drop_next (y ∷ xs) zero x here = ap (λ (z : _). z ∷ xs) (same_Some y x here
 drop_next (y ∷ xs) (suc k) x here = drop_next xs k x here
 
 drop_at : {A : Type 0} (xs : List A) (k : ℕ) (x : A) → slice_get xs k ≡ Some x → drop k xs ≡ x ∷ drop (k + 1) xs
-drop_at xs k x here = grind (arith, drop_next) steps 400000
+drop_at xs k x here = grind (arith, drop_next)
 
 pub drop_past : {A : Type 0} (xs : List A) (k : ℕ) → length xs ≤ k → drop k xs ≡ []
 drop_past [] zero past = refl
@@ -79,7 +78,7 @@ put_made_places slot made ws order order' is =
 pub put_both_places : {U : Type 0} (slot : ℕ) (made waiting : List (ℕ × Happening U)) (order order' order'' : List NotePlace) → order' ≡ order ++ map (place_of false slot) made
     → order'' ≡ order' ++ map (place_of true slot) waiting
     → order'' ≡ order ++ places_of true slot (record { made = map (λ n. n.0) made; waiting = map (λ n. n.0) waiting })
-put_both_places slot made waiting order order' order'' is is' = grind (arith, place_of, append_assoc, places_by_number, place_at) steps 400000
+put_both_places slot made waiting order order' order'' is is' = grind (arith, place_of, append_assoc, places_by_number, place_at)
 
 pub put_no_places : (waits : Bool) (slot : ℕ) (order : List NotePlace) → order ≡ order ++ places_of waits slot no_times
 put_no_places true slot order = sym (append-nil order)
@@ -87,7 +86,7 @@ put_no_places false slot order = sym (append-nil order)
 
 -- how many places a client's notes have does not hang on its slot
 places_length : (waits : Bool) (slot : ℕ) (t : NoteTimes) → length (places_of waits slot t) ≡ length (places_of waits 0 t)
-places_length waits slot t = grind (arith, length-append, place_at, length-map) steps 400000
+places_length waits slot t = grind (arith, length-append, place_at, length-map)
 
 no_places : (waits : Bool) (slot : ℕ) (ts : List NoteTimes) → count_places waits ts ≤ 0 → all_places waits slot ts ≡ []
 no_places waits slot [] few = refl
@@ -124,7 +123,7 @@ module _ {U : Type 0} (slot k : ℕ) where
 
   pub put_made : (made : List (ℕ × Happening U)) (order order' : List NotePlace) → order' ≡ order ++ map (place_of false slot) made
       → places_at k order' ≡ places_at k order + (if slot == k then length (map (λ n. n.1) made ++ []) else 0)
-  put_made made order order' is = grind (arith, put, places_at, append-nil, length-map) steps 400000
+  put_made made order order' is = grind (arith, put, places_at, append-nil, length-map)
 
   pub put_both : (made waiting : List (ℕ × Happening U)) (order order' order'' : List NotePlace) → order' ≡ order ++ map (place_of false slot) made
       → order'' ≡ order' ++ map (place_of true slot) waiting
@@ -133,7 +132,7 @@ module _ {U : Type 0} (slot k : ℕ) where
     where
       at : (b : Bool) → places_at k order' ≡ places_at k order + (if b then length made else 0) → places_at k order'' ≡ places_at k order' + (if b then length waiting else 0)
           → places_at k order'' ≡ places_at k order + (if b then length (map (λ n. n.1) made ++ map (λ n. n.1) waiting) else 0)
-      at b h1 h2 = grind (arith, length-append, length-map) steps 400000
+      at b h1 h2 = grind (arith, length-append, length-map)
 
 -- how many places a slot has among those of a client's notes
 at_place : (waits : Bool) (slot k : ℕ) (b : Bool) → (slot == k) ≡ b → (ns : List ℕ) → places_at k (map (place_at waits slot) ns) ≡ (if b then length ns else 0)
@@ -164,7 +163,7 @@ at_places waits slot k b is t =
 
     both : (v b : Bool) → (slot == k) ≡ b → places_at k (map (place_at false slot) t.made) + places_at k (if v then map (place_at true slot) t.waiting else [])
         ≡ (if b then length (map (place_at false 0) t.made) + length (if v then map (place_at true 0) t.waiting else []) else 0)
-    both v b h1 = grind (arith, at_place, length-map, place_at) steps 400000
+    both v b h1 = grind (arith, at_place, length-map, place_at)
 
 -- all the places of a slot, among those of all clients, are of its client
 past_places : (waits : Bool) (slot k : ℕ) (ts : List NoteTimes) → k < slot → places_at k (all_places waits slot ts) ≡ 0
@@ -176,7 +175,7 @@ past_places waits slot k (t ∷ ts) past =
     omega (arith, both, this, rest)
 
 places_among : (waits : Bool) (slot k n : ℕ) (ts : List NoteTimes) → n ≡ slot + k → places_at n (all_places waits slot ts) ≡ length (places_of waits 0 (times_at k ts))
-places_among waits slot k n [] at = grind (arith, places_of, no_times) steps 400000
+places_among waits slot k n [] at = grind (arith, places_of, no_times)
 places_among waits slot zero n (t ∷ ts) at =
     let both = sum_by-append (λ (p : NotePlace). if p.slot == n then 1 else 0) (places_of waits slot t) (all_places waits (slot + 1) ts) in
     let this = at_places waits slot n true (eq-eqb slot n (omega (arith, at))) t in
@@ -190,7 +189,7 @@ places_among waits slot (suc k) n (t ∷ ts) at =
 
 -- the note of a client has its slot
 slot_told : {U : Type 0} (id : ClientParts) (h : Happening U) → slot_of (note_of id h) ≡ id.slot
-slot_told id h = grind (arith) steps 400000
+slot_told id h = grind (arith)
 
 -- ---- the places of all clients
 
@@ -198,7 +197,7 @@ pub split : (a b : ℕ) → (a < b) ⊎ (b ≤ a)
 split zero zero = inr (omega arith)
 split zero (suc b) = inl (omega arith)
 split (suc a) zero = inr (omega arith)
-split (suc a) (suc b) = grind (arith, split a b) steps 400000
+split (suc a) (suc b) = grind (arith, split a b)
 
 module _ {T U C : Type 0} (waits : Bool) where
   -- each slot below this one has as many places as its client has notes, and the others have none
@@ -220,15 +219,15 @@ module _ {T U C : Type 0} (waits : Bool) where
   pub placed_more : (clients : List (Option (Stored T U C))) (slot : ℕ) (x : Option (Stored T U C)) (order order' : List NotePlace) → slice_get clients slot ≡ Some x
       → Placed clients slot order → ((k : ℕ) → places_at k order' ≡ places_at k order + (if slot == k then length (to_gather waits x) else 0))
       → Placed clients (slot + 1) order'
-  placed_more clients slot x order order' here placed put = grind (arith, places_at, to_gather, stored_at, eqb-true, stored_is, other_of) steps 400000
+  placed_more clients slot x order order' here placed put = grind (arith, places_at, to_gather, stored_at, eqb-true, stored_is, other_of)
 
   pub placed_all : (clients : List (Option (Stored T U C))) (slot : ℕ) (order : List NotePlace) → length clients ≤ slot → Placed clients slot order → (k : ℕ)
       → places_at k order ≡ length (to_gather waits (stored_at k clients))
-  placed_all clients slot order ends placed k = grind (arith, split, places_at, to_gather, stored_at, none_stored) steps 400000
+  placed_all clients slot order ends placed k = grind (arith, split, places_at, to_gather, stored_at, none_stored)
 
   -- where there is no note, there is no place
   pub none_placed : (clients : List (Option (Stored T U C))) → AllLeft waits clients → (k : ℕ) → places_at k [] ≡ length (to_gather waits (stored_at k clients))
-  none_placed clients none k = grind (arith, slice_get, to_gather) steps 400000
+  none_placed clients none k = grind (arith, slice_get, to_gather)
 
   -- ---- places that are left
 
@@ -305,17 +304,17 @@ module _ {T U C : Type 0} (waits : Bool) where
       at true same =
           subst (λ (n : ℕ). AreNumbered waits (stored_at n (slice_set clients i x'))) (eqb-true i k same)
           (subst (λ (o : Option (Stored T U C)). AreNumbered waits o) (sym (stored_is (slice_set clients i x') i x' (get_set_same clients i x x' here))) new)
-      at false other = grind (arith, get_set_other, other_of) steps 400000
+      at false other = grind (arith, get_set_other, other_of)
 
   pub none_numbered : (clients : List (Option (Stored T U C))) (order : List NotePlace) → order ≡ [] → Left clients order → ((k : ℕ) → AreNumbered waits (stored_at k clients))
       → NoneNumbered waits (map times_of clients)
-  none_numbered clients order none left numbered k = grind (arith, places_at, places_of, times_stored, nil_from_length, times_at, times_of) steps 400000
+  none_numbered clients order none left numbered k = grind (arith, places_at, places_of, times_stored, nil_from_length, times_at, times_of)
 
   -- ---- the slots of the notes
 
   pub slots_after : (notes notes' : List (Note U)) (slot : ℕ) (x x' : Option (Stored T U C)) → MovesNote waits slot x notes x' notes'
       → (one : List (Note U)) × (notes' ≡ notes ++ one) × (map slot_of one ≡ slot ∷ [])
-  slots_after notes notes' slot x x' h1 = grind (arith, to_gather, note_of, slot_told) steps 400000
+  slots_after notes notes' slot x x' h1 = grind (arith, to_gather, note_of, slot_told)
 
   -- ---- a round of the loop that gathers
 
@@ -343,7 +342,7 @@ module _ {T U C : Type 0} (waits : Bool) where
   -- there is no place where there is no note
   pub none_order : (clients : List (Option (Stored T U C))) (order : List NotePlace) → order ≡ [] → AllLeft waits clients → count_places waits (map times_of clients) ≤ 0
       → IsOrderOf waits clients order
-  none_order clients order none left few = grind (arith, none_placed, no_places, times_of) steps 400000
+  none_order clients order none left few = grind (arith, none_placed, no_places, times_of)
 
   -- ---- the places, client by client
 
@@ -355,12 +354,12 @@ module _ {T U C : Type 0} (waits : Bool) where
   pub placed_so_far : (clients : List (Option (Stored T U C))) (k : ℕ) (x : Option (Stored T U C)) (order order' : List NotePlace) → slice_get clients k ≡ Some x
       → order ++ all_places waits k (map times_of (drop k clients)) ≡ all_places waits 0 (map times_of clients) → order' ≡ order ++ places_of waits k (times_of x)
       → order' ++ all_places waits (k + 1) (map times_of (drop (k + 1) clients)) ≡ all_places waits 0 (map times_of clients)
-  placed_so_far clients k x order order' here before is = grind (arith, all_places, times_of, append_assoc, places_of, drop_at) steps 400000
+  placed_so_far clients k x order order' here before is = grind (arith, all_places, times_of, append_assoc, places_of, drop_at)
 
   pub placed_whole : (clients : List (Option (Stored T U C))) (k : ℕ) (order order' : List NotePlace) → length clients ≤ k
       → order ++ all_places waits k (map times_of (drop k clients)) ≡ all_places waits 0 (map times_of clients) → IsPermutation order order'
       → IsPermutation (all_places waits 0 (map times_of clients)) order'
-  placed_whole clients k order order' past before moved = grind (arith, append-nil, all_places, times_of, drop_past) steps 400000
+  placed_whole clients k order order' past before moved = grind (arith, append-nil, all_places, times_of, drop_past)
 
 pub along_more : {U : Type 0} (start now now' : List (Note U)) (order : List NotePlace) (i n : ℕ) (d : NotePlace) → i < length order → n ≡ (get_or order i d).slot
     → Along start now (take i order) → (one : List (Note U)) × (now' ≡ now ++ one) × (map slot_of one ≡ n ∷ []) → Along start now' (take (i + 1) order)

@@ -1,9 +1,9 @@
 -- Killed clients leave, slot by slot.
-use Rattle.std.proofs.Common.{◌≡◌, ◌≢◌, ℕ, zero, suc, ◌+◌, ◌<◌, ◌≤◌, Bool, true, false, List, [], ◌∷◌, ◌++◌, length, map, min, drop, Option, None, Some, is_some, Result, refl, sym, ap, subst, ◌∙◌, arith, append_assoc, append-nil}
+use Rattle.std.proofs.Common.{◌≡◌, ℕ, zero, suc, ◌+◌, ◌<◌, ◌≤◌, Bool, true, false, List, [], ◌∷◌, ◌++◌, length, map, min, drop, Option, None, Some, is_some, Result, refl, sym, ap, subst, ◌∙◌, arith, append_assoc, append-nil}
 use mathlib.Core.Bool.{beq}
 use Rattle.std.specs.FinMap.{entries}
 use Rattle.std.specs.Prelude.{MatchBool, ◌==◌, if◌then◌else◌, slice_get, slice_set}
-use Rattle.std.proofs.lemmas.Bool.{eqb-true, false≢true}
+use Rattle.std.proofs.lemmas.Bool.{false≢true}
 use Rattle.std.proofs.lemmas.List.{drop_all, length-append, length-map}
 use Rattle.std.proofs.lemmas.Option.{same_Some, none-some, slice_get_within}
 use Rattle.wl_wire.specs.declared.error.IoFault.{IoFault}
@@ -12,14 +12,12 @@ use Rattle.wl_link.specs.Exchange.{Queue}
 use Rattle.wl_link.specs.Puts.{lacks_memory}
 use Rattle.wl_server.specs.declared.objects.Kept.{Kept}
 use Rattle.wl_server.specs.declared.notes.Happening.{Happening}
-use Rattle.wl_server.specs.declared.notes.Happening.TheVariants as happened
 use Rattle.wl_server.specs.declared.notes.Note.{Note}
 use Rattle.wl_server.specs.Inside.Client.{Does}
 use Rattle.wl_server.specs.Felt.{FlushedTo}
 use Rattle.wl_server.specs.Ids.{ClientParts}
 use Rattle.wl_server.specs.Inside.Leaving.{Flushes, FlushesKilled, all_staying, collected, with_data, ends_at, ends_of, given_at, id_in, staying}
 use Rattle.wl_server.specs.NoteOrder.{RiseFromSlot, slot_of}
-use Rattle.wl_server.specs.Part.{end_note, id_at}
 use Rattle.wl_server.specs.Server.{Stored, no_times, note_of}
 use Rattle.wl_server.proofs.Readings.Flushing.{killed_stays, live_flushed}
 use Rattle.wl_server.proofs.CleanupSteps.Gathering.{map_set}
@@ -46,15 +44,15 @@ not_false true other = refl
 not_false false other = absurd (other refl)
 
 pub same_killed : (a b : Bool) → beq a b ≡ true → a ≡ b
-same_killed a b h1 = grind (arith) steps 400000
+same_killed a b h1 = grind (arith)
 
 pub other_killed : (a b : Bool) → beq a b ≡ false → a ≡ b → ⊥
-other_killed a b h1 h2 = grind (arith) steps 400000
+other_killed a b h1 h2 = grind (arith)
 
 module _ {U : Type 0} where
   pub ending_length : (client : ClientParts) (objects : List (ℕ × Object (Kept U))) → length (ends_of client objects) ≡ length (with_data objects)
   ending_length client [] = refl
-  ending_length client (e ∷ objects) = grind (arith, ends_of, with_data, is_some, ending_length client objects) steps 400000
+  ending_length client (e ∷ objects) = grind (arith, ends_of, with_data, is_some, ending_length client objects)
 
 module _ {T U C : Type 0} where
   -- ---- what waits for a killed client
@@ -98,7 +96,7 @@ module _ {T U C : Type 0} where
   -- ---- slot by slot
 
   staying_stays : (x : Option (Stored T U C)) → staying (staying x) ≡ staying x
-  staying_stays x = grind (arith, staying) steps 400000
+  staying_stays x = grind (arith, staying)
 
   collected_rest : {A : Type 0} (give : ℕ → Option (Stored T U C) → List A) (n k : ℕ) (clients : List (Option (Stored T U C))) (x : Option (Stored T U C)) → slice_get clients k ≡ Some x
       → collected give n (drop k clients) ≡ give n x ++ collected give (n + 1) (drop (suc k) clients)
@@ -108,7 +106,7 @@ module _ {T U C : Type 0} where
 
   pub collected_drop : {A : Type 0} (give : ℕ → Option (Stored T U C) → List A) (n k : ℕ) (clients : List (Option (Stored T U C))) (x : Option (Stored T U C)) → slice_get clients k ≡ Some x
       → collected give n (drop k clients) ≡ give n x ++ collected give (n + 1) (drop (k + 1) clients)
-  collected_drop give n k clients x here = grind (arith, collected, collected_rest) steps 400000
+  collected_drop give n k clients x here = grind (arith, collected, collected_rest)
 
   pub part_length : {A : Type 0} (give : ℕ → Option (Stored T U C) → List A) (n slot k : ℕ) (clients : List (Option (Stored T U C))) (x : Option (Stored T U C)) → slot ≡ n + k
       → slice_get clients k ≡ Some x → length (give slot x) ≤ length (collected give n clients)
@@ -152,7 +150,7 @@ module _ {T U C : Type 0} where
       there = sym (before.rest slot (omega arith)) ∙ here
 
       at : (k : ℕ) (y : Option (Stored T U C)) (b : Bool) → (k == slot) ≡ b → k < slot + 1 → slice_get (slice_set now slot x') k ≡ Some y → staying y ≡ y
-      at k y b h1 h2 h3 = grind (arith, same_Some, get_set_same, slice_get, slice_set, staying, staying_stays, other_of, get_set_other) steps 400000
+      at k y b h1 h2 h3 = grind (arith, same_Some, get_set_same, slice_get, slice_set, staying, staying_stays, other_of, get_set_other)
 
   -- there is room for what the next one leaves
   pub leave_room : {A : Type 0} (give : ℕ → Option (Stored T U C) → List A) (slot : ℕ) (start : List (Option (Stored T U C))) (has has' : List A) (x : Option (Stored T U C)) (n n' room room' : ℕ)
@@ -205,7 +203,7 @@ module _ {T U C : Type 0} where
 -- ---- the notes of ends are in the order of the slots
 
 slot_noted : {U : Type 0} (id : ClientParts) (h : Happening U) → slot_of (note_of id h) ≡ id.slot
-slot_noted id h = grind (arith) steps 400000
+slot_noted id h = grind (arith)
 
 from_lower : {U : Type 0} (low slot : ℕ) (ns : List (Note U)) → low ≤ slot → RiseFromSlot slot ns → RiseFromSlot low ns
 from_lower low slot [] less rise = tt
@@ -214,7 +212,7 @@ from_lower low slot (n ∷ ns) less (first, rest) = (omega (arith, less, first),
 noted_rise : {U : Type 0} (slot : ℕ) (id : ClientParts) (hs : List (Happening U)) (rest : List (Note U)) → id.slot ≡ slot → RiseFromSlot slot rest
     → RiseFromSlot slot (map (note_of id) hs ++ rest)
 noted_rise slot id [] rest is rise = rise
-noted_rise slot id (h ∷ hs) rest is rise = grind (arith, slot_noted, note_of, noted_rise slot id hs rest is rise) steps 400000
+noted_rise slot id (h ∷ hs) rest is rise = grind (arith, slot_noted, note_of, noted_rise slot id hs rest is rise)
 
 pub ends_rise : {T U C : Type 0} (low slot : ℕ) (clients : List (Option (Stored T U C))) → low ≤ slot → RiseFromSlot low (collected ends_at slot clients)
 ends_rise low slot [] less = tt

@@ -1,26 +1,22 @@
 -- The room that a cleanup made is enough, also once the killed clients were flushed and all notes gathered.
 use Rattle.std.proofs.Common.{◌≡◌, ℕ, suc, ◌+◌, Bool, true, false, List, [], ◌∷◌, ◌++◌, length, Option, None, Some, is_some, Result, refl, sym, ap, subst, ◌∙◌, arith, append-nil}
-use mathlib.Core.Logic.{inl, inr}
 use Rattle.std.specs.Option.{option_map, option_map_or}
-use Rattle.std.specs.Prelude.{◌⊎◌, ◌<◌, ◌≤◌, IsPermutation, MatchBool, map, if◌then◌else◌, slice_get}
-use Rattle.std.proofs.lemmas.Bool.{false≢true}
+use Rattle.std.specs.Prelude.{MatchBool, map, if◌then◌else◌, slice_get}
 use Rattle.std.proofs.lemmas.List.{length-append}
-use Rattle.std.proofs.lemmas.Option.{same_Some, slice_get_within}
+use Rattle.std.proofs.lemmas.Option.{slice_get_within}
 use Rattle.wl_wire.specs.declared.error.IoFault.{IoFault}
 use Rattle.wl_link.specs.Exchange.{Queue}
-use Rattle.wl_server.specs.declared.notes.Happening.{Happening}
 use Rattle.wl_server.specs.declared.notes.Note.{Note}
 use Rattle.wl_server.specs.Deeds.{Deed, notes_in}
 use Rattle.wl_server.specs.Felt.{FlushedTo}
 use Rattle.wl_server.specs.Inside.Gathering.{Gathers, all_emptied, count_leaving, emptied}
-use Rattle.wl_server.specs.NoteOrder.{IsOrderOf, all_places, times_of, to_gather}
+use Rattle.wl_server.specs.NoteOrder.{IsOrderOf, times_of, to_gather}
 use Rattle.wl_server.specs.Ids.{ClientParts}
 use Rattle.wl_server.specs.Inside.Leaving.{FlushesKilled, collected, ends_at, given_at}
 use Rattle.wl_server.specs.Part.{Part, with_link}
 use Rattle.wl_server.specs.Inside.Places.{AllFeel, FeltAt, PlaceFeels}
-use Rattle.wl_server.specs.Server.{NoteTimes, Stored, no_times, stored_at}
+use Rattle.wl_server.specs.Server.{Stored, no_times, stored_at}
 use Rattle.wl_server.specs.declared.notes.queues.NotePlace.{NotePlace}
-use Rattle.wl_server.proofs.CleanupSteps.Ordering.{split}
 use Rattle.wl_server.proofs.Readings.Notes.{notes_of_sends}
 
 given_length : {T : Type 0} (i : ClientParts) (t t' : T) (b : Bool)
@@ -59,7 +55,7 @@ module _ {T U C : Type 0} where
   same_flushed sends slot s q lacked did flushes = at s.part.is_killed flushes
     where
       as_new : (notes_in did ≡ []) → q ≡ with_link s.part q.link → SamePlace slot (Some s) (Some (record { serial = s.serial; part = q; made = s.made ++ notes_in did; times = no_times }))
-      as_new quiet is = grind (arith, no_times, append-nil, given_length) steps 400000
+      as_new quiet is = grind (arith, no_times, append-nil, given_length)
 
       at : (b : Bool) → MatchBool b ((answer : Result (Unit {0}) IoFault) × FlushedTo sends s.part answer lacked did q) ((lacked ≡ false) × (did ≡ []) × (q ≡ s.part))
           → SamePlace slot (Some s) (Some (record { serial = s.serial; part = q; made = s.made ++ notes_in did; times = no_times }))
@@ -80,7 +76,7 @@ module _ {T U C : Type 0} where
     where
       felt : (k : ℕ) (x y : Option (Stored T U C)) (o o' : Option (Option (Stored T U C))) → o ≡ Some x → o' ≡ Some y
           → FeltAt (λ id p lacked did q. FlushesKilled sends p lacked did q) k o (all.lacks k) o' → SamePlace k x y
-      felt k x y o o' h1 h2 h3 = grind (arith, is_some, same_place) steps 400000
+      felt k x y o o' h1 h2 h3 = grind (arith, is_some, same_place)
 
       place : (slot k : ℕ) (x y : Option (Stored T U C)) → slot ≡ 0 + k → slice_get start k ≡ Some x → slice_get now k ≡ Some y → SamePlace slot x y
       place slot k x y at is is' =
@@ -92,13 +88,13 @@ module _ {T U C : Type 0} where
   felt_leaves : (sends : T → Queue → Result ℕ IoFault → T → Type 0) (k : ℕ) (lacked : Bool) (o o' : Option (Option (Stored T U C)))
       → FeltAt (λ id p lacked did q. FlushesKilled sends p lacked did q) k o lacked o'
       → length (to_gather true (option_map_or (λ s. s) o' None)) ≡ length (to_gather true (option_map_or (λ s. s) o None))
-  felt_leaves sends k lacked o o' h1 = grind (arith, option_map_or, same_place) steps 400000
+  felt_leaves sends k lacked o o' h1 = grind (arith, option_map_or, same_place)
 
   -- the places that were taken down before the flush are still those of the notes
   pub flushed_order : (sends : T → Queue → Result ℕ IoFault → T → Type 0) (refused : Bool) (start now : List (Option (Stored T U C))) (order : List NotePlace)
       → AllFeel (λ id p lacked did q. FlushesKilled sends p lacked did q) refused (length start) start now → map times_of now ≡ map times_of start
       → IsOrderOf true start order → IsOrderOf true now order
-  flushed_order sends refused start now order all times is = grind (arith, stored_at, felt_leaves, slice_get, option_map_or) steps 400000
+  flushed_order sends refused start now order all times is = grind (arith, stored_at, felt_leaves, slice_get, option_map_or)
 
   -- ---- gathered notes
 

@@ -2,8 +2,6 @@
 use Rattle.std.proofs.Common.{◌≡◌, ◌∙◌, ℕ, zero, suc, ◌+◌, ◌≤◌, Bool, true, false, List, [], ◌∷◌, length, Option, None, Some, Result, Ok, Err, IfOk, OnErr, is_some, IsSome, refl, sym, ap, subst, arith, below_more}
 use Rattle.std.specs.Option.{option_map_or}
 use Rattle.std.specs.Prelude.{slice_get, slice_set}
-use Rattle.std.proofs.lemmas.Bool.{false≢true}
-use Rattle.std.proofs.lemmas.Option.{slice_get_within}
 use Rattle.wl_wire.specs.declared.error.OutOfMemory.{OutOfMemory}
 use Rattle.wl_server.specs.declared.notes.Note.{Note}
 use Rattle.wl_server.specs.Inside.Gathering.{Gathers, all_emptied}
@@ -49,18 +47,18 @@ module _ {T U C : Type 0} where
   pub taken_put : (slot : ℕ) (clients clients' : List (Option (Stored T U C))) (s : Stored T U C) → IsLeastFree clients slot → IsPut clients slot s clients'
       → AreTaken (slot + 1) clients'
   unfolding AreTaken
-  taken_put slot clients clients' s free (here, others) = grind (arith, below_more, is_some) steps 400000
+  taken_put slot clients clients' s free (here, others) = grind (arith, below_more, is_some)
 
   -- ---- where each client feels something
 
   felt_at : (R : Kind T U C) (slot : ℕ) (lacked : Bool) (before after : Option (Option (Stored T U C)))
       → FeltAt R slot before lacked after → is_some (option_map_or (λ s. s) before None) ≡ true → is_some (option_map_or (λ s. s) after None) ≡ true
-  felt_at R slot lacked before after h1 h2 = grind (arith) steps 400000
+  felt_at R slot lacked before after h1 h2 = grind (arith)
 
   pub taken_felt : (R : Kind T U C) (n : ℕ) (refused : Bool) (before after : List (Option (Stored T U C)))
       → AllFeel R refused (length before) before after → AreTaken n before → AreTaken n after
   unfolding AreTaken
-  taken_felt R n refused before after all taken k below = grind (arith, is_some, felt_at) steps 400000
+  taken_felt R n refused before after all taken k below = grind (arith, is_some, felt_at)
 
   pub slots_felt : (R : Kind T U C) (count n : ℕ) (refused : Bool) (before after : List (Option (Stored T U C)))
       → AllFeel R refused (length before) before after → HasSlots count n before → HasSlots count n after

@@ -3,7 +3,7 @@ use Rattle.std.proofs.Common.{◌≡◌, ◌≢◌, ℕ, ◌<◌, Bool, true, fa
 use mathlib.Core.Logic.{inl, inr}
 use Rattle.std.specs.Global.{Global}
 use Rattle.std.specs.Option.{option_map, option_map_or}
-use Rattle.std.specs.Prelude.{◌⊎◌, if◌then◌else◌, ◌==◌, slice_get}
+use Rattle.std.specs.Prelude.{◌⊎◌, slice_get}
 use Rattle.std.proofs.lemmas.Bool.{false≢true}
 use Rattle.std.proofs.lemmas.Option.{slice_get-map}
 use Rattle.wl_wire.specs.declared.error.OutOfMemory.{OutOfMemory}
@@ -29,7 +29,7 @@ module _ {T U C : Type 0} where
   -- ---- what is left of each client
 
   emptied_if : (waits : Bool) (serial : ℕ) (x : Option (Stored T U C)) → if_serial serial (option_map (emptied waits) x) ≡ option_map (emptied waits) (if_serial serial x)
-  emptied_if waits serial x = grind (arith, emptied) steps 400000
+  emptied_if waits serial x = grind (arith, emptied)
 
   emptied_at : (waits : Bool) (serial : ℕ) (x : Option (Option (Stored T U C)))
       → if_serial serial (option_map_or (λ s. s) (option_map (option_map (emptied waits)) x) None) ≡ option_map (emptied waits) (if_serial serial (option_map_or (λ s. s) x None))
@@ -47,7 +47,7 @@ module _ {T U C : Type 0} where
   same_left waits clients notes clients' notes' by id = sym (client_emptied waits clients' id) ∙ (ap (client_at id) by.rest ∙ client_emptied waits clients id)
 
   pub none_left : (waits : Bool) (clients : List (Option (Stored T U C))) → AllLeft waits clients → (id : ClientParts) → to_gather waits (client_at id clients) ≡ []
-  none_left waits clients all id = grind (arith, to_gather, if_serial) steps 400000
+  none_left waits clients all id = grind (arith, to_gather, if_serial)
 
   -- ---- the notes that were made
 
@@ -70,7 +70,7 @@ module _ {T U C : Type 0} where
       none = none_left false clients' left id
 
       told : notes_of id out.items ≡ notes_of id notes ++ option_map_or (λ s. s.made) (client_at id clients) []
-      told = grind (arith, append-nil, notes_of, none, made_of, client_at) steps 400000
+      told = grind (arith, append-nil, notes_of, none, made_of, client_at)
 
       parts : option_map (λ s. s.part) (client_at id clients') ≡ option_map (λ s. s.part) (client_at id clients)
       parts = sym (part_of_left (client_at id clients'))

@@ -32,7 +32,7 @@ use Rattle.wl_server.specs.Reading.{Around, NextAction, action_content, new_read
 use Rattle.wl_server.specs.Runs.{Leads}
 use Rattle.wl_server.specs.Server.{Seen, ServerState, seen}
 use Rattle.wl_server.specs.Steps.{Entry, OneStep}
-use Rattle.wl_server.specs.Telling.{Core, Told, reader_part}
+use Rattle.wl_server.specs.Telling.{Core, Told}
 use Rattle.wl_server.proofs.Dispatches.Waiting.{spared_unread, stops_left, unread_goes, unread_moves}
 use Rattle.wl_server.proofs.OverRuns.Alone.IsolationLaw.{same_self}
 use Rattle.wl_server.proofs.OverRuns.Cut.RoomLaws.{no_more, none_sent, received, received_deeds}
@@ -67,7 +67,7 @@ module _ {T U C : Type 0} (sends : T → Queue → Result ℕ IoFault → T → 
   moves_quiet p q d (cleaned on is same) = came_of d _ is refl
 
   goes_quiet : (s t : Seen T U C) (d : Doings U) → Goes unread_moves sends receives client s d t → d.came ≡ []
-  goes_quiet s t d h1 = grind (arith, unfelt, came_of, within, moves_quiet, taken_out, notes_taken) steps 400000
+  goes_quiet s t d h1 = grind (arith, unfelt, came_of, within, moves_quiet, taken_out, notes_taken)
 
 pub call_quiet : {T U G C : Type 0} (w : World T G C) (id : ClientParts) (offer : Offer G) (before after : Seen T U C) (lacked : Bool) (did : List (Deed U)) (call : Call T U G C)
     → reads_of id call ≡ false → PartCall w id offer call before lacked did after → came_in did ≡ []
@@ -102,11 +102,11 @@ module _ {T U G C : Type 0} (sends : T → Queue → Result ℕ IoFault → T �
       let left_is : out.left ≡ rest.left = ap (λ (o : Gives (Told U)). o.left) split in omega (arith, few, heard, left_is)
 
   none_left : (did : List (Deed U)) (r r' : Reading) → did ≡ [] → r' ≡ r → receives_in did + r'.turns_left ≤ r.turns_left
-  none_left did r r' none' same = grind (arith, receives_in) steps 400000
+  none_left did r r' none' same = grind (arith, receives_in)
 
   part_bounded : (r : Reading) (p : Part T U C) (answer : Result Handed ActionError) (r' : Reading) (lacked : Bool) (did : List (Deed U)) (q : Part T U C)
       → NextAction sends receives a r p answer r' lacked did q → receives_in did + r'.turns_left ≤ r.turns_left
-  part_bounded r p answer r' lacked did q h = grind (arith, either_option, none_left, either_bool, turns_bounded, receives_in, received, received_deeds) steps 400000
+  part_bounded r p answer r' lacked did q h = grind (arith, either_option, none_left, either_bool, turns_bounded, receives_in, received, received_deeds)
 
 -- ---- a call
 
@@ -119,7 +119,7 @@ module _ {T U G C : Type 0} (w : World T G C) (id : ClientParts) (offer : Offer 
       go : (b : Bool) → OfClient b before (λ p q. NextAction w.sends w.receives (around w id offer) r p answer r' lacked did q)
           ((answer ≡ Err (Io fault.InvalidInput)) × (r' ≡ r)) lacked did after
           → MatchBool b (receives_in did + r'.turns_left ≤ r.turns_left) (receives_in did ≡ 0)
-      go b h1 = grind (arith, receives_in, either_option, none_left, around, part_bounded) steps 400000
+      go b h1 = grind (arith, receives_in, either_option, none_left, around, part_bounded)
 
   of_reply : (target : ClientParts) (reading r' : Reading) (r : Result Action ActionError) (answer : Reply T U) → answer ≡ reply.NextActionWithin r r'
       → MatchBool (same_client target id) (receives_in did + r'.turns_left ≤ reading.turns_left) (receives_in did ≡ 0)

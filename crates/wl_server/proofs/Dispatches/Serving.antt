@@ -24,7 +24,7 @@ use Rattle.wl_server.specs.Reached.{Reached}
 use Rattle.wl_server.specs.Reading.{new_reading}
 use Rattle.wl_server.specs.Runs.{Leads}
 use Rattle.wl_server.specs.Server.{ServerState, new_server}
-use Rattle.wl_server.specs.Steps.{Entry, OneStep}
+use Rattle.wl_server.specs.Steps.{Entry}
 use Rattle.wl_server.proofs.Dispatches.Waiting.{round_fewer}
 use Rattle.wl_server.proofs.OverRuns.Alone.AccountLaws.{is_accounted_for}
 use Rattle.wl_server.proofs.OverRuns.Alone.IsolationLaw.{join_runs}
@@ -151,7 +151,7 @@ module _ {H T U G C : Type 0} (w : World T G C) (answers : Answering H T U G C) 
 
   rounds_join : (h h1 h' : H) (r r1 r' : Reading) (s s1 s' : ServerState T U G C) (first next : List (Entry T U G C)) (before now : Bool)
       → Rounds w answers id h r s first before h1 r1 s1 → Rounds w answers id h1 r1 s1 next now h' r' s' → Rounds w answers id h r s (first ++ next) (before || now) h' r' s'
-  rounds_join h h1 h' r r1 r' s s1 s' first next before now one (none no_run unlacked) = grind (arith, append-nil, or_false) steps 400000
+  rounds_join h h1 h' r r1 r' s s1 s' first next before now one (none no_run unlacked) = grind (arith, append-nil, or_false)
   rounds_join h h1 h' r r1 r' s s1 s' first next before now one (more {first = earlier} {next = last} {before = b} {now = c} others round run_is lacked_is) =
       more (rounds_join h h1 _ r r1 _ s s1 _ first earlier before b one others) round (ap (λ (x : List (Entry T U G C)). first ++ x) run_is ∙ sym (append_assoc first earlier last))
       (ap (λ (x : Bool). before || x) lacked_is ∙ sym (or_assoc before b c))
@@ -302,7 +302,7 @@ module _ {T U G C : Type 0} (w : World T G C) where
   pub cleans_up : (before left after : BackendState T U G C) (r : Result (Vec (ClientParts × T) Global) OutOfMemory) (answer result : Result ℕ IoFault) (was : Bool)
       → was ≡ before.refused → Calls w before step.Cleanup (reply.Cleanup r) left → after ≡ record left { refused = was || left.refused } → result ≡ after_cleanup r answer
       → CleansUp w before answer result after
-  cleans_up before left after r answer result was was_is calls kept is = grind (arith) steps 400000
+  cleans_up before left after r answer result was was_is calls kept is = grind (arith)
 
   ends_dispatch : {mid after : BackendState T U G C} {answer result : Result ℕ IoFault} (before : ServerState T U G C) (calls : List (Entry T U G C)) (lacked : Bool)
       → Leads w before calls mid.server → mid.refused ≡ lacked → CleansUp w mid answer result after → EndsDispatch w before calls lacked mid.server answer result after
@@ -364,7 +364,7 @@ module _ {H T U G C : Type 0} (w : World T G C) (answers : Answering H T U G C) 
 
   pub each_begun : (h : H) (before begun : BackendState T U G C) → begun ≡ record before { refused = false }
       → ClientsSoFar w answers [] h (record before { refused = false }) 0 h begun
-  each_begun h before begun is = grind (arith, each_none) steps 400000
+  each_begun h before begun is = grind (arith, each_none)
 
   -- the next of the clients
   pub one_more : {h h1 h' : H} {before mid after : BackendState T U G C} {count total : ℕ} {answer : Result ℕ IoFault} (ids : List ClientParts) (n : ℕ) (id : ClientParts)

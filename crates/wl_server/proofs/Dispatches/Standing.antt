@@ -4,17 +4,16 @@ use Rattle.std.proofs.Common.{◌≡◌, ◌⊎◌, ℕ, ◌≤◌, Bool, true, 
 use mathlib.Core.Logic.{inl, inr}
 use Rattle.wl_wire.specs.declared.error.IoFault.{IoFault}
 use Rattle.wl_link.specs.Exchange.{Queue}
-use Rattle.wl_server.specs.declared.runs.step.Step.TheVariants as step
 use Rattle.wl_server.specs.Deeds.{Deed}
 use Rattle.wl_server.specs.Globals.{Offer}
-use Rattle.wl_server.specs.Ids.{ClientParts, same_client}
+use Rattle.wl_server.specs.Ids.{ClientParts}
 use Rattle.wl_server.specs.Part.{Part}
-use Rattle.wl_server.specs.PartStep.{Asked, Call, PartCall, World}
+use Rattle.wl_server.specs.PartStep.{Call, PartCall, World}
 use Rattle.wl_server.specs.Reached.{AllSpare, spares}
 use Rattle.wl_server.specs.Runs.{IsNotInserted, Leads, concerns}
 use Rattle.wl_server.specs.Server.{Seen, ServerState, seen}
 use Rattle.wl_server.specs.Steps.{Entry}
-use Rattle.wl_server.proofs.Dispatches.Waiting.{not_true, spared_unread}
+use Rattle.wl_server.proofs.Dispatches.Waiting.{spared_unread}
 use Rattle.wl_server.proofs.OverRuns.Alone.IsolationLaw.{not_again, other_call}
 use Rattle.wl_server.proofs.OverRuns.Moves.BaseMoves.{Doings, Goes, Kind, Moves, born as born_one, cleaned, ended, finished, flushed, followed, found as found_one, found_none, handed_out, notes_taken, opens, received, relinked, remembered, stayed, taken_out, told, unfelt, went, within, wrote}
 use Rattle.wl_server.proofs.OverRuns.Moves.BaseMovesLaw.{call_moves, finishes_of}
@@ -25,7 +24,7 @@ abbrev standing : Kind
 standing = record { gathers = true; hands = true; reads = false; finishes = false; kills = λ reason. Unit {0}; closes = tt }
 
 pub spared_unended : {T U G C : Type 0} (id : ClientParts) (call : Call T U G C) → spares id call ≡ true → finishes_of id call ≡ false
-spared_unended id call h1 = grind (arith) steps 400000
+spared_unended id call h1 = grind (arith)
 
 module _ {T U C : Type 0} where
   -- it is not stored, or an action of it is open

@@ -3,7 +3,6 @@
 use Rattle.std.proofs.Common.{◌≡◌, ◌⊎◌, ℕ, suc, ◌<◌, ◌≤◌, Bool, true, false, List, [], ◌∷◌, ◌++◌, length, Option, None, Some, Result, Ok, Err, MatchBool, refl, sym, ap, subst, ◌∙◌, true≢false, arith}
 use Rattle.std.specs.Option.{option_map_or}
 use Rattle.std.specs.Prelude.{◌||◌, MatchResult, not}
-use Rattle.std.proofs.lemmas.Bool.{cases_lt}
 use Rattle.std.proofs.lemmas.List.{length-drop}
 use mathlib.Core.Logic.{inl, inr}
 use Rattle.wl_wire.specs.declared.error.IoFault.{IoFault}
@@ -107,10 +106,10 @@ module _ {T U C : Type 0} where
 
   goes_no_more : (sends : T → Queue → Result ℕ IoFault → T → Type 0) (receives : T → ℕ → Result Queue IoFault → T → Type 0) (client : ClientParts) (before after : Seen T U C) (d : Doings U)
       → Goes unread_moves sends receives client before d after → waits after ≤ waits before
-  goes_no_more sends receives client before after d h1 = grind (arith, unfelt, within, moves_keep, taken_out, notes_taken) steps 400000
+  goes_no_more sends receives client before after d h1 = grind (arith, unfelt, within, moves_keep, taken_out, notes_taken)
 
 pub spared_unread : {T U G C : Type 0} (id : ClientParts) (call : Call T U G C) → spares id call ≡ true → reads_of id call ≡ false
-spared_unread id call h1 = grind (arith, not_true) steps 400000
+spared_unread id call h1 = grind (arith, not_true)
 
 module _ {T U G C : Type 0} (w : World T G C) (id : ClientParts) (offer : Offer G) (before after : Seen T U C) (lacked : Bool) (did : List (Deed U)) where
   pub unread_goes : (call : Call T U G C) → reads_of id call ≡ false → PartCall w id offer call before lacked did after → AnyGoes unread_moves w id offer before did after
@@ -120,7 +119,7 @@ module _ {T U G C : Type 0} (w : World T G C) (id : ClientParts) (offer : Offer 
 
   -- a call that is no reading of the client adds nothing to what waits of it
   pub adds_nothing : (call : Call T U G C) → reads_of id call ≡ false → PartCall w id offer call before lacked did after → waits after ≤ waits before
-  adds_nothing call other h = grind (arith, unread_goes, goes_no_more) steps 400000
+  adds_nothing call other h = grind (arith, unread_goes, goes_no_more)
 
 module _ {T U G C : Type 0} (w : World T G C) (id : ClientParts) where
   one_adds_nothing : (before after : ServerState T U G C) (e : Entry T U G C) → reads_of id e.call ≡ false → OneStep w before e after
@@ -155,7 +154,7 @@ module _ {T Core Event Finish : Type 0} (sends : T → Queue → Result ℕ IoFa
   carried_length v link mid es first lacked carried = ap (λ (q : Queue). length q.bytes) (carries_stays sends reader v link mid es first lacked carried).incoming
 
   pub stops_left : (left : ℕ) (p : ReaderState T Core) (out : Gives Event) → StopsReading sends reader left p out → out.left ≤ left
-  stops_left left p out h = grind (arith) steps 400000
+  stops_left left p out h = grind (arith)
 
   -- no receive was made, and nothing more waits; or there are fewer receives left
   abbrev NotMore : ℕ → ReaderState T Core → Gives Event → ReaderState T Core → Type 0
@@ -186,7 +185,7 @@ module _ {T Core Event Finish : Type 0} (sends : T → Queue → Result ℕ IoFa
   received left n p end link turns out (Err f) is (none, ends, same) goes = let e = ap (λ (o : Gives Event). o.left) ends in omega (arith, is, e)
 
   reads_no_more : (left : ℕ) (p end : ReaderState T Core) (turns : List Turn) (out : Gives Event) → Reads sends reader receives left p turns out end → NotMore left p out end
-  reads_no_more left p end [] out (same, ends) = grind (arith, stops_left) steps 400000
+  reads_no_more left p end [] out (same, ends) = grind (arith, stops_left)
   reads_no_more left p end (Received r ∷ turns) out (on, lacks, (n, is, (link, filled, finds, h))) =
       inl (received left n p end link turns out (counted_answer (count_of r)) is h (λ more. not_above n (at_link p link) end out (reads_no_more n (at_link p link) end turns out more)))
   reads_no_more left p end (Handled es ∷ turns) out (on, (v, link, first, lacked, mid, rest, (m, read, is), carried, split, more)) =
@@ -213,7 +212,7 @@ module _ {U : Type 0} where
 module _ {T U G C : Type 0} (sends : T → Queue → Result ℕ IoFault → T → Type 0) (receives : T → ℕ → Result Queue IoFault → T → Type 0) (a : Around G C) where
   unread_ends : (c : Core U C) (link : LinkState T) (es : List Sending) (first : List (Given (Told U))) (lacked : Bool) (mid : ReaderState T (Core U C))
       → CarriesOut sends (server a) (garbled c) link es first lacked mid → (rest : List (Given (Told U))) → action_in (first ++ rest) ≡ Err (Io fault.Proto)
-  unread_ends c link es first lacked mid h1 rest = grind (arith, action_in, ends_garbled, true≢false) steps 400000
+  unread_ends c link es first lacked mid h1 rest = grind (arith, action_in, ends_garbled, true≢false)
 
   abbrev reader : Reader (Core U C) (Told U) (Finish U)
   reader = server a
@@ -223,13 +222,13 @@ module _ {T U G C : Type 0} (sends : T → Queue → Result ℕ IoFault → T �
       → answered out.stopped out.gave ≡ Ok h → Less sends receives reader left p out end
   reads_less left p end [] out h (same, ends) is =
       absurd (not_answered out.stopped (Io fault.Pipe) out.gave h (ap action_in (gave_none sends a left p out ends)) is)
-  reads_less left p end (Received r ∷ turns) out h (on, lacks, (n, one, (link, filled, finds, more))) is = grind (arith, received, not_above, at_link, reads_no_more) steps 400000
+  reads_less left p end (Received r ∷ turns) out h (on, lacks, (n, one, (link, filled, finds, more))) is = grind (arith, received, not_above, at_link, reads_no_more)
   reads_less left p end (Handled es ∷ turns) out h (on, (v, link, first, lacked, mid, rest, (m, read, so), carried, split, more)) is =
       let shorter = taken_shorter sends receives reader (reader.signature p.core) p.link link m read in
       let kept = carried_length sends receives reader v link mid es first lacked carried in
       less_behind sends receives reader left p mid end out rest (ap (λ (o : Gives (Told U)). o.left) split) (omega (arith, shorter, kept))
       (reads_no_more sends receives reader left mid end turns rest more)
-  reads_less left p end (Unread es ∷ turns) out h (on, (v, link, first, lacked, mid, rest, (malformed, same, so), carried, split, more)) is = grind (arith, action_in, not_answered, unread_ends) steps 400000
+  reads_less left p end (Unread es ∷ turns) out h (on, (v, link, first, lacked, mid, rest, (malformed, same, so), carried, split, more)) is = grind (arith, action_in, not_answered, unread_ends)
 
 module _ {T U G C : Type 0} (w : World T G C) (id : ClientParts) where
   part_less : (offer : Offer G) (r r' : Reading) (p q : Part T U C) (h : Handed) (lacked : Bool) (did : List (Deed U))
@@ -249,7 +248,7 @@ module _ {T U G C : Type 0} (w : World T G C) (id : ClientParts) where
       of_less : (out : Gives (Told U)) (end : ReaderState T (Core U C)) → {n : ℕ} → r' ≡ record { turns_left = out.left; read = n } → q ≡ part_of end
           → Less w.sends w.receives (server (around w id offer)) r.turns_left (reader_part p) out end
           → (r'.turns_left < r.turns_left) ⊎ ((r'.turns_left ≡ r.turns_left) × (length q.link.incoming.bytes < length p.link.incoming.bytes))
-      of_less out end h1 h2 h3 = grind (arith) steps 400000
+      of_less out end h1 h2 h3 = grind (arith)
 
   -- what the call is to this client
   of_call : (before after : ServerState T U G C) (e : Entry T U G C) (call : Call T U G C) → e.call ≡ call → OneStep w before e after

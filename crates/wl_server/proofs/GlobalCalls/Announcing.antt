@@ -1,5 +1,5 @@
 -- How a registry is told of globals, one after another.
-use Rattle.std.proofs.Common.{◌≡◌, ◌∙◌, ℕ, true, List, [], ◌∷◌, ◌++◌, append_assoc, length, map, Result, Ok, Err, refl, sym, ap, subst}
+use Rattle.std.proofs.Common.{arith, ◌≡◌, ◌∙◌, ℕ, true, List, [], ◌∷◌, ◌++◌, append_assoc, length, map, Result, Ok, Err, refl, sym, ap, subst}
 use Rattle.std.specs.List.{filter}
 use Rattle.std.specs.Prelude.{nat_lt}
 use Rattle.wl_wire.specs.declared.error.IoFault.{IoFault}
@@ -46,7 +46,7 @@ module _ {T G C : Type 0} (sends : T → Queue → Result ℕ IoFault → T → 
   told_is : (first all : List Said) (room : ℕ) (e : Entry) (old left : List Entry) → old ≡ e ∷ left
       → is_shown a.views a.client client_data e ≡ true → all ≡ first ++ told_of_all a client_data id room old
       → all ≡ (first ++ told_of room e ∷ []) ++ told_of_all a client_data id (long e) left
-  told_is first all room e old left step shown is = grind (arith, shows, append_assoc) steps 400000
+  told_is first all room e old left step shown is = grind (arith, shows, append_assoc)
 
   pub told_one : (start now after : LinkState T) (all : List Said) (room next : ℕ) (e : Entry) (old left : List Entry) → old ≡ e ∷ left
       → is_shown a.views a.client client_data e ≡ true → next ≡ long e → Puts sends now (told_of room e ∷ []) (Ok tt) after → ToldTo start all now room old

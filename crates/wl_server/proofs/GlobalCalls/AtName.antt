@@ -1,13 +1,13 @@
 -- What becomes of the globals by a change at one name.
-use Rattle.std.proofs.Common.{◌≡◌, ◌<◌, ℕ, ◌+◌, Bool, true, false, List, Option, None, Some, Bor, Err, Result, is_some, not, refl, sym, ap, ◌∙◌, nat_le, subst, arith, ◌≤◌, Ok}
-use Rattle.std.specs.Prelude.{MatchOption, ◌==◌, if◌then◌else◌, option_copied, slice_get}
+use Rattle.std.proofs.Common.{◌≡◌, ◌<◌, ℕ, ◌+◌, Bool, true, false, List, Option, None, Some, Bor, Err, Result, is_some, not, refl, ap, ◌∙◌, nat_le, subst, arith, Ok}
+use Rattle.std.specs.Prelude.{MatchOption, option_copied, slice_get}
 use Rattle.std.proofs.lemmas.Bool.{eq-eqb, false≢true, ne_eqb}
 use Rattle.wl_wire.specs.declared.interface.InterfaceId.{InterfaceId}
 use Rattle.wl_wire.specs.Table.{InterfaceRow}
 use Rattle.wl_link.specs.declared.object.Object.{Object}
 use Rattle.wl_link.specs.declared.object_map.NewError.{NewError}
 use Rattle.wl_link.specs.declared.object_map.NewError.TheVariants as new
-use Rattle.wl_link.specs.Identity.{names, named_in}
+use Rattle.wl_link.specs.Identity.{names}
 use Rattle.wl_link.specs.ObjectMap.{InsertsNew}
 use Rattle.wl_link.specs.Store.{Store, held, removed, rewritten}
 use Rattle.wl_link.proofs.Ids.StoreLaws.{stored_here}
@@ -27,29 +27,29 @@ module _ {G : Type 0} where
 
   -- it is the one at the name
   by_held : (store : Store (KeptGlobal G)) (id : GlobalParts) (x : Object (KeptGlobal G)) → global_by store id ≡ Some x → held store id.name ≡ Some x
-  by_held store id x is = grind (arith, global_serial, false≢true, is_some) steps 400000
+  by_held store id x is = grind (arith, global_serial, false≢true, is_some)
 
   pub nothing_disabled : (store : Store (KeptGlobal G)) (id : GlobalParts) (last : ℕ) → is_some (global_by store id) ≡ false
       → globals_of store last ≡ disabled (globals_of store last) id
-  nothing_disabled store id last none = grind (arith, is_some, disabled_at, false≢true) steps 400000
+  nothing_disabled store id last none = grind (arith, is_some, disabled_at, false≢true)
 
   pub one_disabled : (store after : Store (KeptGlobal G)) (id : GlobalParts) (last : ℕ) → is_some (global_by store id) ≡ true
       → MatchOption (held store id.name) (after ≡ store) (λ x. after ≡ rewritten store id.name (as_disabled x))
       → globals_of after last ≡ disabled (globals_of store last) id
-  one_disabled store after id last some becomes = grind (arith, is_some, disabled_at, false≢true, as_disabled, by_held) steps 400000
+  one_disabled store after id last some becomes = grind (arith, is_some, disabled_at, false≢true, as_disabled, by_held)
 
   pub nothing_freed : (store : Store (KeptGlobal G)) (id : GlobalParts) (last : ℕ) → is_some (global_by store id) ≡ false
       → globals_of store last ≡ freed (globals_of store last) id
-  nothing_freed store id last none = grind (arith, is_some, freed_at, false≢true) steps 400000
+  nothing_freed store id last none = grind (arith, is_some, freed_at, false≢true)
 
   pub one_freed : (store after : Store (KeptGlobal G)) (id : GlobalParts) (last : ℕ) → is_some (global_by store id) ≡ true
       → after ≡ removed store id.name → globals_of after last ≡ freed (globals_of store last) id
-  one_freed store after id last some becomes = grind (arith, is_some, freed_at, false≢true) steps 400000
+  one_freed store after id last some becomes = grind (arith, is_some, freed_at, false≢true)
 
   -- a new global is named by its id
   pub new_named : (store after : Store (KeptGlobal G)) (id : GlobalParts) (x : Object (KeptGlobal G)) (answer : Result ℕ NewError) → x.value.serial ≡ id.serial
       → answer ≡ Ok id.name → InsertsNew name_range store x answer after → global_by after id ≡ Some x
-  new_named store after id x answer serial is inserts = grind (arith, name_range, ne_eqb, eq-eqb, stored_here) steps 400000
+  new_named store after id x answer serial is inserts = grind (arith, name_range, ne_eqb, eq-eqb, stored_here)
 
   -- there was no memory for a new global
   pub name_lacks_memory : (table : List InterfaceRow) (store after : Store (KeptGlobal G)) (last : ℕ) (i : InterfaceId) (version : ℕ) (row : InterfaceRow)

@@ -1,7 +1,6 @@
 -- What a client comes to that was told messages: it is closed down where one could not be put.
-use Rattle.std.proofs.Common.{◌≡◌, ◌∙◌, ℕ, Bool, true, false, ◌||◌, List, [], ◌++◌, append-nil, None, Result, Ok, Err, MatchResult, refl, sym, ap, subst, arith}
+use Rattle.std.proofs.Common.{◌≡◌, ◌∙◌, ℕ, Bool, true, false, ◌||◌, List, [], ◌++◌, append-nil, None, Result, Ok, Err, MatchResult, refl, ap, subst, arith}
 use Rattle.wl_wire.specs.declared.error.IoFault.{IoFault}
-use Rattle.wl_wire.specs.declared.error.IoFault.TheVariants as fault
 use Rattle.wl_link.specs.Exchange.{Queue}
 use Rattle.wl_link.specs.Link.{LinkState}
 use Rattle.wl_link.specs.Puts.{Said, lacks_memory}
@@ -10,7 +9,6 @@ use Rattle.wl_server.specs.declared.notes.DisconnectReason.TheVariants.{Connecti
 use Rattle.wl_server.specs.declared.notes.Happening.{Happening}
 use Rattle.wl_server.specs.Inside.Client.{Does}
 use Rattle.wl_server.specs.Deeds.{Deed, notes_in}
-use Rattle.wl_server.specs.Part.{Part}
 use Rattle.wl_server.specs.Inside.Puts.{Puts}
 use Rattle.wl_server.specs.Server.{Stored, no_times, untimed}
 use Rattle.wl_server.specs.Telling.{Core, Kills, Tells, Told, closed_down, end_deeds, part_of, speaker, tells}
@@ -33,7 +31,7 @@ module _ {U C : Type 0} where
 
   came_closing : (c : Core U C) (puts : List Said) (events : Core U C → List (Told U)) (told : Result (Unit {0}) IoFault)
       → came_to speaker (telling c puts events) told ≡ closing c told
-  came_closing c puts events told = grind (arith) steps 400000
+  came_closing c puts events told = grind (arith)
 
 module _ {T U C : Type 0} where
   -- a client of that core and link, with these notes made
@@ -45,7 +43,7 @@ module _ {T U C : Type 0} where
       → c.ended ≡ None
       → MatchResult told (λ _. untimed after ≡ client_of serial c link made) (λ _. Does (client_of serial c link made) (λ p did q. Kills p ConnectionClosed did q) after)
       → untimed after ≡ client_of serial (closing c told) link (made ++ notes_in (end_deeds (closing c told).ended))
-  told_closing serial c link made told after h1 h2 = grind (arith, append-nil, closed_down) steps 400000
+  told_closing serial c link made told after h1 h2 = grind (arith, append-nil, closed_down)
 
   -- the messages were put up to the first that failed, and nothing is noted beside the end of the client
   pub told_by : (sends : T → Queue → Result ℕ IoFault → T → Type 0) (c : Core U C) (puts : List Said) (events : Core U C → List (Told U))

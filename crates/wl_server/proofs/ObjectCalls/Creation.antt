@@ -69,7 +69,7 @@ module _ {T U C : Type 0} (table : List InterfaceRow) (client : ClientParts) (s 
     with_both store serial = record s.part { store = store; last_serial = serial }
 
     serial_left : (s.part.last_serial == last_possible_serial) ≡ false
-    serial_left = grind (arith, eqb-true) steps 400000
+    serial_left = grind (arith, eqb-true)
 
     -- a number was given
     pub created : (n serial : ℕ) (x : Object (Kept U)) (store : Store (Kept U)) → serial ≡ s.part.last_serial + 1 → x ≡ fresh_object i version serial (Some u)
@@ -90,7 +90,7 @@ module _ {T U C : Type 0} (table : List InterfaceRow) (client : ClientParts) (s 
         is_new = is ∙ ap (λ (k : ℕ). fresh_object i version k (Some u)) next
 
         becomes : with_both store serial ≡ with_new_at s.part n (new_object s.part i version u)
-        becomes = grind (arith, stored, is_new) steps 400000
+        becomes = grind (arith, stored, is_new)
 
     pub exhausted : (e : NewError) (x : Object (Kept U)) (store : Store (Kept U)) → e ≡ new.IdsExhausted → InsertsNew server_range s.part.store x (Err e) store
         → Refused create.IdsExhausted store

@@ -1,6 +1,5 @@
 -- How what was done to an object that the program destroys is its destruction.
-use Rattle.std.proofs.Common.{◌≡◌, ◌∙◌, ℕ, Bool, true, false, eqb, cond, List, [], ◌++◌, append-nil, map, Option, None, Some, is_some, IfSome, Result, Ok, Err, MatchOption, MatchResult, refl, sym, ap, subst, inl, inr, arith}
-use Rattle.std.specs.Prelude.{◌==◌}
+use Rattle.std.proofs.Common.{◌≡◌, ◌∙◌, ℕ, Bool, true, false, eqb, cond, List, [], ◌++◌, append-nil, Option, None, Some, is_some, IfSome, Result, Ok, Err, MatchOption, MatchResult, refl, sym, ap, subst, inl, inr, arith}
 use Rattle.std.proofs.lemmas.Bool.{false≢true}
 use Rattle.wl_wire.specs.declared.error.IoFault.{IoFault}
 use Rattle.wl_wire.specs.declared.error.IoFault.TheVariants as fault
@@ -18,14 +17,14 @@ use Rattle.wl_server.specs.declared.notes.DisconnectReason.TheVariants.{Connecti
 use Rattle.wl_server.specs.declared.notes.Happening.{Happening}
 use Rattle.wl_server.specs.Inside.Carried.{IsCarried, told_notes}
 use Rattle.wl_server.specs.Inside.Client.{Does}
-use Rattle.wl_server.specs.Deeds.{Deed, left_if, notes_in}
+use Rattle.wl_server.specs.Deeds.{Deed, notes_in}
 use Rattle.wl_server.specs.Inside.Destruction.{lacks_destroy}
 use Rattle.wl_server.specs.Ids.{IdParts}
 use Rattle.wl_server.specs.Objects.{Destroys, destroyable, destroys, told_of_removed, unless_refused}
 use Rattle.wl_server.specs.Part.{Part, id_of, named, note_of_end, registries_without, serial_of}
 use Rattle.wl_server.specs.Inside.Puts.{Puts}
 use Rattle.wl_server.specs.Server.{Stored, no_times, untimed}
-use Rattle.wl_server.specs.Telling.{Core, Did, Kills, Told, core_of, deletions, end_deeds, speaker}
+use Rattle.wl_server.specs.Telling.{Core, Kills, Told, core_of, deletions, end_deeds, speaker}
 use Rattle.wl_server.proofs.CallSteps.Doing.{does_quietly}
 use Rattle.wl_server.proofs.Readings.Notes.{tells_carried}
 use Rattle.wl_server.proofs.ObjectCalls.Posting.{arrived, kills_is, linked}
@@ -51,13 +50,13 @@ module _ {U : Type 0} where
 
   -- nothing that an object leaves behind is a note
   pub leaves_no_note : {C : Type 0} (id : IdParts) (u : Option U) (c : Core U C) → told_notes (told_of_removed id u c) ≡ []
-  leaves_no_note id u c = grind (arith, is_some, named, id_of) steps 400000
+  leaves_no_note id u c = grind (arith, is_some, named, id_of)
 
 -- ---- the object that may be destroyed
 
 module _ {T U C : Type 0} where
   destroyable_named : (p : Part T U C) (id : IdParts) (x : Object (Kept U)) → destroyable p id ≡ Some x → named p.store id ≡ Some x
-  destroyable_named p id x = grind (arith, named) steps 400000
+  destroyable_named p id x = grind (arith, named)
 
 at_none : {A : Type 0} (o : Option A) (X : Type 0) (Y : A → Type 0) → o ≡ None → X → MatchOption o X Y
 at_none o X Y is x = rw is x
@@ -139,7 +138,7 @@ module _ {T U C : Type 0} (sends : T → Queue → Result ℕ IoFault → T → 
     gone_to : (link : LinkState T) (wrote : Result (Unit {0}) IoFault) (after : Stored T U C) → lacks_memory wrote ≡ false
         → MatchResult wrote (λ _. untimed after ≡ gone link) (λ _. Does (gone link) (λ p did q. Kills p ConnectionClosed did q) after)
         → untimed after ≡ arrived s (came_to speaker verdict wrote) link
-    gone_to link wrote after h1 h2 = grind (arith, append-nil, false≢true, kills_is) steps 400000
+    gone_to link wrote after h1 h2 = grind (arith, append-nil, false≢true, kills_is)
 
     -- it is gone, and the client was told, or closed down where it could not be
     told_destroyed : (link : LinkState T) (n : ℕ) (wrote : Result (Unit {0}) IoFault) (after a : Stored T U C) → n ≡ id.number → a ≡ gone link
@@ -170,7 +169,7 @@ module _ {T U C : Type 0} (sends : T → Queue → Result ℕ IoFault → T → 
         → IfSome (held s.part.store id.number) (λ y. registries ≡ registries_without s.part.registries id.number y)
         → IfSome (held s.part.store id.number) (λ y. waiting ≡ before ++ note_of_end id.client id.number y) → before ≡ s.part.waiting
         → with_all link store registries waiting ≡ gone link
-    left link store registries before waiting without forgotten noted same = grind (arith, registries_without, note_of_end, named_is_held, destroyable_named) steps 400000
+    left link store registries before waiting without forgotten noted same = grind (arith, registries_without, note_of_end, named_is_held, destroyable_named)
 
     -- what was taken out is gone, and the client was told, or closed down where it could not be
     pub destroyed : (link : LinkState T) (n : ℕ) (store : Store (Kept U)) (registries : List Id) (before waiting : List (Happening U))

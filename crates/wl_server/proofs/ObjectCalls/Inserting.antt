@@ -48,10 +48,10 @@ module _ {T U C : Type 0} where
       → AreTaken n clients → OkIff r (n < 0x100000000) n → o ≡ result_ok r
       → MatchOption o ((k : ℕ) → k < 0x100000000 → IsSome (stored_at k clients)) (IsLeastFree clients)
   unfolding AreTaken
-  slot_of clients n r o h1 h2 h3 h4 = grind (arith, stored_at) steps 400000
+  slot_of clients n r o h1 h2 h3 h4 = grind (arith, stored_at)
 
   pub least_within : (clients : List (Option (Stored T U C))) (slot : ℕ) → IsLeastFree clients slot → slot ≤ length clients
-  least_within clients slot free = grind (arith, nat_lt, false≢true, is_some, stored_past, ltb-true, ltb-false) steps 400000
+  least_within clients slot free = grind (arith, nat_lt, false≢true, is_some, stored_past, ltb-true, ltb-false)
 
   -- ---- a client is put at a slot
 
@@ -64,7 +64,7 @@ module _ {T U C : Type 0} where
       at None past = absurd (false≢true (ap is_some (sym past ∙ slice_get-get_or clients slot None within)))
 
   at_end : (clients : List (Option (Stored T U C))) (s : Stored T U C) → IsPut clients (length clients) s (clients ++ Some s ∷ [])
-  at_end [] s = grind (arith, slice_get) steps 400000
+  at_end [] s = grind (arith, slice_get)
   at_end (x ∷ clients) s = let rest = at_end clients s in (rest.0, λ k differ. others k rest.1 differ)
     where
       others : (k : ℕ) → ((i : ℕ) → i ≢ length clients → slice_get (clients ++ Some s ∷ []) i ≡ slice_get clients i) → k ≢ length (x ∷ clients)

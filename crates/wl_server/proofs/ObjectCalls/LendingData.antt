@@ -1,5 +1,5 @@
 -- An object's data are lent to a closure, and set to what it leaves.
-use Rattle.std.proofs.Common.{◌≡◌, Bool, false, List, Option, None, Some, Result, Ok, Err, MatchOption, refl, sym, ap, ◌∙◌, arith}
+use Rattle.std.proofs.Common.{◌≡◌, Bool, false, List, Option, None, Some, Result, Ok, Err, MatchOption, refl, ap, ◌∙◌, arith}
 use Rattle.std.specs.Prelude.{option_map, slice_set}
 use Rattle.wl_link.specs.declared.object.Object.{Object}
 use Rattle.wl_link.specs.Store.{Store, rewritten}
@@ -30,7 +30,7 @@ module _ {T U G C R : Type 0} (call : U → R → U → Type 0) (w : World T G C
   -- what is looked up at the client that is stored
   looked_up : (read : ClientParts) (stored : Option (Stored T U C)) → read ≡ o.client → stored ≡ client_at read before.clients
       → object_data_of before o ≡ data_in (and_then (option_map (λ s. s.part) stored) (λ p. named p.store o))
-  looked_up read stored same is = grind (arith, option_map, client_at) steps 400000
+  looked_up read stored same is = grind (arith, option_map, client_at)
 
   pub lends_none : (read : ClientParts) → read ≡ o.client → None ≡ client_at read before.clients → answer ≡ Err _
       → LendsObjectData call w (record { server = before; refused = was }) o answer (record { server = before; refused = false })

@@ -2,7 +2,6 @@
 use Rattle.std.proofs.Common.{◌≡◌, ◌∙◌, ℕ, Bool, true, false, not, ◌||◌, List, [], ◌∷◌, ◌++◌, Option, None, Some, is_some, option_copied, Bor, Result, Ok, Err, MatchResult, refl, sym, ap, subst, append-nil, inl, inr, arith}
 use Rattle.std.proofs.lemmas.Bool.{false≢true}
 use Rattle.wl_wire.specs.declared.error.IoFault.{IoFault}
-use Rattle.wl_wire.specs.declared.error.IoFault.TheVariants as fault
 use Rattle.wl_wire.specs.declared.error.ProtocolError.{ProtocolError}
 use Rattle.wl_wire.specs.Table.{InterfaceRow}
 use Rattle.wl_link.specs.Exchange.{Queue, Sending}
@@ -41,7 +40,7 @@ module _ {T U C : Type 0} where
   with_made s made = record { serial = s.serial; part = s.part; made = made; times = no_times }
 
   pub kills_is : (s after : Stored T U C) (reason : DisconnectReason) → Does s (λ p did q. Kills p reason did q) after → untimed after ≡ ended s reason
-  kills_is s after reason (did, q, (deeds, part), is) = grind (arith) steps 400000
+  kills_is s after reason (did, q, (deeds, part), is) = grind (arith)
 
   -- a killed one stays as it is
   pub ended_twice : (s : Stored T U C) (first second : DisconnectReason) → ended (ended s first) second ≡ ended s first
@@ -54,7 +53,7 @@ module _ {T U C : Type 0} where
 
   pub told_is : (s after : Stored T U C) (wrote : Result (Unit {0}) IoFault) (reason : DisconnectReason)
       → MatchResult wrote (λ _. after ≡ s) (λ _. Does s (λ p did q. Kills p ConnectionClosed did q) after) → ended after reason ≡ spoken wrote s reason
-  told_is s after wrote reason h1 = grind (arith, kills_is, ended_twice) steps 400000
+  told_is s after wrote reason h1 = grind (arith, kills_is, ended_twice)
 
   -- the client as it is where its core came to this
   abbrev pub arrived : Stored T U C → Core U C → LinkState T → Stored T U C
@@ -68,12 +67,12 @@ module _ {T U C : Type 0} where
   spoken_is : (table : List InterfaceRow) (s : Stored T U C) (link : LinkState T) (id : IdParts) (code : ℕ) (text : List ℕ) (wrote : Result (Unit {0}) IoFault)
       → spoken wrote (linked s link) (BrokeProtocol (error_of table id code text))
       ≡ arrived s (came_to speaker (posts table (core_of s.part) id code text) wrote) link
-  spoken_is table s link id code text wrote = grind (arith) steps 400000
+  spoken_is table s link id code text wrote = grind (arith)
 
   -- a client that was killed
   still : (s : Stored T U C) (link : LinkState T) (table : List InterfaceRow) (id : IdParts) (code : ℕ) (text : List ℕ) → s.part.is_killed ≡ true
       → untimed (linked s link) ≡ arrived s (killed (core_of s.part) (BrokeProtocol (error_of table id code text))) link
-  still s link table id code text dead = grind (arith, core_of, killed, append-nil, false≢true) steps 400000
+  still s link table id code text dead = grind (arith, core_of, killed, append-nil, false≢true)
 
 -- what was found by reference is there where it was found
 pub is_some_copied : {X : Type 0} (found : Option (Bor X)) (x : Option X) (b : Bool) → option_copied found ≡ x → is_some found ≡ b → is_some x ≡ b

@@ -79,7 +79,7 @@ module _ {T U C : Type 0} (client : ClientParts) (m : SessionMessage) (sender : 
 
   after_end_is : (s : Stored T U C) (ends : Bool) (link : LinkState T)
       → after_end s ends link ≡ client_of s.serial (ends_sender client (core_of s.part) m sender ends).core link s.made
-  after_end_is s ends link = grind (arith, untimed, append-nil) steps 400000
+  after_end_is s ends link = grind (arith, untimed, append-nil)
 
   module _ (sends : T → Queue → Result ℕ IoFault → T → Type 0) where
     -- the verdicts of an event that was put, and of one that was not

@@ -1,6 +1,5 @@
 -- An object's data are set at a client that is stored.
-use Rattle.std.proofs.Common.{◌≡◌, false, Option, None, Some, Result, Ok, Err, MatchOption, refl, ap}
-use Rattle.wl_link.specs.declared.object.Object.{Object}
+use Rattle.std.proofs.Common.{arith, ◌≡◌, false, Result, Ok, Err, MatchOption, refl}
 use Rattle.wl_link.specs.Store.{Store}
 use Rattle.wl_server.specs.declared.error.InvalidId.{InvalidId}
 use Rattle.wl_server.specs.declared.objects.Kept.{Kept}
@@ -28,7 +27,7 @@ own o u answer = record { offer = λ o. refl; last = refl; client = λ b. tt; gl
 data_set : {T U C : Type 0} (p : Part T U C) (id : IdParts) (u : U) (answer : Result (Unit {0}) InvalidId) (store : Store (Kept U))
     → MatchOption (named p.store id) (answer ≡ Err _) (λ _. answer ≡ Ok tt) → store ≡ data_given p.store id.number (named p.store id) u
     → DataSet p id u answer (record p { store = store })
-data_set {T} {U} {C} p id u answer store = grind (arith) steps 400000
+data_set {T} {U} {C} p id u answer store = grind (arith)
 
 pub set_does : {T U C : Type 0} (s : Stored T U C) (id : IdParts) (u : U) (answer : Result (Unit {0}) InvalidId) (store : Store (Kept U))
     → MatchOption (named s.part.store id) (answer ≡ Err _) (λ _. answer ≡ Ok tt) → store ≡ data_given s.part.store id.number (named s.part.store id) u

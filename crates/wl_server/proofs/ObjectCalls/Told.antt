@@ -1,7 +1,7 @@
 -- What the post of an error makes of the link of a live client whose object is kept.
-use Rattle.std.proofs.Common.{◌≡◌, ◌∙◌, ℕ, Bool, true, false, ◌||◌, List, Option, Some, Result, Ok, Err, MatchResult, refl, sym, ap, subst, inl, inr, true≢false}
+use Rattle.std.proofs.Common.{arith, ◌≡◌, ◌∙◌, ℕ, Bool, true, false, ◌||◌, List, Option, Some, Result, Ok, Err, MatchResult, refl, sym, ap, subst, inl, inr, true≢false}
 use Rattle.std.specs.Option.{option_map}
-use Rattle.std.specs.Prelude.{slice_get, slice_set}
+use Rattle.std.specs.Prelude.{slice_set}
 use Rattle.std.proofs.lemmas.Option.{same_Some}
 use Rattle.wl_wire.specs.declared.error.IoFault.{IoFault}
 use Rattle.wl_link.specs.Exchange.{Queue, Sending}
@@ -16,7 +16,6 @@ use Rattle.wl_server.specs.Posted.{TellsOrLacks}
 use Rattle.wl_server.specs.Server.{Stored, client_at}
 use Rattle.wl_server.specs.Telling.{Kills, error_message}
 use Rattle.wl_sets.proofs.Lists.{get_set_same}
-use Rattle.wl_server.proofs.CallSteps.Slots.{client_present, slot_of_client}
 use Rattle.wl_server.proofs.ObjectCalls.Posting.{kills_is}
 
 module _ {T U C : Type 0} where
@@ -59,4 +58,4 @@ module _ {T U C : Type 0} where
       (R : Part T U C → List _ → Part T U C → Type 0) → read ≡ target → Some c ≡ client_at read clients
       → Does c R c' → Q c.part c'.part → (p q : Part T U C) → option_map (λ s. s.part) (client_at target clients) ≡ Some p
       → option_map (λ s. s.part) (client_at target (slice_set clients read.slot (Some c'))) ≡ Some q → Q p q
-  at_slot Q clients target read c c' R same is does holds p q before after = grind (arith, get_set_same, does_serial, same_Some) steps 400000
+  at_slot Q clients target read c c' R same is does holds p q before after = grind (arith, get_set_same, does_serial, same_Some)

@@ -1,9 +1,9 @@
 -- The arguments of a request that is handed out: those of its message, with the ids of kept objects.
-use Rattle.std.proofs.Common.{◌≡◌, ◌⊎◌, ℕ, Bool, true, false, cond, eqb, eqb-true, List, [], ◌∷◌, ◌++◌, map, Option, None, Some, is_some, Result, Ok, Err, MatchOption, refl, sym, ap, ap₂, subst, ◌∙◌, append-nil, append_assoc, true≢false, arith}
+use Rattle.std.proofs.Common.{◌≡◌, ◌⊎◌, ℕ, Bool, true, false, cond, eqb, eqb-true, List, [], ◌∷◌, ◌++◌, map, Option, None, Some, is_some, Result, Ok, Err, MatchOption, refl, sym, ap, ap₂, ◌∙◌, append-nil, append_assoc, true≢false, arith}
 use Rattle.std.proofs.lemmas.Option.{none-some}
 use mathlib.Core.Logic.{inl, inr}
 use Rattle.std.specs.List.{list_any}
-use Rattle.std.specs.Prelude.{◌||◌, length, nat_le, option_map}
+use Rattle.std.specs.Prelude.{◌||◌, option_map}
 use Rattle.wl_wire.specs.declared.argument.Argument.{Argument}
 use Rattle.wl_wire.specs.declared.argument.Argument.TheVariants as arg
 use Rattle.wl_wire.specs.declared.argument.ArgumentType.{ArgumentType}
@@ -13,16 +13,14 @@ use Rattle.wl_wire.specs.declared.error.IoFault.{IoFault}
 use Rattle.wl_wire.specs.declared.interface.InterfaceId.{InterfaceId}
 use Rattle.wl_wire.specs.Argument.{WireArgument, kind_of, type_of}
 use Rattle.wl_wire.specs.Message.{WireMessage}
-use Rattle.wl_wire.specs.MessageRows.{creates, fits, next_interface}
-use Rattle.wl_wire.specs.Parse.{opcode_of, sender_of}
+use Rattle.wl_wire.specs.MessageRows.{creates, next_interface}
 use Rattle.wl_wire.specs.Reading.{Reads as ReadsArguments}
 use Rattle.wl_wire.specs.Table.{MessageRow, is_new_id}
 use Rattle.wl_wire.proofs.Spelling.CursorLaws.{piece_fits}
-use Rattle.wl_link.proofs.Calls.Branches.{either_bool}
 use Rattle.wl_link.specs.declared.object.Object.{Object}
 use Rattle.wl_link.specs.Exchange.{Queue}
 use Rattle.wl_link.specs.Identity.{Objects}
-use Rattle.wl_link.specs.Link.{LinkState, ReadFound}
+use Rattle.wl_link.specs.Link.{LinkState}
 use Rattle.wl_link.specs.Reader.{ReaderState, ReadsAs}
 use Rattle.wl_link.specs.Store.{Store, held}
 use Rattle.wl_link.proofs.Ids.StoreLaws.{held_stored, stored_here}
@@ -30,15 +28,15 @@ use Rattle.wl_server.specs.declared.objects.Kept.{Kept}
 use Rattle.wl_server.specs.declared.reading.response.RequestFault.TheVariants as wrong
 use Rattle.wl_server.specs.Events.{wire_argument}
 use Rattle.wl_server.specs.Ids.{ClientParts, IdParts}
-use Rattle.wl_server.specs.Part.{fresh_object, id_at, null_id}
+use Rattle.wl_server.specs.Part.{fresh_object, null_id}
 use Rattle.wl_server.specs.Reading.{Around, row_in, server}
-use Rattle.wl_server.specs.ReadingEnds.{HasMade, MakesItsObject, ObjectsFit, new_id_in}
+use Rattle.wl_server.specs.ReadingEnds.{MakesItsObject, ObjectsFit, new_id_in}
 use Rattle.wl_server.specs.Requests.{Converted, Converting, Outcome, Whole, Wrong, allows_null, convert, convert_one, going_on, is_valid_new, kinds_after, made_id, made_object, object_found, start, with_made, with_new_argument, with_object_argument}
 use Rattle.wl_server.specs.Telling.{Core}
 use Rattle.wl_server.proofs.OverRuns.Moves.MovesOfRequests.{valid_new}
 
 no_error : {A E : Type 0} {x : A} {e : E} → ◌≡◌ {A = Result A E} (Ok x) (Err e) → ⊥
-no_error is = grind (arith, true≢false) steps 400000
+no_error is = grind (arith, true≢false)
 
 -- ---- new ids among arguments
 
@@ -74,12 +72,12 @@ module _ {T U G C : Type 0} (sends : T → Queue → Result ℕ IoFault → T �
       → (signature : List ArgumentType)
       × (option_map (λ (r : MessageRow). r.signature) (row_in a.table (held p.core.store m.sender) m.opcode) ≡ Some signature)
       × (list_any is_new_id signature ≡ list_any is_new m.args)
-  read_signed read = grind (arith, no_error, is_new_id, ap₂, new_in_both) steps 400000
+  read_signed read = grind (arith, no_error, is_new_id, ap₂, new_in_both)
 
   -- it makes an object by the table exactly if one of its arguments is a new number
   pub makes_new : ReadsAs sends (server a) p (Ok m) link → (row : MessageRow) → row_in a.table (held p.core.store m.sender) m.opcode ≡ Some row
       → creates row ≡ list_any is_new m.args
-  makes_new read row has = grind (arith, read_signed, is_new_id) steps 400000
+  makes_new read row has = grind (arith, read_signed, is_new_id)
 
 module _ {U : Type 0} where
   -- each object that was kept still is, at its number
@@ -116,11 +114,11 @@ module _ {U : Type 0} (client : ClientParts) (version : ℕ) where
 
   one_found : (d : Converting U) (n : ℕ) (o : Option (Object (Kept U))) → held d.objects.store n ≡ o
       → One d (arg.Object n) (with_object_argument d (object_found client (next_interface d.asked) n o))
-  one_found d n o h1 = grind (arith, with_object_argument) steps 400000
+  one_found d n o h1 = grind (arith, with_object_argument)
 
   one_object : (d : Converting U) (n : ℕ) (null b : Bool) → allows_null d.kinds ≡ null → eqb n 0 ≡ b
       → One d (arg.Object n) (with_object_argument d (cond b (cond null (Ok (null_id client)) (Err wrong.NullObject)) (object_found client (next_interface d.asked) n (held d.objects.store n))))
-  one_object d n null b h1 h2 = grind (arith, one_found, eqb-true) steps 400000
+  one_object d n null b h1 h2 = grind (arith, one_found, eqb-true)
 
   one_new : (d : Converting U) (n : ℕ) (child : Option InterfaceId) → d.child ≡ child → One d (arg.NewId n) (with_new_argument client version d n child)
   one_new d n None left = tt
@@ -162,7 +160,7 @@ module _ {U : Type 0} (client : ClientParts) (version : ℕ) where
       go false valid = tt
 
   one : (d : Converting U) (x : WireArgument) → One d x (convert_one client version d x)
-  one d x = grind (arith, one_object, allows_null, eqb, one_new) steps 400000
+  one d x = grind (arith, one_object, allows_null, eqb, one_new)
 
   -- what the arguments became: behind those that were gone through stand theirs
   abbrev pub Came : Converting U → List (Argument IdParts Token) → List WireArgument → Outcome U → Type 0
@@ -200,4 +198,4 @@ module _ {U : Type 0} (client : ClientParts) (version : ℕ) (row : MessageRow) 
   -- all arguments were gone through: the object that they made, if any, is that of the new id among them
   pub made_by_all : Making client version (start objects row) e args → map wire_argument args ≡ wire → creates row ≡ list_any is_new wire
       → MakesItsObject client e.objects.store row version args e.created × MatchOption e.created (Unit {0}) (λ id. held objects.store id.number ≡ None)
-  made_by_all h1 h2 h3 = grind (arith, by_table) steps 400000
+  made_by_all h1 h2 h3 = grind (arith, by_table)

@@ -1,9 +1,8 @@
 -- What a call is of each client, and what a step leaves of one as it was.
-use Rattle.std.proofs.Common.{◌≡◌, ◌+◌, Bool, true, false, List, [], ◌++◌, append-nil, Option, None, Some, refl, sym, ap, subst, ◌∙◌, arith, true≢false}
+use Rattle.std.proofs.Common.{◌≡◌, Bool, true, false, List, [], ◌++◌, append-nil, Option, None, Some, refl, sym, ap, subst, ◌∙◌, arith, true≢false}
 use mathlib.Core.Logic.{inl, inr}
 use Rattle.std.specs.Prelude.{◌⊎◌, ◌&&◌, MatchBool}
 use Rattle.wl_link.proofs.Calls.Branches.{either_option}
-use Rattle.wl_server.specs.declared.notes.Happening.{Happening}
 use Rattle.wl_server.specs.declared.runs.step.Reply.{Reply}
 use Rattle.wl_server.specs.declared.runs.step.Step.{Step}
 use Rattle.wl_server.specs.Backend.{BackendState, Calls}
@@ -14,7 +13,7 @@ use Rattle.wl_server.specs.PartStep.{Asked, Call, OfClient, OnPart, PartCall, Pa
 use Rattle.wl_server.specs.Plain.{IsUnchanged}
 use Rattle.wl_server.specs.Server.{Seen, seen}
 use Rattle.wl_server.specs.Steps.{Entry, IsRefused, OneStep, inserted_by, lacks_growth, offer_after}
-use Rattle.wl_server.proofs.CallSteps.Slots.{Are, Serials, Slots, compare, same_parts, same_self, same_serials, same_slots}
+use Rattle.wl_server.proofs.CallSteps.Slots.{compare, same_parts, same_self, same_serials, same_slots}
 
 -- ---- a choice that is known
 
@@ -38,11 +37,11 @@ none_and_some o none is = absurd cc
 
 -- two answers of which each is true if the other is
 as_true : (a b : Bool) → (a ≡ true → b ≡ true) → (b ≡ true → a ≡ true) → a ≡ b
-as_true a b h1 h2 = grind (arith) steps 400000
+as_true a b h1 h2 = grind (arith)
 
 -- two ids that are the same are one
 pub same_is : (a b : ClientParts) → same_client a b ≡ true → a ≡ b
-same_is a b is = grind (arith, compare, same_parts, true≢false, same_slots, same_serials) steps 400000
+same_is a b is = grind (arith, compare, same_parts, true≢false, same_slots, same_serials)
 
 -- ---- a call
 
@@ -50,7 +49,7 @@ module _ {T U G C : Type 0} (id : ClientParts) (e : Entry T U G C) (by : IsRefus
     (others : (other : ClientParts) → same_client id other ≡ false → e.lacks other ≡ false) where
   -- memory was refused in a call about this client exactly if it was refused to the client
   pub lacks_as : e.refused ≡ e.lacks id
-  lacks_as = grind (arith, as_true, true≢false, same_is) steps 400000
+  lacks_as = grind (arith, as_true, true≢false, same_is)
 
 module _ {T U G C : Type 0} {w : World T G C} {before after : BackendState T U G C} {s : Step T U G C} {answer : Reply T U} (call : Calls w before s answer after) where
   abbrev Each : ClientParts → Type 0
@@ -72,7 +71,7 @@ module _ {T U G C : Type 0} {w : World T G C} {before after : BackendState T U G
   -- nothing has changed
   pub unchanged : offer_after before.server.offer (Asked s answer) ≡ before.server.offer → inserted_by (Asked s answer) ≡ 0
       → ((id : ClientParts) → seen id after.server ≡ seen id before.server) → IsUnchanged before after
-  unchanged offer none each = grind (arith, inserted_by, offer_of) steps 400000
+  unchanged offer none each = grind (arith, inserted_by, offer_of)
 
   -- ---- whether memory was refused
 
@@ -131,7 +130,7 @@ module _ {T U G C : Type 0} {w : World T G C} {before after : BackendState T U G
 
   -- for what the call makes of its own
   pub refused_growth : lacks_growth (Asked s answer) ≡ true → after.refused ≡ true
-  refused_growth growth = grind (arith, lacks_growth) steps 400000
+  refused_growth growth = grind (arith, lacks_growth)
 
 -- of two ids that differ, and have one client, the number or the serial differs
 pub ids_differ : (b : Bool) {c : Bool} → b ≡ true → (b && c) ≡ false → c ≡ false
@@ -144,33 +143,33 @@ module _ {T U C : Type 0} where
   -- the part stays, and nothing is noted
   pub nothing_new : (s t : Seen T U C) (p q : Part T U C) (did : List (Deed U)) → s.part ≡ Some p → q ≡ p → notes_in did ≡ []
       → t ≡ record { part = Some q; made = s.made ++ notes_in did } → t ≡ s
-  nothing_new s t p q did there same none is = grind (arith, append-nil) steps 400000
+  nothing_new s t p q did there same none is = grind (arith, append-nil)
 
 module _ {T U C : Type 0} (b : Bool) (s : Seen T U C) (R : Part T U C → Part T U C → Type 0) (missing : Type 0) (lacked : Bool) (did : List (Deed U)) (t : Seen T U C) where
   -- a step about a client is one of its part
   pub meant : b ≡ true → OfClient b s R missing lacked did t → OnPart s R missing lacked did t
-  meant is h = grind (arith, true≢false) steps 400000
+  meant is h = grind (arith, true≢false)
 
   -- another client stays
   pub other_stays : b ≡ false → OfClient b s R missing lacked did t → t ≡ s
-  other_stays is h = grind (arith, true≢false, calm) steps 400000
+  other_stays is h = grind (arith, true≢false, calm)
 
   -- what each such step of the part leaves as it was stays
   pub keeps : {A : Type 0} (f : Option (Part T U C) → A) → (b ≡ true → (p q : Part T U C) → R p q → f (Some q) ≡ f (Some p)) → OfClient b s R missing lacked did t
       → f t.part ≡ f s.part
-  keeps {A = A} f each h = grind (arith, calm, either_option) steps 400000
+  keeps {A = A} f each h = grind (arith, calm, either_option)
 
   -- so do the notes that were made, where such a step notes nothing
   pub notes_stay : ((p q : Part T U C) → R p q → notes_in did ≡ []) → OfClient b s R missing lacked did t → t.made ≡ s.made
-  notes_stay silent h = grind (arith, calm, either_option, append-nil) steps 400000
+  notes_stay silent h = grind (arith, calm, either_option, append-nil)
 
   -- no memory is refused to it, where none is in such a step
   pub never : ((p q : Part T U C) → R p q → lacked ≡ false) → OfClient b s R missing lacked did t → lacked ≡ false
-  never so h = grind (arith, calm, either_option) steps 400000
+  never so h = grind (arith, calm, either_option)
 
   -- so is a client that is not stored
   pub missing_stays : (b ≡ true → s.part ≡ None) → OfClient b s R missing lacked did t → t ≡ s
-  missing_stays absent h = grind (arith, calm, either_option, none_and_some) steps 400000
+  missing_stays absent h = grind (arith, calm, either_option, none_and_some)
 
 -- a step about this very client
 pub own : {T U C : Type 0} (id : ClientParts) (s : Seen T U C) (R : Part T U C → Part T U C → Type 0) (missing : Type 0) (lacked : Bool) (did : List (Deed U)) (t : Seen T U C)

@@ -18,8 +18,7 @@ use Rattle.wl_server.specs.Deeds.{Deed, Noted, notes_in}
 use Rattle.wl_server.specs.Felt.{Cleaned}
 use Rattle.wl_server.specs.Globals.{Offer}
 use Rattle.wl_server.specs.Ids.{ClientParts}
-use Rattle.wl_server.specs.Lookups.{and_then}
-use Rattle.wl_server.specs.Part.{Part, named}
+use Rattle.wl_server.specs.Part.{Part}
 use Rattle.wl_server.specs.PartStep.{Call, CleanedAs, NotesTaken, World, share_of}
 use Rattle.wl_server.specs.Plain.{CleansUpClients, HandsOut, TakesNotes}
 use Rattle.wl_server.specs.Server.{Seen, seen}
@@ -37,7 +36,7 @@ module _ {T U G C : Type 0} (w : World T G C) (id : ClientParts) (offer : Offer 
   -- a stored client
   cleaned : (p : Part T U C) → s.part ≡ Some p → CleanedAs w id offer (Ok out) s lacked did t
       → (q : Option (Part T U C)) × Cleaned w.sends id p lacked did (share_of id out.items) q × (t ≡ record { part = q; made = s.made ++ notes_in did })
-  cleaned p there h = grind (arith, either_option, none_and_some, share_of, one_value) steps 400000
+  cleaned p there h = grind (arith, either_option, none_and_some, share_of, one_value)
 
   pub cleaned_killed : (p : Part T U C) → s.part ≡ Some p → p.is_killed ≡ true → CleanedAs w id offer (Ok out) s lacked did t → HandsOut w.sends p (share_of id out.items) t.part
   cleaned_killed p there killed h =
@@ -47,10 +46,10 @@ module _ {T U G C : Type 0} (w : World T G C) (id : ClientParts) (offer : Offer 
 
   pub cleaned_live : (p : Part T U C) → s.part ≡ Some p → p.is_killed ≡ false → CleanedAs w id offer (Ok out) s lacked did t
       → (share_of id out.items ≡ []) × (t.part ≡ Some (record p { waiting = [] })) × (t.made ≡ s.made ++ p.waiting)
-  cleaned_live p there live h = grind (arith, cleaned, when_false, all_noted) steps 400000
+  cleaned_live p there live h = grind (arith, cleaned, when_false, all_noted)
 
   pub cleaned_none : s.part ≡ None → CleanedAs w id offer (Ok out) s lacked did t → (share_of id out.items ≡ []) × (t ≡ s)
-  cleaned_none none h = grind (arith, either_option, none_and_some) steps 400000
+  cleaned_none none h = grind (arith, either_option, none_and_some)
 
 module _ {T U G C : Type 0} {w : World T G C} {before after : BackendState T U G C} where
   cleanup_each : (answer : Result (Vec (ClientParts × T) Global) OutOfMemory) → Calls w before step.Cleanup (reply.Cleanup answer) after → (id : ClientParts)
@@ -118,4 +117,4 @@ module _ {T U G C : Type 0} {w : World T G C} {before after : BackendState T U G
       inside r is = cc
 
   pub takes_notes : (answer : Result (Vec (Note U) Global) OutOfMemory) → Calls w before step.TakeNotes (reply.TakeNotes answer) after → TakesNotes before answer after
-  takes_notes answer h1 = grind (arith, offer_of, calm, unchanged, refused_growth) steps 400000
+  takes_notes answer h1 = grind (arith, offer_of, calm, unchanged, refused_growth)

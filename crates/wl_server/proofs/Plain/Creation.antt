@@ -1,14 +1,13 @@
 -- A new object of the server's.
-use Rattle.std.proofs.Common.{◌≡◌, ℕ, Bool, true, false, cond, List, [], Option, None, Some, Result, Ok, Err, refl, sym, ap, subst, ◌∙◌, arith}
+use Rattle.std.proofs.Common.{◌≡◌, ℕ, Bool, true, false, List, [], None, Some, Result, Ok, Err, refl, sym, ap, subst, ◌∙◌, arith}
 use mathlib.Core.Logic.{inl, inr}
 use Rattle.std.proofs.lemmas.Bool.{eq-eqb, ne_eqb}
 use Rattle.std.specs.Prelude.{◌==◌, slice_get}
 use Rattle.wl_wire.specs.declared.interface.InterfaceId.{InterfaceId}
 use Rattle.wl_wire.specs.Table.{InterfaceRow}
-use Rattle.wl_link.proofs.Calls.Branches.{either_bool, either_option}
+use Rattle.wl_link.proofs.Calls.Branches.{either_option}
 use Rattle.wl_link.proofs.Ids.StoreLaws.{held_stored, stored_here}
 use Rattle.wl_link.specs.declared.object.Object.{Object}
-use Rattle.wl_link.specs.Identity.{named_in}
 use Rattle.wl_link.specs.Store.{IsLeastAbsent, held, server_range, stored}
 use Rattle.wl_server.specs.declared.error.CreateError.{CreateError}
 use Rattle.wl_server.specs.declared.error.CreateError.TheVariants as create
@@ -38,10 +37,10 @@ record IsNew {T U C : Type 0} (client : ClientParts) (p : Part T U C) (i : Inter
 
 module _ {T U C : Type 0} (table : List InterfaceRow) (client : ClientParts) (p : Part T U C) (i : InterfaceId) (version : ℕ) (u : U) where
   made_new : (id : IdParts) (q : Part T U C) → Creates table client p i version u (Ok id) q → IsNew client p i version u id q
-  made_new id q h = grind (arith, slice_get, last_possible_serial) steps 400000
+  made_new id q h = grind (arith, slice_get, last_possible_serial)
 
   made_none : (e : CreateError) (q : Part T U C) → Creates table client p i version u (Err e) q → q ≡ p
-  made_none e q h = grind (arith, slice_get, last_possible_serial) steps 400000
+  made_none e q h = grind (arith, slice_get, last_possible_serial)
 
 module _ {T U C : Type 0} {client : ClientParts} {p : Part T U C} {i : InterfaceId} {version : ℕ} {u : U} {id : IdParts} {q : Part T U C} (new : IsNew client p i version u id q) where
   abbrev made : Object (Kept U)
@@ -51,7 +50,7 @@ module _ {T U C : Type 0} {client : ClientParts} {p : Part T U C} {i : Interface
   numbered = let first = new.absent.within in ne_eqb new.n 0 (λ (zero : new.n ≡ 0). absurd (omega (arith, first, zero)))
 
   new_before : named p.store id ≡ None
-  new_before = grind (arith, named, serial_of, id_of, id_at, both_none) steps 400000
+  new_before = grind (arith, named, serial_of, id_of, id_at, both_none)
 
   new_after : named q.store id ≡ Some (fresh_object i version id.serial (Some u))
   new_after =
@@ -93,7 +92,7 @@ Of table target client i version u answer s lacked did t = OfClient (same_client
 module _ {T U C : Type 0} (table : List InterfaceRow) (client : ClientParts) (i : InterfaceId) (version : ℕ) (u : U) (s t : Seen T U C) (lacked : Bool) (did : List (Deed U)) where
   created : (id : IdParts) → Of table client client i version u (Ok id) s lacked did t
       → (id.client ≡ client) × (id.interface ≡ i) × (named_of s id ≡ None) × (named_of t id ≡ Some (fresh_object i version id.serial (Some u)))
-  created id h = grind (arith, own, ok_unknown, made_new, new_client, new_interface, named, new_before, new_after) steps 400000
+  created id h = grind (arith, own, ok_unknown, made_new, new_client, new_interface, named, new_before, new_after)
 
 not_created : {T U C : Type 0} (b : Bool) (table : List InterfaceRow) (client : ClientParts) (i : InterfaceId) (version : ℕ) (u : U) (e : CreateError) (s t : Seen T U C)
     (lacked : Bool) (did : List (Deed U)) → OfClient b s (Does table client i version u (Err e) lacked did) (Unknown (Err e)) lacked did t → t ≡ s

@@ -1,5 +1,5 @@
 -- An object that gets data.
-use Rattle.std.proofs.Common.{◌≡◌, Bool, true, false, List, Option, None, Some, Result, Ok, Err, MatchResult, option_map, refl, sym, ap, subst, ◌∙◌, arith}
+use Rattle.std.proofs.Common.{◌≡◌, Bool, true, false, List, None, Some, Result, Ok, Err, MatchResult, option_map, refl, sym, ap, subst, arith}
 use mathlib.Core.Logic.{inl, inr}
 use Rattle.wl_link.proofs.Calls.Branches.{either_option}
 use Rattle.wl_link.specs.declared.object.Object.{Object}
@@ -12,7 +12,7 @@ use Rattle.wl_server.specs.Backend.{BackendState, Calls}
 use Rattle.wl_server.specs.Deeds.{Deed, notes_in}
 use Rattle.wl_server.specs.Identified.{named_of}
 use Rattle.wl_server.specs.Ids.{ClientParts, IdParts, same_client}
-use Rattle.wl_server.specs.Lookups.{and_then, object_data_of}
+use Rattle.wl_server.specs.Lookups.{and_then}
 use Rattle.wl_server.specs.Objects.{DataSet}
 use Rattle.wl_server.specs.Part.{Part, id_of, named, same_id, with_user_data}
 use Rattle.wl_server.specs.PartStep.{OfClient, Quietly, World}
@@ -35,16 +35,16 @@ module _ {T U C : Type 0} (o : IdParts) (u : U) (answer : Result (Unit {0}) Inva
   -- an id of another number or serial
   set_others : (lacked : Bool) (did : List (Deed U)) (p q : Part T U C) → Sets lacked did p q → (other : IdParts) → same_id (id_of o) (id_of other) ≡ false
       → named q.store other ≡ named p.store other
-  set_others lacked did p q (calm, none, h) other differ = grind (arith, either_option, named, rewritten_others, with_user_data, names_so) steps 400000
+  set_others lacked did p q (calm, none, h) other differ = grind (arith, either_option, named, rewritten_others, with_user_data, names_so)
 
   -- all of the client but its objects
   set_rest : (lacked : Bool) (did : List (Deed U)) (p q : Part T U C) → Sets lacked did p q → without_objects q ≡ without_objects p
-  set_rest lacked did p q (calm, none, h) = grind (arith, either_option, named) steps 400000
+  set_rest lacked did p q (calm, none, h) = grind (arith, either_option, named)
 
   -- the object of the id
   set_here : (lacked : Bool) (did : List (Deed U)) (s t : Seen T U C) → OfClient (same_client o.client o.client) s (Sets lacked did) (Refused answer) lacked did t
       → MatchResult answer (λ _. (x : Object (Kept U)) × (named_of s o ≡ Some x) × (named_of t o ≡ Some (with_user_data u x))) (λ _. named_of s o ≡ None)
-  set_here lacked did s t h = grind (arith, either_option, own, named, calm, rewritten_named, with_user_data, names_so) steps 400000
+  set_here lacked did s t h = grind (arith, either_option, own, named, calm, rewritten_named, with_user_data, names_so)
 
   -- a refusal changes nothing
   set_refused : Refused answer → (b : Bool) (lacked : Bool) (did : List (Deed U)) (s t : Seen T U C) → OfClient b s (Sets lacked did) (Refused answer) lacked did t → t ≡ s
@@ -108,4 +108,4 @@ module _ {T U G C : Type 0} {w : World T G C} {before after : BackendState T U G
 module _ {T U G C R : Type 0} (lend : U → R → U → Type 0) (w : World T G C) where
   pub sets_what_is_left : (before : BackendState T U G C) (o : IdParts) (answer : Result R InvalidId) (after : BackendState T U G C) → LendsObjectData lend w before o answer after
       → SetsWhatIsLeft lend before o answer after
-  sets_what_is_left before o answer after h = grind (arith, either_option) steps 400000
+  sets_what_is_left before o answer after h = grind (arith, either_option)

@@ -1,7 +1,7 @@
 -- An object that the program destroys.
 use Rattle.std.proofs.Common.{◌≡◌, ℕ, Bool, true, false, cond, eqb-true, List, ◌++◌, Option, None, Some, is_some, Result, Ok, Err, refl, sym, ap, subst, ◌∙◌, arith}
 use mathlib.Core.Logic.{inl, inr}
-use Rattle.std.specs.Prelude.{◌⊎◌, ◌==◌}
+use Rattle.std.specs.Prelude.{◌⊎◌}
 use Rattle.wl_wire.specs.declared.error.IoFault.{IoFault}
 use Rattle.wl_link.proofs.Calls.Branches.{either_option}
 use Rattle.wl_link.specs.declared.object.Object.{Object}
@@ -52,10 +52,10 @@ never_refused false is = absurd cc
 
 module _ {T U C : Type 0} where
   destroyable_named : (p : Part T U C) (o : IdParts) (x : Object (Kept U)) → destroyable p o ≡ Some x → named p.store o ≡ Some x
-  destroyable_named p o x = grind (arith, named) steps 400000
+  destroyable_named p o x = grind (arith, named)
 
   not_destroyable : (p : Part T U C) (o : IdParts) → destroyable p o ≡ None → (o.number ≡ 1) ⊎ (named p.store o ≡ None)
-  not_destroyable p o = grind (arith, named, eqb-true) steps 400000
+  not_destroyable p o = grind (arith, named, eqb-true)
 
 module _ {T U C : Type 0} (sends : T → Queue → Result ℕ IoFault → T → Type 0) (o : IdParts) (client : ClientParts) where
   abbrev Does : Result (Unit {0}) DestroyError → Bool → List (Deed U) → Part T U C → Part T U C → Type 0
@@ -90,7 +90,7 @@ module _ {T U C : Type 0} (sends : T → Queue → Result ℕ IoFault → T → 
   -- no memory is refused where the answer is another
   destroy_calm : (answer : Result (Unit {0}) DestroyError) → ((lacked : Bool) → answer ≡ unless_refused destroy.OutOfMemory lacked → lacked ≡ false) → (lacked : Bool)
       (did : List (Deed U)) (p q : Part T U C) → Does answer lacked did p q → lacked ≡ false
-  destroy_calm answer so lacked did p q h = grind (arith, either_option, calm) steps 400000
+  destroy_calm answer so lacked did p q h = grind (arith, either_option, calm)
 
   abbrev Of : Result (Unit {0}) DestroyError → Bool → Seen T U C → Bool → List (Deed U) → Seen T U C → Type 0
   Of answer b s lacked did t = OfClient b s (Does answer lacked did) (Refused answer) lacked did t
@@ -140,10 +140,10 @@ module _ {T U C : Type 0} (sends : T → Queue → Result ℕ IoFault → T → 
       ]
 
   destroyed_unknown : Own (Err destroy.InvalidId) → (o.number ≡ 1) ⊎ (named_of s o ≡ None)
-  destroyed_unknown h = grind (arith, either_option, own, named, calm, not_destroyable, in_part, never_refused) steps 400000
+  destroyed_unknown h = grind (arith, either_option, own, named, calm, not_destroyable, in_part, never_refused)
 
   destroyed_starved : Own (Err destroy.OutOfMemory) → (named_of t o ≡ named_of s o) × (lacked ≡ true)
-  destroyed_starved h = grind (arith, either_option, own, starved_refused, calm, named, left_store, starved_lacks, in_part) steps 400000
+  destroyed_starved h = grind (arith, either_option, own, starved_refused, calm, named, left_store, starved_lacks, in_part)
 
 module _ {T U G C : Type 0} {w : World T G C} {before after : BackendState T U G C} (o : IdParts) where
   destroy_each : (answer : Result (Unit {0}) DestroyError) → Calls w before (step.DestroyObject o) (reply.DestroyObject answer) after → (id : ClientParts)

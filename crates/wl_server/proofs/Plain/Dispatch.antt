@@ -11,7 +11,6 @@ use Rattle.wl_wire.specs.Table.{InterfaceRow}
 use Rattle.wl_link.proofs.Calls.Branches.{either_option}
 use Rattle.wl_link.specs.Exchange.{Queue}
 use Rattle.wl_link.specs.Link.{count_of, counted_answer}
-use Rattle.wl_link.specs.Puts.{lacks_memory}
 use Rattle.wl_link.specs.Reader.{Gives, Handled, ReaderState, Reads, Received, Turn, Unread, with_link}
 use Rattle.wl_server.specs.declared.error.ActionError.{ActionError}
 use Rattle.wl_server.specs.declared.error.ActionError.TheVariants.{ActionOpen, Io}
@@ -32,7 +31,7 @@ use Rattle.wl_server.specs.Deeds.{Bind, Deed, Handed, Request}
 use Rattle.wl_server.specs.Dispatch.{Answering, Answers, DispatchesAll, DispatchesClient, Handles, Last, Rounds, after_cleanup, cleaned, dispatched, fault_of_end, fault_of_reading, more as one_round, no_action, none as no_round, not_ended, refusal_in}
 use Rattle.wl_server.specs.Finish.{FinishesBind, FinishesOpenBind, FinishesRequest, refusal}
 use Rattle.wl_server.specs.Globals.{Offer}
-use Rattle.wl_server.specs.Inside.Finishing.{is_out_of_memory, lacks_finish}
+use Rattle.wl_server.specs.Inside.Finishing.{lacks_finish}
 use Rattle.wl_server.specs.Ids.{ClientParts}
 use Rattle.wl_server.specs.Objects.{unless_refused}
 use Rattle.wl_server.specs.Part.{Part}
@@ -40,12 +39,12 @@ use Rattle.wl_server.specs.PartStep.{Asked, Call, CleanedAs, OnPart, PartCall, R
 use Rattle.wl_server.specs.Plain.Dispatch.{AllLive, DispatchOfOneLeaves, DispatchOfSeveralLeaves, IsBusy, IsIdle, KeepsGlobals, LeftBy}
 use Rattle.wl_server.specs.Plain.Reading.{FaultLeaves, IsHandedOut, IsKilledOnce, ReadAs}
 use Rattle.wl_server.specs.Reading.{Around, NextAction, action_content, server}
-use Rattle.wl_server.specs.ReadingEnds.{LastReceiveFailed, ReadingEnds, StopsItself}
+use Rattle.wl_server.specs.ReadingEnds.{LastReceiveFailed}
 use Rattle.wl_server.specs.Server.{Seen, ServerState, seen}
 use Rattle.wl_server.specs.Steps.{Entry, OneStep, lacks_growth}
-use Rattle.wl_server.specs.Telling.{Core, Told, reader_part}
+use Rattle.wl_server.specs.Telling.{Core, Told}
 use Rattle.wl_server.proofs.Dispatches.Standing.{Stands, born_still, run_stands}
-use Rattle.wl_server.proofs.Plain.Base.{none_and_some, one_value, own, split_bool}
+use Rattle.wl_server.proofs.Plain.Base.{none_and_some, own}
 use Rattle.wl_server.proofs.Plain.Cleanup.{cleaned_killed, cleaned_live, cleaned_none}
 use Rattle.wl_server.proofs.Plain.DispatchGlobals.{dispatch_keeps, dispatches_keep}
 use Rattle.wl_server.proofs.Plain.Reading.{reads_as}
@@ -61,7 +60,7 @@ split false = inr refl
 module _ {T U G C : Type 0} (w : World T G C) (id : ClientParts) (offer : Offer G) (out : Vec (ClientParts × T) Global) (s t : Seen T U C) (lacked : Bool) (did : List (Deed U))
     (h : CleanedAs w id offer (Ok out) s lacked did t) where
   left_live : (p : Part T U C) → t.part ≡ Some p → (p.is_killed ≡ false) × (p.waiting ≡ [])
-  left_live p there = grind (arith, cleaned_none, split, cleaned_killed, cleaned_live) steps 400000
+  left_live p there = grind (arith, cleaned_none, split, cleaned_killed, cleaned_live)
 
   -- a live client without an open action stays so
   idle_still : IsIdle s.part → IsIdle t.part
@@ -118,9 +117,9 @@ not_open is = absurd cc
 
 module _ {T U C : Type 0} (table : List InterfaceRow) (id : ClientParts) (s t : Seen T U C) where
   read_blocked : ReadAs table id (Err (Io fault.WouldBlock)) s t → IsIdle t.part
-  read_blocked (inl (none, is, same)) = grind (arith) steps 400000
+  read_blocked (inl (none, is, same)) = grind (arith)
   read_blocked (inr (p, was, inl (some, is, same))) = absurd (not_open is)
-  read_blocked (inr (p, was, inr (inl (idle, dead, is, same)))) = grind (arith) steps 400000
+  read_blocked (inr (p, was, inr (inl (idle, dead, is, same)))) = grind (arith)
   read_blocked (inr (p, was, inr (inr (idle, live, (q, (closed, (lives, is))))))) = (q, ap (λ (x : Seen T U C). x.part) is, lives, closed)
 
   -- a fault by which a client is killed
@@ -202,7 +201,7 @@ module _ {T U G C : Type 0} (sends : T → Queue → Result ℕ IoFault → T �
   receive_starves : (left : ℕ) (before : ReaderState T (Core U C)) (turns : List Turn) (out : Gives (Told U)) (end : ReaderState T (Core U C))
       → Reads sends (server a) receives left before turns out end → LastReceiveFailed fault.OutOfMemory turns → out.refused ≡ true
   receive_starves left before [] out end h (r, last, failed) = absurd (none_and_some None refl last)
-  receive_starves left before (Received got ∷ []) out end (on, lacks, (n, is, (link, filled, room, h))) (r, last, failed) = grind (arith, split_result, not_both) steps 400000
+  receive_starves left before (Received got ∷ []) out end (on, lacks, (n, is, (link, filled, room, h))) (r, last, failed) = grind (arith, split_result, not_both)
   receive_starves left before (Received got ∷ t ∷ turns) out end (on, lacks, (n, is, (link, filled, room, h))) last =
       elim (split_result (counted_answer (count_of got)) h) [
         | inl (u, ok, more) ↦ receive_starves n (with_link before link) (t ∷ turns) out end more last
@@ -211,15 +210,15 @@ module _ {T U G C : Type 0} (sends : T → Queue → Result ℕ IoFault → T �
     where
       none_left : t ∷ turns ≡ [] → ⊥
       none_left is = absurd cc
-  receive_starves left before (Handled es ∷ []) out end h (r, last, failed) = grind (arith) steps 400000
+  receive_starves left before (Handled es ∷ []) out end h (r, last, failed) = grind (arith)
   receive_starves left before (Handled es ∷ t ∷ turns) out end (on, (v, link, first, lacked, mid, rest, found, by, split', more)) last =
       ap (λ (o : Gives (Told U)). o.refused) split' ∙ or_then lacked rest.refused (receive_starves left mid (t ∷ turns) rest end more last)
-  receive_starves left before (Unread es ∷ []) out end h (r, last, failed) = grind (arith) steps 400000
+  receive_starves left before (Unread es ∷ []) out end h (r, last, failed) = grind (arith)
   receive_starves left before (Unread es ∷ t ∷ turns) out end (on, (v, link, first, lacked, mid, rest, found, by, split', more)) last =
       ap (λ (o : Gives (Told U)). o.refused) split' ∙ or_then lacked rest.refused (receive_starves left mid (t ∷ turns) rest end more last)
 
   next_starves : (p q : Part T U C) (r r' : Reading) (lacked : Bool) (did : List (Deed U)) → NextAction sends receives a r p (Err (Io fault.OutOfMemory)) r' lacked did q → lacked ≡ true
-  next_starves p q r r' lacked did h = grind (arith, either_option, not_open, reading_ends, receive_starves) steps 400000
+  next_starves p q r r' lacked did h = grind (arith, either_option, not_open, reading_ends, receive_starves)
 
 module _ {T U G C : Type 0} (w : World T G C) (id : ClientParts) (s s' : ServerState T U G C) (e : Entry T U G C) (by : OneStep w s e s') where
   reading_starved : (r r' : Reading) → e.call ≡ Asked (step.NextActionWithin id r) (reply.NextActionWithin (Err (Io fault.OutOfMemory)) r') → e.refused ≡ true
@@ -253,7 +252,7 @@ module _ {T U G C : Type 0} (w : World T G C) (id : ClientParts) (s s' : ServerS
     where
       lacks : (r : Result (Unit {0}) (FinishRefused (Option U))) → Some finish.OutOfMemory ≡ refusal_in {T = T} (reply.FinishRequest r) → lacks_finish r ≡ true
       lacks (Ok ok) is = absurd (none_and_some None refl (sym is))
-      lacks (Err x) is = grind (arith) steps 400000
+      lacks (Err x) is = grind (arith)
 
   abbrev BindAnswer : Type 0
   BindAnswer = Result (Unit {0}) (FinishRefused U)
@@ -268,10 +267,10 @@ module _ {T U G C : Type 0} (w : World T G C) (id : ClientParts) (s s' : ServerS
       (own id (seen id s) (λ p q. FinishesBind p u r (e.lacks id) (e.did id) q) (r ≡ Err (record { error = finish.InvalidId; user_data = u })) (e.lacks id) (e.did id) (seen id s') h))
     where
       not_for : (r : BindAnswer) (f : FinishError) → IsStarved r → r ≡ Err (record { error = f; user_data = u }) → finish.OutOfMemory ≡ f
-      not_for r f starved is = grind (arith) steps 400000
+      not_for r f starved is = grind (arith)
 
       open_bind : (r : BindAnswer) → IsStarved r → (p q : Part T U C) (a : OpenAction) → FinishesOpenBind p a u r (e.lacks id) (e.did id) q → ⊥
-      open_bind r h1 p q a h2 = grind (arith, not_for) steps 400000
+      open_bind r h1 p q a h2 = grind (arith, not_for)
 
       never : (r : BindAnswer) → IsStarved r
           → OnPart (seen id s) (λ p q. FinishesBind p u r (e.lacks id) (e.did id) q) (r ≡ Err (record { error = finish.InvalidId; user_data = u })) (e.lacks id) (e.did id) (seen id s') → ⊥
@@ -337,11 +336,11 @@ module _ {H T U G C : Type 0} (w : World T G C) (answers : Answering H T U G C) 
         one is = cc
 
         accepted : (lacked : Bool) → r ≡ unless_refused (record { error = finish.OutOfMemory; user_data = u }) lacked → ⊥
-        accepted lacked h1 = grind (arith, refusal_in) steps 400000
+        accepted lacked h1 = grind (arith, refusal_in)
 
     bind_same : (p q : Part T U C) (u : U) (r : Result (Unit {0}) (FinishRefused U)) (lacked : Bool) (did : List (Deed U))
         → Some why ≡ refusal_in {T = T} (reply.FinishBind r) → FinishesBind p u r lacked did q → q ≡ p
-    bind_same p q u r lacked did so does = grind (arith, either_option, refusal_in) steps 400000
+    bind_same p q u r lacked did so does = grind (arith, either_option, refusal_in)
 
     module _ (s s' : ServerState T U G C) (e : Entry T U G C) (by : OneStep w s e s') (answer : Reply T U) (so : Some why ≡ refusal_in answer) where
       request_stays : (u : Option U) → e.call ≡ Asked (step.FinishRequest id u) answer → (seen id s').part ≡ (seen id s).part

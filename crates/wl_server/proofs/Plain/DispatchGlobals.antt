@@ -3,13 +3,11 @@ use Rattle.std.proofs.Common.{◌≡◌, ◌∙◌, ℕ, Bool, List, Option, Non
 use Rattle.wl_wire.specs.declared.error.IoFault.{IoFault}
 use Rattle.wl_server.specs.declared.error.FinishError.{FinishError}
 use Rattle.wl_server.specs.declared.reading.action.Action.{Action}
-use Rattle.wl_server.specs.declared.reading.action.Action.TheVariants as action
 use Rattle.wl_server.specs.declared.reading.action.Reading.{Reading}
-use Rattle.wl_server.specs.declared.runs.step.Step.{Step}
 use Rattle.wl_server.specs.Backend.{BackendState}
-use Rattle.wl_server.specs.Dispatch.{Answering, Answers, EachIsDispatched, EndsDispatch, Handles, IsDispatched, Last, Round, Rounds, more, no_action, none, not_ended}
+use Rattle.wl_server.specs.Dispatch.{Answering, EachIsDispatched, EndsDispatch, Handles, IsDispatched, Last, Round, Rounds, more, no_action, none, not_ended}
 use Rattle.wl_server.specs.Ids.{ClientParts}
-use Rattle.wl_server.specs.PartStep.{Asked, Call, World}
+use Rattle.wl_server.specs.PartStep.{Call, World}
 use Rattle.wl_server.specs.Plain.Dispatch.{KeepsGlobals}
 use Rattle.wl_server.specs.Server.{ServerState}
 use Rattle.wl_server.specs.Steps.{Entry, OneStep, offer_after}
@@ -23,7 +21,7 @@ module _ {H T U G C : Type 0} (w : World T G C) (answers : Answering H T U G C) 
   module _ (id : ClientParts) where
     handled_keeps : (h h' : H) (before : BackendState T U G C) (a : Action) (run : List (Entry T U G C)) (lacked : Bool) (why : Option FinishError) (after : ServerState T U G C)
         → Handles w answers id h before a run lacked why h' after → after.offer ≡ before.server.offer
-    handled_keeps h h' before a run lacked why after x = grind (arith, kept_by) steps 400000
+    handled_keeps h h' before a run lacked why after x = grind (arith, kept_by)
 
     round_keeps : (h h' : H) (r r' : Reading) (before after : ServerState T U G C) (run : List (Entry T U G C)) (lacked : Bool) (why : Option FinishError)
         → Round w answers id h r before run lacked why h' r' after → after.offer ≡ before.offer

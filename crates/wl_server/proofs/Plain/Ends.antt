@@ -1,10 +1,8 @@
 -- A client that is killed.
-use Rattle.std.proofs.Common.{◌≡◌, Bool, true, false, cond, List, [], ◌∷◌, ◌++◌, append-nil, Option, None, Some, refl, sym, ap, ◌∙◌, arith}
-use mathlib.Core.Logic.{inl, inr}
+use Rattle.std.proofs.Common.{◌≡◌, Bool, true, false, cond, List, [], ◌∷◌, ◌++◌, append-nil, None, Some, refl, ap, arith}
 use Rattle.std.specs.Prelude.{option_map}
 use Rattle.wl_link.proofs.Calls.Branches.{either_option}
 use Rattle.wl_server.specs.declared.notes.DisconnectReason.{DisconnectReason}
-use Rattle.wl_server.specs.declared.notes.Happening.{Happening}
 use Rattle.wl_server.specs.declared.notes.Happening.TheVariants.{Disconnected}
 use Rattle.wl_server.specs.declared.runs.step.Reply.TheVariants as reply
 use Rattle.wl_server.specs.declared.runs.step.Step.TheVariants as step
@@ -28,10 +26,10 @@ module _ {T U C : Type 0} (id : ClientParts) (reason : DisconnectReason) (s t : 
   noted_if false = refl
 
   killed_part : OfClient (same_client id id) s Ending (Unit {0}) lacked did t → t.part ≡ option_map as_killed s.part
-  killed_part h = grind (arith, either_option, own, calm, option_map, as_killed) steps 400000
+  killed_part h = grind (arith, either_option, own, calm, option_map, as_killed)
 
   killed_notes : OfClient (same_client id id) s Ending (Unit {0}) lacked did t → t.made ≡ s.made ++ end_note_of s.part reason
-  killed_notes h = grind (arith, either_option, own, calm, append-nil, end_note_of, noted_if) steps 400000
+  killed_notes h = grind (arith, either_option, own, calm, append-nil, end_note_of, noted_if)
 
 module _ {T U G C : Type 0} {w : World T G C} {before after : BackendState T U G C} where
   pub kills_client : (id : ClientParts) (reason : DisconnectReason) → Calls w before (step.KillClient id reason) reply.KillClient after → KillsClient before id reason after

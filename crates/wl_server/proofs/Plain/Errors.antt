@@ -92,7 +92,7 @@ module _ {T U C : Type 0} (sends : T → Queue → Result ℕ IoFault → T → 
 
   -- the objects stay
   stores_stay : (lacked : Bool) (did : List (Deed U)) (p q : Part T U C) → Does lacked did p q → q.store ≡ p.store
-  stores_stay lacked did p q h = grind (arith, by_choice, ends) steps 400000
+  stores_stay lacked did p q h = grind (arith, by_choice, ends)
 
   -- a null id does nothing
   null_same : (id.number == 0) ≡ true → (b : Bool) (s t : Seen T U C) (lacked : Bool) (did : List (Deed U)) → OfClient b s (Does lacked did) (Unit {0}) lacked did t → t ≡ s

@@ -17,7 +17,7 @@ use Rattle.wl_server.specs.Part.{Part}
 use Rattle.wl_server.specs.Telling.{Tells, core_of}
 use Rattle.wl_server.proofs.Plain.Base.{split_bool}
 use Rattle.wl_server.proofs.Plain.ReadingEnds.{split_result}
-use Rattle.wl_server.proofs.Plain.Verdicts.{told_nothing, told_starved}
+use Rattle.wl_server.proofs.Plain.Verdicts.{told_nothing}
 
 -- what the answer tells of memory
 pub data MemoryBy {T U C : Type 0} (p q : Part T U C) (answer : Result (Unit {0}) EventError) (lacked : Bool) : Type 0 where
@@ -28,7 +28,7 @@ pub data MemoryBy {T U C : Type 0} (p q : Part T U C) (answer : Result (Unit {0}
 module _ {T U C : Type 0} (sends : T → Queue → Result ℕ IoFault → T → Type 0) (client : ClientParts) (m : SessionMessage) (p q : Part T U C) where
   starved : (lacked : Bool) (did : List (Deed U)) (x : Object (Kept U)) (ends : Bool) (link : LinkState T) → Tells sends (ends_sender client (core_of p) m x ends) link lacked did q
       → lacked ≡ true → q.is_killed ≡ true
-  starved lacked did x ends link h1 h2 = grind (arith, ends_sender, core_of) steps 400000
+  starved lacked did x ends link h1 h2 = grind (arith, ends_sender, core_of)
 
   closed : (lacked : Bool) (did : List (Deed U)) (x : Object (Kept U)) (ends : Bool) (link : LinkState T) → Tells sends (ends_closed client (core_of p) m x ends) link lacked did q
       → lacked ≡ false

@@ -3,7 +3,6 @@ use Rattle.std.proofs.Common.{◌≡◌, Bool, true, false, List, [], Option, No
 use mathlib.Core.Logic.{inl, inr}
 use Rattle.std.specs.Prelude.{option_map}
 use Rattle.wl_link.proofs.Calls.Branches.{either_option}
-use Rattle.wl_link.specs.declared.object.Object.{Object}
 use Rattle.wl_link.specs.Store.{Store}
 use Rattle.wl_server.specs.declared.error.FinishError.{FinishError}
 use Rattle.wl_server.specs.declared.error.FinishError.TheVariants as finish
@@ -29,10 +28,10 @@ use Rattle.wl_server.proofs.Plain.Naming.{names_so, rewritten_named, rewritten_o
 
 module _ {U : Type 0} (store : Store (Kept U)) (id : IdParts) (u : U) where
   pub given_named : named (data_given store id.number (named store id) u) id ≡ option_map (with_user_data u) (named store id)
-  given_named = grind (arith, named, option_map, with_user_data, rewritten_named, names_so) steps 400000
+  given_named = grind (arith, named, option_map, with_user_data, rewritten_named, names_so)
 
   pub given_others : (other : IdParts) → same_id (id_of id) (id_of other) ≡ false → named (data_given store id.number (named store id) u) other ≡ named store other
-  given_others other differ = grind (arith, named, rewritten_others, with_user_data, names_so) steps 400000
+  given_others other differ = grind (arith, named, rewritten_others, with_user_data, names_so)
 
 -- ---- a bind
 
@@ -56,17 +55,17 @@ refused_ok : {U : Type 0} {r : FinishRefused U} → ◌≡◌ {A = Result (Unit 
 refused_ok is = absurd cc
 
 given_back : {U : Type 0} {r : FinishRefused U} {e : FinishError} {u : U} → ◌≡◌ {A = Result (Unit {0}) (FinishRefused U)} (Err r) (Err (record { error = e; user_data = u })) → r.user_data ≡ u
-given_back {U} {r} {e} {u} is = grind (arith) steps 400000
+given_back {U} {r} {e} {u} is = grind (arith)
 
 module _ {T U C : Type 0} (u : U) (lacked : Bool) (did : List (Deed U)) (p q : Part T U C) where
   bound_ok : Bound u (Ok tt) lacked did p q → HasBound p u did q
-  bound_ok h = grind (arith, either_option, calm, ok_refused) steps 400000
+  bound_ok h = grind (arith, either_option, calm, ok_refused)
 
   bound_refused : (r : FinishRefused U) → Bound u (Err r) lacked did p q → (r.user_data ≡ u) × (did ≡ []) × (q ≡ p)
-  bound_refused r h = grind (arith, either_option, calm, given_back, refused_ok) steps 400000
+  bound_refused r h = grind (arith, either_option, calm, given_back, refused_ok)
 
   bound_quietly : (answer : Result (Unit {0}) (FinishRefused U)) → Bound u answer lacked did p q → (lacked ≡ false) × (did ≡ [])
-  bound_quietly answer h = grind (arith, either_option, calm) steps 400000
+  bound_quietly answer h = grind (arith, either_option, calm)
 
 abbrev OfBind : {T U C : Type 0} → ClientParts → ClientParts → U → Result (Unit {0}) (FinishRefused U) → Seen T U C → Bool → List (Deed U) → Seen T U C → Type 0
 OfBind target client u answer s lacked did t = OfClient (same_client target client) s (Bound u answer lacked did) (Unknown u answer) lacked did t
@@ -93,7 +92,7 @@ module _ {T U C : Type 0} (client : ClientParts) (u : U) (s t : Seen T U C) (lac
       ]
 
   bind_given_back : (r : FinishRefused U) → OfBind client client u (Err r) s lacked did t → r.user_data ≡ u
-  bind_given_back r h = grind (arith, either_option, own, given_back, bound_refused) steps 400000
+  bind_given_back r h = grind (arith, either_option, own, given_back, bound_refused)
 
 bind_refused : {T U C : Type 0} (b : Bool) (u : U) (r : FinishRefused U) (s t : Seen T U C) (lacked : Bool) (did : List (Deed U))
     → OfClient b s (Bound u (Err r) lacked did) (Unknown u (Err r)) lacked did t → t ≡ s

@@ -1,5 +1,5 @@
 -- Globals that are created, disabled and removed.
-use Rattle.std.proofs.Common.{◌≡◌, ◌⊎◌, ℕ, Bool, true, false, cond, List, [], ◌∷◌, ◌++◌, append-nil, Option, None, Some, Result, Ok, Err, MatchOption, refl, sym, ap, subst, ◌∙◌, arith, true≢false}
+use Rattle.std.proofs.Common.{◌≡◌, ◌⊎◌, ℕ, Bool, true, false, cond, List, [], ◌∷◌, ◌++◌, append-nil, Option, None, Some, Result, Ok, Err, MatchOption, refl, ap, subst, ◌∙◌, arith, true≢false}
 use mathlib.Core.Logic.{inl, inr}
 use Rattle.std.specs.Prelude.{◌==◌, MatchBool, nat_le, option_map, slice_get}
 use Rattle.std.proofs.lemmas.Bool.{eq-eqb, ne_eqb}
@@ -57,7 +57,7 @@ which false = inr refl
 
 module _ {T U C : Type 0} (sends : T → Queue → Result ℕ IoFault → T → Type 0) (messages : List Said) (lacked : Bool) (did : List (Deed U)) where
   hears_store : (p q : Part T U C) → Hears sends p messages lacked did q → q.store ≡ p.store
-  hears_store p q h = grind (arith, either_bool, told, tells, core_of) steps 400000
+  hears_store p q h = grind (arith, either_bool, told, tells, core_of)
 
   -- told, or killed
   hears_as : (s t : Seen T U C) (p q : Part T U C) → s.part ≡ Some p → Hears sends p messages lacked did q → t ≡ record { part = Some q; made = s.made ++ notes_in did }
@@ -92,11 +92,11 @@ module _ {T U C : Type 0} (sends : T → Queue → Result ℕ IoFault → T → 
       ]
     where
       alive : (link : LinkState T) → q ≡ with_link p link → notes_in did ≡ [] → t ≡ record { part = Some (with_link p link); made = s.made }
-      alive link part notes = grind (arith, append-nil) steps 400000
+      alive link part notes = grind (arith, append-nil)
 
       dead : p.is_killed ≡ false → (link : LinkState T) → q ≡ as_killed (with_link p link) → notes_in did ≡ notes_in (end_deeds (cond p.is_killed None (Some ConnectionClosed)))
           → t ≡ record { part = Some (as_killed (with_link p link)); made = s.made ++ Disconnected ConnectionClosed ∷ [] }
-      dead live link part notes = grind (arith, end_deeds) steps 400000
+      dead live link part notes = grind (arith, end_deeds)
 
 module _ {T U C : Type 0} (sends : T → Queue → Result ℕ IoFault → T → Type 0) (messages : Part T U C → List Said) (lacked : Bool) (did : List (Deed U)) where
   -- so is a client that feels a call
@@ -115,7 +115,7 @@ module _ {T U C : Type 0} (sends : T → Queue → Result ℕ IoFault → T → 
   -- if memory was refused to it, it is killed now
   felt_lacked : (s t : Seen T U C) → lacked ≡ true → Feels s (λ p q. Hears sends p (messages p) lacked did q) lacked did t
       → (option_map (λ p. p.is_killed) s.part ≡ Some false) × (option_map (λ p. p.is_killed) t.part ≡ Some true)
-  felt_lacked s t lacks h = grind (arith, either_option, true≢false, split, told_starved, tells, core_of, option_map) steps 400000
+  felt_lacked s t lacks h = grind (arith, either_option, true≢false, split, told_starved, tells, core_of, option_map)
 
 module _ {T U C : Type 0} where
   -- a client that feels nothing
@@ -138,7 +138,7 @@ no_error is = absurd cc
 module _ {G : Type 0} where
   global_parts : (zero : Bool) (id : Id) (h : Option (Object (KeptGlobal G))) (x : Object (KeptGlobal G)) → cond zero None (named_in global_serial id h) ≡ Some x
       → (zero ≡ false) × ((x.value.serial == id.serial) ≡ true)
-  global_parts zero id h x h1 = grind (arith) steps 400000
+  global_parts zero id h x h1 = grind (arith)
 
   global_here : (store : Store (KeptGlobal G)) (id : Id) (x : Object (KeptGlobal G)) → (id.number == 0) ≡ false → held store id.number ≡ Some x → (x.value.serial == id.serial) ≡ true
       → cond (id.number == 0) None (named_in global_serial id (held store id.number)) ≡ Some x
@@ -151,17 +151,17 @@ module _ {G : Type 0} where
 
   disabled_in : (globals : Globals G) (id : GlobalParts) (o : Option (Object (KeptGlobal G))) → global_of globals id ≡ o
       → global_of (disabled_at globals id.name o) id ≡ option_map as_disabled o
-  disabled_in globals id o h1 = grind (arith, global_parts, held, global_here, rewritten, as_disabled, rewritten_here) steps 400000
+  disabled_in globals id o h1 = grind (arith, global_parts, held, global_here, rewritten, as_disabled, rewritten_here)
 
   freed_in : (globals : Globals G) (id : GlobalParts) (o : Option (Object (KeptGlobal G))) → global_of globals id ≡ o → global_of (freed_at globals id.name o) id ≡ None
-  freed_in globals id o h1 = grind (arith, global_serial, removed_here, both_none) steps 400000
+  freed_in globals id o h1 = grind (arith, global_serial, removed_here, both_none)
 
   next_of : (table : List InterfaceRow) (globals : Globals G) (i : InterfaceId) (version : ℕ) (g : GlobalParts) → CreatesGlobal table globals i version (Ok g) → IsNextGlobal globals g
-  next_of table globals i version g h = grind (arith, either_option, slice_get, no_error, nat_le) steps 400000
+  next_of table globals i version g h = grind (arith, either_option, slice_get, no_error, nat_le)
 
   created_in : (globals : Globals G) (g : GlobalParts) (x : Object (KeptGlobal G)) → IsNextGlobal globals g → x.value.serial ≡ g.serial
       → cond (g.name == 0) None (named_in global_serial (record { number = g.name; serial = g.serial }) (held (stored globals.store g.name x) g.name)) ≡ Some x
-  created_in globals g x next serial = grind (arith, global_here, stored, ne_eqb, stored_here, eq-eqb) steps 400000
+  created_in globals g x next serial = grind (arith, global_here, stored, ne_eqb, stored_here, eq-eqb)
 
 -- ---- the calls
 
@@ -270,7 +270,7 @@ module _ {T U G C : Type 0} {w : World T G C} {before after : BackendState T U G
 
     -- no global has its name, so its id named none
     unnamed_before : (g : GlobalParts) → Calls w before (step.CreateGlobal i version handler) (reply.CreateGlobal (Ok g)) after → global_of before.server.offer.globals g ≡ None
-    unnamed_before g call = grind (arith, global_serial, next, both_none) steps 400000
+    unnamed_before g call = grind (arith, global_serial, next, both_none)
 
     created_as : (answer : Result GlobalParts GlobalError) → Calls w before (step.CreateGlobal i version handler) (reply.CreateGlobal answer) after
         → GlobalCreatedAs before i version handler answer after

@@ -1,13 +1,12 @@
 -- A client that is inserted, limits, and interfaces that are added.
 use Rattle.std.proofs.Common.{◌≡◌, ℕ, Bool, true, false, List, [], ◌++◌, Option, None, Some, Result, Ok, Err, MatchOption, refl, sym, ap, subst, ◌∙◌, true≢false, arith}
-use mathlib.Core.Logic.{inl, inr}
+use mathlib.Core.Logic.{inl}
 use Rattle.std.specs.Prelude.{MatchBool}
 use Rattle.wl_wire.specs.declared.protocol.TableError.{TableError}
 use Rattle.wl_wire.specs.declared.protocol.TableError.TheVariants as table_error
 use Rattle.wl_wire.specs.Table.{InterfaceRow, grown, refused_growth}
 use Rattle.wl_link.specs.Link.{LimitSet, LinkState}
 use Rattle.wl_server.specs.declared.error.InsertClientError.{InsertClientError}
-use Rattle.wl_server.specs.declared.error.InsertClientError.TheVariants as insert
 use Rattle.wl_server.specs.declared.runs.step.Reply.{Reply}
 use Rattle.wl_server.specs.declared.runs.step.Reply.TheVariants as reply
 use Rattle.wl_server.specs.declared.runs.step.Step.TheVariants as step
@@ -20,7 +19,7 @@ use Rattle.wl_server.specs.Part.{Part, named, with_link}
 use Rattle.wl_server.specs.PartStep.{Asked, Call, Grown, Inserted, InsertedAs, OfClient, PartCall, Quietly, Unfelt, World}
 use Rattle.wl_server.specs.Plain.Calls.{AddsInterfaces, InsertsClient, NewClientAs, SetsDefaultLimit, SetsLimit, lacks_insertion}
 use Rattle.wl_server.specs.Server.{Seen, seen}
-use Rattle.wl_server.specs.Steps.{AnswersShared, Entry, OneStep, lacks_growth}
+use Rattle.wl_server.specs.Steps.{Entry, OneStep, lacks_growth}
 use Rattle.wl_server.proofs.CallSteps.Slots.{same_self}
 use Rattle.wl_server.proofs.Plain.Base.{by_growth, calm, keeps, never, notes_stay, of_each, offer_of, other_stays, own, when_false, when_true}
 
@@ -70,7 +69,7 @@ module _ {T U G C : Type 0} {w : World T G C} {before after : BackendState T U G
       never_lacks id (Err e) lacked did (calm', none, same) = calm'
 
       growth_of : (r : Result ClientParts InsertClientError) → lacks_growth {T = T} {U = U} {G = G} {C = C} (Asked (step.InsertClient transport client_data) (reply.InsertClient r)) ≡ lacks_insertion r
-      growth_of r = grind (arith) steps 400000
+      growth_of r = grind (arith)
 
 module _ {T U G C : Type 0} {w : World T G C} {before after : BackendState T U G C} where
   pub sets_limit : (id : ClientParts) (limit : ℕ) → Calls w before (step.SetClientMaxBufferSize id limit) reply.SetClientMaxBufferSize after → SetsLimit before id limit after
@@ -130,8 +129,8 @@ module _ {T U G C : Type 0} (w : World T G C) (before after : BackendState T U G
       at true true refused lacks = refl
       at false false refused lacks = refl
       at false true refused lacks = sym refused ∙ by.refused.1 (inl (for_table ∙ lacks))
-      at true false refused lacks = grind (arith, true≢false, for_table, unfelt) steps 400000
+      at true false refused lacks = grind (arith, true≢false, for_table, unfelt)
 
   pub adds_interfaces : IsGrowth w before rows answer after
       → after.server ≡ record before.server { offer = with_table before.server.offer (grown before.server.offer.table rows answer) } → AddsInterfaces before rows answer after
-  adds_interfaces growth same = grind (arith, refused_as) steps 400000
+  adds_interfaces growth same = grind (arith, refused_as)

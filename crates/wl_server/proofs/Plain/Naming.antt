@@ -1,5 +1,5 @@
 -- What ids name after the object at one number was changed.
-use Rattle.std.proofs.Common.{◌≡◌, ℕ, Bool, true, false, cond, eqb, eqb-true, Option, None, Some, refl, sym, ap, subst, ◌∙◌, true≢false, arith}
+use Rattle.std.proofs.Common.{◌≡◌, ℕ, Bool, true, false, cond, eqb, eqb-true, Option, None, Some, refl, sym, ap, ◌∙◌, true≢false, arith}
 use Rattle.std.proofs.lemmas.Bool.{eq-eqb}
 use Rattle.std.specs.Prelude.{◌==◌, ◌&&◌}
 use Rattle.wl_link.specs.declared.object.Object.{Object}
@@ -15,7 +15,7 @@ differs true c both is = both
 differs false c both is = absurd (true≢false (sym is))
 
 swapped : (m n : ℕ) (b : Bool) → eqb m n ≡ b → (n == m) ≡ b
-swapped m n b h1 = grind (arith, eq-eqb, eqb-true, true≢false) steps 400000
+swapped m n b h1 = grind (arith, eq-eqb, eqb-true, true≢false)
 
 module _ {U : Type 0} where
   -- what stands there, if anything does, has this serial
@@ -23,7 +23,7 @@ module _ {U : Type 0} where
   HasSerial n o = (x : Object (Kept U)) → o ≡ Some x → x.value.serial ≡ n
 
   pub nothing_has : (n : ℕ) (o : Option (Object (Kept U))) → o ≡ None → HasSerial n o
-  nothing_has n o none x is = grind (arith) steps 400000
+  nothing_has n o none x is = grind (arith)
 
   chosen : (b : Bool) (y x : Object (Kept U)) → cond b (Some y) None ≡ Some x → (y ≡ x) × (b ≡ true)
   chosen true y x e = (cc, refl)
@@ -37,24 +37,24 @@ module _ {U : Type 0} where
 
   parts : (zero : Bool) (id : Id) (h : Option (Object (Kept U))) (x : Object (Kept U)) → cond zero None (named_in serial_of id h) ≡ Some x
       → (zero ≡ false) × (h ≡ Some x) × ((x.value.serial == id.serial) ≡ true)
-  parts zero id h x h1 = grind (arith, chosen) steps 400000
+  parts zero id h x h1 = grind (arith, chosen)
 
   pub names_so : (store : Store (Kept U)) (id : IdParts) (x : Object (Kept U)) → named store id ≡ Some x → Names store id x
-  names_so store id x is = grind (arith, parts) steps 400000
+  names_so store id x is = grind (arith, parts)
 
   pub serial_is : {store : Store (Kept U)} {id : IdParts} {x : Object (Kept U)} → Names store id x → HasSerial id.serial (held store id.number)
-  serial_is {store} {id} {x} by y is = grind (arith, eqb-true) steps 400000
+  serial_is {store} {id} {x} by y is = grind (arith, eqb-true)
 
   -- ---- the id itself
 
   -- its number holds another object of its serial
   pub named_here : (store : Store (Kept U)) (id : IdParts) (x : Object (Kept U)) → (id.number == 0) ≡ false → held store id.number ≡ Some x → (x.value.serial == id.serial) ≡ true
       → named store id ≡ Some x
-  named_here store id x numbered holds tells = grind (arith) steps 400000
+  named_here store id x numbered holds tells = grind (arith)
 
   pub rewritten_named : (store : Store (Kept U)) (id : IdParts) (x y : Object (Kept U)) → Names store id x → y.value.serial ≡ x.value.serial
       → named (rewritten store id.number y) id ≡ Some y
-  rewritten_named store id x y by same = grind (arith, named_here, rewritten_here) steps 400000
+  rewritten_named store id x y by same = grind (arith, named_here, rewritten_here)
 
   pub both_none : (b : Bool) → ◌≡◌ {A = Option (Object (Kept U))} (cond b None None) None
   both_none true = refl
@@ -74,11 +74,11 @@ module _ {U : Type 0} where
   -- serial names what it named.
   pub other_named : (before after : Store (Kept U)) (n serial : ℕ) (h : Option (Object (Kept U))) → ((m : ℕ) → held after m ≡ cond (eqb m n) h (held before m)) → HasSerial serial h
       → HasSerial serial (held before n) → (id : IdParts) → same_id (record { number = n; serial = serial }) (id_of id) ≡ false → named after id ≡ named before id
-  other_named before after n serial h holds has had id other = grind (arith, eqb, differs, swapped, unnamed, eqb-true) steps 400000
+  other_named before after n serial h holds has had id other = grind (arith, eqb, differs, swapped, unnamed, eqb-true)
 
   pub rewritten_others : (store : Store (Kept U)) (id : IdParts) (x y : Object (Kept U)) → Names store id x → y.value.serial ≡ x.value.serial → (other : IdParts)
       → same_id (id_of id) (id_of other) ≡ false → named (rewritten store id.number y) other ≡ named store other
-  rewritten_others store id x y by same other differ = grind (arith, other_named, held_rewritten, eqb-true, serial_is) steps 400000
+  rewritten_others store id x y by same other differ = grind (arith, other_named, held_rewritten, eqb-true, serial_is)
 
   pub removed_others : (store : Store (Kept U)) (id : IdParts) (x : Object (Kept U)) → Names store id x → (other : IdParts) → same_id (id_of id) (id_of other) ≡ false
       → named (removed store id.number) other ≡ named store other

@@ -1,5 +1,5 @@
 -- Whether memory was refused in a reading, by its answer.
-use Rattle.std.proofs.Common.{◌≡◌, ℕ, Bool, true, false, cond, List, [], ◌∷◌, ◌++◌, map, append-nil, None, Result, Ok, Err, refl, sym, ap, subst, ◌∙◌, true≢false, arith}
+use Rattle.std.proofs.Common.{◌≡◌, ℕ, Bool, true, false, cond, List, [], ◌∷◌, ◌++◌, map, append-nil, None, Result, Err, refl, sym, subst, ◌∙◌, true≢false, arith}
 use mathlib.Core.Logic.{inl, inr}
 use Rattle.std.specs.Prelude.{◌||◌, nat_lt}
 use Rattle.wl_wire.specs.declared.error.IoFault.{IoFault}
@@ -13,7 +13,7 @@ use Rattle.wl_link.specs.Link.{LinkState, count_of, counted_answer}
 use Rattle.wl_link.specs.Puts.{Said, lacks_memory}
 use Rattle.wl_link.specs.Reader.{CarriesOut, Given, Gives, Halts, Handled, HandedOut, ReaderState, Reads, Received, Turn, Unread, Verdict, came_to, given_first, put_and_gave, stops, with_link}
 use Rattle.wl_server.specs.declared.error.ActionError.{ActionError}
-use Rattle.wl_server.specs.declared.error.ActionError.TheVariants.{ActionOpen, Io}
+use Rattle.wl_server.specs.declared.error.ActionError.TheVariants.{Io}
 use Rattle.wl_server.specs.declared.objects.Kept.{Kept}
 use Rattle.wl_server.specs.Deeds.{Deed, Handed, Remembered}
 use Rattle.wl_server.specs.Errors.{since_text}
@@ -53,14 +53,14 @@ module _ {T U G C : Type 0} (sends : T → Queue → Result ℕ IoFault → T �
 
   -- a verdict that puts nothing and asks for nothing
   quiet_lacks : (v : Verdict (Core U C) (Told U)) → v.puts ≡ [] → v.flushes ≡ false → v.asks ≡ false → Lacking v
-  quiet_lacks v h1 h2 h3 = grind (arith, true≢false, lacks_memory, nothing_put, no_flush) steps 400000
+  quiet_lacks v h1 h2 h3 = grind (arith, true≢false, lacks_memory, nothing_put, no_flush)
 
   breaks_lacks : (c : Core U C) (code : ℕ) (text : List ℕ) → Lacking (breaks a c code text)
-  breaks_lacks c code text = grind (arith, action_in, after_puts, came_to, server, breaks) steps 400000
+  breaks_lacks c code text = grind (arith, action_in, after_puts, came_to, server, breaks)
 
   replies_lacks : (m : Core U C) (puts : List Said) (did : List (Deed U)) → action_in (map HandedOut (map Did did ++ telling.Stops fault.Pipe ∷ [])) ≡ Err (Io fault.Pipe)
       → Lacking (replies m puts did)
-  replies_lacks m puts did h1 = grind (arith, came_to, server, replies, closed_down, lacking, or_false, lacks_memory, no_flush, action_in, put_and_gave, stops_if, after_puts, true≢false) steps 400000
+  replies_lacks m puts did h1 = grind (arith, came_to, server, replies, closed_down, lacking, or_false, lacks_memory, no_flush, action_in, put_and_gave, stops_if, after_puts, true≢false)
 
   handles_lacks : (c : Core U C) (m : WireMessage) → Lacking ((server a).handles c m)
   handles_lacks c m =
@@ -90,10 +90,10 @@ module _ {T U G C : Type 0} (sends : T → Queue → Result ℕ IoFault → T �
   -- nothing more is read after this answer
   last_memory : (t : Turn) (before mid : ReaderState T (Core U C)) (answer : Result Handed ActionError) (lacked : Bool) → Answers sends receives a t before answer mid
       → (lacked ≡ true → answer ≡ Err (Io fault.Pipe)) → MemoryOf answer (lacked || false)
-  last_memory t before mid answer lacked h1 h2 = grind (arith) steps 400000
+  last_memory t before mid answer lacked h1 h2 = grind (arith)
 
   halts_memory : (left : ℕ) (before : ReaderState T (Core U C)) (out : Gives (Told U)) → Halts sends (server a) left before out → MemoryAt out
-  halts_memory left before out h1 = grind (arith) steps 400000
+  halts_memory left before out h1 = grind (arith)
 
   no_more : (left : ℕ) (mid end : ReaderState T (Core U C)) (turns : List Turn) (rest : Gives (Told U)) → reads_on mid.core ≡ false
       → Reads sends (server a) receives left mid turns rest end → rest ≡ stops None false left
@@ -105,7 +105,7 @@ module _ {T U G C : Type 0} (sends : T → Queue → Result ℕ IoFault → T �
   then_memory : (t : Turn) (before mid end : ReaderState T (Core U C)) (left : ℕ) (turns : List Turn) (first : List (Given (Told U))) (lacked : Bool) (rest out : Gives (Told U))
       → out ≡ given_first first lacked rest → Turned sends receives a t before first mid → Pipes first lacked mid → Reads sends (server a) receives left mid turns rest end
       → (IsRead mid.core → MemoryAt rest) → MemoryAt out
-  then_memory t before mid end left turns first lacked rest out h1 h2 h3 h4 h5 = grind (arith, still_answered, answered, true≢false, given_first, no_more, action_in, append-nil, last_memory) steps 400000
+  then_memory t before mid end left turns first lacked rest out h1 h2 h3 h4 h5 = grind (arith, still_answered, answered, true≢false, given_first, no_more, action_in, append-nil, last_memory)
 
   pub reads_memory : (left : ℕ) (before : ReaderState T (Core U C)) (turns : List Turn) (out : Gives (Told U)) (end : ReaderState T (Core U C)) → IsRead before.core
       → Reads sends (server a) receives left before turns out end → MemoryAt out

@@ -1,11 +1,10 @@
 -- What is noted in a reading: the end of the client, if it is killed, and nothing else.
-use Rattle.std.proofs.Common.{◌≡◌, ℕ, Bool, true, false, cond, List, [], ◌∷◌, ◌++◌, map, Result, refl, sym, ap, subst, ◌∙◌, arith}
+use Rattle.std.proofs.Common.{◌≡◌, ℕ, Bool, List, [], ◌∷◌, ◌++◌, map, Result, refl, sym, ap, subst, ◌∙◌, arith}
 use mathlib.Core.Logic.{inl, inr}
 use Rattle.std.specs.Prelude.{nat_lt}
 use Rattle.wl_wire.specs.declared.error.IoFault.{IoFault}
-use Rattle.wl_wire.specs.declared.error.IoFault.TheVariants as fault
 use Rattle.wl_wire.specs.Message.{WireMessage}
-use Rattle.wl_wire.specs.Table.{MessageRow, name_of}
+use Rattle.wl_wire.specs.Table.{MessageRow}
 use Rattle.wl_link.specs.declared.object.Object.{Object}
 use Rattle.wl_link.proofs.Calls.Branches.{either_result}
 use Rattle.wl_link.specs.Exchange.{Queue, Sending}
@@ -15,10 +14,9 @@ use Rattle.wl_link.specs.Reader.{CarriesOut, Given, Gives, Handled, Reads, Recei
 use Rattle.wl_server.specs.declared.notes.Happening.{Happening}
 use Rattle.wl_server.specs.declared.objects.Kept.{Kept}
 use Rattle.wl_server.specs.Deeds.{Deed, Put, notes_in}
-use Rattle.wl_server.specs.Errors.{since_text}
 use Rattle.wl_server.specs.Reading.{Around, breaks, converted, exchanges_in, other_request, server, stops_if}
 use Rattle.wl_server.specs.Requests.{Outcome, Whole, Wrong, convert, start}
-use Rattle.wl_server.specs.Telling.{Core, Stops, Told, deeds_in, deeds_of, end_deeds, objects_in}
+use Rattle.wl_server.specs.Telling.{Core, Told, deeds_in, deeds_of, end_deeds, objects_in}
 use Rattle.wl_server.proofs.OverRuns.Announced.RequestCases.{request_case}
 use Rattle.wl_server.proofs.OverRuns.Moves.BaseMoves.{Doings}
 use Rattle.wl_server.proofs.OverRuns.Moves.DoingsLaws.{deeds_both, deeds_given, doings_in_both, doings_puts, doings_turns, told_deeds}
@@ -49,14 +47,14 @@ module _ {T U G C : Type 0} (sends : T → Queue → Result ℕ IoFault → T �
   Unnoted v = (d : Core U C) → notes_in (told_deeds (v.events d)) ≡ []
 
   stops_unnoted : (d : Core U C) → notes_in (told_deeds (stops_if d)) ≡ []
-  stops_unnoted d = grind (arith, told_deeds) steps 400000
+  stops_unnoted d = grind (arith, told_deeds)
 
   converted_unnoted : (c : Core U C) (m : WireMessage) (receiver : Object (Kept U)) (row : MessageRow) (o : Outcome U) → Unnoted (converted a c m receiver row o)
   converted_unnoted c m receiver row (Wrong w objects) d = refl
   converted_unnoted c m receiver row (Whole e args) d = refl
 
   other_unnoted : (c : Core U C) (m : WireMessage) (receiver : Object (Kept U)) (row : MessageRow) → Unnoted (other_request a c m receiver row)
-  other_unnoted c m receiver row = grind (arith, nat_lt, breaks, converted, convert, start, objects_in, converted_unnoted) steps 400000
+  other_unnoted c m receiver row = grind (arith, nat_lt, breaks, converted, convert, start, objects_in, converted_unnoted)
 
   handles_unnoted : (c : Core U C) (m : WireMessage) → Unnoted ((server a).handles c m)
   handles_unnoted c m =
@@ -65,7 +63,7 @@ module _ {T U G C : Type 0} (sends : T → Queue → Result ℕ IoFault → T �
 
   carried_unnoted : (v : Verdict (Core U C) (Told U)) (link : LinkState T) (es : List Sending) (first : List (Given (Told U))) (lacked : Bool) (mid : ReaderState T (Core U C))
       → Unnoted v → CarriesOut sends (server a) v link es first lacked mid → NoteLess first
-  carried_unnoted v link es first lacked mid h1 h2 = grind (arith, given_unnoted) steps 400000
+  carried_unnoted v link es first lacked mid h1 h2 = grind (arith, given_unnoted)
 
   pub reads_unnoted : (left : ℕ) (before : ReaderState T (Core U C)) (turns : List Turn) (out : Gives (Told U)) (end : ReaderState T (Core U C))
       → Reads sends (server a) receives left before turns out end → NoteLess out.gave
@@ -79,9 +77,9 @@ module _ {T U G C : Type 0} (sends : T → Queue → Result ℕ IoFault → T �
       ap (λ (o : Gives (Told U)). notes_in (deeds_in o.gave)) split ∙ ap notes_in (deeds_both first rest.gave)
       ∙ joined_unnoted (deeds_in first) (deeds_in rest.gave)
       (carried_unnoted v link es first lacked mid (subst Unnoted (sym is) (handles_unnoted before.core m)) by) (reads_unnoted left mid turns rest end more)
-  reads_unnoted left before (Unread es ∷ turns) out end (on, (v, link, first, lacked, mid, rest, (read, same, is), by, split, more)) = grind (arith, deeds_in, deeds_both, joined_unnoted, carried_unnoted, reads_unnoted left mid turns rest end more) steps 400000
+  reads_unnoted left before (Unread es ∷ turns) out end (on, (v, link, first, lacked, mid, rest, (read, same, is), by, split, more)) = grind (arith, deeds_in, deeds_both, joined_unnoted, carried_unnoted, reads_unnoted left mid turns rest end more)
 
   -- only the end of the client is noted
   pub notes_of_reading : (left : ℕ) (before : ReaderState T (Core U C)) (turns : List Turn) (out : Gives (Told U)) (end : ReaderState T (Core U C))
       → Reads sends (server a) receives left before turns out end → notes_in (deeds_of (exchanges_in turns) out.gave end.core) ≡ notes_in (end_deeds {U = U} end.core.ended)
-  notes_of_reading left before turns out end reads = grind (arith, notes_both, exchanges_in, deeds_in, end_deeds, turns_unnoted, reads_unnoted) steps 400000
+  notes_of_reading left before turns out end reads = grind (arith, notes_both, exchanges_in, deeds_in, end_deeds, turns_unnoted, reads_unnoted)

@@ -29,7 +29,7 @@ module _ {T U C : Type 0} where
 
   held_so : (s t : Seen T U C) (q r : Part T U C) (did d : List (Deed U)) (notes : List (Happening U)) → t ≡ seen_as q (s.made ++ notes_in did) → q ≡ r → did ≡ d
       → notes_in d ≡ notes → t ≡ seen_as r (s.made ++ notes)
-  held_so s t q r did d notes same part did_so noted = grind (arith) steps 400000
+  held_so s t q r did d notes same part did_so noted = grind (arith)
 
 module _ {T U G C : Type 0} (w : World T G C) (before after : BackendState T U G C) (id : ClientParts) where
   abbrev here : Around G C
@@ -44,7 +44,7 @@ module _ {T U G C : Type 0} (w : World T G C) (before after : BackendState T U G
   -- with this answer, as the turns have it
   answered_so : (start end : ReaderState T (Core U C)) (turns : List Turn) (left : ℕ) (a a' : Result Handed ActionError) (b b' : Bool) → a ≡ a' → b ≡ b'
       → ReadingEnds w.sends w.receives here start turns a' b' left end → ReadingEnds w.sends w.receives here start turns a b left end
-  answered_so start end turns left a a' b b' same calm so = grind (arith) steps 400000
+  answered_so start end turns left a a' b b' same calm so = grind (arith)
 
   ends_so : (r r' : Reading) (answer : Result Action ActionError) (lacked : Bool) (did : List (Deed U)) → after.refused ≡ lacked
       → ReadsFor w id before.server.offer id r (action_content answer) r' s lacked did t → EndsForAReason w before id r answer r' after

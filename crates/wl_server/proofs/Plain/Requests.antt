@@ -1,12 +1,12 @@
 -- The end of a request.
-use Rattle.std.proofs.Common.{◌≡◌, ℕ, Bool, true, false, cond, eqb-true, List, [], ◌++◌, append-nil, Option, None, Some, is_some, Result, Ok, Err, refl, sym, ap, subst, ◌∙◌, true≢false, ◌∷◌, map, arith}
+use Rattle.std.proofs.Common.{◌≡◌, ℕ, Bool, true, false, cond, eqb-true, List, [], ◌++◌, append-nil, Option, None, Some, is_some, Result, Ok, Err, refl, sym, ap, subst, ◌∙◌, true≢false, ◌∷◌, arith}
 use mathlib.Core.Logic.{inl, inr}
-use Rattle.std.specs.Prelude.{◌⊎◌, ◌&&◌, ◌==◌, IsSome, option_map}
+use Rattle.std.specs.Prelude.{◌⊎◌, ◌&&◌, IsSome, option_map}
 use Rattle.wl_wire.specs.declared.error.IoFault.{IoFault}
 use Rattle.wl_link.proofs.Calls.Branches.{either_option}
 use Rattle.wl_link.specs.declared.object.Object.{Object}
 use Rattle.wl_link.specs.Exchange.{Queue}
-use Rattle.wl_link.specs.Identity.{Id, names}
+use Rattle.wl_link.specs.Identity.{Id}
 use Rattle.wl_link.specs.Reader.{Verdict}
 use Rattle.wl_link.specs.Store.{Store, removed}
 use Rattle.wl_server.specs.declared.error.FinishError.{FinishError}
@@ -21,7 +21,7 @@ use Rattle.wl_server.specs.declared.runs.step.Reply.{Reply}
 use Rattle.wl_server.specs.declared.runs.step.Reply.TheVariants as reply
 use Rattle.wl_server.specs.declared.runs.step.Step.TheVariants as step
 use Rattle.wl_server.specs.Backend.{BackendState, Calls}
-use Rattle.wl_server.specs.Deeds.{Deed, notes_in, Noted, left_if}
+use Rattle.wl_server.specs.Deeds.{Deed, notes_in}
 use Rattle.wl_server.specs.Finish.{FinishesRequest, ended_by, ends, ends_request, refusal, store_with_data, ending}
 use Rattle.wl_server.specs.Ids.{ClientParts, IdParts, same_client}
 use Rattle.wl_server.specs.Inside.Carried.{told_notes}
@@ -32,7 +32,7 @@ use Rattle.wl_server.specs.Part.{Part, id_of, named, same_id, serial_of, end_not
 use Rattle.wl_server.specs.PartStep.{OfClient, World}
 use Rattle.wl_server.specs.Plain.{DataFit, EndsOpenRequest, IsRefusedWhole, RequestEndedAs, RequestIsEnded, RequestRefusedAs, is_ended, is_made, with_given, EndIsTold, end_note_of, notes_if_kept, sender_notes}
 use Rattle.wl_server.specs.Server.{Seen, seen}
-use Rattle.wl_server.specs.Telling.{Tells, Told, core_of, Core, Did, closed_down, end_deeds}
+use Rattle.wl_server.specs.Telling.{Tells, Told, core_of, Core, closed_down, end_deeds}
 use Rattle.wl_server.proofs.Plain.Base.{calm, keeps, never, nothing_new, of_each, offer_of, other_stays, own, refused_to, unchanged}
 use Rattle.wl_server.proofs.Plain.Finishing.{given_named, given_others}
 use Rattle.wl_server.proofs.Plain.Naming.{names_so, removed_named, removed_others}
@@ -53,20 +53,20 @@ mk number serial = record { number = number; serial = serial }
 
 module _ {U : Type 0} where
   same_named : (store : Store (Kept U)) (a b : IdParts) → same_id (id_of a) (id_of b) ≡ true → named store a ≡ named store b
-  same_named store a b same = grind (arith, both_true, serial_of, eqb-true) steps 400000
+  same_named store a b same = grind (arith, both_true, serial_of, eqb-true)
 
   -- ---- the object that was made gets its data
 
   made_named : (store : Store (Kept U)) (id : IdParts) (u : Option U) → named (store_with_data store (Some id) u) id ≡ option_map (with_given u) (named store id)
-  made_named store id u = grind (arith, given_named, named, option_map, with_given) steps 400000
+  made_named store id u = grind (arith, given_named, named, option_map, with_given)
 
   made_others : (store : Store (Kept U)) (created : Option IdParts) (u : Option U) (other : IdParts) → is_made created other ≡ false
       → named (store_with_data store created u) other ≡ named store other
-  made_others store created u other h1 = grind (arith, given_others) steps 400000
+  made_others store created u other h1 = grind (arith, given_others)
 
   -- what names none goes on to
   made_none : (store : Store (Kept U)) (created : Option IdParts) (u : Option U) (o : IdParts) → named store o ≡ None → named (store_with_data store created u) o ≡ None
-  made_none store created u o h1 = grind (arith, same_id, id_of, named, store_with_data, made_others, same_named, made_named, option_map, with_given) steps 400000
+  made_none store created u o h1 = grind (arith, same_id, id_of, named, store_with_data, made_others, same_named, made_named, option_map, with_given)
 
   -- ---- the sender that is ended
 
@@ -81,11 +81,11 @@ module _ {U : Type 0} where
 
   sender_gone : (store : Store (Kept U)) (sender : IdParts) (is_destructor : Bool) (o : Option (Object (Kept U))) → ended_by store sender is_destructor ≡ o → is_destructor ≡ true
       → named (left_by store sender.number o) sender ≡ None
-  sender_gone store sender is_destructor o h1 h2 = grind (arith, removed_named, true≢false) steps 400000
+  sender_gone store sender is_destructor o h1 h2 = grind (arith, removed_named, true≢false)
 
   sender_others : (store : Store (Kept U)) (sender : IdParts) (is_destructor : Bool) (o : Option (Object (Kept U))) → ended_by store sender is_destructor ≡ o → (other : IdParts)
       → is_ended is_destructor sender other ≡ false → named (left_by store sender.number o) other ≡ named store other
-  sender_others store sender is_destructor o h1 other h2 = grind (arith, ended_named, removed_others, names_so, not_both, same_id, id_of) steps 400000
+  sender_others store sender is_destructor o h1 other h2 = grind (arith, ended_named, removed_others, names_so, not_both, same_id, id_of)
 
 -- ---- what a finish comes to
 
@@ -130,10 +130,10 @@ module _ {T U C : Type 0} where
 
   reason : (p : Part T U C) (sender : IdParts) (is_destructor : Bool) (created : Option IdParts) (u : Option U) (e : FinishError)
       → p.action ≡ Some (opened.Request sender is_destructor created) → refusal p.is_killed created u ≡ Some e → Why p u e
-  reason p sender is_destructor created u e is_open refused = grind (arith, refusal) steps 400000
+  reason p sender is_destructor created u e is_open refused = grind (arith, refusal)
 
   why_calm : (p : Part T U C) (u : Option U) (e : FinishError) → Why p u e → is_out_of_memory e ≡ false
-  why_calm p u e h1 = grind (arith) steps 400000
+  why_calm p u e h1 = grind (arith)
 
 module _ {T U C : Type 0} (sends : T → Queue → Result ℕ IoFault → T → Type 0) (client : ClientParts) (u : Option U) where
   abbrev Does : Answer U → Bool → List (Deed U) → Part T U C → Part T U C → Type 0
@@ -158,14 +158,14 @@ module _ {T U C : Type 0} (sends : T → Queue → Result ℕ IoFault → T → 
 
   -- whether memory was refused is told by the answer
   lacks_by : (answer : Answer U) (lacked : Bool) (did : List (Deed U)) (p q : Part T U C) → Does answer lacked did p q → lacked ≡ lacks_finish answer
-  lacks_by answer lacked did p q h = grind (arith, comes_to, why_calm) steps 400000
+  lacks_by answer lacked did p q h = grind (arith, comes_to, why_calm)
 
   -- ---- the client behind a finish
 
   ended_part : (p q : Part T U C) (sender : IdParts) (created : Option IdParts) (o : Option (Object (Kept U))) (lacked : Bool) (did : List (Deed U)) → lacked ≡ false
       → Tells sends (ends client (core_of p) sender o created u) p.link lacked did q
       → (q.store ≡ store_with_data (left_by p.store sender.number o) created u) × (q.action ≡ None)
-  ended_part p q sender created o lacked did h1 h2 = grind (arith, calm, told, ends, core_of) steps 400000
+  ended_part p q sender created o lacked did h1 h2 = grind (arith, calm, told, ends, core_of)
 
   abbrev IsNoted : Part T U C → Part T U C → IdParts → Bool → Option (Object (Kept U)) → List (Deed U) → Type 0
   IsNoted p q sender is_destructor o did =
@@ -174,12 +174,12 @@ module _ {T U C : Type 0} (sends : T → Queue → Result ℕ IoFault → T → 
       × (notes_in did ≡ notes_if_kept client sender.number o ++ cond p.is_killed [] (Disconnected ConnectionClosed ∷ [])))
 
   ending_noted : (sender : IdParts) (x : Object (Kept U)) (c : Core U C) → named c.store sender ≡ None → told_notes (ending client sender x c) ≡ note_of_end client sender.number x
-  ending_noted sender x c gone = grind (arith, is_some, note_of_end, id_of, id_at, end_note) steps 400000
+  ending_noted sender x c gone = grind (arith, is_some, note_of_end, id_of, id_at, end_note)
 
   part_noted : (p q : Part T U C) (sender : IdParts) (is_destructor : Bool) (created : Option IdParts) (o : Option (Object (Kept U))) → ended_by p.store sender is_destructor ≡ o
       → (lacked : Bool) (did : List (Deed U)) → lacked ≡ false → Tells sends (ends client (core_of p) sender o created u) p.link lacked did q
       → IsNoted p q sender is_destructor o did
-  part_noted p q sender is_destructor created None is lacked did calm h = grind (arith, ends, core_of, told_ended, end_deeds) steps 400000
+  part_noted p q sender is_destructor created None is lacked did calm h = grind (arith, ends, core_of, told_ended, end_deeds)
   part_noted p q sender is_destructor created (Some x) is lacked did calm h =
       let v : Verdict (Core U C) (Told U) = ends client (core_of p) sender (Some x) created u in
       let t : IsTold v did q = told_ended sends v (λ c. refl) p.link lacked did q calm h in
@@ -252,7 +252,7 @@ module _ {T U C : Type 0} (sends : T → Queue → Result ℕ IoFault → T → 
 
   -- whether memory is refused is told by the answer
   pub own_lacks : (s t : Seen T U C) (lacked : Bool) (did : List (Deed U)) → lacks_finish answer ≡ true → Of (same_client client client) s lacked did t → lacked ≡ true
-  own_lacks s t lacked did lacks h = grind (arith, either_option, own, true≢false, lacks_by) steps 400000
+  own_lacks s t lacked did lacks h = grind (arith, either_option, own, true≢false, lacks_by)
 
 module _ {U : Type 0} (u : Option U) where
   not_ok : (r : FinishRefused (Option U)) → ◌≡◌ {A = Answer U} (Err r) (Ok tt) → ⊥
@@ -262,7 +262,7 @@ module _ {U : Type 0} (u : Option U) where
   no_refusal e is = absurd cc
 
   was_refused_for : (r : FinishRefused (Option U)) (e : FinishError) → ◌≡◌ {A = Answer U} (Err r) (RefusedFor u e) → (r.error ≡ e) × (r.user_data ≡ u)
-  was_refused_for r e is = grind (arith) steps 400000
+  was_refused_for r e is = grind (arith)
 
   was_starved : (r : FinishRefused (Option U)) (lacked : Bool) → ◌≡◌ {A = Answer U} (Err r) (unless_refused (record { error = finish.OutOfMemory; user_data = u }) lacked)
       → (lacked ≡ true) × (r.error ≡ finish.OutOfMemory) × (r.user_data ≡ u)
@@ -315,7 +315,7 @@ module _ {T U G C : Type 0} (w : World T G C) (before after : BackendState T U G
   -- ---- by the answer
 
   refused_as : (p : Part T U C) → (seen target before.server).part ≡ Some p → (e : FinishError) → Why p u e → IsRefusedWhole before after → RequestRefusedAs before target u e after
-  refused_as p h1 e h2 h3 = grind (arith, is_some, option_map) steps 400000
+  refused_as p h1 e h2 h3 = grind (arith, is_some, option_map)
 
   starved_as : (p q : Part T U C) (lacked : Bool) (did : List (Deed U)) (r : FinishRefused (Option U)) → IsTaken w.sends target p u (Err r) lacked did q → lacked ≡ true
       → (seen target before.server).part ≡ Some p → seen target after.server ≡ record { part = Some q; made = (seen target before.server).made ++ notes_in did }
@@ -333,12 +333,12 @@ module _ {T U G C : Type 0} (w : World T G C) (before after : BackendState T U G
       )
 
   data_fit : (p : Part T U C) → (seen target before.server).part ≡ Some p → (created : Option IdParts) → refusal p.is_killed created u ≡ None → DataFit before target created u
-  data_fit p there created none = grind (arith, refusal, option_map) steps 400000
+  data_fit p there created none = grind (arith, refusal, option_map)
 
   end_told : (p q : Part T U C) (did : List (Deed U)) (sender : IdParts) (is_destructor : Bool) → (seen target before.server).part ≡ Some p
       → seen target after.server ≡ record { part = Some q; made = (seen target before.server).made ++ notes_in did }
       → IsNoted w.sends target u p q sender is_destructor (ended_by p.store sender is_destructor) did → EndIsTold before target sender is_destructor after
-  end_told p q did sender is_destructor there same noted = grind (arith, option_map, notes_if_kept, ended_by, sender_notes, named, end_note_of) steps 400000
+  end_told p q did sender is_destructor there same noted = grind (arith, option_map, notes_if_kept, ended_by, sender_notes, named, end_note_of)
 
   ended_as : (p q : Part T U C) (lacked : Bool) (did : List (Deed U)) → (e : IsTaken w.sends target p u (Ok tt) lacked did q)
       → (seen target before.server).part ≡ Some p → seen target after.server ≡ record { part = Some q; made = (seen target before.server).made ++ notes_in did }

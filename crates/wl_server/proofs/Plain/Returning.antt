@@ -1,5 +1,5 @@
 -- What becomes of the data of an action, in the words of the look-ups.
-use Rattle.std.proofs.Common.{◌≡◌, ◌∙◌, Bool, List, Option, None, Some, Result, Ok, Err, refl, sym, ap, subst}
+use Rattle.std.proofs.Common.{arith, ◌≡◌, Bool, List, Option, None, Some, Result, Ok, Err, refl, sym, subst}
 use Rattle.std.specs.Prelude.{IfOk, MatchOption, option_map, slice_set}
 use Rattle.std.specs.Result.{result_and}
 use Rattle.wl_link.specs.declared.object.Object.{Object}
@@ -11,13 +11,11 @@ use Rattle.wl_server.specs.Backend.{BackendState}
 use Rattle.wl_server.specs.Finish.{HoldsData, data_given}
 use Rattle.wl_server.specs.Ids.{ClientParts, IdParts}
 use Rattle.wl_server.specs.Inside.Finishing.{BindLeaves, DataHeld, RequestLeaves}
-use Rattle.wl_server.specs.Lookups.{and_then}
 use Rattle.wl_server.specs.Part.{Part, named, with_user_data}
-use Rattle.wl_server.specs.Plain.{EndsBind, EndsOpenRequest, RequestDataHeld, ReturnsBindData, ReturnsRequestData, client_in}
+use Rattle.wl_server.specs.Plain.{EndsBind, EndsOpenRequest, ReturnsBindData, ReturnsRequestData, client_in}
 use Rattle.wl_server.specs.Server.{Stored, client_at}
 use Rattle.wl_server.proofs.Plain.Finishing.{given_named}
 use Rattle.wl_sets.proofs.Lists.{get_set_same}
-use Rattle.wl_server.proofs.CallSteps.Slots.{client_present, slot_of_client}
 
 -- ---- data that are given
 
@@ -45,13 +43,13 @@ module _ {T U C : Type 0} (p q : Part T U C) where
 
 module _ {T U C : Type 0} (clients : List (Option (Stored T U C))) (id : ClientParts) (s t : Stored T U C) where
   pub found_after : Some s ≡ client_at id clients → t.serial ≡ s.serial → client_at id (slice_set clients id.slot (Some t)) ≡ Some t
-  found_after is same = grind (arith, get_set_same) steps 400000
+  found_after is same = grind (arith, get_set_same)
 
 module _ {T U G C : Type 0} (before after : BackendState T U G C) (client : ClientParts) (p q : Part T U C) where
   pub bind_returns : (u : U) (answer : Result (Option U) (FinishRefused U)) → client_in before client ≡ Some p → client_in after client ≡ Some q
       → EndsBind before client u (result_and answer (Ok tt)) after → BindLeaves p u answer q → ReturnsBindData before client u answer after
-  bind_returns u answer h1 h2 h3 h4 = grind (arith) steps 400000
+  bind_returns u answer h1 h2 h3 h4 = grind (arith)
 
   pub request_returns : (u : Option U) (answer : Result (Option U) (FinishRefused (Option U))) → client_in before client ≡ Some p → client_in after client ≡ Some q
       → EndsOpenRequest before client u (result_and answer (Ok tt)) after → RequestLeaves p u answer q → ReturnsRequestData before client u answer after
-  request_returns u answer h1 h2 h3 h4 = grind (arith) steps 400000
+  request_returns u answer h1 h2 h3 h4 = grind (arith)

@@ -34,7 +34,7 @@ module _ {T U C : Type 0} (sends : T → Queue → Result ℕ IoFault → T → 
   flushed_keeps f answer stays (es, link, by, memory, did_so, same) = ap f same ∙ stays link
 
   live_keeps : {A : Type 0} (f : Part T U C → A) → ((link : LinkState T) → f (with_link p link) ≡ f p) → FlushesLive sends p lacked did q → f q ≡ f p
-  live_keeps f stays h = grind (arith, either_bool, flushed_keeps) steps 400000
+  live_keeps f stays h = grind (arith, either_bool, flushed_keeps)
 
   flushed_silent : (answer : Result (Unit {0}) IoFault) → FlushedTo sends p answer lacked did q → notes_in did ≡ []
   flushed_silent answer (es, link, by, memory, did_so, same) = ap notes_in did_so ∙ silent es
@@ -50,7 +50,7 @@ module _ {T U G C : Type 0} (w : World T G C) (id : ClientParts) (offer : Offer 
   -- a part of each client that its link does not change
   pub flush_keeps : {A : Type 0} (f : Option (Part T U C) → A) → ((p : Part T U C) (link : LinkState T) → f (Some (with_link p link)) ≡ f (Some p))
       → (target : Option ClientParts) (answer : Result (Unit {0}) IoFault) → FlushedFor w id offer target answer s lacked did t → f t.part ≡ f s.part
-  flush_keeps f h1 target answer h2 = grind (arith, keeps, live_keeps, flushed_keeps) steps 400000
+  flush_keeps f h1 target answer h2 = grind (arith, keeps, live_keeps, flushed_keeps)
 
   flush_notes : (target : Option ClientParts) (answer : Result (Unit {0}) IoFault) → FlushedFor w id offer target answer s lacked did t → t.made ≡ s.made
   flush_notes None answer (ok, h) = notes_stay true s _ (Unit {0}) lacked did t (λ p q r. live_silent w.sends lacked did p q r) h

@@ -1,5 +1,5 @@
 -- What ids name after a reading: what they named, but for those that it made.
-use Rattle.std.proofs.Common.{◌≡◌, ◌≤◌, ◌+◌, ℕ, Bool, true, false, cond, eqb, eqb-true, List, [], ◌∷◌, ◌++◌, Option, None, Some, IsSome, is_some, Result, Ok, Err, refl, sym, ap, subst, ◌∙◌, arith, true≢false}
+use Rattle.std.proofs.Common.{◌≡◌, ◌≤◌, ℕ, Bool, true, false, cond, eqb, eqb-true, List, [], ◌∷◌, ◌++◌, Option, None, Some, IsSome, is_some, Result, Ok, Err, refl, sym, ap, subst, ◌∙◌, arith, true≢false}
 use mathlib.Core.Logic.{inl, inr}
 use Rattle.std.proofs.lemmas.Bool.{ne_eqb}
 use Rattle.std.specs.Prelude.{◌==◌, ◌⊎◌, nat_lt}
@@ -7,11 +7,9 @@ use Rattle.wl_wire.specs.declared.argument.Argument.{Argument}
 use Rattle.wl_wire.specs.declared.argument.Argument.TheVariants as arg
 use Rattle.wl_wire.specs.declared.argument.Token.{Token}
 use Rattle.wl_wire.specs.declared.error.IoFault.{IoFault}
-use Rattle.wl_wire.specs.declared.error.IoFault.TheVariants as fault
 use Rattle.wl_wire.specs.declared.interface.InterfaceId.{InterfaceId}
 use Rattle.wl_wire.specs.Argument.{WireArgument}
 use Rattle.wl_wire.specs.Message.{WireMessage}
-use Rattle.wl_wire.specs.MessageRows.{next_interface}
 use Rattle.wl_wire.specs.Table.{MessageRow, callback_id, name_of, registry_id}
 use Rattle.wl_link.proofs.Calls.Branches.{either_result}
 use Rattle.wl_link.proofs.Ids.StoreLaws.{held_removed, held_stored}
@@ -22,7 +20,6 @@ use Rattle.wl_link.specs.Link.{LinkState, count_of, counted_answer}
 use Rattle.wl_link.specs.Reader.{CarriesOut, Given, Gives, Handled, ReaderState, Reads, Received, Turn, Unread, Verdict, came_to, with_link}
 use Rattle.wl_link.specs.Store.{Store, held, removed}
 use Rattle.wl_server.specs.declared.objects.Kept.{Kept}
-use Rattle.wl_server.specs.declared.reading.response.RequestFault.{RequestFault}
 use Rattle.wl_server.specs.declared.reading.response.RequestFault.TheVariants as wrong
 use Rattle.wl_server.specs.Errors.{since_text}
 use Rattle.wl_server.specs.Ids.{ClientParts, IdParts}
@@ -55,7 +52,7 @@ module _ {U : Type 0} where
   old_still a b stay id (inr given) = let more = stay.serials in inr (omega (arith, given, more))
 
   ids_then : (a b c : Objects (Kept U)) → IdsStay a b → IdsStay b c → IdsStay a c
-  ids_then a b c first second = grind (arith, old_still) steps 400000
+  ids_then a b c first second = grind (arith, old_still)
 
   -- what the id names where its number holds this
   abbrev names_at : IdParts → Option (Object (Kept U)) → Option (Object (Kept U))
@@ -65,7 +62,7 @@ module _ {U : Type 0} where
   module _ (before after : Store (Kept U)) (n : ℕ) (new : Option (Object (Kept U)))
       (holds : (m : ℕ) → held after m ≡ cond (eqb m n) new (held before m)) (id : IdParts) where
     by_number : (id.number ≡ n → names_at id new ≡ names_at id (held before n)) → named after id ≡ named before id
-    by_number there = grind (arith, eqb, eqb-true) steps 400000
+    by_number there = grind (arith, eqb, eqb-true)
 
   -- ---- a new object
 
@@ -83,10 +80,10 @@ module _ {U : Type 0} where
     }
       where
         unnamed : (id : IdParts) → id.serial ≤ a.last_serial → names_at id (Some (made_object a i version)) ≡ None
-        unnamed id given = grind (arith, made_object, ne_eqb, both_none) steps 400000
+        unnamed id given = grind (arith, made_object, ne_eqb, both_none)
 
         there : (id : IdParts) → id.number ≡ n → Old a id → names_at id (Some (made_object a i version)) ≡ names_at id (held a.store n)
-        there id h1 h2 = grind (arith, unnamed, none_at, true≢false, is_some) steps 400000
+        there id h1 h2 = grind (arith, unnamed, none_at, true≢false, is_some)
 
     -- it is gone again at once
     ids_by_brief : IdsStay a (record (with_made a n i version) { store = removed (with_made a n i version).store n })
@@ -116,7 +113,7 @@ module _ {U : Type 0} (client : ClientParts) (version : ℕ) (first : Objects (K
   By (Wrong w objects) = IdsStay first objects
 
   by_one : (d : Converting U) (x : WireArgument) → IdsStay first d.objects → ByOne (convert_one client version d x)
-  by_one d (arg.Object n) so = grind (arith, object_argument, allows_null, with_object_argument) steps 400000
+  by_one d (arg.Object n) so = grind (arith, object_argument, allows_null, with_object_argument)
   by_one d (arg.NewId n) so = new d.child
     where
       valid : (i : InterfaceId) (b : Bool) → is_valid_new d.objects n ≡ b
@@ -162,12 +159,12 @@ module _ {U G C : Type 0} (a : Around G C) (c : Core U C) where
 
   keeps_all : (v : Verdict (Core U C) (Told U)) → objects_in v.core ≡ objects_in c → objects_in v.starved ≡ objects_in c
       → ((d : Core U C) → objects_in (v.last d) ≡ objects_in d) → Keeps v
-  keeps_all v core starved last = grind (arith, objects_in, ids_same) steps 400000
+  keeps_all v core starved last = grind (arith, objects_in, ids_same)
 
   -- with these objects
   keeps_by : (o : Objects (Kept U)) → IdsStay (objects_in c) o → (v : Verdict (Core U C) (Told U)) → objects_in v.core ≡ o → objects_in v.starved ≡ o
       → ((d : Core U C) → objects_in (v.last d) ≡ objects_in d) → Keeps v
-  keeps_by o stay v core starved last = grind (arith, objects_in) steps 400000
+  keeps_by o stay v core starved last = grind (arith, objects_in)
 
   breaks_keeps : (code : ℕ) (text : List ℕ) → Keeps (breaks a c code text)
   breaks_keeps code text = keeps_all (breaks a c code text) refl refl (λ d. refl)
@@ -204,14 +201,14 @@ module _ {U G C : Type 0} (a : Around G C) (c : Core U C) where
 module _ {T U G C : Type 0} (sends : T → Queue → Result ℕ IoFault → T → Type 0) (receives : T → ℕ → Result Queue IoFault → T → Type 0) (a : Around G C) where
   came_keeps : (c : Core U C) (v : Verdict (Core U C) (Told U)) → Keeps a c v → (wrote : Result (Unit {0}) IoFault)
       → IdsStay (objects_in c) (objects_in (came_to (server a) v wrote))
-  came_keeps c v h1 wrote = grind (arith, objects_in, closed_down) steps 400000
+  came_keeps c v h1 wrote = grind (arith, objects_in, closed_down)
 
   carried_keeps : (c : Core U C) (v : Verdict (Core U C) (Told U)) (link : LinkState T) (es : List Sending) (first : List (Given (Told U))) (lacked : Bool)
       (mid : ReaderState T (Core U C)) → Keeps a c v → CarriesOut sends (server a) v link es first lacked mid → IdsStay (objects_in c) (objects_in mid.core)
-  carried_keeps c v link es first lacked mid h1 h2 = grind (arith, objects_in, came_keeps) steps 400000
+  carried_keeps c v link es first lacked mid h1 h2 = grind (arith, objects_in, came_keeps)
 
   faulted_keeps : (c : Core U C) (f : IoFault) → IdsStay (objects_in c) (objects_in (faulted c f))
-  faulted_keeps c f = grind (arith, ids_same, objects_in) steps 400000
+  faulted_keeps c f = grind (arith, ids_same, objects_in)
 
   pub reads_keep : (left : ℕ) (before : ReaderState T (Core U C)) (turns : List Turn) (out : Gives (Told U)) (end : ReaderState T (Core U C))
       → Reads sends (server a) receives left before turns out end → IdsStay (objects_in before.core) (objects_in end.core)
@@ -227,4 +224,4 @@ module _ {T U G C : Type 0} (sends : T → Queue → Result ℕ IoFault → T �
       ids_then (objects_in before.core) (objects_in mid.core) (objects_in end.core)
       (carried_keeps before.core v link es first lacked mid (subst (λ (w : Verdict (Core U C) (Told U)). Keeps a before.core w) (sym is) (handles_keeps a before.core m)) by)
       (reads_keep left mid turns rest end more)
-  reads_keep left before (Unread es ∷ turns) out end (on, (v, link, first, lacked, mid, rest, (read, same, is), by, split, more)) = grind (arith, ids_then, objects_in, carried_keeps, garbled_keeps, reads_keep left mid turns rest end more) steps 400000
+  reads_keep left before (Unread es ∷ turns) out end (on, (v, link, first, lacked, mid, rest, (read, same, is), by, split, more)) = grind (arith, ids_then, objects_in, carried_keeps, garbled_keeps, reads_keep left mid turns rest end more)

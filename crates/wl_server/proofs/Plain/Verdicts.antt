@@ -56,7 +56,7 @@ nothing_put sends link (m ∷ ms) is es put wrote mid h = absurd cc
 -- no memory is refused where a verdict puts nothing and asks for none
 pub told_nothing : {T U C : Type 0} (sends : T → Queue → Result ℕ IoFault → T → Type 0) (v : Verdict (Core U C) (Told U)) → v.puts ≡ [] → v.flushes ≡ false → v.asks ≡ false
     → (link : LinkState T) (lacked : Bool) (did : List (Deed U)) (q : Part T U C) → Tells sends v link lacked did q → lacked ≡ false
-told_nothing {T} {U} {C} sends v nothing none unasked link lacked did q (es, gave, end, carries, did_so, same) = grind (arith, speaker, nothing_put, no_flush, true≢false) steps 400000
+told_nothing {T} {U} {C} sends v nothing none unasked link lacked did q (es, gave, end, carries, did_so, same) = grind (arith, speaker, nothing_put, no_flush, true≢false)
 
 -- what a verdict leaves where memory is refused, and what was noted in that
 pub record IsStarved {T U C : Type 0} (v : Verdict (Core U C) (Told U)) (did : List (Deed U)) (q : Part T U C) : Type 0 where
@@ -113,7 +113,7 @@ told_ended {T} {U} {C} sends v last link lacked did q calm (es, gave, end, carri
   where
     came : (wrote : Result (Unit {0}) IoFault) (b : Bool) → (lacks_memory wrote || b) ≡ false
         → (came_to speaker v wrote ≡ v.core) ⊎ ((wrote ≡ Ok tt → ⊥) × (came_to speaker v wrote ≡ closed_down v.core))
-    came wrote b h1 = grind (arith, true≢false, failed, closed_down) steps 400000
+    came wrote b h1 = grind (arith, true≢false, failed, closed_down)
 
     of_core : (put : List Said) → gave ≡ put_and_gave put (v.events end.core) → (end.core ≡ v.core) ⊎ ((v.puts ≡ [] → ⊥) × (end.core ≡ closed_down v.core)) → IsTold v did q
     of_core put given is = record {

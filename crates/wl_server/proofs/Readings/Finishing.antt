@@ -1,5 +1,5 @@
 -- How the end of an action is a verdict that was carried out.
-use Rattle.std.proofs.Common.{◌||◌, append-nil, append_assoc, ◌&&◌, not, is_none, is_some, map, MatchResult, inl, inr, ◌≡◌, ◌∙◌, ℕ, Bool, true, false, eqb, cond, List, [], ◌∷◌, ◌++◌, Option, None, Some, Result, Ok, Err, MatchOption, refl, sym, ap, subst}
+use Rattle.std.proofs.Common.{arith, ◌||◌, append-nil, append_assoc, ◌&&◌, not, is_none, is_some, map, MatchResult, inl, inr, ◌≡◌, ◌∙◌, ℕ, Bool, true, false, eqb, cond, List, [], ◌∷◌, ◌++◌, Option, None, Some, Result, Ok, Err, MatchOption, refl, sym, ap, subst}
 use Rattle.std.proofs.lemmas.Option.{none-some}
 use Rattle.std.proofs.lemmas.Bool.{false≢true}
 use Rattle.wl_wire.specs.declared.error.IoFault.{IoFault}
@@ -34,7 +34,7 @@ use Rattle.wl_server.specs.Server.{NoteTimes, Stored, no_times, untimed}
 use Rattle.wl_server.specs.Telling.{Core, Did, Kills, killed, closed_down, core_of, deletions, end_deeds, part_of, speaker}
 use Rattle.wl_server.proofs.CallSteps.Doing.{does_quietly}
 use Rattle.wl_server.proofs.Readings.Notes.{tells_carried}
-use Rattle.wl_server.proofs.ObjectCalls.Posting.{ended, kills_is}
+use Rattle.wl_server.proofs.ObjectCalls.Posting.{kills_is}
 use Rattle.wl_server.proofs.GlobalCalls.Putting.{puts_none}
 
 -- ---- the object that an id names
@@ -76,7 +76,7 @@ module _ {T U C : Type 0} (sends : T → Queue → Result ℕ IoFault → T → 
   -- of a sender that the request ends and that is kept
   where_kept : (x : Object (Kept U)) (answer : Result (Result (Unit {0}) IoFault) OutOfMemory) (after : Stored T U C) → Some x ≡ ended_by s.part.store sender is_destructor
       → EndsObject sends client s sender x answer after → EndsSender sends client s sender is_destructor answer after
-  where_kept x answer after ended-is ends = grind (arith) steps 400000
+  where_kept x answer after ended-is ends = grind (arith)
 
   -- it was taken out at its number, and noted
   pub ends_taken : (x : Object (Kept U)) (n : ℕ) (wrote : Result (Unit {0}) IoFault) (link : LinkState T) (store : Store (Kept U)) (registries : List Id)
@@ -85,23 +85,23 @@ module _ {T U C : Type 0} (sends : T → Queue → Result ℕ IoFault → T → 
       → ((y : Object (Kept U)) → held s.part.store n ≡ Some y
       → (registries ≡ registries_without s.part.registries n y) × (made ≡ same_made ++ note_of_end client n y))
       → same_made ≡ s.made → EndsSender sends client s sender is_destructor (Ok wrote) (changed times link store registries made)
-  ends_taken x n wrote link store registries made same_made times ended-is n-is puts lacks store-is left same-is = grind (arith, named_held, ended_named, where_kept, deletions, no_times, registries_without, note_of_end) steps 400000
+  ends_taken x n wrote link store registries made same_made times ended-is n-is puts lacks store-is left same-is = grind (arith, named_held, ended_named, where_kept, deletions, no_times, registries_without, note_of_end)
 
 -- ---- what it leaves
 
 module _ {U : Type 0} where
   -- a number that holds nothing is named by no id
   unnamed : (store : Store (Kept U)) (id : IdParts) → held store id.number ≡ None → named store id ≡ None
-  unnamed store id none = grind (arith, eqb, serial_of, id_of) steps 400000
+  unnamed store id none = grind (arith, eqb, serial_of, id_of)
 
   -- data that an object is given make none at a number that holds none
   still_gone : (store : Store (Kept U)) (n : ℕ) (created : Option IdParts) (u : Option U) → held store n ≡ None → held (store_with_data store created u) n ≡ None
-  still_gone store n created u h1 = grind (arith, named, data_given, rewritten_other, with_user_data, named_held) steps 400000
+  still_gone store n created u h1 = grind (arith, named, data_given, rewritten_other, with_user_data, named_held)
 
   -- an object that left is named no more, whatever data the new one was given
   pub not_named : (store : Store (Kept U)) (sender : IdParts) (created : Option IdParts) (u : Option U)
       → named (store_with_data (removed store sender.number) created u) sender ≡ None
-  not_named store sender created u = grind (arith, unnamed, store_with_data, still_gone, removed_here) steps 400000
+  not_named store sender created u = grind (arith, unnamed, store_with_data, still_gone, removed_here)
 
   told_end : (i : IdParts) (id : Id) (u : Option U) → told_notes (map Did (map Noted (end_note i u) ++ left_if id u)) ≡ end_note i u
   told_end i id None = refl
@@ -155,7 +155,7 @@ where_some {X} o x is A B h = subst (λ (o : Option X). MatchOption o A B) is h
 
 -- no refusal for other reasons is a want of memory
 no_memory : (a b : Bool) (e : FinishError) → first_refusal (when a finish.MissingObjectData ∷ when b finish.UnexpectedData ∷ []) ≡ Some e → is_out_of_memory e ≡ false
-no_memory a b e h1 = grind (arith, is_out_of_memory, same_some) steps 400000
+no_memory a b e h1 = grind (arith, is_out_of_memory, same_some)
 
 ok_ok : (f : OutOfMemory) → ◌≡◌ {A = Result (Result (Unit {0}) IoFault) OutOfMemory} (Err f) (Ok (Ok tt)) → ⊥
 ok_ok f same = cc
@@ -243,7 +243,7 @@ module _ {T U C : Type 0} (sends : T → Queue → Result ℕ IoFault → T → 
 
       at : (wrote : Result (Unit {0}) IoFault) → MatchResult wrote (λ _. untimed after ≡ finished mid) (λ _. Does (finished mid) (λ p did q. Kills p ConnectionClosed did q) after)
           → untimed after ≡ noting (part_of (record { core = closing core wrote; link = mid.part.link })) (note ++ notes_in (end_deeds (closing core wrote).ended))
-      at wrote h1 = grind (arith, finished-is, gone, append-nil, note, append_assoc, end_deeds, killed, core_of) steps 400000
+      at wrote h1 = grind (arith, finished-is, gone, append-nil, note, append_assoc, end_deeds, killed, core_of)
 
   -- of the sender, where it is ended and kept, and else of none
   pub ends_starved : (e : OutOfMemory) (after : Stored T U C) → EndsSender sends client s sender is_destructor (Err e) after

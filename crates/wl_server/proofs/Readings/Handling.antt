@@ -107,7 +107,7 @@ module _ {T U C : Type 0} (sends : T → Queue → Result ℕ IoFault → T → 
 
   came_killed : {G : Type 0} (a : Around G C) (s : Stored T U C) (code : ℕ) (text : List ℕ) (wrote : Result (Unit {0}) IoFault)
       → (came_to speaker (posts a.table (core_of s.part) (display_of a.client) code text) wrote).is_killed ≡ true
-  came_killed a s code text wrote = grind (arith) steps 400000
+  came_killed a s code text wrote = grind (arith)
 
   pub broke : {G : Type 0} (a : Around G C) (s after : Stored T U C) (code : ℕ) (text : List ℕ) (refused : Bool)
       → IsCarried sends (posts a.table (core_of s.part) (display_of a.client) code text) s refused after

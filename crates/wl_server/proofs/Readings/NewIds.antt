@@ -1,5 +1,5 @@
 -- New ids among the types of a signature.
-use Rattle.std.proofs.Common.{◌≡◌, Bool, ◌||◌, List, [], ◌∷◌, refl, sym, ap, ◌∙◌, arith}
+use Rattle.std.proofs.Common.{◌≡◌, List, [], ◌∷◌, refl, arith}
 use Rattle.std.specs.List.{list_any}
 use Rattle.wl_wire.specs.declared.argument.ArgumentType.{ArgumentType}
 use Rattle.wl_wire.specs.declared.argument.ArgumentType.TheVariants as kind
@@ -26,4 +26,4 @@ pub new_matches : (kinds : List ArgumentType) (args : List WireArgument) → Mat
 new_matches [] [] same = refl
 new_matches [] (a ∷ args) same = cc
 new_matches (k ∷ kinds) [] same = cc
-new_matches (k ∷ kinds) (a ∷ args) same = grind (arith, next_kind, list_any, is_new_id, new_of_kind, later_kinds, new_matches kinds args (later_kinds (k ∷ kinds) a args same)) steps 400000
+new_matches (k ∷ kinds) (a ∷ args) same = grind (arith, next_kind, list_any, is_new_id, new_of_kind, later_kinds, new_matches kinds args (later_kinds (k ∷ kinds) a args same))

@@ -41,7 +41,7 @@ module _ {U C : Type 0} where
   -- what was put is no note
   pub notes_told : (es : List Sending) (put : List Said) (events : List (Told U)) (c : Core U C)
       → notes_in (deeds_of (map Sent es) (put_and_gave put events) c) ≡ told_notes events ++ notes_in (end_deeds c.ended)
-  notes_told es put events c = grind (arith, notes_append, deeds_in, put_and_gave, end_deeds, notes_in, notes_of_sends, notes_of_puts) steps 400000
+  notes_told es put events c = grind (arith, notes_append, deeds_in, put_and_gave, end_deeds, notes_in, notes_of_sends, notes_of_puts)
 
   -- the messages of a verdict were put, and the core came to what that answered
   pub tells_put : {T : Type 0} (sends : T → Queue → Result ℕ IoFault → T → Type 0) (v : Verdict (Core U C) (Told U)) (before mid after : LinkState T)

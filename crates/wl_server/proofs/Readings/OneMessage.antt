@@ -119,7 +119,7 @@ module _ {T U : Type 0} (table : List InterfaceRow) (store : Store (Kept U)) (li
   AsAsked f = f ≡ Some r.desc.now.signature.items
 
   pub read_in : (answer : Result WireMessage MessageParseError) → ReadOne (λ _ _ f. AsAsked f) link answer after → ReadsIn table store link answer after
-  read_in answer read = grind (arith, other_look_up, nat_le, option_map, row_in) steps 400000
+  read_in answer read = grind (arith, other_look_up, nat_le, option_map, row_in)
 
   module _ (m : WireMessage) (read : ReadOne (λ _ _ f. AsAsked f) link (Ok m) after) where
     header_is : (m.sender ≡ sender_of link.incoming.bytes) × (m.opcode ≡ opcode_of link.incoming.bytes)
@@ -232,7 +232,7 @@ module _ {T U G C : Type 0} (sends : T → Queue → Result ℕ IoFault → T �
         where
           again : (turns : List Turn) (rest : Gives (Told U)) (last : ReaderState T (Core U C)) → Reads sends (server a) receives r'.turns_left (reader_part after.part) turns rest last
               → Reads sends (server a) receives r.turns_left end turns rest last
-          again turns rest last reads = grind (arith, reader_part, core_again, server) steps 400000
+          again turns rest last reads = grind (arith, reader_part, core_again, server)
 
       shorter : (gave : List (Given (Told U))) (refused : Bool) (end : ReaderState T (Core U C)) (es : List Sending) (after : Stored T U C)
           → CarriesOut sends (server a) v link es gave refused end → untimed after ≡ stored_as s end → length link.incoming.bytes < length s.part.link.incoming.bytes
@@ -307,7 +307,7 @@ module _ {T U G C : Type 0} (sends : T → Queue → Result ℕ IoFault → T �
 
   pub is_malformed : (s : Stored T U C) → NotTaken a.table s.part.store s.part.link parse.Malformed
       → Leaves sends (server a) (reader_part s.part) ((server a).malformed (core_of s.part)) s.part.link
-  is_malformed s h1 = grind (arith) steps 400000
+  is_malformed s h1 = grind (arith)
 
   pub does_ask : (s : Stored T U C) → NotTaken a.table s.part.store s.part.link parse.OutOfMemory → FrontAsks sends (server a) (reader_part s.part)
   does_ask s (inl read) = inr read
@@ -362,7 +362,7 @@ module _ {T U G C : Type 0} (sends : T → Queue → Result ℕ IoFault → T �
 
     -- a receive after which it goes on
     pub fills_goes : (after : Stored T U C) → Fills receives s None after → ReadsOn sends receives a s r after q
-    fills_goes after (inr (impossible, same, asks), finds, is) = grind (arith) steps 400000
+    fills_goes after (inr (impossible, same, asks), finds, is) = grind (arith)
     fills_goes after (inl (rc, made), finds, is) = record {
       first = Received rc ∷ [];
       gave = [];
@@ -446,10 +446,10 @@ module _ {T U G C : Type 0} (sends : T → Queue → Result ℕ IoFault → T �
 -- ---- an open action is answered first, and then that the client was killed
 
 live_as : {A : Type 0} (P Q : Type 0) (S : A → Type 0) (o : Option A) (b : Bool) → o ≡ None → b ≡ false → P → MatchOption o (MatchBool b Q P) S
-live_as P Q S o b h1 h2 h3 = grind (arith, true≢false, is_some) steps 400000
+live_as P Q S o b h1 h2 h3 = grind (arith, true≢false, is_some)
 
 killed_as : {A : Type 0} (P Q : Type 0) (S : A → Type 0) (o : Option A) (b : Bool) → is_some o ≡ false → b ≡ true → Q → MatchOption o (MatchBool b Q P) S
-killed_as P Q S o b h1 h2 h3 = grind (arith, true≢false) steps 400000
+killed_as P Q S o b h1 h2 h3 = grind (arith, true≢false)
 
 open_as : {A : Type 0} (P : Type 0) (S : A → Type 0) (o : Option A) → is_some o ≡ true → ((x : A) → S x) → MatchOption o P S
 open_as P S None some s = absurd (true≢false (sym some))
@@ -541,8 +541,8 @@ fault_fills receives s after link f blocks memory filled finds kills =
     (link, filled, finds, sym (lacks_none f memory), kills_is (linked s link) after ConnectionClosed kills ∙ closes f blocks memory)
   where
     lacks_none : (f : IoFault) → f ≢ fault.OutOfMemory → lacks_memory (Err f) ≡ false
-    lacks_none f h1 = grind (arith) steps 400000
+    lacks_none f h1 = grind (arith)
 
     closes : (f : IoFault) → f ≢ fault.WouldBlock → f ≢ fault.OutOfMemory
         → stored_as s (record { core = faulted (core_of s.part) fault.Pipe; link = link }) ≡ stored_as s (record { core = faulted (core_of s.part) f; link = link })
-    closes f h1 h2 = grind (arith) steps 400000
+    closes f h1 h2 = grind (arith)

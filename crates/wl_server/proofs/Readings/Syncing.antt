@@ -75,7 +75,7 @@ module _ {T : Type 0} (link : LinkState T) (r : FrontRequest) where
   sync_of display zero (Some n) (whole, twelve, word) = record { display = display; opcode = zero; whole = whole; twelve = twelve; word = word }
 
   sync_waits : {U : Type 0} (table : List InterfaceRow) (store : Store (Kept U)) (n : ℕ) → IsFront table store link r → IsSyncOf link r n → SyncWaits table store link n
-  sync_waits table store n front sync = grind (arith, receiver_of, sender_of, opcode_of, message_row) steps 400000
+  sync_waits table store n front sync = grind (arith, receiver_of, sender_of, opcode_of, message_row)
 
 -- the link without the message at its front
 abbrev pub taken : {T : Type 0} → LinkState T → LinkState T
@@ -126,7 +126,7 @@ module _ {T U G C : Type 0} (sends : T → Queue → Result ℕ IoFault → T �
   valid = rw no_trace.valid refl
 
   handled : syncs a core n ≡ (server a).handles core message
-  handled = grind (arith, valid, to_display, waits, first_message, callback_id, ap₂, request, row_at_front) steps 400000
+  handled = grind (arith, valid, to_display, waits, first_message, callback_id, ap₂, request, row_at_front)
 
   takes : Takes sends (server a) (reader_part s.part) (syncs a core n) (taken s.part.link)
   takes = (message, reads, handled)

@@ -51,7 +51,7 @@ free_drop n text h = not_second (holds_zero (take n text)) (holds_zero (drop n t
 -- ---- numbers
 
 glyph_is_no_zero : (d : ℕ) → (digit_glyph false d == 0) ≡ false
-glyph_is_no_zero d = grind (arith, nat_lt) steps 400000
+glyph_is_no_zero d = grind (arith, nat_lt)
 
 free_digits : (k n : ℕ) (acc : List ℕ) → IsFree acc → IsFree (digits_onto k 10 false n acc)
 free_digits zero n acc h = h
@@ -73,7 +73,7 @@ free_decimal n = free_digits 64 n [] refl
 
 free_within : (k : ℕ) (bytes : List ℕ) → IsFree bytes → IsFree (utf8_lossy_within k bytes)
 free_within zero bytes h = h
-free_within (suc k) bytes h = grind (arith, after_first_chunk, free_drop, utf8_valid_len, utf8_invalid_len, replacement_bytes, utf8_lossy_within, free_both, free_take, free_within k (after_first_chunk bytes)) steps 400000
+free_within (suc k) bytes h = grind (arith, after_first_chunk, free_drop, utf8_valid_len, utf8_invalid_len, replacement_bytes, utf8_lossy_within, free_both, free_take, free_within k (after_first_chunk bytes))
 
 pub free_lossy : (bytes : List ℕ) → IsFree bytes → IsFree (utf8_lossy bytes)
 unfolding utf8_lossy
@@ -162,10 +162,10 @@ free_new_id_text n = behind (codes "Invalid new_id: ") (decimal n ++ codes ".") 
 -- the interface's name stands there as a text
 pub free_bind_text : (name : List ℕ) (version global : ℕ) → IsFree name
     → IsFree (codes "Invalid binding of " ++ (name ++ (codes " version " ++ (decimal version ++ (codes " for global " ++ (decimal global ++ codes "."))))))
-free_bind_text name version global free = grind (arith, behind, free_both, number_then, dot) steps 400000
+free_bind_text name version global free = grind (arith, behind, free_both, number_then, dot)
 
 pub free_since_text : (opcode version since : ℕ) (interface : List ℕ) (number : ℕ) → IsFree interface → IsFree (since_text opcode version since interface number)
-free_since_text opcode version since interface number free = grind (arith, behind, number_then, free_both, free_decimal) steps 400000
+free_since_text opcode version since interface number free = grind (arith, behind, number_then, free_both, free_decimal)
 
 pub free_unknown_text : (n : ℕ) → IsFree (codes "Unknown id: " ++ (decimal n ++ codes "."))
 free_unknown_text n = behind (codes "Unknown id: ") (decimal n ++ codes ".") refl (number_then n (codes ".") dot)
@@ -173,11 +173,11 @@ free_unknown_text n = behind (codes "Unknown id: ") (decimal n ++ codes ".") ref
 -- the names of the interface, of the request, and of the interfaces asked for and got
 pub free_interface_text : (n : ℕ) (interface request asked got : List ℕ) → IsFree interface → IsFree request → IsFree asked → IsFree got
     → IsFree (codes "Invalid object " ++ (decimal n ++ (codes " in request " ++ (interface ++ (codes "." ++ (request ++ (codes ": expected " ++ (asked ++ (codes " but got " ++ (got ++ codes "."))))))))))
-free_interface_text n interface request asked got i r a g = grind (arith, free_both, dot, behind, number_then) steps 400000
+free_interface_text n interface request asked got i r a g = grind (arith, free_both, dot, behind, number_then)
 
 pub free_null_text : (interface request : List ℕ) → IsFree interface → IsFree request
     → IsFree (codes "Invalid null object in request " ++ (interface ++ (codes "." ++ (request ++ codes "."))))
-free_null_text interface request i r = grind (arith, behind, free_both, dot) steps 400000
+free_null_text interface request i r = grind (arith, behind, free_both, dot)
 
 -- an interface's name, a dot and a request's are one name
 pub one_name : (interface request rest : List ℕ) → interface ++ (codes "." ++ (request ++ rest)) ≡ (interface ++ (codes "." ++ request)) ++ rest

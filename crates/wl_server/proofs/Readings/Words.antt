@@ -21,7 +21,7 @@ use Rattle.wl_wire.specs.Table.{InterfaceRow, MessageRow, display_id, message_ro
 use Rattle.wl_link.specs.declared.object.Object.{Object}
 use Rattle.wl_link.specs.Exchange.{Queue}
 use Rattle.wl_link.specs.Identity.{Objects}
-use Rattle.wl_link.specs.Link.{LinkState, with_incoming}
+use Rattle.wl_link.specs.Link.{LinkState}
 use Rattle.wl_link.specs.Reader.{ReadsAs, Takes}
 use Rattle.wl_link.specs.Store.{Store, held}
 use Rattle.wl_server.specs.declared.objects.Kept.{Kept}
@@ -30,7 +30,6 @@ use Rattle.wl_server.specs.declared.reading.action.OpenAction.TheVariants as ope
 use Rattle.wl_server.specs.declared.reading.action.Reading.{Reading}
 use Rattle.wl_server.specs.declared.reading.front_request.FrontRequest.{FrontRequest}
 use Rattle.wl_server.specs.declared.reading.front_request.Sender.{Sender}
-use Rattle.wl_server.specs.declared.reading.response.RequestFault.{RequestFault}
 use Rattle.wl_server.specs.declared.reading.response.RequestFault.TheVariants as wrong
 use Rattle.wl_server.specs.Deeds.{Handed, Request}
 use Rattle.wl_server.specs.Ids.{ClientParts, IdParts}
@@ -117,7 +116,7 @@ module _ {U : Type 0} (client : ClientParts) (version : ℕ) (objects : Objects 
   found_is : (null : Bool) (asked : InterfaceId) (n : ℕ) (zero : Bool) (o : Option (Object (Kept U))) → (if zero then null else held_fits asked o) ≡ true
       → (if zero then (if null then Ok (null_id client) else Err wrong.NullObject) else object_found client asked n o)
       ≡ Ok (if zero then null_id client else held_id client n o)
-  found_is null asked n zero o h1 = grind (arith, true≢false) steps 400000
+  found_is null asked n zero o h1 = grind (arith, true≢false)
 
   object_is : (null : AllowNull) (kinds : List ArgumentType) (asked : InterfaceId) (n : ℕ) → object_fits objects.store (allows_null (kind.Object null ∷ [])) asked n ≡ true
       → object_argument client objects.store (allows_null (kind.Object null ∷ kinds)) asked n ≡ Ok (handed_object client objects.store n)
@@ -275,7 +274,7 @@ record RequestWaits {T U : Type 0} (table : List InterfaceRow) (store : Store (K
 
 request_waits : {T U : Type 0} (table : List InterfaceRow) (store : Store (Kept U)) (link : LinkState T) (r : FrontRequest) → IsFront table store link r → IsWhole link.incoming.bytes
     → MayStand (message_row r.desc.now) r.sender → RequestWaits table store link (message_row r.desc.now) r.sender
-request_waits table store link r front whole stands = grind (arith, receiver_of, sender_of, opcode_of, message_row, row_in) steps 400000
+request_waits table store link r front whole stands = grind (arith, receiver_of, sender_of, opcode_of, message_row, row_in)
 
 module _ {T U G C : Type 0} (sends : T → Queue → Result ℕ IoFault → T → Type 0) (receives : T → ℕ → Result Queue IoFault → T → Type 0) (a : Around G C)
     (s : Stored T U C) (live : Live s.part) (front : FrontRequest) (is_front : IsFront a.table s.part.store s.part.link front)
@@ -319,7 +318,7 @@ module _ {T U G C : Type 0} (sends : T → Queue → Result ℕ IoFault → T �
   row_is = ap (λ o. row_in a.table o (opcode_of bytes)) waits.holds ∙ waits.has
 
   reads : ReadsAs sends (server a) (reader_part s.part) (Ok message) (taken s.part.link)
-  reads = grind (arith, le-leb, waits, option_map, row_is, hands, length_of) steps 400000
+  reads = grind (arith, le-leb, waits, option_map, row_is, hands, length_of)
 
   no_display : (waits.receiver.interface.0 == display_id.0) ≡ false
   no_display = ap (λ (i : InterfaceId). i.0 == display_id.0) waits.is_sender.1 ∙ waits.stands.no_display

@@ -26,7 +26,7 @@ module _ {T U C : Type 0} where
   -- ---- what is quiet
 
   pub quiet_notes : (waits : Bool) (x : Option (Stored T U C)) → IsQuiet x → to_gather waits x ≡ []
-  quiet_notes waits x h1 = grind (arith) steps 400000
+  quiet_notes waits x h1 = grind (arith)
 
   quiet_places : (waits : Bool) (slot : ℕ) (x : Option (Stored T U C)) → IsQuiet x → places_of waits slot (times_of x) ≡ []
   quiet_places waits slot None quiet = no_places waits slot

@@ -2,9 +2,8 @@
 use Rattle.std.proofs.Common.{◌≡◌, ◌∙◌, ℕ, zero, suc, Bool, true, false, List, [], ◌∷◌, ◌++◌, length, map, Option, None, Some, is_some, Result, Ok, Err, IfOk, OnErr, refl, sym, ap, subst, arith}
 use mathlib.Core.Logic.{inl, inr}
 use Rattle.std.specs.Option.{option_map, option_map_or}
-use Rattle.std.specs.Prelude.{if◌then◌else◌, nat_lt, slice_get}
-use Rattle.std.proofs.lemmas.Bool.{false≢true, ltb-false, ltb-true}
-use Rattle.std.proofs.lemmas.Option.{same_Some}
+use Rattle.std.specs.Prelude.{nat_lt, slice_get}
+use Rattle.std.proofs.lemmas.Bool.{false≢true}
 use Rattle.wl_wire.specs.declared.error.IoFault.{IoFault}
 use Rattle.wl_wire.specs.declared.error.OutOfMemory.{OutOfMemory}
 use Rattle.wl_link.proofs.Calls.Branches.{either_bool}
@@ -58,7 +57,7 @@ module _ {T U C : Type 0} where
       sym (emptied_at waits clients' k) ∙ (ap (λ (xs : List (Option (Stored T U C))). stored_at k xs) same ∙ emptied_at waits clients k)
 
   sent_as : (waits : Bool) (o o' : Option (Stored T U C)) → option_map (emptied waits) o' ≡ option_map (emptied waits) o → HasSent o → HasSent o'
-  sent_as waits o o' h1 h2 = grind (arith, is_some) steps 400000
+  sent_as waits o o' h1 h2 = grind (arith, is_some)
 
   pub sent_emptied : (waits : Bool) (words : List ℕ) (clients clients' : List (Option (Stored T U C))) → all_emptied waits clients' ≡ all_emptied waits clients
       → AllSent words clients → AllSent words clients'
@@ -67,7 +66,7 @@ module _ {T U C : Type 0} where
 
   quiet_as : (o o' : Option (Stored T U C)) → option_map (emptied false) o' ≡ option_map (emptied false) o → TakesFirst (times_of o) (times_of o') → IsNumbered o'
       → IsQuiet o → IsQuiet o'
-  quiet_as o o' h1 h2 h3 h4 = grind (arith, is_some, none_more, as_long) steps 400000
+  quiet_as o o' h1 h2 h3 h4 = grind (arith, is_some, none_more, as_long)
 
   pub quiet_gathered : (words : List ℕ) (clients clients' : List (Option (Stored T U C))) → all_emptied false clients' ≡ all_emptied false clients
       → AllTakeFirst (map times_of clients) (map times_of clients') → AllNumbered clients' → AllQuiet words clients → AllQuiet words clients'
@@ -93,11 +92,11 @@ module _ {T U C : Type 0} where
   staying_at (x ∷ clients) (suc k) = staying_at clients k
 
   sent_staying : (o : Option (Stored T U C)) → HasSent o → HasSent (staying o)
-  sent_staying o h1 = grind (arith) steps 400000
+  sent_staying o h1 = grind (arith)
 
   calm_staying : (o : Option (Stored T U C)) → (to_none : (s : Stored T U C) → o ≡ Some s → (s.made ≡ []) × (s.part.waiting ≡ []))
       → (times_of (staying o)).waiting ≡ [] → IsNumbered (staying o) → IsQuiet (staying o)
-  calm_staying o to_none h1 h2 = grind (arith, times_of, none_long) steps 400000
+  calm_staying o to_none h1 h2 = grind (arith, times_of, none_long)
 
   stored_there : (clients : List (Option (Stored T U C))) (k : ℕ) (s : Stored T U C) → stored_at k clients ≡ Some s → slice_get clients k ≡ Some (Some s)
   stored_there [] k s is = absurd (false≢true (ap is_some is))
@@ -122,7 +121,7 @@ module _ {T U C : Type 0} where
     sent_killed words refused clients clients' all = out_each HasSent words clients clients' (λ k sent. at k (nat_lt k (length clients)) refl sent)
       where
         at : (k : ℕ) (b : Bool) → nat_lt k (length clients) ≡ b → HasSent (stored_at k clients) → HasSent (stored_at k clients')
-        at k b h1 h2 = grind (arith, sent_place) steps 400000
+        at k b h1 h2 = grind (arith, sent_place)
 
     pub sent_cleaned : (words : List ℕ) (clients clients' : List (Option (Stored T U C))) (notes notes' : List (Note U)) (refused : Bool) (given : List (ClientParts × T))
         → CleansUp sends clients notes refused clients' notes' given → AllSent words clients → AllSent words clients'

@@ -1,6 +1,5 @@
 -- What is so of each client that is not in a set of slots, while clients and sets change.
-use Rattle.std.proofs.Common.{◌≡◌, ◌≢◌, ◌∙◌, ℕ, zero, suc, ◌+◌, ◌<◌, ◌≤◌, Bool, true, false, List, [], ◌∷◌, length, Option, None, Some, refl, sym, ap, subst, arith}
-use mathlib.Core.Logic.{inl, inr}
+use Rattle.std.proofs.Common.{◌≡◌, ℕ, zero, suc, ◌+◌, ◌<◌, ◌≤◌, Bool, List, [], ◌∷◌, length, Option, None, Some, refl, ap, subst, arith}
 use Rattle.std.specs.Option.{option_map_or}
 use Rattle.std.specs.Prelude.{◌==◌, IsTrue, MatchOption, slice_get, slice_set}
 use Rattle.std.proofs.lemmas.Bool.{eqb-true}
@@ -18,7 +17,7 @@ carry P from zero less is step = subst P (let e : from ≡ zero = omega (arith, 
 carry P from (suc to) less is step = at (from == suc to) refl (λ below. carry P from to below is (λ k low high. step k low (omega (arith, high))))
   where
     at : (b : Bool) → (from == suc to) ≡ b → (from ≤ to → P to) → P (suc to)
-    at b h1 h2 = grind (arith, eqb-true, other_of) steps 400000
+    at b h1 h2 = grind (arith, eqb-true, other_of)
 
 pub there : {A : Type 0} (xs : List A) (k : ℕ) → k < length xs → (x : A) × (slice_get xs k ≡ Some x)
 there [] k within = absurd (omega (arith, within))
@@ -51,7 +50,7 @@ module _ {T U C : Type 0} where
     pub out_set : (words : List ℕ) (clients : List (Option (Stored T U C))) (slot : ℕ) (x x' : Option (Stored T U C)) → slice_get clients slot ≡ Some x → (P x → P x')
         → AllOut P words clients → AllOut P words (slice_set clients slot x')
     unfolding AllOut
-    out_set words clients slot x x' here keeps all k out = grind (arith, slice_set, eqb-true, get_set_same, get_set_other, other_of) steps 400000
+    out_set words clients slot x x' here keeps all k out = grind (arith, slice_set, eqb-true, get_set_same, get_set_other, other_of)
 
     -- ---- slots are added to the set
 
@@ -67,19 +66,19 @@ module _ {T U C : Type 0} where
     pub out_touched : (words words' : List ℕ) (clients : List (Option (Stored T U C))) (slot : ℕ) (y : Option (Stored T U C)) → Adds slot words words'
         → AllOut P words clients → AllOut P words' (slice_set clients slot y)
     unfolding AllOut
-    out_touched words words' clients slot y adds all k out = grind (arith, get_set_other) steps 400000
+    out_touched words words' clients slot y adds all k out = grind (arith, get_set_other)
 
     pub out_put : (words words' : List ℕ) (clients clients' : List (Option (Stored T U C))) (slot : ℕ) (s : Stored T U C) → Adds slot words words'
         → IsPut clients slot s clients' → AllOut P words clients → AllOut P words' clients'
     unfolding AllOut
-    out_put words words' clients clients' slot s adds (here, others) all k out = grind (arith) steps 400000
+    out_put words words' clients clients' slot s adds (here, others) all k out = grind (arith)
 
     -- ---- a slot is taken out of the set
 
     pub out_taken : (words words' : List ℕ) (clients : List (Option (Stored T U C))) (slot : ℕ) (x : Option (Stored T U C)) (flag : Bool) → TakesOut slot flag words words'
         → slice_get clients slot ≡ Some x → (IsTrue flag → P x) → AllOut P words clients → AllOut P words' clients
     unfolding AllOut
-    out_taken words words' clients slot x flag takes here is all k out = grind (arith) steps 400000
+    out_taken words words' clients slot x flag takes here is all k out = grind (arith)
 
     pub out_of_none : (words : List ℕ) → P None → AllOut P words []
     unfolding AllOut

@@ -1,8 +1,7 @@
 -- That what is held of each client is what its own calls and the shared ones lead to alone: over every run.
-use Rattle.std.proofs.Common.{◌≡◌, ℕ, ◌+◌, ◌<◌, ◌≤◌, Bool, true, false, List, [], ◌∷◌, ◌++◌, None, Some, is_some, Result, Ok, Err, refl, sym, ap, subst, ◌∙◌, arith, true≢false}
-use Rattle.std.specs.Prelude.{MatchBool, if◌then◌else◌, ◌==◌, ◌&&◌}
+use Rattle.std.proofs.Common.{◌≡◌, ◌+◌, ◌<◌, ◌≤◌, Bool, true, false, List, [], ◌∷◌, ◌++◌, Some, is_some, Result, Ok, Err, refl, sym, ap, subst, ◌∙◌, arith, true≢false}
+use Rattle.std.specs.Prelude.{MatchBool, if◌then◌else◌}
 use Rattle.std.proofs.lemmas.Bool.{cases_lt, eqb-true, eq-eqb, false≢true}
-use mathlib.Core.Logic.{inl, inr}
 use Rattle.wl_wire.specs.Table.{InterfaceRow}
 use Rattle.wl_link.specs.Link.{LinkState, IsFresh}
 use Rattle.wl_link.specs.Runs.{RunEntry}
@@ -17,7 +16,7 @@ use Rattle.wl_server.specs.Deeds.{Deed}
 use Rattle.wl_server.specs.Globals.{Offer}
 use Rattle.wl_server.specs.Ids.{ClientParts, same_client}
 use Rattle.wl_server.specs.Part.{Part, fresh_part}
-use Rattle.wl_server.specs.PartStep.{Asked, Call, Changed, Grown, Inserted, InsertedAs, OfClient, PartCall, PartStep, Unfelt, World}
+use Rattle.wl_server.specs.PartStep.{Asked, Call, Inserted, InsertedAs, OfClient, PartCall, PartStep, Unfelt, World}
 use Rattle.wl_server.specs.Runs.{Alone, AreOf, EachAlone, Inserts, IsIsolated, IsNeverInserted, IsNotInserted, Leads, Performs, SharedAlone, just_inserted, concerns, is_about, mine, offer_over, own_of}
 use Rattle.wl_server.specs.Server.{Seen, ServerState, new_server, nothing_seen, seen}
 use Rattle.wl_server.specs.Steps.{Entry, InsertsNext, NumbersClient, OneStep, inserted_by, offer_after}
@@ -28,13 +27,13 @@ pub same_self : (id : ClientParts) → same_client id id ≡ true
 same_self id = rw (eq-eqb id.slot id.slot refl) (eq-eqb id.serial id.serial refl)
 
 pub same_serial : (a b : ClientParts) → same_client a b ≡ true → a.serial ≡ b.serial
-same_serial a b same = grind (arith, eqb-true, false≢true) steps 400000
+same_serial a b same = grind (arith, eqb-true, false≢true)
 
 earlier_differs : (new id : ClientParts) → new.serial < id.serial → same_client new id ≡ false
-earlier_differs new id sooner = grind (arith, same_serial) steps 400000
+earlier_differs new id sooner = grind (arith, same_serial)
 
 later_differs : (new id : ClientParts) → id.serial < new.serial → same_client new id ≡ false
-later_differs new id later = grind (arith, same_serial) steps 400000
+later_differs new id later = grind (arith, same_serial)
 
 -- ---- one step, of a client that is not there or is not meant
 
@@ -54,7 +53,7 @@ module _ {T U G C : Type 0} (w : World T G C) (id : ClientParts) (offer : Offer 
   inserted_other : (transport : T) (client_data : C) (r : Result ClientParts InsertClientError) (before : Seen T U C) (lacked : Bool) (did : List (Deed U)) (after : Seen T U C)
       → ((new : ClientParts) → r ≡ Ok new → same_client new id ≡ false)
       → InsertedAs w id offer transport client_data r before lacked did after → Unfelt before lacked did after
-  inserted_other transport client_data r before lacked did after h1 h2 = grind (arith, true≢false) steps 400000
+  inserted_other transport client_data r before lacked did after h1 h2 = grind (arith, true≢false)
 
   inserts_other : (transport : T) (client_data : C) (answer : Reply T U) (r : Result ClientParts InsertClientError) → answer ≡ reply.InsertClient r
       → IsNotInserted {T = T} {U = U} {G = G} {C = C} id (Asked (step.InsertClient transport client_data) answer) → (new : ClientParts) → r ≡ Ok new → same_client new id ≡ false
@@ -64,20 +63,20 @@ module _ {T U G C : Type 0} (w : World T G C) (id : ClientParts) (offer : Offer 
   -- a client of which nothing is held feels nothing of a step that does not insert it
   nothing_step : (s : Step T U G C) (answer : Reply T U) (lacked : Bool) (did : List (Deed U)) (after : Seen T U C)
       → IsNotInserted id (Asked s answer) → PartStep w id offer s answer nothing_seen lacked did after → Unfelt nothing_seen lacked did after
-  nothing_step s answer lacked did after h1 h2 = grind (arith, inserted_other, nothing_seen, inserts_other, own_nothing) steps 400000
+  nothing_step s answer lacked did after h1 h2 = grind (arith, inserted_other, nothing_seen, inserts_other, own_nothing)
 
   nothing_call : (call : Call T U G C) (lacked : Bool) (did : List (Deed U)) (after : Seen T U C)
       → IsNotInserted id call → PartCall w id offer call nothing_seen lacked did after → Unfelt nothing_seen lacked did after
-  nothing_call call lacked did after h1 h2 = grind (arith, nothing_step, own_nothing) steps 400000
+  nothing_call call lacked did after h1 h2 = grind (arith, nothing_step, own_nothing)
 
   -- a client feels nothing of a step that names another
   other_step : (s : Step T U G C) (answer : Reply T U) (before : Seen T U C) (lacked : Bool) (did : List (Deed U)) (after : Seen T U C)
       → IsNotInserted id (Asked s answer) → is_about id s ≡ false → PartStep w id offer s answer before lacked did after → Unfelt before lacked did after
-  other_step s answer before lacked did after h1 h2 h3 = grind (arith, inserted_other, inserts_other, true≢false, own_other) steps 400000
+  other_step s answer before lacked did after h1 h2 h3 = grind (arith, inserted_other, inserts_other, true≢false, own_other)
 
   pub other_call : (call : Call T U G C) (before : Seen T U C) (lacked : Bool) (did : List (Deed U)) (after : Seen T U C)
       → IsNotInserted id call → concerns id call ≡ false → PartCall w id offer call before lacked did after → Unfelt before lacked did after
-  other_call call before lacked did after h1 h2 h3 = grind (arith, other_step, own_other) steps 400000
+  other_call call before lacked did after h1 h2 h3 = grind (arith, other_step, own_other)
 
 module _ {T U : Type 0} where
   -- what an insertion answers
@@ -88,10 +87,10 @@ module _ {T U : Type 0} where
 module _ {T U G C : Type 0} where
   -- and it leaves the offer
   other_offer : (id : ClientParts) (offer : Offer G) (s : Step T U G C) (answer : Reply T U) → is_about id s ≡ false → offer_after offer (Asked s answer) ≡ offer
-  other_offer id offer s answer h1 = grind (arith, true≢false) steps 400000
+  other_offer id offer s answer h1 = grind (arith, true≢false)
 
   pub offer_of_other : (id : ClientParts) (offer : Offer G) (call : Call T U G C) → concerns id call ≡ false → offer_after offer call ≡ offer
-  offer_of_other id offer call h1 = grind (arith, other_offer, true≢false) steps 400000
+  offer_of_other id offer call h1 = grind (arith, other_offer, true≢false)
 
   -- ---- clients that were not inserted yet
 
@@ -116,7 +115,7 @@ module _ {T U G C : Type 0} where
   }
     where
       far : (id : ClientParts) → after.last_client < id.serial → IsNotInserted id e.call
-      far id late new inserts = grind (arith, earlier_differs, numbered, one_more) steps 400000
+      far id late new inserts = grind (arith, earlier_differs, numbered, one_more)
 
   -- ---- runs
 
@@ -153,7 +152,7 @@ module _ {T U G C : Type 0} where
       → PartCall w id offer e.call before (e.lacks id) (e.did id) mid
       → Alone w id (offer_after offer e.call) mid (mine id run) after
       → Alone w id offer before (if b then (own_of id e ∷ mine id run) else mine id run) after
-  alone_more w id before mid after offer e run b h1 h2 h3 h4 = grind (arith, mine, other_call, offer_of_other) steps 400000
+  alone_more w id before mid after offer e run b h1 h2 h3 h4 = grind (arith, mine, other_call, offer_of_other)
 
   -- an id that was given is not given again
   pub not_again : (w : World T G C) (id : ClientParts) (before after : ServerState T U G C) (e : Entry T U G C) → id.serial ≤ before.last_client → OneStep w before e after
@@ -195,7 +194,7 @@ module _ {T U G C : Type 0} where
   -- a client that is stored was given its serial before
   pub known_before : (w : World T G C) (table : List InterfaceRow) (run : List (Entry T U G C)) (after : ServerState T U G C) → Leads w (new_server table) run after
       → (id : ClientParts) (p : Part T U C) → (seen id after).part ≡ Some p → id.serial ≤ after.last_client
-  known_before w table run after leads id p there = grind (arith, cases_lt, unborn_run, new_server, new_unborn, true≢false, is_some) steps 400000
+  known_before w table run after leads id p there = grind (arith, cases_lt, unborn_run, new_server, new_unborn, true≢false, is_some)
 
   pub each_alone : (w : World T G C) (table : List InterfaceRow) (run : List (Entry T U G C)) (after : ServerState T U G C)
       → Leads w (new_server table) run after → EachAlone w table run after
@@ -240,7 +239,7 @@ module _ {T U G C : Type 0} where
   pub shared_run : (w : World T G C) (before after : ServerState T U G C) (run : List (Entry T U G C)) → Leads w before run after
       → SharedAlone before.offer before.last_client run after.offer after.last_client
   shared_run w before after [] same = (ap (λ (s : ServerState T U G C). s.offer) same, ap (λ (s : ServerState T U G C). s.last_client) same)
-  shared_run w before after (e ∷ run) (mid, by, leads) = grind (arith, numbered, offer_after, shared_run w mid after run leads) steps 400000
+  shared_run w before after (e ∷ run) (mid, by, leads) = grind (arith, numbered, offer_after, shared_run w mid after run leads)
 
   -- over every run of a new server
   pub is_isolated : (w : World T G C) (table : List InterfaceRow) (run : List (Entry T U G C)) (after : ServerState T U G C)

@@ -79,7 +79,7 @@ module _ {T U G C : Type 0} where
       go : (b : Bool) → concerns id e.call ≡ b
           → AreNumbered (offer_after offer e.call) (mine id run) × (own_offer (offer_after offer e.call) (mine id run) ≡ offer')
           → AreNumbered offer (if b then (own_of id e ∷ mine id run) else mine id run) × (own_offer offer (if b then (own_of id e ∷ mine id run) else mine id run) ≡ offer')
-      go b h1 h2 = grind (arith, mine, offer_of_other) steps 400000
+      go b h1 h2 = grind (arith, mine, offer_of_other)
 
 module _ {T U G C : Type 0} (w : World T G C) (id : ClientParts) (r : Id) where
   abbrev Watched : Offer G → Part T U C → List Said → List Id → Type 0
@@ -104,20 +104,20 @@ module _ {T U G C : Type 0} (w : World T G C) (id : ClientParts) (r : Id) where
   lives_leads offer p did q lives log made was on = (lives.goes on).watch log made (was (lives.live on))
 
   unfelt_follows : (offer : Offer G) (s : Seen T U C) (lacked : Bool) (did : List (Deed U)) (t : Seen T U C) → Unfelt s lacked did t → Follows offer offer s did t
-  unfelt_follows offer s lacked did t (no_memory, none, same) = grind (arith, log_of, registries_in, append-nil) steps 400000
+  unfelt_follows offer s lacked did t (no_memory, none, same) = grind (arith, log_of, registries_in, append-nil)
 
   -- a part that is stored, and goes on as this one
   part_follows : (offer offer' : Offer G) (s : Seen T U C) (p q : Part T U C) (did : List (Deed U)) (made : List (Happening U)) (t : Seen T U C) → s.part ≡ Some p
       → t ≡ record { part = Some q; made = made } → Leads' offer offer' p did q → Follows offer offer' s did t
-  part_follows offer offer' s p q did notes t there same leads = grind (arith, log_of, registries_in) steps 400000
+  part_follows offer offer' s p q did notes t there same leads = grind (arith, log_of, registries_in)
 
   out_follows : (offer offer' : Offer G) (s : Seen T U C) (did : List (Deed U)) (t : Seen T U C) → t.part ≡ None → Follows offer offer' s did t
-  out_follows offer offer' s did t none = grind (arith, log_of, registries_in) steps 400000
+  out_follows offer offer' s did t none = grind (arith, log_of, registries_in)
 
   -- a step that each client feels, where the offer becomes this
   feels_follows : (offer offer' : Offer G) (s : Seen T U C) (R : Part T U C → Part T U C → Type 0) (missing : Type 0) (lacked : Bool) (did : List (Deed U)) (t : Seen T U C)
       → ((p q : Part T U C) → R p q → Leads' offer offer' p did q) → OnPart s R missing lacked did t → Follows offer offer' s did t
-  feels_follows offer offer' s R missing lacked did t leads h = grind (arith, either_option, out_follows, part_follows) steps 400000
+  feels_follows offer offer' s R missing lacked did t leads h = grind (arith, either_option, out_follows, part_follows)
 
   -- a step that is about this client or about another
   of_client : (offer : Offer G) (b : Bool) (s : Seen T U C) (R : Part T U C → Part T U C → Type 0) (missing : Type 0) (lacked : Bool) (did : List (Deed U)) (t : Seen T U C)
@@ -149,7 +149,7 @@ module _ {T U G C : Type 0} (w : World T G C) (id : ClientParts) (r : Id) where
       (λ log made was. global_watch w.views id r offer (part_scene p) i version handler g (is_free creates) log made was) heard) h
     where
       is_free : CreatesGlobal offer.table offer.globals i version (Ok g) → held offer.globals.store g.name ≡ None
-      is_free creates = grind (arith, either_option, slice_get, either_bool, nat_le, true≢false, is_ok) steps 400000
+      is_free creates = grind (arith, either_option, slice_get, either_bool, nat_le, true≢false, is_ok)
   global_follows offer i version handler (Err e) s lacked did t creates h = unfelt_follows offer s lacked did t h
 
   loss_follows : (offer : Offer G) (g : GlobalParts) (after : Globals G) (s : Seen T U C) (lacked : Bool) (did : List (Deed U)) (t : Seen T U C)
@@ -195,7 +195,7 @@ module _ {T U G C : Type 0} (w : World T G C) (id : ClientParts) (r : Id) where
 
   cleaned_follows : (offer : Offer G) (s : Seen T U C) (p : Part T U C) → s.part ≡ Some p → (lacked : Bool) (did : List (Deed U)) (out : List T) (q : Option (Part T U C))
       (t : Seen T U C) → Cleaned w.sends id p lacked did out q → t.part ≡ q → Follows offer offer s did t
-  cleaned_follows offer s p there lacked did out q t h same = grind (arith, either_bool, out_follows, log_of, registries_in, silent_notes, append-nil) steps 400000
+  cleaned_follows offer s p there lacked did out q t h same = grind (arith, either_bool, out_follows, log_of, registries_in, silent_notes, append-nil)
 
   cleanup_follows : (offer : Offer G) (answer : Result (Vec (ClientParts × T) Global) OutOfMemory) (s : Seen T U C) (lacked : Bool) (did : List (Deed U)) (t : Seen T U C)
       → CleanedAs w id offer answer s lacked did t → Follows offer offer s did t
@@ -208,7 +208,7 @@ module _ {T U G C : Type 0} (w : World T G C) (id : ClientParts) (r : Id) where
 
   taken_follows : (offer : Offer G) (answer : Result (Vec (Note U) Global) OutOfMemory) (s : Seen T U C) (lacked : Bool) (did : List (Deed U)) (t : Seen T U C)
       → NotesTaken w id offer answer s lacked did t → Follows offer offer s did t
-  taken_follows offer answer s lacked did t h1 = grind (arith, unfelt_follows, log_of, registries_in, silent_taken, append-nil) steps 400000
+  taken_follows offer answer s lacked did t h1 = grind (arith, unfelt_follows, log_of, registries_in, silent_taken, append-nil)
 
   moved_follows : (offer : Offer G) (target : ClientParts) (m : Move) (answer : Moved) (s : Seen T U C) (lacked : Bool) (did : List (Deed U)) (t : Seen T U C)
       → MovedFor w id offer target m answer s lacked did t → Follows offer offer s did t
@@ -243,7 +243,7 @@ module _ {T U G C : Type 0} (w : World T G C) (id : ClientParts) (r : Id) where
       of_client offer (same_client o.client id) s _ _ lacked did t (λ p q d. posts_lives w.views id r offer w.sends p o _ _ lacked did q d) h
   step_follows offer known (step.KillClient target reason) answer s lacked did t about numbered alone (is, h) =
       of_client offer (same_client target id) s _ _ lacked did t (λ p q (no_memory, k). kills_lives w.views id r offer p reason did q k) h
-  step_follows offer known (step.CreateGlobal i version handler) answer s lacked did t about numbered alone (a, is, h) = grind (arith, offer_after, global_follows) steps 400000
+  step_follows offer known (step.CreateGlobal i version handler) answer s lacked did t about numbered alone (a, is, h) = grind (arith, offer_after, global_follows)
   step_follows offer known (step.DisableGlobal g) answer s lacked did t about numbered alone (is, h) =
       loss_follows offer g (disabled offer.globals g) s lacked did t (λ client_data x kept. disabled_one w.views id client_data offer g x kept)
       (λ client_data hidden. disabled_stays w.views id client_data offer g hidden) h
@@ -255,7 +255,7 @@ module _ {T U G C : Type 0} (w : World T G C) (id : ClientParts) (r : Id) where
     where
       -- the limit is nothing to what is shown
       other_limit : Follows offer offer s did t → Follows offer (record offer { default_limit = limit }) s did t
-      other_limit f = grind (arith, log_of, registries_in, limit_watch, part_scene) steps 400000
+      other_limit f = grind (arith, log_of, registries_in, limit_watch, part_scene)
   step_follows offer known (step.SetClientMaxBufferSize target limit) answer s lacked did t about numbered alone (is, h) =
       of_client offer (same_client target id) s _ _ lacked did t
       (λ p q (no_memory, none, (link, set, same)). relinked_lives w.views id r offer p link did q none same) h
@@ -279,13 +279,13 @@ module _ {T U G C : Type 0} (w : World T G C) (id : ClientParts) (r : Id) where
     where
       -- more interfaces are nothing to what is shown
       longer : (a : Result (Unit {0}) TableError) → Follows offer offer s did t → Follows offer (with_table offer (grown offer.table rows a)) s did t
-      longer a h1 = grind (arith, log_of, registries_in, with_table, growth_watch, part_scene) steps 400000
+      longer a h1 = grind (arith, log_of, registries_in, with_table, growth_watch, part_scene)
 
   -- ---- a run
 
   run_follows : (offer : Offer G) → HasInterfaces offer → (s : Seen T U C) (run : List (Own T U G C)) (t : Seen T U C) → AreMine id run → AreNumbered offer run → IsAlwaysLeftAlone r run
       → Alone w id offer s run t → Follows offer (own_offer offer run) s (history run) t
-  run_follows offer known s [] t own numbered alone same = grind (arith, append-nil) steps 400000
+  run_follows offer known s [] t own numbered alone same = grind (arith, append-nil)
   run_follows offer known s (e ∷ run) t own numbered alone (mid, by, rest) =
       let first = call_follows offer known e.call s e.lacked e.did mid own.0 numbered.0 alone.0 by in
       let more = run_follows (offer_after offer e.call) (after_call offer e.call known numbered.0) mid run t own.1 numbered.1 alone.1 rest in
@@ -332,7 +332,7 @@ module _ {T U G C : Type 0} (w : World T G C) (id : ClientParts) (r : Id) where
           → MatchOption o (Unit {0})
           (λ p. p.is_killed ≡ false → AreSameGlobals (announced (log_of (history run)) r) (shown_of w.views (own_offer offer run) id p.client_data))
       of_watched None is = tt
-      of_watched (Some p) is = grind (arith, among_contains, registries_in, history, contains_among, shown_of, shown_among, announced, log_of, among_shown) steps 400000
+      of_watched (Some p) is = grind (arith, among_contains, registries_in, history, contains_among, shown_of, shown_among, announced, log_of, among_shown)
 
 -- ---- of every client of a server
 

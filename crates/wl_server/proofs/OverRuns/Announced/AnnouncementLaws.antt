@@ -1,5 +1,5 @@
 -- What an object's messages announce, one list behind another.
-use Rattle.std.proofs.Common.{◌≡◌, ◌≢◌, ◌⊎◌, ℕ, Bool, true, false, not, ◌&&◌, cond, eqb, List, [], ◌∷◌, ◌++◌, length, map, refl, sym, ap, subst, ◌∙◌, true≢false, append-nil, append_assoc, arith}
+use Rattle.std.proofs.Common.{◌≡◌, ◌≢◌, ◌⊎◌, ℕ, Bool, true, false, not, cond, eqb, List, [], ◌∷◌, ◌++◌, length, map, refl, sym, ap, ◌∙◌, true≢false, append-nil, append_assoc, arith}
 use mathlib.Core.Logic.{inl, inr}
 use Rattle.std.proofs.lemmas.Bool.{eqb-true, eq-eqb, ne_eqb}
 use Rattle.wl_wire.specs.Table.{InterfaceRow, name_of}
@@ -15,13 +15,13 @@ use Rattle.wl_server.specs.Telling.{global_message, introductions, making, remov
 -- ---- ids
 
 pub same_id_is : (a b : Id) → same_id a b ≡ true → a ≡ b
-same_id_is a b e = grind (arith, eqb, eqb-true, true≢false) steps 400000
+same_id_is a b e = grind (arith, eqb, eqb-true, true≢false)
 
 pub same_id_self : (a : Id) → same_id a a ≡ true
 same_id_self a = rw (eq-eqb a.number a.number refl, eq-eqb a.serial a.serial refl) refl
 
 pub other_id : (a b : Id) → a ≢ b → same_id a b ≡ false
-other_id a b other = grind (arith, same_id_is) steps 400000
+other_id a b other = grind (arith, same_id_is)
 
 -- ---- one list behind another
 
@@ -40,10 +40,10 @@ AreOfOthers r (m ∷ log) = (sender_of m ≢ r) × AreOfOthers r log
 
 pub others_say : (r : Id) (log : List Said) → AreOfOthers r log → SaysNothing r log
 others_say r [] others = record { same = λ told. refl }
-others_say r (m ∷ log) others = grind (arith, announced_over, announced_after, other_id, sender_of, others_say r log others.1) steps 400000
+others_say r (m ∷ log) others = grind (arith, announced_over, announced_after, other_id, sender_of, others_say r log others.1)
 
 pub say_then : (r : Id) (a b : List Said) → SaysNothing r a → SaysNothing r b → SaysNothing r (a ++ b)
-say_then r a b first second = grind (arith, announced-append, announced_over) steps 400000
+say_then r a b first second = grind (arith, announced-append, announced_over)
 
 -- ---- a registry is told of globals one after another
 
@@ -80,7 +80,7 @@ module _ (table : List InterfaceRow) where
     pub adding_adds : (told : List Announced) (rs : List Id) → IsAmong rs r
         → IsAmong (announced_over r told (map (λ y. making (makes y) (global_message table y g)) rs)) (announced_as table g)
     adding_adds told [] among = absurd among
-    adding_adds told (y ∷ rs) (inl e) = grind (arith, announced_as, same_id_self, adding_keeps, among_later) steps 400000
+    adding_adds told (y ∷ rs) (inl e) = grind (arith, announced_as, same_id_self, adding_keeps, among_later)
     adding_adds told (y ∷ rs) (inr among) = adding_adds (cond (same_id y r) (told ++ announced_as table g ∷ []) told) rs among
 
     pub adding_only : (told : List Announced) (rs : List Id) (x : Announced)
@@ -90,7 +90,7 @@ module _ (table : List InterfaceRow) where
       where
         go : (b : Bool) → ((t : List Announced) → IsAmong (after_adding t rs) x → IsAmong t x ⊎ (announced_as table g ≡ x))
             → IsAmong (after_adding (cond b (told ++ announced_as table g ∷ []) told) rs) x → IsAmong told x ⊎ (announced_as table g ≡ x)
-        go b h1 h2 = grind (arith, announced_as, among_both) steps 400000
+        go b h1 h2 = grind (arith, announced_as, among_both)
 
 -- those that are told say nothing of a registry that is not among them
 pub told_others : (r : Id) (message : Id → Said) → ((y : Id) → sender_of (message y) ≡ y) → (rs : List Id) → (IsAmong rs r → ⊥)
@@ -127,5 +127,5 @@ module _ (name : ℕ) (r : Id) where
   pub removing_removes : (told : List Announced) (rs : List Id) (x : Announced) → IsAmong rs r
       → IsAmong (announced_over r told (map (removal_message name) rs)) x → x.name ≢ name
   removing_removes told [] x there among = absurd there
-  removing_removes told (y ∷ rs) x (inl e) among = grind (arith, without_name, removing_only, same_id_self, true≢false, among_filter, eq-eqb) steps 400000
+  removing_removes told (y ∷ rs) x (inl e) among = grind (arith, without_name, removing_only, same_id_self, true≢false, among_filter, eq-eqb)
   removing_removes told (y ∷ rs) x (inr there) among = removing_removes (cond (same_id y r) (without_name name told) told) rs x there among

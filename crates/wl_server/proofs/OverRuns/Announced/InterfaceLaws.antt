@@ -46,7 +46,7 @@ module _ {G : Type 0} where
     -- a store whose globals have interfaces of globals that were there
     stays : (after : Globals G) → ((name : ℕ) (x : Object (KeptGlobal G)) → held after.store name ≡ Some x
         → (y : Object (KeptGlobal G)) × (held offer.globals.store name ≡ Some y) × (x.interface ≡ y.interface)) → HasInterfaces (with_globals offer after)
-    stays after was = grind (arith) steps 400000
+    stays after was = grind (arith)
 
     after_disabled : (g : GlobalParts) → HasInterfaces (with_globals offer (disabled offer.globals g))
     after_disabled g = by (global_of offer.globals g) refl
@@ -64,7 +64,7 @@ module _ {G : Type 0} where
     after_freed g = by (global_of offer.globals g)
       where
         by : (found : Option (Object (KeptGlobal G))) → HasInterfaces (with_globals offer (freed_at offer.globals g.name found))
-        by found = grind (arith, stays, removed_here, removed_other) steps 400000
+        by found = grind (arith, stays, removed_here, removed_other)
 
     -- a global is created of an interface that is there
     after_created : (i : InterfaceId) (version : ℕ) (handler : G) (r : Result GlobalParts GlobalError) → CreatesGlobal offer.table offer.globals i version r
@@ -91,7 +91,7 @@ module _ {G : Type 0} where
         listed (Some row) is h = slice_get_within offer.table i.0 row is
 
     after_growth : (new : List InterfaceRow) (r : Result (Unit {0}) TableError) → HasInterfaces (with_table offer (grown offer.table new r))
-    after_growth new r = grind (arith, length-append) steps 400000
+    after_growth new r = grind (arith, length-append)
 
 module _ {T U G C : Type 0} where
   after_step : (offer : Offer G) (s : Step T U G C) (answer : Reply T U) → HasInterfaces offer → AnswersShared offer (Asked s answer)

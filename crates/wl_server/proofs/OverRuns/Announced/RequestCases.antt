@@ -10,7 +10,6 @@ use Rattle.wl_link.specs.Reader.{Verdict}
 use Rattle.wl_link.specs.Store.{held}
 use Rattle.wl_server.specs.declared.objects.Kept.{Kept}
 use Rattle.wl_server.specs.declared.globals.KeptGlobal.{KeptGlobal}
-use Rattle.wl_server.specs.Errors.{bind_text, new_id_text}
 use Rattle.wl_server.specs.Reading.{Around, binds, binds_to, breaks, display_request, garbled, made_at, may_bind, other_request, registers, registry_request, request, row_in, server, syncs}
 use Rattle.wl_server.specs.Requests.{is_valid_new}
 use Rattle.wl_server.specs.Telling.{Core, Told, objects_in}
@@ -19,7 +18,7 @@ module _ {U G C : Type 0} (a : Around G C) (c : Core U C) (P : Verdict (Core U C
     (breaks' : (code : ℕ) (text : List ℕ) → P (breaks a c code text)) where
   -- an object is made, or the number is invalid
   made_case : (n : ℕ) (v : Verdict (Core U C) (Told U)) → (is_valid_new (objects_in c) n ≡ true → P v) → P (made_at a c n v)
-  made_case n v made = grind (arith, breaks) steps 400000
+  made_case n v made = grind (arith, breaks)
 
   module _ (syncs' : (n : ℕ) → is_valid_new (objects_in c) n ≡ true → P (syncs a c n))
       (registers' : (n : ℕ) → is_valid_new (objects_in c) n ≡ true → P (registers a c n)) where
@@ -33,7 +32,7 @@ module _ {U G C : Type 0} (a : Around G C) (c : Core U C) (P : Verdict (Core U C
 
   module _ (binds' : (g version n : ℕ) (x : Object (KeptGlobal G)) → is_valid_new (objects_in c) n ≡ true → P (binds a c g version n x)) where
     binds_to_case : (g : ℕ) (name : Option (List ℕ)) (version n : ℕ) (x : Option (Object (KeptGlobal G))) → P (binds_to a c g name version n x)
-    binds_to_case g name version n x = grind (arith, may_bind, made_at, binds, breaks, option_map_or, made_case) steps 400000
+    binds_to_case g name version n x = grind (arith, may_bind, made_at, binds, breaks, option_map_or, made_case)
 
     pub registry_case : (args : List WireArgument) → P (registry_request a c args)
     registry_case (arg.Uint g ∷ arg.Str name ∷ arg.Uint version ∷ arg.NewId n ∷ []) = binds_to_case g name version n (held a.globals.store g)
@@ -54,4 +53,4 @@ module _ {U G C : Type 0} (a : Around G C) (c : Core U C) (P : Verdict (Core U C
         where
           go : (b t : Bool) → eqb receiver.interface.0 registry_id.0 ≡ t
               → P (cond b (display_request a c m.opcode m.args) (cond t (registry_request a c m.args) (other_request a c m receiver row)))
-          go b t h1 = grind (arith, display_case, registry_case) steps 400000
+          go b t h1 = grind (arith, display_case, registry_case)

@@ -1,12 +1,11 @@
 -- Which globals a client is shown, before and after one is created, disabled or removed.
-use Rattle.std.proofs.Common.{◌≡◌, ◌≢◌, ◌⊎◌, ℕ, Bool, true, false, not, ◌&&◌, cond, eqb, Option, None, Some, refl, sym, ap, subst, ◌∙◌, true≢false, arith}
+use Rattle.std.proofs.Common.{◌≡◌, ◌≢◌, ◌⊎◌, ℕ, Bool, true, false, eqb, Option, None, Some, refl, sym, ap, subst, ◌∙◌, true≢false, arith}
 use mathlib.Core.Logic.{inl, inr}
 use Rattle.std.specs.List.{filter}
 use Rattle.std.specs.FinMap as finmap
 use Rattle.std.proofs.lemmas.Bool.{cases_eq}
 use Rattle.std.proofs.lemmas.Option.{same_Some, none-some}
 use Rattle.wl_link.specs.declared.object.Object.{Object}
-use Rattle.wl_link.specs.Identity.{named_in}
 use Rattle.wl_link.specs.Store.{held, removed, rewritten, stored}
 use Rattle.wl_link.proofs.Ids.StoreLaws.{removed_here, removed_other, rewritten_here, rewritten_other, stored_here, stored_other, walk_of_entries}
 use Rattle.wl_server.specs.declared.globals.KeptGlobal.{KeptGlobal}
@@ -19,7 +18,7 @@ use Rattle.wl_server.specs.Ids.{ClientParts, GlobalParts}
 module _ {G : Type 0} where
   -- the global that an id names has its name
   pub global_held : (globals : Globals G) (g : GlobalParts) (x : Object (KeptGlobal G)) → global_of globals g ≡ Some x → held globals.store g.name ≡ Some x
-  global_held globals g x e = grind (arith, eqb, global_serial) steps 400000
+  global_held globals g x e = grind (arith, eqb, global_serial)
 
 module _ {G C : Type 0} (views : G → ClientParts → C → GlobalParts → Bool) (client : ClientParts) (client_data : C) where
   -- a global is shown under its name
@@ -108,10 +107,10 @@ module _ {G C : Type 0} (views : G → ClientParts → C → GlobalParts → Boo
       hidden_only g h = (back after g (hides.beside g.name (hidden_other g h)) h, hidden_other g h)
 
     disabled_hides : (x : Object (KeptGlobal G)) → Hides (record offer.globals { store = rewritten offer.globals.store name (as_disabled x) })
-    disabled_hides x = grind (arith, rewritten_other, as_disabled, rewritten_here, true≢false, is_shown) steps 400000
+    disabled_hides x = grind (arith, rewritten_other, as_disabled, rewritten_here, true≢false, is_shown)
 
     removed_hides : Hides (record offer.globals { store = removed offer.globals.store name })
-    removed_hides = grind (arith, removed_other, removed_here) steps 400000
+    removed_hides = grind (arith, removed_other, removed_here)
 
   module _ (offer : Offer G) (g : GlobalParts) (x : Object (KeptGlobal G)) (is : global_of offer.globals g ≡ Some x) where
     pub disabled_one : Hides offer g.name (disabled offer.globals g)
@@ -130,7 +129,7 @@ module _ {G C : Type 0} (views : G → ClientParts → C → GlobalParts → Boo
       pub only : (a : Announced) → IsShown (with_globals offer after) a → IsShown offer a
 
     not_named : (x : Object (KeptGlobal G)) → global_of offer.globals g ≡ Some x → (a : Announced) → IsShown offer a → a.name ≢ g.name
-    not_named x is a h same = grind (arith, global_held, is_enabled, is_shown, true≢false) steps 400000
+    not_named x is a h same = grind (arith, global_held, is_enabled, is_shown, true≢false)
 
     stays_where_hidden : (after : Globals G) (x : Object (KeptGlobal G)) → global_of offer.globals g ≡ Some x → Hides offer g.name after → StaysShown after
     stays_where_hidden after x is hides = record {

@@ -24,7 +24,7 @@ use Rattle.wl_server.specs.declared.notes.DisconnectReason.{DisconnectReason}
 use Rattle.wl_server.proofs.OverRuns.Moves.BaseMoves.{Doings}
 use Rattle.wl_server.specs.Deeds.{Deed, Noted, Sent, left_if, log_of, registries_in}
 use Rattle.wl_server.proofs.OverRuns.Moves.DoingsLaws.{doings_sends, told_deeds}
-use Rattle.wl_server.specs.Errors.{PostsError, posts}
+use Rattle.wl_server.specs.Errors.{PostsError}
 use Rattle.wl_server.specs.Events.{SendsEvent, SendsGranted, SentAs, SessionMessage, ends_closed, ends_sender, event_check, said}
 use Rattle.wl_server.specs.Felt.{FlushedTo, FlushesLive}
 use Rattle.wl_server.specs.Finish.{FinishesBind, FinishesRequest, Refuses, core_finished, finish_verdict, data_given, ended_by, ending, ends, refusal, store_with_data}
@@ -46,18 +46,18 @@ module _ {U : Type 0} where
   IsSilent did = (log_of did ≡ []) × (registries_in did ≡ [])
 
   silent_left : (id : IdParts) (u : Option U) (b : Bool) → IsSilent (told_deeds (cond b [] (map Did (left_if (id_of id) u))))
-  silent_left id u b = grind (arith) steps 400000
+  silent_left id u b = grind (arith)
 
   silent_ended : (client : ClientParts) (id : IdParts) (x : Object (Kept U)) (b : Bool)
       → IsSilent (told_deeds (cond b [] (map Did (map Noted (note_of_end client id.number x) ++ left_if (id_of id) x.value.user_data))))
-  silent_ended client id x b = grind (arith, end_note, id_at, left_if, id_of) steps 400000
+  silent_ended client id x b = grind (arith, end_note, id_at, left_if, id_of)
 
   named_at : (store : Store (Kept U)) (id : IdParts) (x : Object (Kept U)) → named store id ≡ Some x → id_at_number id.number x ≡ id_of id
   named_at store id x is = ap (λ (s : ℕ). record { number = id.number; serial = s }) (named_serial store id x is)
 
 -- the number of an object is told in one message at most
 short_deletions : (n : ℕ) → IsShort (deletions n)
-short_deletions n = grind (arith, delete_message) steps 400000
+short_deletions n = grind (arith, delete_message)
 
 not_refused : {E : Type 0} (e : E) (answer : Result (Unit {0}) E) (refused : Bool) → answer ≡ unless_refused e refused → refused ≡ false → answer ≡ Ok tt
 not_refused e answer refused is fine = is ∙ ap (unless_refused e) fine
@@ -66,7 +66,7 @@ silent_sends : (U : Type 0) (es : List Sending) → IsSilent {U = U} (map Sent e
 silent_sends U es = (ap (λ (d : Doings U). d.put) (doings_sends es), ap (λ (d : Doings U). d.registries) (doings_sends es))
 
 destroyable_is : {T U C : Type 0} (p : Part T U C) (id : IdParts) (x : Object (Kept U)) → destroyable p id ≡ Some x → named p.store id ≡ Some x
-destroyable_is p id x e = grind (arith, eqb, named, true≢false, is_some) steps 400000
+destroyable_is p id x e = grind (arith, eqb, named, true≢false, is_some)
 
 module _ {G C : Type 0} (views : G → ClientParts → C → GlobalParts → Bool) (client : ClientParts) (r : Id) {U : Type 0} (offer : Offer G) where
   abbrev Still : Scene U C → Scene U C → Type 0
@@ -82,7 +82,7 @@ module _ {G C : Type 0} (views : G → ClientParts → C → GlobalParts → Boo
 
   -- nothing is put, and the client stays as live as it was
   quietly : {T : Type 0} (p q e : Part T U C) (did : List (Deed U)) → IsSilent did → q ≡ e → e.is_killed ≡ p.is_killed → Still (part_scene p) (part_scene e) → Run p did q
-  quietly p q e did silent same live still = grind (arith, lives_so, part_scene, log_of, registries_in, steady_goes) steps 400000
+  quietly p q e did silent same live still = grind (arith, lives_so, part_scene, log_of, registries_in, steady_goes)
 
   pub none_done : {T : Type 0} (p q : Part T U C) (did : List (Deed U)) → did ≡ [] → q ≡ p → Run p did q
   none_done p q did none same =
@@ -96,7 +96,7 @@ module _ {G C : Type 0} (views : G → ClientParts → C → GlobalParts → Boo
   -- messages and then a change, of a core that is as live as before
   speaks_then : (c e : Core U C) (puts : List Said) (told : List (Deed U)) → e.is_killed ≡ c.is_killed → registries_in told ≡ [] → Change (scene_of c) puts [] (scene_of c)
       → Still (scene_of c) (scene_of e) → Lives views client r offer c.is_killed e.is_killed (scene_of c) puts (registries_in told) (scene_of e)
-  speaks_then c e puts told same none says still = grind (arith, lives_so, scene_of, registries_in, append-nil, goes_then, steady_goes) steps 400000
+  speaks_then c e puts told same none says still = grind (arith, lives_so, scene_of, registries_in, append-nil, goes_then, steady_goes)
 
   -- ---- data, and new objects
 
@@ -158,7 +158,7 @@ module _ {G C : Type 0} (views : G → ClientParts → C → GlobalParts → Boo
 
   pub posts_lives : {T : Type 0} (sends : T → Queue → Result ℕ IoFault → T → Type 0) (p : Part T U C) (id : IdParts) (code : ℕ) (text : List ℕ) (lacked : Bool) (did : List (Deed U))
       (q : Part T U C) → PostsError sends offer.table p id code text lacked did q → Run p did q
-  posts_lives sends p id code text lacked did q h = grind (arith, either_bool, eqb, none_done, tells_lives, core_of, lives_not, part_scene) steps 400000
+  posts_lives sends p id code text lacked did q h = grind (arith, either_bool, eqb, none_done, tells_lives, core_of, lives_not, part_scene)
 
   pub kills_lives : {T : Type 0} (p : Part T U C) (reason : DisconnectReason) (did : List (Deed U)) (q : Part T U C) → Kills p reason did q → Run p did q
   kills_lives p reason did q (is, same) =
@@ -172,7 +172,7 @@ module _ {G C : Type 0} (views : G → ClientParts → C → GlobalParts → Boo
 
   pub flushed_lives : {T : Type 0} (sends : T → Queue → Result ℕ IoFault → T → Type 0) (p : Part T U C) (answer : Result (Unit {0}) IoFault) (lacked : Bool) (did : List (Deed U))
       (q : Part T U C) → FlushedTo sends p answer lacked did q → Run p did q
-  flushed_lives sends p answer lacked did q (es, link, by, no_memory, did_so, same) = grind (arith, quietly, with_link, log_of, silent_sends, registries_in, steady_same, part_scene) steps 400000
+  flushed_lives sends p answer lacked did q (es, link, by, no_memory, did_so, same) = grind (arith, quietly, with_link, log_of, silent_sends, registries_in, steady_same, part_scene)
 
   pub flushes_lives : {T : Type 0} (sends : T → Queue → Result ℕ IoFault → T → Type 0) (p : Part T U C) (lacked : Bool) (did : List (Deed U)) (q : Part T U C)
       → FlushesLive sends p lacked did q → Run p did q
@@ -188,10 +188,10 @@ module _ {G C : Type 0} (views : G → ClientParts → C → GlobalParts → Boo
     module _ (p : Part T U C) (b : Bool) (es : List Sending) (link : LinkState T) (answer : Result (Unit {0}) EventError) (lacked : Bool) (rest did : List (Deed U)) (q : Part T U C)
         (is : named p.store m.sender ≡ Some sender) (alone : id_of m.sender ≡ r → answer ≢ Ok tt) (did_so : did ≡ map Sent es ++ rest) where
       after_sends : Lives views client r offer p.is_killed q.is_killed (part_scene p) (log_of rest) (registries_in rest) (part_scene q) → Run p did q
-      after_sends lives = grind (arith, lives_so, part_scene, log_of, registries_in, log_both, silent_sends, registries_both) steps 400000
+      after_sends lives = grind (arith, lives_so, part_scene, log_of, registries_in, log_both, silent_sends, registries_both)
 
       ends_forms : (c : Core U C) (d : Bool) → Forms c (ends_sender client c m sender d)
-      ends_forms c d = grind (arith, silent_left, is_some, named) steps 400000
+      ends_forms c d = grind (arith, silent_left, is_some, named)
 
       -- the sender is not the registry: it may leave
       ends_leads : (d : Bool) → id_of m.sender ≢ r → Leads views client r offer (core_of p) (ends_sender client (core_of p) m sender d)
@@ -203,7 +203,7 @@ module _ {G C : Type 0} (views : G → ClientParts → C → GlobalParts → Boo
           (deletes_goes (part_scene p) m.sender.number) (without_still (core_of p) m.sender sender is other)
 
       closed_forms : (c : Core U C) (d : Bool) → Forms c (ends_closed client c m sender d)
-      closed_forms c d = grind (arith, silent_left, is_some, named) steps 400000
+      closed_forms c d = grind (arith, silent_left, is_some, named)
 
       closed_leads : (d : Bool) → Leads views client r offer (core_of p) (ends_closed client (core_of p) m sender d)
       closed_leads false = lives_not views client r offer p.is_killed true (part_scene p) _ _ _ refl

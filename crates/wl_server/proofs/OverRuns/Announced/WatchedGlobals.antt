@@ -47,7 +47,7 @@ module _ {G C : Type 0} (views : G → ClientParts → C → GlobalParts → Boo
 
       whole : (gave : List (Given (Told U))) (e : Core U C) (refused : Bool) → p.is_killed ≡ false → e.is_killed ≡ false → CameTo c (tells c messages) gave refused e
           → (e ≡ c) × (log_of (deeds_in gave) ≡ messages) × (registries_in (deeds_in gave) ≡ [])
-      whole gave e refused h1 h2 h3 = grind (arith, true≢false) steps 400000
+      whole gave e refused h1 h2 h3 = grind (arith, true≢false)
 
       go : (b : Bool) → p.is_killed ≡ b → MatchBool b ((lacked ≡ false) × (did ≡ []) × (q ≡ p)) (Tells sends (tells c messages) p.link lacked did q)
           → Hear p q messages did
@@ -120,7 +120,7 @@ module _ {G C : Type 0} (views : G → ClientParts → C → GlobalParts → Boo
             → Watched created s (log ++ cond b (announcements offer.table s.registries new) []) made
         go true visible =
             told_all views client r offer created s (λ y. making (first y) (global_message offer.table y new)) (λ y. refl) log made (λ among tells'. global_told log among visible tells') w
-        go false unseen = grind (arith, append-nil, told_none, global_hidden) steps 400000
+        go false unseen = grind (arith, append-nil, told_none, global_hidden)
 
   -- ---- a global is announced no more
 

@@ -9,7 +9,6 @@ use Rattle.wl_wire.specs.declared.error.IoFault.{IoFault}
 use Rattle.wl_wire.specs.declared.error.IoFault.TheVariants as fault
 use Rattle.wl_wire.specs.declared.interface.InterfaceId.{InterfaceId}
 use Rattle.wl_wire.specs.Argument.{WireArgument}
-use Rattle.wl_wire.specs.MessageRows.{fits, next_interface}
 use Rattle.wl_wire.specs.Message.{WireMessage}
 use Rattle.wl_wire.specs.Table.{MessageRow, callback_id, name_of, registry_id}
 use Rattle.wl_link.specs.declared.object.Object.{Object}
@@ -72,10 +71,10 @@ module _ {G C : Type 0} (views : G → ClientParts → C → GlobalParts → Boo
   -- ---- verdicts that end the client
 
   garbled_handles : (c : Core U C) → Handles c (garbled c)
-  garbled_handles c = grind (arith, lives_not, scene_of) steps 400000
+  garbled_handles c = grind (arith, lives_not, scene_of)
 
   breaks_handles : (c m : Core U C) (code : ℕ) (text : List ℕ) → Handles c (breaks (around_of views client offer) m code text)
-  breaks_handles c m code text = grind (arith, lives_not, scene_of) steps 400000
+  breaks_handles c m code text = grind (arith, lives_not, scene_of)
 
   -- ---- verdicts that answer
 
@@ -83,11 +82,11 @@ module _ {G C : Type 0} (views : G → ClientParts → C → GlobalParts → Boo
   replies_handles : (c m : Core U C) (puts : List Said) (did : List (Deed U)) → m.is_killed ≡ c.is_killed → log_of did ≡ []
       → told_deeds (map Did did ++ stops_if m) ≡ did → ((e : Core U C) → log_of (told_deeds (map Did did ++ stops_if e)) ≡ [])
       → Goes' (scene_of c) puts (registries_in did) (scene_of m) → Handles c (replies m puts did)
-  replies_handles c m puts did same quiet told silent goes = grind (arith, lives_so, scene_of, registries_in, stops_if) steps 400000
+  replies_handles c m puts did same quiet told silent goes = grind (arith, lives_so, scene_of, registries_in, stops_if)
 
   hands_out_handles : (c m : Core U C) (action : OpenAction) (h : Handed) → m.is_killed ≡ c.is_killed → Still (scene_of c) (scene_of (record m { action = Some action }))
       → Handles c (hands_out m action h)
-  hands_out_handles c m action h same still = grind (arith, steady_goes, scene_of) steps 400000
+  hands_out_handles c m action h same still = grind (arith, steady_goes, scene_of)
 
   -- ---- a display's
 
@@ -154,11 +153,11 @@ module _ {G C : Type 0} (views : G → ClientParts → C → GlobalParts → Boo
     One d (Err w) = Unit {0}
 
     converts_found : (d : Converting U) (asked : InterfaceId) (n : ℕ) (x : Option (Object (Kept U))) → One d (with_object_argument d (object_found client asked n x))
-    converts_found d asked n x = grind (arith, with_object_argument, still) steps 400000
+    converts_found d asked n x = grind (arith, with_object_argument, still)
 
     converts_object : (d : Converting U) (null : Bool) (asked : InterfaceId) (n : ℕ) (b : Bool)
         → One d (with_object_argument d (cond b (cond null (Ok (null_id client)) (Err wrong.NullObject)) (object_found client asked n (held d.objects.store n))))
-    converts_object d null asked n b = grind (arith, converts_found, still) steps 400000
+    converts_object d null asked n b = grind (arith, converts_found, still)
 
     converts_new : (d : Converting U) (n : ℕ) (child : Option InterfaceId) → One d (with_new_argument client version d n child)
     converts_new d n None = tt
@@ -181,7 +180,7 @@ module _ {G C : Type 0} (views : G → ClientParts → C → GlobalParts → Boo
         go false valid = tt
 
     converts_one : (d : Converting U) (x : WireArgument) → One d (convert_one client version d x)
-    converts_one d x = grind (arith, converts_object, allows_null, eqb, converts_new, still) steps 400000
+    converts_one d x = grind (arith, converts_object, allows_null, eqb, converts_new, still)
 
     abbrev Came : Objects (Kept U) → Outcome U → Type 0
     Came o (Whole d args) = Over o d.objects
@@ -191,7 +190,7 @@ module _ {G C : Type 0} (views : G → ClientParts → C → GlobalParts → Boo
         → ((next : Converting U) (more : List (Argument IdParts Token)) → Over o next.objects → Came o (convert client version next more args))
         → (t : Converted U) → One d t → Over o d.objects
         → Came o (going_on t d.objects (λ b next. convert client version next (done ++ b ∷ []) args))
-    goes_on o d done args h1 t h2 h3 = grind (arith, steady_then, scene_of, with_objects) steps 400000
+    goes_on o d done args h1 t h2 h3 = grind (arith, steady_then, scene_of, with_objects)
 
     converts : (o : Objects (Kept U)) (d : Converting U) (done : List (Argument IdParts Token)) (args : List WireArgument) → Over o d.objects
         → Came o (convert client version d done args)
@@ -222,7 +221,7 @@ module _ {G C : Type 0} (views : G → ClientParts → C → GlobalParts → Boo
             (breaks (around_of views client offer) c 1 (since_text m.opcode receiver.version row.since (name_of offer.table receiver.interface.0) m.sender))
             (converted (around_of views client offer) c m receiver row (convert client receiver.version (start (objects_in c) row) [] m.args)))
         go true = breaks_handles c c 1 _
-        go false = grind (arith, converted_handles, convert, start, objects_in, converts, still) steps 400000
+        go false = grind (arith, converted_handles, convert, start, objects_in, converts, still)
 
   handles : (c : Core U C) (m : WireMessage) → Handles c ((server (around_of views client offer)).handles c m)
   handles c m =
@@ -274,7 +273,7 @@ module _ {G C : Type 0} (views : G → ClientParts → C → GlobalParts → Boo
         (gave_then before.core mid.core after.core first rest.gave
         (turn_lives before link v (subst (λ (w : Verdict (Core U C) (Told U)). Handles before.core w) (sym is) (handles before.core m)) es first lacked mid by)
         (reads_lives left mid turns rest after more))
-    reads_lives left before (Unread es ∷ turns) out after (on, (v, link, first, lacked, mid, rest, (read, same, is), by, split, more)) = grind (arith, gave_then, turn_lives, garbled_handles, reads_lives left mid turns rest after more) steps 400000
+    reads_lives left before (Unread es ∷ turns) out after (on, (v, link, first, lacked, mid, rest, (read, same, is), by, split, more)) = grind (arith, gave_then, turn_lives, garbled_handles, reads_lives left mid turns rest after more)
 
     pub next_action_lives : (t : Reading) (p : Part T U C) (answer : Result Handed ActionError) (t' : Reading) (lacked : Bool) (did : List (Deed U)) (q : Part T U C)
         → NextAction sends receives (record { table = offer.table; client = client; globals = offer.globals; views = views }) t p answer t' lacked did q
@@ -295,4 +294,4 @@ module _ {G C : Type 0} (views : G → ClientParts → C → GlobalParts → Boo
         ]
       where
         stands : did ≡ [] → q ≡ p → PartLives views client r offer p did q
-        stands none same = grind (arith, lives_same, part_scene) steps 400000
+        stands none same = grind (arith, lives_same, part_scene)

@@ -1,7 +1,7 @@
 -- What a verdict that is carried out leaves of a client that lives on: all its messages were put, or nothing was done.
 use Rattle.std.proofs.Common.{◌≡◌, ◌⊎◌, ℕ, Bool, true, false, List, [], ◌∷◌, ◌++◌, map, append-nil, Result, Ok, Err, refl, sym, ap, subst, ◌∙◌, true≢false, arith}
 use mathlib.Core.Logic.{inl, inr}
-use Rattle.std.specs.Prelude.{◌||◌, if◌then◌else◌, is_ok}
+use Rattle.std.specs.Prelude.{◌||◌, is_ok}
 use Rattle.wl_wire.specs.declared.error.IoFault.{IoFault}
 use Rattle.wl_wire.specs.declared.error.IoFault.TheVariants as fault
 use Rattle.wl_link.proofs.Calls.Branches.{either_result}
@@ -17,7 +17,7 @@ use Rattle.wl_server.specs.Globals.{Offer}
 use Rattle.wl_server.specs.Ids.{ClientParts, GlobalParts}
 use Rattle.wl_server.specs.Part.{Part}
 use Rattle.wl_server.specs.Reading.{exchanges_in, stops_if}
-use Rattle.wl_server.specs.Telling.{Core, Finish, Stops, Tells, Told, closed_down, core_of, deeds_in, deeds_of, speaker}
+use Rattle.wl_server.specs.Telling.{Core, Finish, Tells, Told, closed_down, core_of, deeds_in, deeds_of, speaker}
 use Rattle.wl_server.proofs.OverRuns.Announced.Watching.{Goes, Scene, goes_then, part_scene, scene_of, steady_goes, steady_same}
 
 not_err : (f : IoFault) → ◌≡◌ {A = Result (Unit {0}) IoFault} (Ok tt) (Err f) → ⊥
@@ -43,7 +43,7 @@ module _ {T : Type 0} (sends : T → Queue → Result ℕ IoFault → T → Type
   -- of one message that could not be put nothing was
   none_put : (before : LinkState T) (messages : List Said) → IsShort messages → (f : IoFault) (es : List Sending) (put : List Said) (after : LinkState T)
       → PutsOut sends before messages es put (Err f) after → put ≡ []
-  none_put before messages h1 f es put after h2 = grind (arith, either_result, not_err) steps 400000
+  none_put before messages h1 f es put after h2 = grind (arith, either_result, not_err)
 
 module _ {U : Type 0} where
   -- ---- deeds of exchanges, and of what is given
@@ -92,7 +92,7 @@ module _ {U : Type 0} where
         }
 
     pub told_stops : (c : Core U C) → told_deeds (stops_if c) ≡ []
-    told_stops c = grind (arith, told_deeds) steps 400000
+    told_stops c = grind (arith, told_deeds)
 
 module _ {U C : Type 0} where
   -- The forms of a verdict: what follows a failed write leaves the client killed; without memory it is killed, or nothing is
@@ -113,11 +113,11 @@ module _ {U C : Type 0} where
   module _ {T : Type 0} (sends : T → Queue → Result ℕ IoFault → T → Type 0) (reader : Reader (Core U C) (Told U) (Finish U))
       (breaks : (d : Core U C) (f : IoFault) → reader.broken d f ≡ closed_down d) (c : Core U C) (v : Verdict (Core U C) (Told U)) (forms : Forms c v) where
     starves : (gave : List (Given (Told U))) (refused : Bool) (e : Core U C) → e ≡ v.starved → deeds_in gave ≡ told_deeds (v.events v.starved) → CameTo c v gave refused e
-    starves gave refused e core deeds = grind (arith, log_of, registries_in, told_deeds) steps 400000
+    starves gave refused e core deeds = grind (arith, log_of, registries_in, told_deeds)
 
     -- a write failed
     fails : (f : IoFault) (gave : List (Given (Told U))) (refused : Bool) (e : Core U C) → e ≡ v.last (reader.broken v.core f) → CameTo c v gave refused e
-    fails f gave refused e core = grind (arith) steps 400000
+    fails f gave refused e core = grind (arith)
 
     no_want : (b : Bool) (before after : LinkState T) (es : List Sending) (lacked : Bool) → FlushesOut sends b before es lacked after → b ≡ false → lacked ≡ false
     no_want true before after es lacked h off = absurd (true≢false off)
@@ -134,7 +134,7 @@ module _ {U C : Type 0} where
           given_put put (v.events (v.last v.core)) gave deeds (forms.silent (v.last v.core)) ∙ all_put sends link v.puts first put mid puts,
           given_made put (v.events (v.last v.core)) gave deeds,
         ))
-    came link mid after first others put (Err fault.OutOfMemory) lacked gave refused e puts flushed core deeds is = grind (arith, none_put, given_put, given_made, registries_in, told_deeds) steps 400000
+    came link mid after first others put (Err fault.OutOfMemory) lacked gave refused e puts flushed core deeds is = grind (arith, none_put, given_put, given_made, registries_in, told_deeds)
     came link mid after first others put (Err fault.WouldBlock) lacked gave refused e puts flushed core deeds is = fails fault.WouldBlock gave refused e core
     came link mid after first others put (Err fault.Pipe) lacked gave refused e puts flushed core deeds is = fails fault.Pipe gave refused e core
     came link mid after first others put (Err fault.TooBig) lacked gave refused e puts flushed core deeds is = fails fault.TooBig gave refused e core
@@ -162,7 +162,7 @@ module _ {G C : Type 0} (views : G → ClientParts → C → GlobalParts → Boo
     pub goes : is ≡ false → Change s put regs t
 
   pub lives_then : (a b c : Bool) (s m t : Scene U C) (p q : List Said) (x y : List Id) → Lives a b s p x m → Lives b c m q y t → Lives a c s (p ++ q) (x ++ y) t
-  lives_then a b c s m t p q x y first second = grind (arith, goes_then) steps 400000
+  lives_then a b c s m t p q x y first second = grind (arith, goes_then)
 
   pub lives_same : (b : Bool) (s : Scene U C) → Lives b b s [] [] s
   lives_same b s = record { live = λ on. on; goes = λ on. steady_goes views client r offer s s (steady_same views client r offer s) }
@@ -186,8 +186,8 @@ module _ {G C : Type 0} (views : G → ClientParts → C → GlobalParts → Boo
   pub verdict_lives : (c : Core U C) (v : Verdict (Core U C) (Told U)) (gave : List (Given (Told U))) (refused : Bool) (e : Core U C)
       → ((v.flushes ≡ false → refused ≡ false) → Leads c v) → CameTo c v gave refused e → CoreLives c (log_of (deeds_in gave)) (registries_in (deeds_in gave)) e
   verdict_lives c v gave refused e leads (inl killed) = lives_not c.is_killed e.is_killed (scene_of c) _ _ (scene_of e) killed
-  verdict_lives c v gave refused e leads (inr (inl (starved, same, none, nothing))) = grind (arith, log_of, deeds_in, registries_in, lives_so, scene_of, lives_same) steps 400000
-  verdict_lives c v gave refused e leads (inr (inr (same, told, put, made))) = grind (arith, log_of, deeds_in, registries_in, lives_so, scene_of, told_deeds) steps 400000
+  verdict_lives c v gave refused e leads (inr (inl (starved, same, none, nothing))) = grind (arith, log_of, deeds_in, registries_in, lives_so, scene_of, lives_same)
+  verdict_lives c v gave refused e leads (inr (inr (same, told, put, made))) = grind (arith, log_of, deeds_in, registries_in, lives_so, scene_of, told_deeds)
 
   -- ---- a part
 

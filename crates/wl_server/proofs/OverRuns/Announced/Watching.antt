@@ -1,9 +1,9 @@
 -- One registry of a client, watched over the changes of its client: what holds of it all the time, while the client is live.
-use Rattle.std.proofs.Common.{◌≡◌, ◌≢◌, ◌⊎◌, ℕ, ◌+◌, ◌<◌, ◌≤◌, Bool, true, false, not, cond, eqb, List, [], ◌∷◌, ◌++◌, map, append-nil, append_assoc, Option, None, Some, refl, sym, ap, subst, ◌∙◌, true≢false, arith}
+use Rattle.std.proofs.Common.{◌≡◌, ◌≢◌, ◌⊎◌, ℕ, ◌+◌, ◌<◌, ◌≤◌, Bool, true, false, eqb, List, [], ◌∷◌, ◌++◌, map, append-nil, append_assoc, Option, None, Some, refl, sym, ap, subst, ◌∙◌, true≢false, arith}
 use mathlib.Core.Logic.{inl, inr}
 use Rattle.std.specs.List.{filter}
 use Rattle.std.proofs.lemmas.Bool.{cases_eq}
-use Rattle.std.proofs.lemmas.Option.{same_Some, none-some}
+use Rattle.std.proofs.lemmas.Option.{same_Some}
 use Rattle.wl_wire.specs.Table.{registry_id}
 use Rattle.wl_link.specs.declared.object.Object.{Object}
 use Rattle.wl_link.specs.Identity.{Id}
@@ -81,7 +81,7 @@ module _ {G C : Type 0} (views : G → ClientParts → C → GlobalParts → Boo
       pub watch : (log : List Said) (made : List Id) → Watch offer s log made → Watch offer t log made
 
     pub steady_goes : (s t : Scene U C) → Steady s t → Goes s [] [] t
-    steady_goes s t steady = grind (arith, append-nil) steps 400000
+    steady_goes s t steady = grind (arith, append-nil)
 
     pub steady_then : (s m t : Scene U C) → Steady s m → Steady m t → Steady s t
     steady_then s m t first second = record { watch = λ log made w. second.watch log made (first.watch log made w) }
@@ -90,18 +90,18 @@ module _ {G C : Type 0} (views : G → ClientParts → C → GlobalParts → Boo
     steady_same s = record { watch = λ log made w. w }
 
     pub goes_then : (s m t : Scene U C) (a b : List Said) (c d : List Id) → Goes s a c m → Goes m b d t → Goes s (a ++ b) (c ++ d) t
-    goes_then s m t a b c d first second = grind (arith, append_assoc) steps 400000
+    goes_then s m t a b c d first second = grind (arith, append_assoc)
 
     -- ---- who speaks
 
     -- the display is no registry
     pub display_other : (s : Scene U C) (log : List Said) (made : List Id) → Watch offer s log made → IsOurs s made → (n : ℕ) → record { number = n; serial = 0 } ≢ r
-    display_other s log made h1 h2 n = grind (arith) steps 400000
+    display_other s log made h1 h2 n = grind (arith)
 
     -- nor is a kept object of another interface
     pub kept_other : (s : Scene U C) (log : List Said) (made : List Id) → Watch offer s log made → IsOurs s made → (n : ℕ) (x : Object (Kept U))
         → held s.store n ≡ Some x → eqb x.interface.0 registry_id.0 ≡ false → id_at_number n x ≢ r
-    kept_other s log made h1 h2 n x h3 h4 = grind (arith, held, true≢false, eqb, registry_id) steps 400000
+    kept_other s log made h1 h2 n x h3 h4 = grind (arith, held, true≢false, eqb, registry_id)
 
     -- messages of others
     pub others_goes : (s : Scene U C) (put : List Said) → ((log : List Said) (made : List Id) → Watch offer s log made → IsOurs s made → AreOfOthers r put) → Goes s put [] s
@@ -148,10 +148,10 @@ module _ {G C : Type 0} (views : G → ClientParts → C → GlobalParts → Boo
       where
         most : ((m : ℕ) (y : Object (Kept U)) → held s.store m ≡ Some y → y.value.serial ≤ s.last_serial) → (m : ℕ) (y : Object (Kept U))
             → held (stored s.store n x) m ≡ Some y → y.value.serial ≤ s.last_serial + 1
-        most old m y holds = grind (arith, stored_here, stored_other) steps 400000
+        most old m y holds = grind (arith, stored_here, stored_other)
 
         keeps : IsKnown s → IsKnown (record s { store = stored s.store n x; last_serial = s.last_serial + 1 })
-        keeps known = grind (arith, stored_other, held) steps 400000
+        keeps known = grind (arith, stored_other, held)
 
     -- an object gets user data
     pub wrote_goes : (s : Scene U C) (n : ℕ) (x : Object (Kept U)) (u : U) → held s.store n ≡ Some x
@@ -171,7 +171,7 @@ module _ {G C : Type 0} (views : G → ClientParts → C → GlobalParts → Boo
       where
         most : ((m : ℕ) (y : Object (Kept U)) → held s.store m ≡ Some y → y.value.serial ≤ s.last_serial) → (m : ℕ) (y : Object (Kept U))
             → held (rewritten s.store n (with_user_data u x)) m ≡ Some y → y.value.serial ≤ s.last_serial
-        most old m y holds = grind (arith, with_user_data, rewritten_here, rewritten_other) steps 400000
+        most old m y holds = grind (arith, with_user_data, rewritten_here, rewritten_other)
 
         keeps : IsKnown s → IsKnown (record s { store = rewritten s.store n (with_user_data u x) })
         keeps known =
@@ -201,19 +201,19 @@ module _ {G C : Type 0} (views : G → ClientParts → C → GlobalParts → Boo
     pub went_goes : (s : Scene U C) (n : ℕ) (x : Object (Kept U)) → held s.store n ≡ Some x
         → ((log : List Said) (made : List Id) → Watch offer s log made → IsAmong made r → id_at_number n x ≢ r)
         → Steady s (record s { store = removed s.store n; registries = registries_without s.registries n x })
-    went_goes s n x there other = grind (arith, eqb, registry_id, held, removed, removed_here, removed_other, same_id, filter, among_filter, filter_among, other_id, registries_without) steps 400000
+    went_goes s n x there other = grind (arith, eqb, registry_id, held, removed, removed_here, removed_other, same_id, filter, among_filter, filter_among, other_id, registries_without)
 
     -- ---- actions
 
     -- a request of a kept object that is no registry is handed out, and open
     pub opens_goes : (s : Scene U C) (sender : IdParts) (b : Bool) (created : Option IdParts) (x : Object (Kept U)) → held s.store sender.number ≡ Some x
         → x.value.serial ≡ sender.serial → eqb x.interface.0 registry_id.0 ≡ false → Steady s (record s { action = Some (opened.Request sender b created) })
-    opens_goes s sender b created x holds serial other = grind (arith, id_of) steps 400000
+    opens_goes s sender b created x holds serial other = grind (arith, id_of)
 
     -- a bind is open, or nothing is
     pub set_action_goes : (s : Scene U C) (action : Option OpenAction)
         → ((sender : IdParts) (b : Bool) (created : Option IdParts) → action ≡ Some (opened.Request sender b created) → ⊥) → Steady s (record s { action = action })
-    set_action_goes s action none = grind (arith) steps 400000
+    set_action_goes s action none = grind (arith)
 
     -- ---- a registry is made
 
@@ -264,10 +264,10 @@ module _ {G C : Type 0} (views : G → ClientParts → C → GlobalParts → Boo
       }
         where
           earlier : {A : Type 0} → A ⊎ ((new_id ≡ r) ⊎ ⊥) → A
-          earlier h1 = grind (arith) steps 400000
+          earlier h1 = grind (arith)
 
           most : ((y : Id) → IsAmong s.registries y → y.serial ≤ s.last_serial) → (y : Id) → IsAmong s.registries y ⊎ ((new_id ≡ y) ⊎ ⊥) → y.serial ≤ s.last_serial + 1
-          most h1 y h2 = grind (arith) steps 400000
+          most h1 y h2 = grind (arith)
 
       -- the watched one is this
       registers_this : new_id ≡ r → Goes s greeting (new_id ∷ []) after
@@ -309,7 +309,7 @@ module _ {G C : Type 0} (views : G → ClientParts → C → GlobalParts → Boo
           shown_as_announced = shown_of views offer client s.client_data
 
           most : ((y : Id) → IsAmong s.registries y → y.serial ≤ s.last_serial) → (y : Id) → IsAmong s.registries y ⊎ ((new_id ≡ y) ⊎ ⊥) → y.serial ≤ s.last_serial + 1
-          most h1 y h2 = grind (arith) steps 400000
+          most h1 y h2 = grind (arith)
 
       pub registers_goes : Goes s (introductions offer.table (record { number = n; serial = s.last_serial + 1 }) 0 (shown views offer.globals client s.client_data))
           (record { number = n; serial = s.last_serial + 1 } ∷ [])
@@ -343,4 +343,4 @@ module _ {G C : Type 0} (views : G → ClientParts → C → GlobalParts → Boo
 
     -- none is told
     pub told_none : (log : List Said) (made : List Id) → (TellsShown offer s.client_data log → TellsShown offer' s.client_data log) → Watch offer s log made → Watch offer' s log made
-    told_none log made tells w = grind (arith) steps 400000
+    told_none log made tells w = grind (arith)

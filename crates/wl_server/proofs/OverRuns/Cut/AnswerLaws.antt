@@ -3,7 +3,7 @@
 use Rattle.std.proofs.Common.{◌≡◌, ◌≢◌, ◌⊎◌, ℕ, Bool, true, false, not, ◌&&◌, eqb, cond, List, [], ◌∷◌, ◌++◌, append-nil, map, Option, None, Some, is_none, is_some, Result, Ok, Err, is_ok, MatchResult, refl, sym, ap, ap₂, subst, ◌∙◌, true≢false, arith}
 use mathlib.Core.Logic.{inl, inr}
 use Rattle.std.proofs.lemmas.Option.{same_Some, none-some}
-use Rattle.std.specs.Prelude.{if◌then◌else◌, nat_lt, MatchBool}
+use Rattle.std.specs.Prelude.{if◌then◌else◌, nat_lt}
 use Rattle.std.specs.Option.{option_map_or}
 use Rattle.wl_wire.specs.declared.argument.Argument.TheVariants as arg
 use Rattle.wl_wire.specs.declared.error.IoFault.{IoFault}
@@ -16,7 +16,7 @@ use Rattle.wl_link.specs.Exchange.{Queue, Sending}
 use Rattle.wl_link.specs.Identity.{Objects}
 use Rattle.wl_link.specs.Link.{LinkState, counted_answer, count_of}
 use Rattle.wl_link.specs.Puts.{PutsOut, Said, lacks_memory}
-use Rattle.wl_link.specs.Reader.{CarriesOut, Ends, Given, Gives, Halts, HandedOut, Handled, Reads, Received, Turn, Unread, Verdict, given_first, came_to, put_and_gave, stops, with_link, ReaderState}
+use Rattle.wl_link.specs.Reader.{CarriesOut, Ends, Given, Gives, HandedOut, Handled, Reads, Received, Turn, Unread, Verdict, given_first, came_to, put_and_gave, stops, with_link, ReaderState}
 use Rattle.wl_link.proofs.Readings.ServedLaws.{both_false}
 use Rattle.wl_link.specs.Store.{held}
 use Rattle.wl_server.specs.declared.reading.action.OpenAction.{OpenAction}
@@ -27,14 +27,13 @@ use Rattle.wl_server.specs.declared.error.FinishError.{FinishError}
 use Rattle.wl_server.specs.declared.objects.Kept.{Kept}
 use Rattle.wl_server.specs.declared.globals.KeptGlobal.{KeptGlobal}
 use Rattle.wl_server.specs.declared.notes.DisconnectReason.{DisconnectReason}
-use Rattle.wl_server.specs.declared.notes.DisconnectReason.TheVariants.{ConnectionClosed}
 use Rattle.wl_server.specs.declared.notes.Happening.TheVariants.{Disconnected}
 use Rattle.wl_server.specs.Deeds.{Acted, Came, Deed, Handed, Noted, Put, Remembered, Sent, left_if}
 use Rattle.wl_server.proofs.OverRuns.Moves.DoingsLaws.{deeds_both, deeds_given}
 use Rattle.wl_server.specs.Errors.{bind_text, new_id_text, since_text}
 use Rattle.wl_server.specs.Finish.{finish_verdict, ended_by, ends, ends_request, finishing, refusal, unless_some}
 use Rattle.wl_server.specs.Ids.{IdParts}
-use Rattle.wl_server.specs.Part.{end_note, id_at, id_of, named}
+use Rattle.wl_server.specs.Part.{end_note, id_at, id_of}
 use Rattle.wl_server.specs.Reading.{Around, action_in, binds, binds_to, breaks, converted, display_request, exchanges_in, faulted, garbled, hands_out, made_at, may_bind, other_request, reads_on, registers, registry_request, replies, request, row_in, server, synced, syncs, takes, with_registry}
 use Rattle.wl_server.specs.Requests.{Outcome, Whole, Wrong, convert, is_valid_new, start}
 use Rattle.wl_server.specs.Stretches.{answers_in, beside_exchanges, was_killed}
@@ -112,16 +111,16 @@ module _ {U : Type 0} where
   IsBeside gave = beside_exchanges (deeds_in gave) ≡ deeds_in gave
 
   beside_gave : (gave others : List (Given (Told U))) → IsBeside gave → IsBeside others → IsBeside (gave ++ others)
-  beside_gave gave others first second = grind (arith, deeds_both, beside_both, deeds_in, ap₂) steps 400000
+  beside_gave gave others first second = grind (arith, deeds_both, beside_both, deeds_in, ap₂)
 
   beside_given : (put : List Said) (events : List (Told U)) → IsBeside (map HandedOut events) → IsBeside (put_and_gave put events)
-  beside_given put events quiet = grind (arith, deeds_given, beside_puts, deeds_in) steps 400000
+  beside_given put events quiet = grind (arith, deeds_given, beside_puts, deeds_in)
 
 module _ {U C : Type 0} where
   -- of a call's deeds these are what was given, and the end of the client
   pub beside_deeds : (exchanges : List (Deed U)) (gave : List (Given (Told U))) (c : Core U C) → beside_exchanges exchanges ≡ [] → IsBeside gave
       → beside_exchanges (deeds_of exchanges gave c) ≡ deeds_in gave ++ end_deeds c.ended
-  beside_deeds exchanges gave c none quiet = grind (arith, beside_both, deeds_in, end_deeds, ap₂, beside_end) steps 400000
+  beside_deeds exchanges gave c none quiet = grind (arith, beside_both, deeds_in, end_deeds, ap₂, beside_end)
 
   pub killed_deeds : (exchanges : List (Deed U)) (gave : List (Given (Told U))) (c : Core U C) (reason : DisconnectReason) → c.ended ≡ Some reason
       → was_killed (deeds_of exchanges gave c) ≡ true
@@ -137,7 +136,7 @@ module _ {U C : Type 0} where
       ⊎ ((c.is_killed ≡ true) × (c.action ≡ None) × ((reason : DisconnectReason) × (c.ended ≡ Some reason)))
 
   sound_killed : (c : Core U C) (reason : DisconnectReason) → IsSound c → c.action ≡ None → IsSound (killed c reason)
-  sound_killed c reason h1 h2 = grind (arith) steps 400000
+  sound_killed c reason h1 h2 = grind (arith)
 
   -- the client is read on, and so has no end
   record IsReady (c : Core U C) : Type 0 where
@@ -146,7 +145,7 @@ module _ {U C : Type 0} where
     none : c.ended ≡ None
 
   ready : (c : Core U C) → reads_on c ≡ true → IsSound c → IsReady c
-  ready c on sound = grind (arith, is_none, true≢false) steps 400000
+  ready c on sound = grind (arith, is_none, true≢false)
 
   pub on_of : (c : Core U C) → c.is_killed ≡ false → c.action ≡ None → reads_on c ≡ true
   on_of c live unopened = ap₂ (λ (b : Bool) (o : Option OpenAction). not b && is_none o) live unopened
@@ -184,13 +183,13 @@ module _ {U G C : Type 0} (a : Around G C) where
     broken : (v.puts ≢ []) → Says (map HandedOut (v.events (v.last (closed_down v.core)))) (v.last (closed_down v.core))
 
   stops_speaks : (c : Core U C) (code : ℕ) (text : List ℕ) → IsReady c → Speaks (breaks a c code text)
-  stops_speaks c code text r = grind (arith, sound_killed, says_stops, pipe_not, closed_down) steps 400000
+  stops_speaks c code text r = grind (arith, sound_killed, says_stops, pipe_not, closed_down)
 
   garbled_speaks : (c : Core U C) → IsReady c → Speaks (garbled c)
-  garbled_speaks c r = grind (arith, sound_killed, says_stops, proto_not, closed_down) steps 400000
+  garbled_speaks c r = grind (arith, sound_killed, says_stops, proto_not, closed_down)
 
   action_speaks : (c : Core U C) (action : OpenAction) (h : Handed) → IsReady c → Speaks (hands_out c action h)
-  action_speaks c action h r = grind (arith) steps 400000
+  action_speaks c action h r = grind (arith)
 
   -- what was done beside the answer is no exchange, and hands nothing out
   record IsPlain (did : List (Deed U)) : Type 0 where
@@ -200,7 +199,7 @@ module _ {U G C : Type 0} (a : Around G C) where
     end : answers_in (map HandedOut (map Did did ++ Stops fault.Pipe ∷ [])) ≡ Err fault.Pipe ∷ []
 
   reply_speaks : (c : Core U C) (puts : List Said) (did : List (Deed U)) → IsReady c → IsPlain did → Speaks (replies c puts did)
-  reply_speaks c puts did r plain = grind (arith, on_of, sound_killed, pipe_not) steps 400000
+  reply_speaks c puts did r plain = grind (arith, on_of, sound_killed, pipe_not)
 
   made_speaks : (c : Core U C) (n : ℕ) (v : Verdict (Core U C) (Told U)) → IsReady c → Speaks v → Speaks (made_at a c n v)
   made_speaks c n v r speaks = go (is_valid_new (objects_in c) n)
@@ -287,7 +286,7 @@ module _ {U G C : Type 0} (a : Around G C) where
 
     carried_says : (v : Verdict (Core U C) (Told U)) → Speaks v → (before : LinkState T) (es : List Sending) (gave : List (Given (Told U))) (refused : Bool)
         (after : ReaderState T (Core U C)) → refused ≡ false → CarriesOut sends (server a) v before es gave refused after → Says gave after.core
-    carried_says v h1 before es gave refused after h2 h3 = grind (arith, true≢false, both_false, came_says, came_to, server, beside_given, reads_on, answers_given) steps 400000
+    carried_says v h1 before es gave refused after h2 h3 = grind (arith, true≢false, both_false, came_says, came_to, server, beside_given, reads_on, answers_given)
 
 -- ---- a reading
 
@@ -317,7 +316,7 @@ module _ {U C : Type 0} where
       subst (λ (g : Gives (Told U)). ReadsSo c g e) (sym is) (record { sound = sound; quiet = refl; answered = answered })
 
   faulted_sound : (c : Core U C) (f : IoFault) → IsReady c → IsSound (faulted c f)
-  faulted_sound c f h1 = grind (arith, sound_killed) steps 400000
+  faulted_sound c f h1 = grind (arith, sound_killed)
 
   -- what a verdict said, and then the rest
   joins_so : (c mid e : Core U C) (first : List (Given (Told U))) (lacked : Bool) (rest out : Gives (Told U)) → out ≡ given_first first lacked rest → Says first mid
@@ -334,20 +333,20 @@ module _ {U C : Type 0} where
       both = answers_both first rest.gave
 
       go : ((reads_on mid ≡ true) × (answers_in first ≡ [])) ⊎ IsOver (answers_in first) mid → IsAnswered mid rest e → IsAnswered c (given_first first lacked rest) e
-      go h1 h2 = grind (arith, both, ap₂, true≢false, append-nil) steps 400000
+      go h1 h2 = grind (arith, both, ap₂, true≢false, append-nil)
 
 module _ {T U G C : Type 0} (sends : T → Queue → Result ℕ IoFault → T → Type 0) (receives : T → ℕ → Result Queue IoFault → T → Type 0)
     (a : Around G C) where
   reads_off : (left : ℕ) (p after : ReaderState T (Core U C)) (turns : List Turn) (out : Gives (Told U)) → reads_on p.core ≡ false
       → Reads sends (server a) receives left p turns out after → (out.stopped ≡ None) × (out.gave ≡ []) × (after.core ≡ p.core)
-  reads_off left p after [] out off (same, ends) = grind (arith, reads_on, server, stops, true≢false) steps 400000
+  reads_off left p after [] out off (same, ends) = grind (arith, reads_on, server, stops, true≢false)
   reads_off left p after (Received r ∷ turns) out off h = absurd (true≢false (sym h.0 ∙ off))
   reads_off left p after (Handled es ∷ turns) out off h = absurd (true≢false (sym h.0 ∙ off))
   reads_off left p after (Unread es ∷ turns) out off h = absurd (true≢false (sym h.0 ∙ off))
 
   pub reads_so : (left : ℕ) (p after : ReaderState T (Core U C)) (turns : List Turn) (out : Gives (Told U)) → Reads sends (server a) receives left p turns out after
       → out.refused ≡ false → IsSound p.core → ReadsSo p.core out after.core
-  reads_so left p after [] out (same, ends) ample sound = grind (arith, reads_on, server, stops, stops_so) steps 400000
+  reads_so left p after [] out (same, ends) ample sound = grind (arith, reads_on, server, stops, stops_so)
   reads_so left p after (Received r ∷ turns) out (on, lacks, (n, is, (link, filled, finds, h))) ample sound =
       go (counted_answer (count_of r)) h (λ more. reads_so n (with_link p link) after turns out more ample sound)
     where
@@ -356,7 +355,7 @@ module _ {T U G C : Type 0} (sends : T → Queue → Result ℕ IoFault → T �
           (λ f. (turns ≡ []) × (out ≡ stops (Some f) (lacks_memory (Err f)) n) × (after ≡ record { core = faulted p.core f; link = link }))
           → (Reads sends (server a) receives n (with_link p link) turns out after → ReadsSo p.core out after.core) → ReadsSo p.core out after.core
       go (Ok u) more goes = goes more
-      go (Err f) (none, ends, same) goes = grind (arith, stops_so, faulted_sound, ready) steps 400000
+      go (Err f) (none, ends, same) goes = grind (arith, stops_so, faulted_sound, ready)
   reads_so left p after (Handled es ∷ turns) out (on, (v, link, first, lacked, mid, rest, (m, read, is), carried, split, more)) ample sound =
       let calm = both_false lacked rest.refused (sym ample ∙ ap (λ (o : Gives (Told U)). o.refused) split) in
       let speaks = subst (λ (w : Verdict (Core U C) (Told U)). Speaks a w) (sym is) (handles_speaks a p.core m (ready p.core on sound)) in
@@ -388,7 +387,7 @@ module _ {U G C : Type 0} (a : Around G C) where
     none : (d : Core U C) → answers_in (map HandedOut (v.events d)) ≡ []
 
   finished_end : (v : Verdict (Core U C) (Told U)) → IsFinishVerdict v → (wrote : Result (Unit {0}) IoFault) → lacks_memory wrote ≡ false → IsSound (came_to (server a) v wrote)
-  finished_end v h1 wrote h2 = grind (arith, came_broken, closed_down, sound_killed) steps 400000
+  finished_end v h1 wrote h2 = grind (arith, came_broken, closed_down, sound_killed)
 
   -- what is told of an object that is gone
   abbrev told_end : IdParts → Object (Kept U) → Bool → Option U → List (Told U)
@@ -396,10 +395,10 @@ module _ {U G C : Type 0} (a : Around G C) where
 
   ending_is_finish : (c : Core U C) (id : IdParts) (x : Option (Object (Kept U))) (created : Option IdParts) (u : Option U) → c.is_killed ≡ false → c.ended ≡ None
       → IsFinishVerdict (ends a.client c id x created u)
-  ending_is_finish c id x created u h1 h2 = grind (arith, is_some) steps 400000
+  ending_is_finish c id x created u h1 h2 = grind (arith, is_some)
 
   bound_is_finish : (c : Core U C) (created : Option IdParts) (u : Option U) → c.is_killed ≡ false → c.ended ≡ None → IsFinishVerdict (finish_verdict c created u)
-  bound_is_finish c created u live unended = grind (arith) steps 400000
+  bound_is_finish c created u live unended = grind (arith)
 
   taken_is_finish : (c : Core U C) (u : Finish U) (v : Verdict (Core U C) (Told U)) → c.ended ≡ None → takes a.client c u ≡ Some v → IsFinishVerdict v
   taken_is_finish c u v unended is = at c.is_killed refl c.action u is
@@ -409,7 +408,7 @@ module _ {U G C : Type 0} (a : Around G C) where
 
       request : (live : c.is_killed ≡ false) (sender : IdParts) (b : Bool) (created : Option IdParts) (o : Option U) (e : Option FinishError)
           → unless_some e (ends_request a.client c sender b created o) ≡ Some v → IsFinishVerdict v
-      request live sender b created o e h1 = grind (arith, finish_by, ends_request, ending_is_finish, ended_by, none-some) steps 400000
+      request live sender b created o e h1 = grind (arith, finish_by, ends_request, ending_is_finish, ended_by, none-some)
 
       at : (b : Bool) → c.is_killed ≡ b → (action : Option OpenAction) (u : Finish U) → (if b then None else finishing a.client c action u) ≡ Some v → IsFinishVerdict v
       at true dead action u same = absurd (none-some _ same)

@@ -64,7 +64,7 @@ module _ {T U C : Type 0} (sends : T → Queue → Result ℕ IoFault → T → 
   moves_hold p q d (cleaned on is same) holds = subst Holds (sym same) holds
 
   goes_hold : (s t : Seen T U C) (d : Doings U) → Goes (any true) sends receives client s d t → SeenHolds s → SeenHolds t
-  goes_hold s t d h1 h2 = grind (arith, unfelt, notes_taken, within, moves_hold, holds_at, taken_out) steps 400000
+  goes_hold s t d h1 h2 = grind (arith, unfelt, notes_taken, within, moves_hold, holds_at, taken_out)
 
 module _ {T U G C : Type 0} (w : World T G C) (id : ClientParts) where
   run_holds : (offer : Offer G) (s : Seen T U C) (run : List (Own T U G C)) (t : Seen T U C) → AreMine id run → Alone w id offer s run t → SeenHolds s → SeenHolds t

@@ -1,24 +1,19 @@
 -- What follows for a client of a server from the laws of a reader: that it does not matter to it how bytes and tokens are
 -- cut, reading by reading and finish by finish.
-use Rattle.std.proofs.Common.{◌≡◌, ℕ, ◌<◌, Bool, true, false, List, ◌∷◌, ◌++◌, Option, None, Some, is_none, Result, Ok, Err, refl, sym, ap, subst, ◌∙◌, true≢false, arith}
-use mathlib.Core.Logic.{inl, inr}
+use Rattle.std.proofs.Common.{◌≡◌, ℕ, ◌<◌, Bool, false, List, ◌∷◌, ◌++◌, Option, None, Some, is_none, Result, Ok, Err, refl, sym, ap, subst, ◌∙◌, true≢false, arith}
 use Rattle.std.proofs.lemmas.Option.{same_Some, none-some}
-use Rattle.std.specs.Prelude.{if◌then◌else◌, not, ◌&&◌, is_ok, map, MatchBool}
+use Rattle.std.specs.Prelude.{is_ok, map}
 use Rattle.wl_wire.specs.declared.error.IoFault.{IoFault}
-use Rattle.wl_wire.specs.declared.error.IoFault.TheVariants as fault
 use Rattle.wl_link.specs.Total.{EndsMalformed}
 use Rattle.wl_link.proofs.Readings.AnsweringLaws.{some_answered}
-use Rattle.wl_link.proofs.Calls.Branches.{either_option}
 use Rattle.wl_link.proofs.Readings.CuttingLaws.{finish_law, reading_law}
 use Rattle.wl_link.specs.Exchange.{Queue, Sending, nothing}
 use Rattle.wl_link.specs.Reader.{AllFed, CarriesOut, Ends, Given, Gives, Reads, Turn, Verdict, received_in, sends_in, ReaderState}
 use Rattle.wl_link.specs.Served.{Answers, AsTold, state_as}
 use Rattle.wl_link.proofs.Readings.ServedLaws.{served_one, told_function}
-use Rattle.wl_server.specs.declared.reading.action.OpenAction.{OpenAction}
-use Rattle.wl_server.specs.declared.reading.action.OpenAction.TheVariants as opened
 use Rattle.wl_server.specs.declared.reading.action.Reading.{Reading}
 use Rattle.wl_server.specs.declared.error.ActionError.{ActionError}
-use Rattle.wl_server.specs.declared.error.ActionError.TheVariants.{ActionOpen, Io}
+use Rattle.wl_server.specs.declared.error.ActionError.TheVariants.{ActionOpen}
 use Rattle.wl_server.specs.declared.error.FinishError.TheVariants as finish
 use Rattle.wl_server.specs.declared.error.FinishRefused.{FinishRefused}
 use Rattle.wl_server.specs.declared.runs.step.Reply.{Reply}
@@ -30,11 +25,10 @@ use Rattle.wl_server.specs.Finish.{FinishesBind, FinishesRequest, finishing, ref
 use Rattle.wl_server.specs.Globals.{Offer}
 use Rattle.wl_server.specs.Ids.{ClientParts, same_client}
 use Rattle.wl_server.proofs.OverRuns.Alone.IsolationLaw.{same_self}
-use Rattle.wl_server.specs.Objects.{unless_refused}
 use Rattle.wl_server.specs.Part.{Part}
 use Rattle.wl_server.specs.PartStep.{Asked, Call, OfClient, OnPart, PartCall, ReadsFor, World, around}
 use Rattle.wl_server.proofs.OverRuns.Cut.ReaderLaws.{EndsAlike, bind_ends_alike, request_ends_alike}
-use Rattle.wl_server.specs.Reading.{Around, NextAction, ReadsNone, ReadsTo, action_content, new_reading, reads_on, server, takes}
+use Rattle.wl_server.specs.Reading.{Around, NextAction, ReadsTo, action_content, new_reading, reads_on, server, takes}
 use Rattle.wl_server.proofs.OverRuns.Ids.ReplyLaws.{own_step}
 use Rattle.wl_server.specs.Server.{Seen, ServerState, seen}
 use Rattle.wl_server.specs.Steps.{Entry, IsRefused, OneStep}
@@ -60,23 +54,23 @@ module _ {T U G C : Type 0} (sends : T → Queue → Result ℕ IoFault → T �
   -- a reading of a live client with no action open is one of the reader
   pub reads_to : (r : Reading) (p : Part T U C) (answer : Result Handed ActionError) (r' : Reading) (refused : Bool) (did : List (Deed U)) (q : Part T U C)
       → p.is_killed ≡ false → p.action ≡ None → NextAction sends receives a r p answer r' refused did q → ReadsTo sends receives a r p answer r' refused did q
-  reads_to r p answer r' refused did q live unopened h = grind (arith, none-some, true≢false) steps 400000
+  reads_to r p answer r' refused did q live unopened h = grind (arith, none-some, true≢false)
 
 -- ---- what is open
 
 module _ {U C : Type 0} where
   -- a client of which something is ended is not read on
   pub taken_off : (client : ClientParts) (c : Core U C) (u : Finish U) (v : Verdict (Core U C) (Told U)) → takes client c u ≡ Some v → reads_on c ≡ false
-  taken_off client c u v is = grind (arith, finishing, is_none, none-some) steps 400000
+  taken_off client c u v is = grind (arith, finishing, is_none, none-some)
 
 module _ {T U C : Type 0} where
   -- a finish that is accepted lacked no memory
   accepted_ample : (sends : T → Queue → Result ℕ IoFault → T → Type 0) (client : ClientParts) (p : Part T U C) (u : Option U) (lacked : Bool) (did : List (Deed U)) (q : Part T U C)
       → FinishesRequest sends client p u (Ok tt) lacked did q → lacked ≡ false
-  accepted_ample sends client p u lacked did q h = grind (arith, refusal, true≢false, is_ok) steps 400000
+  accepted_ample sends client p u lacked did q h = grind (arith, refusal, true≢false, is_ok)
 
   bound_ample : (p : Part T U C) (u : U) (lacked : Bool) (did : List (Deed U)) (q : Part T U C) → FinishesBind p u (Ok tt) lacked did q → lacked ≡ false
-  bound_ample p u lacked did q h = grind (arith) steps 400000
+  bound_ample p u lacked did q h = grind (arith)
 
 module _ {T U G C : Type 0} (w : World T G C) (id : ClientParts) (offer : Offer G) (before after : Seen T U C) where
   abbrev here : Around G C
@@ -89,7 +83,7 @@ module _ {T U G C : Type 0} (w : World T G C) (id : ClientParts) (offer : Offer 
 
   pub of_part : (R : Part T U C → Part T U C → Type 0) (missing : Type 0) (lacked : Bool) (did : List (Deed U)) (p : Part T U C) → before.part ≡ Some p
       → OnPart before R missing lacked did after → (q : Part T U C) × R p q × (after ≡ record { part = Some q; made = before.made ++ notes_in did })
-  of_part R missing lacked did p there h = grind (arith, none-some, same_Some) steps 400000
+  of_part R missing lacked did p there h = grind (arith, none-some, same_Some)
 
   pub seen_reads : (r : Reading) (answer : Result Handed ActionError) (r' : Reading) (lacked : Bool) (did : List (Deed U)) → lacked ≡ false
       → ReadsFor w id offer id r answer r' before lacked did after → CutsReading here w.sends w.receives r before answer did after
@@ -163,7 +157,7 @@ module _ {T U : Type 0} where
 module _ {T U G C : Type 0} (w : World T G C) (before after : ServerState T U G C) where
   -- where memory was not refused in a call, it was not refused to any client
   ample : (id : ClientParts) (e : Entry T U G C) → IsRefused e → e.refused ≡ false → e.lacks id ≡ false
-  ample id e by calm = grind (arith, true≢false) steps 400000
+  ample id e by calm = grind (arith, true≢false)
 
   -- what the call is to this client
   of_call : (id : ClientParts) (e : Entry T U G C) (call : Call T U G C) → e.call ≡ call → OneStep w before e after
@@ -197,7 +191,7 @@ one_served a p more answers finishes gave others x y = served_one AsTold told_fu
 -- ---- something is served, with answers that suffice
 
 ends_malformed : {U G C : Type 0} (a : Around G C) → EndsMalformed (server {U = U} a)
-ends_malformed a = grind (arith) steps 400000
+ends_malformed a = grind (arith)
 
 pub some_served : {T U G C : Type 0} (a : Around G C) (p : ReaderState T (Core U C)) (more : Queue) (finishes : List (Finish U)) → 0 < p.link.outgoing_capacity
     → (answers : Answers) × (gave : List (Given (Told U))) × (end : ReaderState Answers (Core U C)) × IsServed a p more answers finishes gave end

@@ -1,9 +1,8 @@
 -- That what is told to a client outside a reading is told as in one, and that the end of an action is what the reader makes
 -- of it.
-use Rattle.std.proofs.Common.{◌≡◌, ℕ, inl, inr, Bool, false, List, [], Option, None, Some, Result, Ok, Err, is_ok, map, refl, ap, subst, ◌∙◌, true≢false, arith}
+use Rattle.std.proofs.Common.{◌≡◌, ℕ, inl, Bool, false, List, [], Option, None, Some, Result, Ok, Err, is_ok, map, refl, ap, true≢false, arith}
 use Rattle.std.specs.Prelude.{MatchOption}
 use Rattle.wl_wire.specs.declared.error.IoFault.{IoFault}
-use Rattle.wl_wire.specs.declared.error.IoFault.TheVariants as fault
 use Rattle.wl_link.specs.Exchange.{Queue, Sending}
 use Rattle.wl_link.specs.Link.{LinkState}
 use Rattle.wl_link.specs.Reader.{CarriesOut, Ends, Given, Verdict, came_to, put_and_gave}
@@ -25,12 +24,12 @@ answered_not e is = true≢false (ap is_ok is)
 
 module _ {U G C : Type 0} (a : Around G C) where
   came_alike : (v : Verdict (Core U C) (Told U)) (wrote : Result (Unit {0}) IoFault) → came_to speaker v wrote ≡ came_to (server a) v wrote
-  came_alike v wrote = grind (arith) steps 400000
+  came_alike v wrote = grind (arith)
 
 module _ {T U G C : Type 0} (sends : T → Queue → Result ℕ IoFault → T → Type 0) (a : Around G C) where
   pub carried_alike : (v : Verdict (Core U C) (Told U)) (link : LinkState T) (es : List Sending) (gave : List (Given (Told U))) (refused : Bool)
       (after : ReaderState T (Core U C)) → CarriesOut sends speaker v link es gave refused after → CarriesOut sends (server a) v link es gave refused after
-  carried_alike v link es gave refused after h1 = grind (arith, came_to, speaker, came_alike, put_and_gave) steps 400000
+  carried_alike v link es gave refused after h1 = grind (arith, came_to, speaker, came_alike, put_and_gave)
 
   -- an accepted end of a live client's request is what the reader makes of these data, with the same deeds
   abbrev pub EndsAlike : Part T U C → Finish U → Bool → List (Deed U) → Part T U C → Type 0

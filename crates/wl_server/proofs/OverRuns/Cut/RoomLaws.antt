@@ -1,9 +1,8 @@
 -- That a reading has room for each message of a client that may come.
-use Rattle.std.proofs.Common.{◌≡◌, ◌≢◌, ◌⊎◌, ℕ, Bool, List, [], ◌∷◌, ◌++◌, append-nil, length, map, Option, None, Some, Result, Ok, Err, is_ok, MatchResult, refl, sym, ap, subst, ◌∙◌, true≢false, true, arith}
+use Rattle.std.proofs.Common.{◌≡◌, ◌≢◌, ◌⊎◌, ℕ, Bool, List, [], ◌∷◌, ◌++◌, append-nil, map, Option, None, Some, Result, Ok, Err, is_ok, MatchResult, refl, sym, ap, subst, ◌∙◌, true≢false, true, arith}
 use mathlib.Core.Logic.{inl, inr}
 use Rattle.std.proofs.lemmas.Option.{same_Some}
 use Rattle.wl_wire.specs.declared.error.IoFault.{IoFault}
-use Rattle.wl_wire.specs.declared.error.IoFault.TheVariants as fault
 use Rattle.wl_link.proofs.Calls.Branches.{either_bool, either_option, either_result}
 use Rattle.wl_link.specs.Exchange.{Queue, Sending}
 use Rattle.wl_link.proofs.Streams.LengthLaws.{failed_finds}
@@ -37,7 +36,7 @@ not_done f is = true≢false (sym (ap is_ok is))
 
 -- one that brought no byte ended the reading
 none_fails : (r : Result Queue IoFault) → BringsNone r → counted_answer (count_of r) ≢ Ok tt
-none_fails r h1 = grind (arith, not_done) steps 400000
+none_fails r h1 = grind (arith, not_done)
 
 nothing_came : {T U : Type 0} (did : List (Deed U)) (link : LinkState T) → did ≡ [] → LeavesRoom did link
 nothing_came {U = U} did link none r among = absurd (subst (λ (ds : List (Deed U)). IsAmong (came_in ds) r) none among)
@@ -89,7 +88,7 @@ module _ {T U G C : Type 0} (sends : T → Queue → Result ℕ IoFault → T �
 
   none_told : (first : List (Given (Told U))) (lacked : Bool) (rest out : Gives (Told U)) → out ≡ given_first first lacked rest → came_in (deeds_in first) ≡ []
       → came_in (deeds_in rest.gave) ≡ [] → came_in (deeds_in out.gave) ≡ []
-  none_told first lacked rest out split none nor = grind (arith, came_in, deeds_in, deeds_both, came_both, no_more) steps 400000
+  none_told first lacked rest out split none nor = grind (arith, came_in, deeds_in, deeds_both, came_both, no_more)
 
   none_given : (left : ℕ) (p after : ReaderState T (Core U C)) (turns : List Turn) (out : Gives (Told U)) → Calm p.core → Reads sends (server a) receives left p turns out after
       → came_in (deeds_in out.gave) ≡ []
@@ -111,7 +110,7 @@ module _ {T U G C : Type 0} (sends : T → Queue → Result ℕ IoFault → T �
   -- so the receives among the deeds of a reading are those of its turns
   pub received_deeds : (left : ℕ) (p : Part T U C) (after : ReaderState T (Core U C)) (turns : List Turn) (out : Gives (Told U))
       → Reads sends (server a) receives left (reader_part p) turns out after → came_in (deeds_of (exchanges_in turns) out.gave after.core) ≡ received U turns
-  received_deeds left p after turns out reads = grind (arith, came_both, exchanges_in, deeds_in, end_deeds, no_more, came_in, none_given, reader_part, none_at_end, append-nil) steps 400000
+  received_deeds left p after turns out reads = grind (arith, came_both, exchanges_in, deeds_in, end_deeds, no_more, came_in, none_given, reader_part, none_at_end, append-nil)
 
   -- behind a receive that brought no byte, one is free
   leaves_room : (left : ℕ) (p after : ReaderState T (Core U C)) (turns : List Turn) (out : Gives (Told U)) → Reads sends (server a) receives left p turns out after

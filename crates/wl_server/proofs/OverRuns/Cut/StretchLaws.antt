@@ -4,7 +4,7 @@
 use Rattle.std.proofs.Common.{◌≡◌, ◌≢◌, ◌⊎◌, ℕ, Bool, true, false, List, [], ◌∷◌, ◌++◌, append_assoc, append-nil, Option, None, Some, Result, Ok, Err, is_ok, map, refl, sym, ap, ap₂, subst, ◌∙◌, true≢false, arith}
 use mathlib.Core.Logic.{inl, inr}
 use Rattle.std.proofs.lemmas.Option.{same_Some, none-some}
-use Rattle.std.specs.Prelude.{MatchBool, if◌then◌else◌, option_map}
+use Rattle.std.specs.Prelude.{MatchBool, option_map}
 use Rattle.wl_wire.specs.declared.error.IoFault.{IoFault}
 use Rattle.wl_wire.specs.declared.error.IoFault.TheVariants as fault
 use Rattle.wl_wire.specs.declared.error.MessageParseError.{MessageParseError}
@@ -20,15 +20,13 @@ use Rattle.wl_link.specs.Reader.{Ends, Gives, Given, IsFed, Reads, Turn, came_by
 use Rattle.wl_link.specs.Script.{Script, ScriptReceives, ScriptSends}
 use Rattle.wl_link.specs.Served.{Served, state_as}
 use Rattle.wl_link.specs.Store.{Store, held}
-use Rattle.wl_link.specs.Stretch.{Act, AllPieces, Arrived, DoesAll, EndsByPipe, EndsWaiting as ActsEndWaiting, HasByteFree, HasEnded, HasRead, IsStretch as IsActStretch, MayCome, NotFull, arrivals_of, arrived as act_arrived, ended as act_ended, given_in, left_over, sending_side, with_arrival}
+use Rattle.wl_link.specs.Stretch.{Act, AllPieces, Arrived, DoesAll, EndsByPipe, EndsWaiting as ActsEndWaiting, HasEnded, HasRead, IsStretch as IsActStretch, NotFull, arrivals_of, arrived as act_arrived, ended as act_ended, given_in, left_over, sending_side, with_arrival}
 use Rattle.wl_link.proofs.Stretches.StretchLaws.{acts_pieces, arrived-append, cut_otherwise as acts_cut_otherwise, does_joins, ended-append, ends_waiting-append, given_in-append, roomy_before, stretch_served as acts_served}
-use Rattle.wl_server.specs.declared.reading.action.OpenAction.TheVariants as opened
 use Rattle.wl_server.specs.declared.reading.action.Reading.{Reading}
 use Rattle.wl_server.specs.declared.error.ActionError.{ActionError}
 use Rattle.wl_server.specs.declared.error.ActionError.TheVariants.{ActionOpen, Io}
 use Rattle.wl_server.specs.declared.error.FinishRefused.{FinishRefused}
 use Rattle.wl_server.specs.declared.error.ScriptError.{ScriptError}
-use Rattle.wl_server.specs.declared.error.ScriptError.TheVariants as script
 use Rattle.wl_server.specs.declared.objects.Kept.{Kept}
 use Rattle.wl_server.specs.declared.notes.DisconnectReason.{DisconnectReason}
 use Rattle.wl_server.specs.declared.runs.step.Reply.{Reply}
@@ -39,7 +37,7 @@ use Rattle.wl_server.proofs.OverRuns.Cut.AnswerLaws.{IsAnswered, IsSound, ReadsS
 use Rattle.wl_server.proofs.OverRuns.Cut.CuttingLaws.{of_part, taken_off}
 use Rattle.wl_server.specs.Deeds.{Deed, Handed, Sent}
 use Rattle.wl_server.proofs.OverRuns.Moves.DoingsLaws.{deeds_both}
-use Rattle.wl_server.specs.Finish.{FinishesBind, FinishesRequest, refusal}
+use Rattle.wl_server.specs.Finish.{FinishesBind, FinishesRequest}
 use Rattle.wl_server.specs.Globals.{Offer}
 use Rattle.wl_server.specs.Ids.{ClientParts, GlobalParts}
 use Rattle.wl_server.proofs.OverRuns.Alone.IsolationLaw.{alone_run}
@@ -74,7 +72,7 @@ pipe_not same = cc
 
 module _ {U : Type 0} where
   told_killed : (f : IoFault) (did : List (Deed U)) → f ≢ fault.WouldBlock → was_killed did ≡ true → told_by (Some (Err (Io f))) did ≡ Err f ∷ []
-  told_killed f did h1 h2 = grind (arith) steps 400000
+  told_killed f did h1 h2 = grind (arith)
 
 module _ {U C : Type 0} (c e : Core U C) (out : Gives (Told U)) (on : reads_on c ≡ true) (so : ReadsSo c out e) (answer : Result Handed ActionError)
     (is : answer ≡ answered_so out.stopped out.gave) where
@@ -93,7 +91,7 @@ module _ {U C : Type 0} (c e : Core U C) (out : Gives (Told U)) (on : reads_on c
   told_so exchanges blocks = go so.answered
     where
       go : IsAnswered c out e → told_by (Some answer) (deeds_of exchanges out.gave e) ≡ answers_in out.gave
-      go (inl (f, stopped, none)) = grind (arith, told_by, deeds_of, stopped_is) steps 400000
+      go (inl (f, stopped, none)) = grind (arith, told_by, deeds_of, stopped_is)
       go (inr (stopped, inl (off, none))) = absurd (true≢false (sym on ∙ off))
       go (inr (stopped, inr (off, inl (h, one)))) = ap (λ (x : Result Handed ActionError). told_by (Some x) (deeds_of exchanges out.gave e)) (over_is stopped (Ok h) one) ∙ sym one
       go (inr (stopped, inr (off, inr (f, one, not, dead)))) =
@@ -114,22 +112,22 @@ module _ {U C : Type 0} (c e : Core U C) (out : Gives (Told U)) (on : reads_on c
 module _ {T U C : Type 0} where
   request_refused : (sends : T → Queue → Result ℕ IoFault → T → Type 0) (client : ClientParts) (p : Part T U C) (u : Option U) (e : FinishRefused (Option U)) (did : List (Deed U)) (q : Part T U C)
       → FinishesRequest sends client p u (Err e) false did q → (did ≡ []) × (q ≡ p)
-  request_refused sends client p u e did q h = grind (arith, accepted_not) steps 400000
+  request_refused sends client p u e did q h = grind (arith, accepted_not)
 
   bind_refused : (p : Part T U C) (u : U) (e : FinishRefused U) (did : List (Deed U)) (q : Part T U C) → FinishesBind p u (Err e) false did q → (did ≡ []) × (q ≡ p)
-  bind_refused p u e did q h = grind (arith, accepted_not) steps 400000
+  bind_refused p u e did q h = grind (arith, accepted_not)
 
   -- where no action is open none is finished
   request_open : (sends : T → Queue → Result ℕ IoFault → T → Type 0) (client : ClientParts) (p : Part T U C) (u : Option U) (did : List (Deed U)) (q : Part T U C) → p.action ≡ None
       → FinishesRequest sends client p u (Ok tt) false did q → ⊥
-  request_open sends client p u did q unopened h = grind (arith, accepted_not, none-some) steps 400000
+  request_open sends client p u did q unopened h = grind (arith, accepted_not, none-some)
 
   bind_open : (p : Part T U C) (u : U) (did : List (Deed U)) (q : Part T U C) → p.action ≡ None → FinishesBind p u (Ok tt) false did q → ⊥
-  bind_open p u did q unopened h = grind (arith, accepted_not, none-some) steps 400000
+  bind_open p u did q unopened h = grind (arith, accepted_not, none-some)
 
 -- a move that only memory refuses was made
 became : (before after : Script) (r : Result (Unit {0}) ScriptError) (t : Script) → false ≡ lacks_move (nothing_taken r) → Becomes before after (nothing_taken r) t → t ≡ after
-became before after r t h1 h2 = grind (arith, true≢false) steps 400000
+became before after r t h1 h2 = grind (arith, true≢false)
 
 module _ {G C : Type 0} (views : G → ClientParts → C → GlobalParts → Bool) (id : ClientParts) (offer : Offer G) where
   abbrev w : World Script G C
@@ -364,7 +362,7 @@ module _ {G C : Type 0} (views : G → ClientParts → C → GlobalParts → Boo
     step_acts s before after _ did there about heard h sound = absurd heard
 
     heard_offer : (call : Call Script U G C) → IsHeard call → offer_after offer call ≡ offer
-    heard_offer call h1 = grind (arith) steps 400000
+    heard_offer call h1 = grind (arith)
 
     -- ---- a run
 
@@ -450,7 +448,7 @@ module _ {G C : Type 0} (views : G → ClientParts → C → GlobalParts → Boo
     LacksAt link store = RefusedAt link parse.MissingData store ⊎ RefusedAt link parse.MissingFD store
 
     not_full : (p : Part Script U C) (run : List (Own Script U G C)) (end : ReaderState Script (Core U C)) → IsStretch a p run (part_of end) → NotFull (server a) end
-    not_full p run end stretch core (is, lacks) = grind (arith, server, core_of, part_of) steps 400000
+    not_full p run end stretch core (is, lacks) = grind (arith, server, core_of, part_of)
 
     act_stretch : (p : Part Script U C) (run : List (Own Script U G C)) (after : Seen Script U C) (r : RunActs (reader_part p) run after) → IsStretch a p run (part_of r.end)
         → IsActStretch (server a) (reader_part p) r.acts r.end
@@ -487,7 +485,7 @@ module _ {G C : Type 0} (views : G → ClientParts → C → GlobalParts → Boo
           }
 
       pub stretch_served : (q : Part Script U C) (run : List (Own Script U G C)) → after.part ≡ Some q → Alone w id offer before run after → IsStretch a p run q → StretchIsServed a p run q
-      stretch_served q run ends leads stretch = grind (arith, acts_of, part_is, served_at) steps 400000
+      stretch_served q run ends leads stretch = grind (arith, acts_of, part_is, served_at)
 
       -- no receive of a stretch of such messages finds the storage full
       within_at : (run : List (Own Script U G C)) (r : RunActs (reader_part p) run after) → IsStretchWithin a p run (part_of r.end) → IsStretch a p run (part_of r.end)

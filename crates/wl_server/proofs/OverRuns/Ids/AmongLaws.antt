@@ -1,5 +1,5 @@
 -- What is among the elements of a list.
-use Rattle.std.proofs.Common.{◌≡◌, ◌⊎◌, zero, suc, Bool, true, false, cond, List, [], ◌∷◌, ◌++◌, map, refl, sym, ap, subst, ◌∙◌, arith, not-suc-le-zero, le_of_suc-le-suc, true≢false}
+use Rattle.std.proofs.Common.{◌≡◌, ◌⊎◌, zero, suc, Bool, true, List, [], ◌∷◌, ◌++◌, map, refl, ap, arith, not-suc-le-zero, le_of_suc-le-suc, true≢false}
 use mathlib.Core.Logic.{inl, inr}
 use Rattle.std.specs.Prelude.{All, Contains}
 use Rattle.std.specs.List.{filter}
@@ -22,11 +22,11 @@ module _ {A : Type 0} where
 
   pub among_filter : (test : A → Bool) (xs : List A) (x : A) → IsAmong (filter test xs) x → IsAmong xs x × (test x ≡ true)
   among_filter test [] x among = absurd among
-  among_filter test (y ∷ ys) x among = grind (arith, among_filter test ys x) steps 400000
+  among_filter test (y ∷ ys) x among = grind (arith, among_filter test ys x)
 
   pub filter_among : (test : A → Bool) (xs : List A) (x : A) → IsAmong xs x → test x ≡ true → IsAmong (filter test xs) x
   filter_among test [] x among pass = absurd among
-  filter_among test (y ∷ ys) x among pass = grind (arith, true≢false, filter_among test ys x) steps 400000
+  filter_among test (y ∷ ys) x among pass = grind (arith, true≢false, filter_among test ys x)
 
 module _ {A B : Type 0} (f : A → B) where
   pub among_map : (xs : List A) (y : B) → IsAmong (map f xs) y → (x : A) × IsAmong xs x × (f x ≡ y)

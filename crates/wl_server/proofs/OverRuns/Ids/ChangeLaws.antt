@@ -1,9 +1,8 @@
 -- The changes of a client's objects in each call: an induction over base moves, over which the laws of ids stand.
-use Rattle.std.proofs.Common.{◌≡◌, ◌≢◌, ◌⊎◌, ℕ, ◌+◌, Bool, true, false, cond, List, [], ◌∷◌, ◌++◌, Option, None, Some, is_some, IsSome, Result, refl, sym, ap, subst, ◌∙◌, append-nil, append_assoc}
+use Rattle.std.proofs.Common.{arith, ◌≡◌, ◌≢◌, ◌⊎◌, ℕ, ◌+◌, Bool, true, false, List, [], ◌∷◌, ◌++◌, Option, None, Some, is_some, IsSome, Result, refl, sym, ap, subst, ◌∙◌, append-nil, append_assoc}
 use Rattle.std.proofs.lemmas.Option.{none-some}
 use mathlib.Core.Logic.{inl, inr}
 use Rattle.std.specs.Prelude.{MatchOption, if◌then◌else◌}
-use Rattle.std.proofs.lemmas.Bool.{eq-eqb, ne_eqb}
 use Rattle.wl_wire.specs.declared.error.IoFault.{IoFault}
 use Rattle.wl_link.specs.declared.object.Object.{Object}
 use Rattle.wl_link.proofs.Ids.EndsLaw.{keeps_joins}
@@ -15,7 +14,6 @@ use Rattle.wl_link.proofs.Ids.StoreLaws.{removed_other, rewritten_other, stored_
 use Rattle.wl_server.specs.declared.objects.Kept.{Kept}
 use Rattle.wl_server.specs.declared.notes.DisconnectReason.{DisconnectReason}
 use Rattle.wl_server.specs.declared.notes.Happening.{Happening}
-use Rattle.wl_server.specs.declared.notes.Happening.TheVariants.{Destroyed, Disconnected, Initialized}
 use Rattle.wl_server.specs.Deeds.{IsAmong}
 use Rattle.wl_server.proofs.OverRuns.Moves.BaseMoves.{Doings, Goes, Moves, any, born, cleaned, finished, end_notes, ended, flushed, followed, found, found_none, handed_out, handing, joined, leaving, left_by, left_id, nothing_done, notes_taken, noting, opens, putting, received, receiving, relinked, remembered, sending, stayed, taken_out, told, unfelt, went, within, wrote}
 use Rattle.wl_server.specs.Identified.{AreObjectsOf, IsHandedIn, IsNotedIn, has_data, is_over, waiting_of}
@@ -28,7 +26,7 @@ use Rattle.wl_server.specs.Server.{Seen}
 
 module _ {U : Type 0} where
   left_ids : (n : ℕ) (x : Object (Kept U)) (client : ClientParts) → left_id (id_of (id_at client n x)) x.value.user_data ≡ counted_id serial_of has_data n x ++ []
-  left_ids n x client = grind (arith, left_id, id_of, id_at, is_some) steps 400000
+  left_ids n x client = grind (arith, left_id, id_of, id_at, is_some)
 
   ended_both : (changes others : List (Change (Kept U))) → ended_in serial_of has_data (changes ++ others) ≡ ended_in serial_of has_data changes ++ ended_in serial_of has_data others
   ended_both [] others = refl
@@ -36,33 +34,33 @@ module _ {U : Type 0} where
   ended_both (Gone n ∷ changes) others = ended_both changes others
   ended_both (Wrote n x ∷ changes) others = ended_both changes others
   ended_both (Made id ∷ changes) others = ended_both changes others
-  ended_both (Ended n x left ∷ changes) others = grind (arith, counted_id, serial_of, has_data, append_assoc, ended_in, ended_both changes others) steps 400000
+  ended_both (Ended n x left ∷ changes) others = grind (arith, counted_id, serial_of, has_data, append_assoc, ended_in, ended_both changes others)
 
   -- an object is named by its id
   id_names : (client : ClientParts) (store : Store (Kept U)) (n : ℕ) (x : Object (Kept U)) → n ≢ 0 → held store n ≡ Some x
       → IsSome (names serial_of (id_of (id_at client n x)) store)
-  id_names client store n x ne e = grind (arith, is_some, named_in, serial_of, id_of, id_at, held) steps 400000
+  id_names client store n x ne e = grind (arith, is_some, named_in, serial_of, id_of, id_at, held)
 
   module _ (client : ClientParts) where
     handed_first : (changes others : List (Change (Kept U))) (h : HandedId IdParts) → IsHandedIn client changes h → IsHandedIn client (changes ++ others) h
-    handed_first changes others h h1 = grind (arith, made_first, id_of, born_first, serial_of) steps 400000
+    handed_first changes others h h1 = grind (arith, made_first, id_of, born_first, serial_of)
 
     handed_later : (changes others : List (Change (Kept U))) (h : HandedId IdParts) → IsHandedIn client others h → IsHandedIn client (changes ++ others) h
-    handed_later changes others h h1 = grind (arith, made_later, id_of, born_later, serial_of) steps 400000
+    handed_later changes others h h1 = grind (arith, made_later, id_of, born_later, serial_of)
 
     noted_first : (changes others : List (Change (Kept U))) (h : Happening U) → IsNotedIn client changes h → IsNotedIn client (changes ++ others) h
-    noted_first changes others h h1 = grind (arith, made_first, id_of) steps 400000
+    noted_first changes others h h1 = grind (arith, made_first, id_of)
 
     noted_later : (changes others : List (Change (Kept U))) (h : Happening U) → IsNotedIn client others h → IsNotedIn client (changes ++ others) h
-    noted_later changes others h h1 = grind (arith, made_later, id_of) steps 400000
+    noted_later changes others h h1 = grind (arith, made_later, id_of)
 
     -- the note of an object, if its id is made
     end_noted : (changes : List (Change (Kept U))) (id : IdParts) (u : Option U) (h : Happening U) → id.client ≡ client → IsMadeInStep changes (id_of id)
         → IsAmong (end_note id u) h → IsNotedIn client changes h
-    end_noted changes id u h h1 h2 h3 = grind (arith) steps 400000
+    end_noted changes id u h h1 h2 h3 = grind (arith)
 
   ended_quiet : (client : ClientParts) (b : Bool) (reason : DisconnectReason) (h : Happening U) → IsAmong (end_notes b reason) h → IsNotedIn client [] h
-  ended_quiet client b reason h h1 = grind (arith) steps 400000
+  ended_quiet client b reason h h1 = grind (arith)
 
   -- the taken, the made and the waiting notes
   pub in_three : (a b c : List (Happening U)) (h : Happening U) → IsAmong (a ++ (b ++ c)) h → IsAmong a h ⊎ (IsAmong b h ⊎ IsAmong c h)
@@ -89,7 +87,7 @@ module _ {T U C : Type 0} (sends : T → Queue → Result ℕ IoFault → T → 
   -- the objects and the notes that wait stay, and nothing is noted of an object
   quiet : (p q : Part T U C) (d : Doings U) → held p.store 0 ≡ None → objects_of q ≡ objects_of p → q.waiting ≡ p.waiting → d.handed ≡ [] → d.left ≡ []
       → ((h : Happening U) → IsAmong d.notes h → IsNotedIn client [] h) → Changing p d q
-  quiet p q d empty same waits none_handed none_left none_noted = grind (arith, held) steps 400000
+  quiet p q d empty same waits none_handed none_left none_noted = grind (arith, held)
 
   still : (p : Part T U C) → held p.store 0 ≡ None → Changing p nothing_done p
   still p empty = quiet p p nothing_done empty refl refl refl refl (λ h among. absurd among)
@@ -166,7 +164,7 @@ module _ {T U C : Type 0} (sends : T → Queue → Result ℕ IoFault → T → 
   }
 
   none_changing : (p : Part T U C) → held p.store 0 ≡ None → Changing p (handing (Found (null_id client) ∷ [])) p
-  none_changing p empty = grind (arith) steps 400000
+  none_changing p empty = grind (arith)
 
   wrote_changing : (p : Part T U C) (n : ℕ) (x : Object (Kept U)) (u : U) → held p.store 0 ≡ None → held p.store n ≡ Some x
       → Changing p nothing_done (record p { store = rewritten p.store n (with_user_data u x) })
@@ -205,7 +203,7 @@ module _ {T U C : Type 0} (sends : T → Queue → Result ℕ IoFault → T → 
       at_once false h among = inr (end_noted client changes (id_at client n x) x.value.user_data h refl (inl refl) among)
 
       later : (b : Bool) (h : Happening U) → IsAmong (if b then p.waiting ++ note_of_end client n x else p.waiting) h → IsAmong p.waiting h ⊎ IsNotedIn client changes h
-      later b h h1 = grind (arith, among_both, note_of_end, end_noted, changes, id_at) steps 400000
+      later b h h1 = grind (arith, among_both, note_of_end, end_noted, changes, id_at)
 
   -- each move changes the objects so
   pub moves_change : (p q : Part T U C) (d : Doings U) → held p.store 0 ≡ None → Moves (any true) sends receives client p d q → Changing p d q
@@ -232,17 +230,17 @@ module _ {T U C : Type 0} (sends : T → Queue → Result ℕ IoFault → T → 
       changing_so p (record p { link = link }) q (putting es put) d is same (quiet p (record p { link = link }) (putting es put) empty refl refl refl refl (λ h among. absurd among))
   moves_change p q d empty (flushed es answer link by is same) =
       changing_so p (record p { link = link }) q (sending es) d is same (quiet p (record p { link = link }) (sending es) empty refl refl refl refl (λ h among. absurd among))
-  moves_change p q d empty (ended reason may is same) = grind (arith, changing_so, noting, end_notes, quiet, ended_quiet) steps 400000
+  moves_change p q d empty (ended reason may is same) = grind (arith, changing_so, noting, end_notes, quiet, ended_quiet)
   moves_change p q d empty (born n x free ne serial is same) = changing_so p _ q _ d is same (born_changing p n x empty free ne serial)
   moves_change p q d empty (found n x holds is same) = changing_so p p q _ d is same (found_changing p n x empty holds)
   moves_change p q d empty (found_none is same) = changing_so p p q _ d is same (none_changing p empty)
   moves_change p q d empty (wrote n x u holds is same) = changing_so p _ q nothing_done d is same (wrote_changing p n x u empty holds)
   moves_change p q d empty (went n x waits holds is same) = changing_so p _ q _ d is same (went_changing p n x waits empty holds)
-  moves_change p q d empty (remembered n x holds registry is same) = grind (arith, changing_so, id_of, id_at, nothing_done, quiet) steps 400000
-  moves_change p q d empty (opens action h acts so is same) = grind (arith, changing_so, nothing_done, quiet) steps 400000
+  moves_change p q d empty (remembered n x holds registry is same) = grind (arith, changing_so, id_of, id_at, nothing_done, quiet)
+  moves_change p q d empty (opens action h acts so is same) = grind (arith, changing_so, nothing_done, quiet)
   moves_change p q d empty (finished may is same) =
       changing_so p (record p { action = None }) q nothing_done d is same (quiet p (record p { action = None }) nothing_done empty refl refl refl refl (λ h among. absurd among))
-  moves_change p q d empty (cleaned on is same) = grind (arith, changing_so, noting) steps 400000
+  moves_change p q d empty (cleaned on is same) = grind (arith, changing_so, noting)
 
   -- no note is handed out by moves of the part
   pub moves_take : (p q : Part T U C) (d : Doings U) → Moves (any true) sends receives client p d q → d.taken ≡ []
@@ -366,12 +364,12 @@ module _ {T U C : Type 0} (sends : T → Queue → Result ℕ IoFault → T → 
 
   moved_from : (s : Seen T U C) (p : Part T U C) (o : Objects (Kept U)) (d : Doings U) (t : Seen T U C) → s.part ≡ Some p → o ≡ objects_of p
       → CallChanging (record { part = Some p; made = s.made }) (objects_of p) d t → CallChanging s o d t
-  moved_from s p o d t there at changing = grind (arith, objects_of) steps 400000
+  moved_from s p o d t there at changing = grind (arith, objects_of)
 
   pub goes_change : (s t : Seen T U C) (o : Objects (Kept U)) (d : Doings U) → AreObjectsOf s o → held o.store 0 ≡ None → Goes (any true) sends receives client s d t → CallChanging s o d t
   goes_change s t o d are empty (unfelt is same) =
       subst (λ (x : Doings U). CallChanging s o x t) (sym is) (subst (λ (x : Seen T U C). CallChanging s o nothing_done x) (sym same) (goes_unfelt s o are empty))
-  goes_change s t o d are empty (notes_taken on is same) = grind (arith, nothing_done, goes_taken) steps 400000
+  goes_change s t o d are empty (notes_taken on is same) = grind (arith, nothing_done, goes_taken)
   goes_change s t o d are empty (within p q there moves same) =
       let at : o ≡ objects_of p = objects_at s p o there are in
       let start : held p.store 0 ≡ None = subst (λ (x : Objects (Kept U)). held x.store 0 ≡ None) at empty in

@@ -17,7 +17,7 @@ use Rattle.wl_server.specs.declared.runs.step.Step.TheVariants as step
 use Rattle.wl_server.specs.GivenOnce.{ClientsRise, EachNamesItsGlobal, GivesOnce, GlobalsRise, Offers, SomeCall, global_by, global_over, same_global}
 use Rattle.wl_server.specs.Globals.{CreatesGlobal, Globals, IsNextGlobal, Offer, as_disabled, disabled, disabled_at, freed, freed_at, global_of, global_serial, new_global, new_offer}
 use Rattle.wl_server.specs.Ids.{ClientParts, GlobalParts, same_client}
-use Rattle.wl_server.specs.PartStep.{Asked, Call, Changed, Grown, World}
+use Rattle.wl_server.specs.PartStep.{Asked, Call, World}
 use Rattle.wl_server.specs.Runs.{Inserts, IsNotInserted, Leads, SharedAlone}
 use Rattle.wl_server.specs.Server.{ServerState, new_server, seen}
 use Rattle.wl_server.specs.Steps.{AnswersShared, Entry, inserted_by, offer_after}
@@ -37,14 +37,14 @@ module _ {G : Type 0} where
   named_at g o = cond (eqb g.name 0) None (named_in global_serial (record { number = g.name; serial = g.serial }) o)
 
   none_at : (g : GlobalParts) → named_at g None ≡ None
-  none_at g = grind (arith, eqb, global_serial) steps 400000
+  none_at g = grind (arith, eqb, global_serial)
 
   foreign_at : (g : GlobalParts) (x : Object (KeptGlobal G)) → eqb x.value.serial g.serial ≡ false → named_at g (Some x) ≡ None
-  foreign_at g x other = grind (arith, eqb, true≢false) steps 400000
+  foreign_at g x other = grind (arith, eqb, true≢false)
 
   -- the serial of what the id names is its own
   serial_at : (globals : Globals G) (g : GlobalParts) (x : Object (KeptGlobal G)) → global_of globals g ≡ Some x → x.value.serial ≡ g.serial
-  serial_at globals g x is = grind (arith, eqb, same_Some, eqb-true, none-some, global_serial) steps 400000
+  serial_at globals g x is = grind (arith, eqb, same_Some, eqb-true, none-some, global_serial)
 
 -- ---- two ids
 
@@ -56,10 +56,10 @@ other_named : (target g : GlobalParts) → g.name ≢ target.name → same_globa
 other_named target g other = ap (λ (b : Bool). b && eqb target.serial g.serial) (ne_eqb target.name g.name (λ same. other (sym same)))
 
 same_ids : (target g : GlobalParts) → same_global target g ≡ true → target ≡ g
-same_ids target g same = grind (arith, eqb, global_is, eqb-true, true≢false) steps 400000
+same_ids target g same = grind (arith, eqb, global_is, eqb-true, true≢false)
 
 same_clients : (a b : ClientParts) → same_client a b ≡ true → a ≡ b
-same_clients a b same = grind (arith, eqb, client_is, eqb-true, true≢false) steps 400000
+same_clients a b same = grind (arith, eqb, client_is, eqb-true, true≢false)
 
 -- ---- what a call does to what an id names
 
@@ -71,7 +71,7 @@ module _ {G : Type 0} where
   -- nothing has changed, where the target names none
   none_changes : (change : Option (Object (KeptGlobal G)) → Option (Object (KeptGlobal G))) → change None ≡ None → (globals : Globals G) (target : GlobalParts)
       → global_of globals target ≡ None → Changes change globals target globals
-  none_changes change nothing globals target none g = grind (arith, same_global, global_of, same_ids) steps 400000
+  none_changes change nothing globals target none g = grind (arith, same_global, global_of, same_ids)
 
   -- the value at the name is another, or there is none
   one_changes : (change : Option (Object (KeptGlobal G)) → Option (Object (KeptGlobal G))) → change None ≡ None → (globals after : Globals G) (target : GlobalParts) (x : Object (KeptGlobal G))
@@ -95,7 +95,7 @@ module _ {G : Type 0} where
       ]
     where
       both : (z b : Bool) → cond z None (cond b (change (Some x)) None) ≡ cond b (change (cond z None (cond b (Some x) None))) (cond z None (cond b (Some x) None))
-      both z b = grind (arith) steps 400000
+      both z b = grind (arith)
 
   pub disabled_changes : (globals : Globals G) (target : GlobalParts) → Changes (option_map as_disabled) globals target (disabled globals target)
   disabled_changes globals target = go (global_of globals target) refl
@@ -112,7 +112,7 @@ module _ {G : Type 0} where
   freed_changes globals target = go (global_of globals target) refl
     where
       nothing : (z b : Bool) → None ≡ cond z None (cond b (let o : Option (Object (KeptGlobal G)) = None in o) None)
-      nothing z b = grind (arith) steps 400000
+      nothing z b = grind (arith)
 
       go : (o : Option (Object (KeptGlobal G))) → global_of globals target ≡ o → Changes (λ o. None) globals target (freed_at globals target.name o)
       go None none = none_changes (λ o. None) refl globals target none
@@ -125,11 +125,11 @@ module _ {G : Type 0} where
   created_named : (globals : Globals G) (i : InterfaceId) (version : ℕ) (handler : G) (new : GlobalParts) → IsNextGlobal globals new
       → (last : ℕ) → global_of (record { store = stored globals.store new.name (new_global i version new.serial handler); last_serial = last }) new
       ≡ Some (new_global i version new.serial handler)
-  created_named globals i version handler new (least, left, next) last = grind (arith, new_global, stored_here, eqb, ne_eqb, eq-eqb) steps 400000
+  created_named globals i version handler new (least, left, next) last = grind (arith, new_global, stored_here, eqb, ne_eqb, eq-eqb)
 
   created_other : (globals : Globals G) (i : InterfaceId) (version : ℕ) (handler : G) (new : GlobalParts) → IsNextGlobal globals new → (last : ℕ) (g : GlobalParts)
       → (g.serial ≢ new.serial) → global_of (record { store = stored globals.store new.name (new_global i version new.serial handler); last_serial = last }) g ≡ global_of globals g
-  created_other globals i version handler new (least, left, next) last g older = grind (arith, new_global, cases_eq, stored_here, foreign_at, ne_eqb, none_at, stored_other) steps 400000
+  created_other globals i version handler new (least, left, next) last g older = grind (arith, new_global, cases_eq, stored_here, foreign_at, ne_eqb, none_at, stored_other)
 
   -- nor does any other id
   pub created_elsewhere : (globals : Globals G) (i : InterfaceId) (version : ℕ) (handler : G) (new : GlobalParts) → IsNextGlobal globals new → (last : ℕ) (g : GlobalParts)
@@ -145,7 +145,7 @@ module _ {G : Type 0} where
 module _ {G : Type 0} where
   -- a global that is created has the next id
   next_in : (offer : Offer G) (i : InterfaceId) (version : ℕ) (g : GlobalParts) → CreatesGlobal offer.table offer.globals i version (Ok g) → IsNextGlobal offer.globals g
-  next_in offer i version g by = grind (arith, either_option, slice_get, true≢false, is_ok, either_bool, nat_le) steps 400000
+  next_in offer i version g by = grind (arith, either_option, slice_get, true≢false, is_ok, either_bool, nat_le)
 
   disabled_last : (globals : Globals G) (n : ℕ) (o : Option (Object (KeptGlobal G))) → (disabled_at globals n o).last_serial ≡ globals.last_serial
   disabled_last globals n None = refl
@@ -158,7 +158,7 @@ module _ {G : Type 0} where
   -- a change makes no id name a global that named none
   some_left : (change : Option (Object (KeptGlobal G)) → Option (Object (KeptGlobal G))) → change None ≡ None → (b : Bool) (o : Option (Object (KeptGlobal G)))
       → IsSome (cond b (change o) o) → IsSome o
-  some_left change h1 b o h2 = grind (arith, some_none) steps 400000
+  some_left change h1 b o h2 = grind (arith, some_none)
 
 module _ {T U G C : Type 0} where
   offered_next : (offer : Offer G) (call : Call T U G C) (g : GlobalParts) → AnswersShared offer call → Offers g call → IsNextGlobal offer.globals g
@@ -169,7 +169,7 @@ module _ {T U G C : Type 0} where
 
   -- the last serial of a global never falls
   last_grows : (offer : Offer G) (call : Call T U G C) → AnswersShared offer call → offer.globals.last_serial ≤ (offer_after offer call).globals.last_serial
-  last_grows offer call h1 = grind (arith, next_in, disabled_last, global_of, freed_last) steps 400000
+  last_grows offer call h1 = grind (arith, next_in, disabled_last, global_of, freed_last)
 
   -- what the id of a global that was given before names after a call
   named_by : (offer : Offer G) (call : Call T U G C) (g : GlobalParts) → AnswersShared offer call → g.serial ≤ offer.globals.last_serial
@@ -246,7 +246,7 @@ module _ {T U G C : Type 0} where
 
   globals_rise : (offer offer' : Offer G) (last last' : ℕ) (run : List (Entry T U G C)) → SharedAlone offer last run offer' last' → GlobalsRise run
   globals_rise offer offer' last last' [] shared = tt
-  globals_rise offer offer' last last' (e ∷ run) (by, next, rest) = grind (arith, offered_last, globals_above, offer_after, inserted_by, globals_rise (offer_after offer e.call) offer' (last + inserted_by e.call) last' run rest) steps 400000
+  globals_rise offer offer' last last' (e ∷ run) (by, next, rest) = grind (arith, offered_last, globals_above, offer_after, inserted_by, globals_rise (offer_after offer e.call) offer' (last + inserted_by e.call) last' run rest)
 
   globals_grow : (offer offer' : Offer G) (last last' : ℕ) (run : List (Entry T U G C)) → SharedAlone offer last run offer' last' → offer.globals.last_serial ≤ offer'.globals.last_serial
   globals_grow offer offer' last last' [] (same, is) = (let e = ap (λ (o : Offer G). o.globals.last_serial) same in omega (arith, e))
@@ -258,7 +258,7 @@ module _ {T U G C : Type 0} where
   global_given : (offer offer' : Offer G) (last last' : ℕ) (run : List (Entry T U G C)) → SharedAlone offer last run offer' last' → (g : GlobalParts) → SomeCall (Offers g) run
       → g.serial ≤ offer'.globals.last_serial
   global_given offer offer' last last' [] shared g some = absurd some
-  global_given offer offer' last last' (e ∷ run) (by, next, rest) g (inl is) = grind (arith, offered_last, globals_grow, offer_after, inserted_by) steps 400000
+  global_given offer offer' last last' (e ∷ run) (by, next, rest) g (inl is) = grind (arith, offered_last, globals_grow, offer_after, inserted_by)
   global_given offer offer' last last' (e ∷ run) (by, next, rest) g (inr later) =
       global_given (offer_after offer e.call) offer' (last + inserted_by e.call) last' run rest g later
 
@@ -273,11 +273,11 @@ module _ {T U G C : Type 0} where
   made_over : (offer offer' : Offer G) (last last' : ℕ) (run : List (Entry T U G C)) → SharedAlone offer last run offer' last' → (g : GlobalParts) → IsSome (global_of offer'.globals g)
       → IsSome (global_of offer.globals g) ⊎ SomeCall (Offers g) run
   made_over offer offer' last last' [] (same, is) g some = inl (subst (λ (o : Offer G). IsSome (global_of o.globals g)) same some)
-  made_over offer offer' last last' (e ∷ run) (by, next, rest) g some = grind (arith, offer_after, inserted_by, named_before, made_over (offer_after offer e.call) offer' (last + inserted_by e.call) last' run rest g some) steps 400000
+  made_over offer offer' last last' (e ∷ run) (by, next, rest) g some = grind (arith, offer_after, inserted_by, named_before, made_over (offer_after offer e.call) offer' (last + inserted_by e.call) last' run rest g some)
 
   -- where an id names none, no call but a creation makes it name one
   none_by : (g : GlobalParts) (call : Call T U G C) → global_by g call None ≡ None
-  none_by g call = grind (arith, same_global, option_map, as_disabled) steps 400000
+  none_by g call = grind (arith, same_global, option_map, as_disabled)
 
   none_over : (g : GlobalParts) (run : List (Entry T U G C)) → global_over g run None ≡ None
   none_over g [] = refl
@@ -291,7 +291,7 @@ module _ {T U G C : Type 0} where
   inserted_in _ = None
 
   inserts_in : (call : Call T U G C) (id : ClientParts) → inserted_in call ≡ Some id → Inserts id call
-  inserts_in call id h1 = grind (arith, same_Some, none-some) steps 400000
+  inserts_in call id h1 = grind (arith, same_Some, none-some)
 
   either_inserts : (id : ClientParts) (call : Call T U G C) → Inserts id call ⊎ IsNotInserted id call
   either_inserts id call = go (inserted_in call) refl

@@ -1,7 +1,7 @@
 -- What holds of the ids of every run.
-use Rattle.std.proofs.Common.{◌≡◌, ◌≢◌, ◌⊎◌, ℕ, Bool, true, false, cond, eqb, List, [], ◌∷◌, ◌++◌, Option, None, Some, is_some, IsSome, refl, sym, ap, subst, ◌∙◌, true≢false, append_assoc, arith}
+use Rattle.std.proofs.Common.{◌≡◌, ◌≢◌, ◌⊎◌, ℕ, true, eqb, List, [], ◌∷◌, ◌++◌, None, is_some, IsSome, refl, sym, ap, subst, ◌∙◌, true≢false, append_assoc, arith}
 use mathlib.Core.Logic.{inl, inr}
-use Rattle.std.specs.Prelude.{AllPairs, Contains, MatchOption, ◌↔◌}
+use Rattle.std.specs.Prelude.{AllPairs, Contains, ◌↔◌}
 use Rattle.wl_wire.specs.Table.{InterfaceRow}
 use Rattle.wl_link.proofs.Ids.EndsLaw.{ends_once_law, run_leads, run_owns}
 use Rattle.wl_link.specs.Identity.{Change, Id, IsMadeIn, Objects, OwnsExactly, RunEnds, ended_in, ended_over, named_in, names}
@@ -23,11 +23,10 @@ use Rattle.wl_server.specs.Globals.{Offer, new_offer}
 use Rattle.wl_server.specs.Identified.{AreObjectsOf, EachHasOwnIds, Follows, HasOwnIds, IsHandedIn, IsNotedIn, has_data, ids_in, is_over, named_of, waiting_of}
 use Rattle.wl_server.specs.Ids.{ClientParts, IdParts}
 use Rattle.wl_server.proofs.OverRuns.Alone.IsolationLaw.{is_isolated}
-use Rattle.wl_server.specs.Lookups.{and_then}
 use Rattle.wl_server.proofs.OverRuns.Ids.AmongLaws.{all_among, among_contains, among_first, among_later, contains_among}
 use Rattle.wl_server.proofs.OverRuns.Alone.OwnRuns.{AreMine, are_mine}
 use Rattle.wl_server.specs.Named.{offer_through}
-use Rattle.wl_server.specs.Part.{Part, display_object, id_of, named, objects_of, serial_of}
+use Rattle.wl_server.specs.Part.{display_object, id_of, named, objects_of, serial_of}
 use Rattle.wl_server.specs.PartStep.{PartCall, World}
 use Rattle.wl_server.specs.Runs.{Alone, Leads, Own, just_inserted, concerns, history, mine, offer_over}
 use Rattle.wl_server.specs.Server.{Seen, ServerState, new_server, seen}
@@ -47,7 +46,7 @@ module _ {U : Type 0} (client : ClientParts) where
   noted_over (step ∷ rest) o u (inr later) = let (of_it, made) = noted_over rest o u later in (of_it, inr made)
 
   pub begins_without : (o : IdParts) (u : U) → IsAmong (Initialized ∷ []) (Destroyed o u) → ⊥
-  begins_without o u h1 = grind (arith, true≢false) steps 400000
+  begins_without o u h1 = grind (arith, true≢false)
 
 module _ {T U G C : Type 0} (w : World T G C) (id : ClientParts) where
   pub record RunChanging (offer : Offer G) (s : Seen T U C) (o : Objects (Kept U)) (run : List (Own T U G C)) (t : Seen T U C) : Type 0 where
@@ -142,7 +141,7 @@ module _ {T U G C : Type 0} (w : World T G C) (id : ClientParts) where
   -- ---- what holds of it
 
   pub names_of : (t : Seen T U C) (kept : Objects (Kept U)) → AreObjectsOf t kept → (o : IdParts) → IsSome (named_of t o) ↔ IsSome (names serial_of (id_of o) kept.store)
-  names_of t kept are o = grind (arith, names, serial_of, id_of, eqb, named_in, true≢false, is_some, objects_of, named) steps 400000
+  names_of t kept are o = grind (arith, names, serial_of, id_of, eqb, named_in, true≢false, is_some, objects_of, named)
 
   -- a client's run is one of changes, from its display alone on
   pub begun_change : (offer : Offer G) (link : LinkState T) (client_data : C) (run : List (Own T U G C)) (t : Seen T U C) → AreMine id run → Alone w id offer (just_inserted link client_data) run t

@@ -1,18 +1,15 @@
 -- That the ids of a reply are those that its call hands out.
-use Rattle.std.proofs.Common.{◌≡◌, Bool, true, false, List, [], ◌∷◌, ◌++◌, Option, None, Some, Result, Ok, Err, sym, ap, subst, true≢false, arith}
+use Rattle.std.proofs.Common.{◌≡◌, Bool, true, false, List, [], ◌∷◌, ◌++◌, Option, Result, Ok, sym, ap, subst, true≢false, arith}
 use mathlib.Core.Logic.{inl, inr}
-use Rattle.std.specs.Prelude.{if◌then◌else◌, is_ok}
+use Rattle.std.specs.Prelude.{is_ok}
 use Rattle.wl_wire.specs.declared.error.IoFault.{IoFault}
 use Rattle.wl_link.proofs.Calls.Branches.{either_bool, either_option}
 use Rattle.wl_link.specs.Reader.{Given, HandedOut, Queued}
-use Rattle.wl_wire.specs.declared.error.IoFault.TheVariants as fault
 use Rattle.wl_server.specs.declared.reading.action.Reading.{Reading}
 use Rattle.wl_server.specs.declared.error.ActionError.{ActionError}
-use Rattle.wl_server.specs.declared.error.ActionError.TheVariants.{Io}
 use Rattle.wl_server.specs.declared.runs.step.Reply.{Reply}
 use Rattle.wl_server.specs.declared.runs.step.Step.{Step}
-use Rattle.wl_server.specs.declared.runs.step.Step.TheVariants as step
-use Rattle.wl_server.specs.HandedIds.{action_ids, made_ids}
+use Rattle.wl_server.specs.HandedIds.{action_ids}
 use Rattle.wl_server.specs.Deeds.{IsAmong, Acted, Came, Deed, Handed, Left, Noted, NoteTaken, Put, Remembered, Sent}
 use Rattle.wl_server.proofs.OverRuns.Moves.BaseMoves.{Doings, acted_in, all_action_ids, handed_by}
 use Rattle.wl_server.proofs.OverRuns.Moves.DoingsLaws.{deeds_done}
@@ -21,7 +18,7 @@ use Rattle.wl_server.specs.Identified.{answer_ids, ids_in}
 use Rattle.wl_server.specs.Ids.{ClientParts, same_client, IdParts}
 use Rattle.wl_server.proofs.OverRuns.Ids.AmongLaws.{among_first, among_later}
 use Rattle.wl_server.specs.Part.{Part}
-use Rattle.wl_server.specs.PartStep.{Asked, Call, Changed, Grown, OfClient, OnPart, PartCall, PartStep, ReadsFor, World, around}
+use Rattle.wl_server.specs.PartStep.{Asked, Call, OfClient, OnPart, PartCall, PartStep, ReadsFor, World, around}
 use Rattle.wl_server.specs.Reading.{NextAction, action_content, action_in, answered, exchanges_in, new_reading}
 use Rattle.wl_server.specs.Telling.{Core, Did, Stops, Told, deeds_in, deeds_of}
 use Rattle.wl_server.specs.Runs.{concerns, is_about}
@@ -39,7 +36,7 @@ module _ {U : Type 0} where
       among_first (action_ids other) (all_action_ids (acted_in (deeds_in gave))) i (subst (λ (x : Handed). IsAmong (action_ids x) i) (sym (same_handed is)) among)
     where
       same_handed : ◌≡◌ {A = Result Handed ActionError} (Ok other) (Ok h) → other ≡ h
-      same_handed is = grind (arith) steps 400000
+      same_handed is = grind (arith)
   given_ids (HandedOut (Did (Sent e)) ∷ gave) h is i among = given_ids gave h is i among
   given_ids (HandedOut (Did (Came r)) ∷ gave) h is i among = given_ids gave h is i among
   given_ids (HandedOut (Did (Put m)) ∷ gave) h is i among = given_ids gave h is i among
@@ -50,7 +47,7 @@ module _ {U : Type 0} where
 
   answered_ids : (stopped : Option IoFault) (gave : List (Given (Told U))) (answer : Result Handed ActionError) → answer ≡ answered stopped gave → (i : HandedId IdParts)
       → IsAmong (answer_ids answer) i → IsAmong (all_action_ids (acted_in (deeds_in gave))) i
-  answered_ids stopped gave answer h1 i h2 = grind (arith, given_ids, true≢false, is_ok) steps 400000
+  answered_ids stopped gave answer h1 i h2 = grind (arith, given_ids, true≢false, is_ok)
 
   module _ {C : Type 0} where
     -- and so among all deeds
@@ -86,7 +83,7 @@ module _ {T U G C : Type 0} (w : World T G C) (id : ClientParts) (offer : Offer 
   reads_ids : (target : ClientParts) (r : Reading) (answer : Result Handed ActionError) (r' : Reading) (s : Seen T U C) (lacked : Bool) (did : List (Deed U)) (t : Seen T U C)
       → same_client target id ≡ true → ReadsFor w id offer target r answer r' s lacked did t → (i : HandedId IdParts) → IsAmong (answer_ids answer) i
       → IsAmong (all_action_ids (acted_in did)) i
-  reads_ids target r answer r' s lacked did t about h i among = grind (arith, either_option, own_step, around, read_ids) steps 400000
+  reads_ids target r answer r' s lacked did t about h i among = grind (arith, either_option, own_step, around, read_ids)
 
   abbrev pub Covers : Call T U G C → List (Deed U) → Type 0
   Covers call did = (i : HandedId IdParts) → IsAmong (ids_in call) i → IsAmong (handed_by id call did) i
@@ -94,8 +91,8 @@ module _ {T U G C : Type 0} (w : World T G C) (id : ClientParts) (offer : Offer 
   -- the ids of a reply are those that the call hands out
   covers_step : (call : Step T U G C) (answer : Reply T U) (s : Seen T U C) (lacked : Bool) (did : List (Deed U)) (t : Seen T U C) → is_about id call ≡ true
       → PartStep w id offer call answer s lacked did t → Covers (Asked call answer) did
-  covers_step call answer s lacked did t h1 h2 = grind (arith, reads_ids, new_reading, action_content) steps 400000
+  covers_step call answer s lacked did t h1 h2 = grind (arith, reads_ids, new_reading, action_content)
 
   pub covers : (call : Call T U G C) (s : Seen T U C) (lacked : Bool) (did : List (Deed U)) (t : Seen T U C) → concerns id call ≡ true
       → PartCall w id offer call s lacked did t → Covers call did
-  covers call s lacked did t h1 h2 = grind (arith, covers_step) steps 400000
+  covers call s lacked did t h1 h2 = grind (arith, covers_step)

@@ -1,6 +1,6 @@
 -- What each call answers and does where a client is killed, and where it is not stored.
-use Rattle.std.proofs.Common.{◌≡◌, ◌⊎◌, Bool, true, false, List, [], Option, None, Some, Result, Ok, Err, refl, sym, ap, subst, ◌∙◌, true≢false}
-use Rattle.std.specs.Prelude.{Vec, is_ok}
+use Rattle.std.proofs.Common.{arith, ◌≡◌, ◌⊎◌, Bool, true, false, List, [], Option, None, Some, Result, Ok, Err, refl, sym, ap, subst, ◌∙◌, true≢false}
+use Rattle.std.specs.Prelude.{Vec}
 use Rattle.std.specs.Global.{Global}
 use Rattle.std.proofs.lemmas.Bool.{false≢true}
 use Rattle.std.proofs.lemmas.Option.{same_Some, none-some}
@@ -22,7 +22,7 @@ use Rattle.wl_server.specs.Globals.{Offer}
 use Rattle.wl_server.specs.Ids.{ClientParts, same_client}
 use Rattle.wl_server.specs.Killed.{ReadingAnswers, TakesOut}
 use Rattle.wl_server.specs.Part.{Part}
-use Rattle.wl_server.specs.PartStep.{Asked, Call, Changed, CleanedAs, Grown, OfClient, PartCall, ReadsFor, Unfelt, World, around, share_of}
+use Rattle.wl_server.specs.PartStep.{Asked, Call, Changed, CleanedAs, Grown, PartCall, ReadsFor, Unfelt, World, around, share_of}
 use Rattle.wl_server.specs.Reading.{NextAction, action_content, new_reading}
 use Rattle.wl_server.specs.Runs.{IsNotInserted, concerns}
 use Rattle.wl_server.specs.Server.{Seen}
@@ -35,7 +35,7 @@ use Rattle.wl_server.proofs.OverRuns.Killed.KilledParts.{Remains, fading, moves_
 -- ---- the answer of a reading
 
 content_is : (r : Result Action ActionError) (e : ActionError) → action_content r ≡ Err e → r ≡ Err e
-content_is r e h1 = grind (arith, true≢false) steps 400000
+content_is r e h1 = grind (arith, true≢false)
 
 -- why nothing is read of a killed client
 abbrev pub refusal_with : Option OpenAction → ActionError
@@ -54,7 +54,7 @@ module _ {T U : Type 0} (id target : ClientParts) (e : ActionError) (r : Result 
 
   says_within : (reading left : Reading) → answer ≡ reply.NextActionWithin r left → (same_client target id ≡ true → (action_content r ≡ Err e) × (left ≡ reading))
       → same_client target id ≡ true → answer ≡ reply.NextActionWithin (Err e) reading
-  says_within reading left is says mine = grind (arith, content_is) steps 400000
+  says_within reading left is says mine = grind (arith, content_is)
 
 -- ---- a killed client
 
@@ -66,15 +66,15 @@ module _ {T U G C : Type 0} (w : World T G C) (id : ClientParts) (offer : Offer 
 
   dead_unread : (r r' : Reading) (answer : Result Handed ActionError) (q : Part T U C) → NextAction w.sends w.receives (around w id offer) r p answer r' lacked did q
       → Unread (refusal_with p.action) r r' answer did
-  dead_unread r r' answer q h = grind (arith, either_option, when_killed) steps 400000
+  dead_unread r r' answer q h = grind (arith, either_option, when_killed)
 
   dead_reads : (target : ClientParts) (r r' : Reading) (answer : Result Handed ActionError) → ReadsFor w id offer target r answer r' before lacked did after
       → (did ≡ []) × (same_client target id ≡ true → (answer ≡ Err (refusal_with p.action)) × (r' ≡ r))
-  dead_reads target r r' answer h = grind (arith, around, either_option, dead_unread, found_part, true≢false) steps 400000
+  dead_reads target r r' answer h = grind (arith, around, either_option, dead_unread, found_part, true≢false)
 
   -- what a reading of it answers
   pub dead_says : (call : Call T U G C) → PartCall w id offer call before lacked did after → ReadingAnswers id (refusal_with p.action) call
-  dead_says call h1 = grind (arith, says_next, dead_reads, says_within) steps 400000
+  dead_says call h1 = grind (arith, says_next, dead_reads, says_within)
 
   -- nothing is received from it
   pub dead_silent : (call : Call T U G C) → PartCall w id offer call before lacked did after → came_in did ≡ []
@@ -135,7 +135,7 @@ module _ {T U G C : Type 0} (w : World T G C) (id : ClientParts) (offer : Offer 
       ]
     where
       stays : (q : Part T U C) → NextAction w.sends w.receives (around w id offer) r p answer r' lacked did q → Remains p q
-      stays q next = grind (arith, either_option, when_killed, remains) steps 400000
+      stays q next = grind (arith, either_option, when_killed, remains)
 
   -- a killed client stays killed, or the call is the cleanup that takes it out
   pub dead_or_out : (call : Call T U G C) → IsNotInserted id call → PartCall w id offer call before lacked did after → DeadOrOut call
@@ -156,11 +156,11 @@ module _ {T U G C : Type 0} (w : World T G C) (id : ClientParts) (offer : Offer 
     (after : Seen T U C) where
   out_reads : (target : ClientParts) (r r' : Reading) (answer : Result Handed ActionError) → ReadsFor w id offer target r answer r' before lacked did after
       → (did ≡ []) × (same_client target id ≡ true → (answer ≡ Err (Io fault.InvalidInput)) × (r' ≡ r))
-  out_reads target r r' answer h = grind (arith, around, either_option, true≢false) steps 400000
+  out_reads target r r' answer h = grind (arith, around, either_option, true≢false)
 
   -- what a reading of it answers
   pub out_says : (call : Call T U G C) → PartCall w id offer call before lacked did after → ReadingAnswers id (Io fault.InvalidInput) call
-  out_says call h1 = grind (arith, says_next, out_reads, says_within) steps 400000
+  out_says call h1 = grind (arith, says_next, out_reads, says_within)
 
   -- nothing is received from it
   pub out_silent : (call : Call T U G C) → PartCall w id offer call before lacked did after → came_in did ≡ []
@@ -171,7 +171,7 @@ module _ {T U G C : Type 0} (w : World T G C) (id : ClientParts) (offer : Offer 
   out_silent (Grown rows answer) h = call_quiet w id offer before after lacked did (Grown rows answer) refl h
 
   goes_out : (d : _) → Goes (any true) w.sends w.receives id before d after → after.part ≡ None
-  goes_out d h1 = grind (arith, unfelt, within, taken_out, notes_taken) steps 400000
+  goes_out d h1 = grind (arith, unfelt, within, taken_out, notes_taken)
 
   -- it is not stored again, if it is not inserted again
   pub out_stays : (call : Call T U G C) → IsNotInserted id call → PartCall w id offer call before lacked did after → after.part ≡ None

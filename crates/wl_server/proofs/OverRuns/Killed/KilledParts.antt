@@ -18,7 +18,7 @@ pub record Remains {T U C : Type 0} (p q : Part T U C) : Type 0 where
 
 module _ {T U C : Type 0} (p : Part T U C) (killed : p.is_killed ≡ true) where
   remains_as : (q r : Part T U C) → q ≡ r → r.is_killed ≡ p.is_killed → r.action ≡ p.action → Remains p q
-  remains_as q r same is action = grind (arith) steps 400000
+  remains_as q r same is action = grind (arith)
 
   pub remains : (q : Part T U C) → q ≡ p → Remains p q
   remains q same = remains_as q p same refl refl

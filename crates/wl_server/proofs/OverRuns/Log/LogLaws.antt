@@ -111,8 +111,8 @@ module _ {T U C : Type 0} (sends : T → Queue → Result ℕ IoFault → T → 
     waiting = subst (λ (x : Seen T U C). WaitsFor x waits) (sym same) is;
     keeps = keeps_quiet waits waits d (ap (λ (e : Doings U). e.sends) none) (ap (λ (e : Doings U). e.put) none) refl;
   }
-  goes_keep s t d waits is (within p q there moves same) = grind (arith, waits_at, moves_keep) steps 400000
-  goes_keep s t d waits is (taken_out p q on there killed moves none noted same) = grind (arith, waits_at, moves_keep) steps 400000
+  goes_keep s t d waits is (within p q there moves same) = grind (arith, waits_at, moves_keep)
+  goes_keep s t d waits is (taken_out p q on there killed moves none noted same) = grind (arith, waits_at, moves_keep)
 
 -- ---- the run of a client
 

@@ -2,7 +2,7 @@
 use Rattle.std.proofs.Common.{◌≡◌, ◌⊎◌, ℕ, zero, suc, ◌<◌, Bool, true, false, cond, List, [], ◌∷◌, ◌++◌, map, Option, None, Some, Result, Ok, Err, refl, sym, ap, subst, ◌∙◌, true≢false, arith}
 use Rattle.std.proofs.lemmas.Option.{none-some}
 use mathlib.Core.Logic.{inl, inr}
-use Rattle.std.specs.Prelude.{MatchBool, MatchOption, Contains, AllPairs, Vec}
+use Rattle.std.specs.Prelude.{MatchBool, Contains, AllPairs, Vec}
 use Rattle.std.specs.Global.{Global}
 use Rattle.std.specs.FinMap as finmap
 use Rattle.std.proofs.lemmas.Bool.{cases_eq}
@@ -78,7 +78,7 @@ module _ {U : Type 0} where
 
   doings_leaving : (client : ClientParts) (n : ℕ) (x : Object (Kept U)) (rest : List (Deed U))
       → doings_in (map Noted (note_of_end client n x) ++ (left_if (id_of (id_at client n x)) x.value.user_data ++ rest)) ≡ joined (leaving client false n x) (doings_in rest)
-  doings_leaving client n x rest = grind (arith, doings_in, end_note, id_at, left_if, id_of, joined, nothing_done, left_id) steps 400000
+  doings_leaving client n x rest = grind (arith, doings_in, end_note, id_at, left_if, id_of, joined, nothing_done, left_id)
 
 module _ {T U C : Type 0} (kind : Kind) (sends : T → Queue → Result ℕ IoFault → T → Type 0) (receives : T → ℕ → Result Queue IoFault → T → Type 0)
     (client : ClientParts) where
@@ -170,7 +170,7 @@ module _ {T U C : Type 0} (kind : Kind) (sends : T → Queue → Result ℕ IoFa
   -- a step that is about this client, or about another, or that each client feels
   on_part : (s : Seen T U C) (R : Part T U C → Part T U C → Type 0) (missing : Type 0) (lacked : Bool) (did : List (Deed U)) (t : Seen T U C) (d : Doings U)
       → d.notes ≡ notes_in did → (did ≡ [] → missing → d ≡ nothing_done) → ((p q : Part T U C) → R p q → Leads p d q) → OnPart s R missing lacked did t → Run s d t
-  on_part s R missing lacked did t d notes nothing moves h = grind (arith, notes_in, unfelt, within) steps 400000
+  on_part s R missing lacked did t d notes nothing moves h = grind (arith, notes_in, unfelt, within)
 
   unfelt_goes : (s : Seen T U C) (lacked : Bool) (did : List (Deed U)) (t : Seen T U C) → Unfelt s lacked did t → Run s (doings_in did) t
   unfelt_goes s lacked did t (no_memory, none, same) = unfelt (ap doings_in none) same
@@ -214,11 +214,11 @@ module _ {T U G C : Type 0} (kind : Kind) (w : World T G C) (id : ClientParts) (
       (did : List (Deed U)) (t : Seen T U C) → (missing → made_ids r ≡ [])
       → OfClient (same_client target id) s (λ p q. (lacked ≡ l) × (did ≡ []) × Creates offer.table id p i version u r q) missing lacked did t
       → Goes kind w.sends w.receives id s (doings_of (cond (same_client target id) (made_ids r) []) did) t
-  creates_goes target i version u r missing s lacked l did t none_made h = grind (arith, doings_of, on_part, creates_moves, unfelt) steps 400000
+  creates_goes target i version u r missing s lacked l did t none_made h = grind (arith, doings_of, on_part, creates_moves, unfelt)
 
   global_goes : (i : InterfaceId) (version : ℕ) (handler : G) (r : Result GlobalParts GlobalError) (s : Seen T U C) (lacked : Bool) (did : List (Deed U)) (t : Seen T U C)
       → FeelsGlobal w id offer i version handler r s lacked did t → To s did t
-  global_goes i version handler r s lacked did t h1 = grind (arith, on_part, doings_in, hears_moves, unfelt_goes) steps 400000
+  global_goes i version handler r s lacked did t h1 = grind (arith, on_part, doings_in, hears_moves, unfelt_goes)
 
   loss_goes : (g : GlobalParts) (s : Seen T U C) (lacked : Bool) (did : List (Deed U)) (t : Seen T U C) → FeelsLoss w id offer g s lacked did t → To s did t
   loss_goes g s lacked did t h =
@@ -231,7 +231,7 @@ module _ {T U G C : Type 0} (kind : Kind) (w : World T G C) (id : ClientParts) (
 
   flushed_goes : (target : Option ClientParts) (answer : Result (Unit {0}) IoFault) (s : Seen T U C) (lacked : Bool) (did : List (Deed U)) (t : Seen T U C)
       → FlushedFor w id offer target answer s lacked did t → To s did t
-  flushed_goes None answer s lacked did t (is, h) = grind (arith, on_part, doings_in, flushes_moves) steps 400000
+  flushed_goes None answer s lacked did t (is, h) = grind (arith, on_part, doings_in, flushes_moves)
   flushed_goes (Some target) answer s lacked did t h =
       of_client kind w.sends w.receives id (same_client target id) s _ _ lacked did t (λ mine p q f. flushed_moves kind w.sends w.receives id p answer lacked did q f) h
 
@@ -270,7 +270,7 @@ module _ {T U G C : Type 0} (kind : Kind) (w : World T G C) (id : ClientParts) (
 
   cleanup_goes : (answer : Result (Vec (ClientParts × T) Global) OutOfMemory) (s : Seen T U C) (lacked : Bool) (did : List (Deed U)) (t : Seen T U C)
       → (gathers_in {T = T} {U = U} {G = G} {C = C} (Asked step.Cleanup (reply.Cleanup answer)) ≡ true → kind.gathers ≡ true) → CleanedAs w id offer answer s lacked did t → To s did t
-  cleanup_goes answer s lacked did t h1 h2 = grind (arith, unfelt_goes, either_option, cleaned_goes) steps 400000
+  cleanup_goes answer s lacked did t h1 h2 = grind (arith, unfelt_goes, either_option, cleaned_goes)
 
   taken_goes : (answer : Result (Vec (Note U) Global) OutOfMemory) (s : Seen T U C) (lacked : Bool) (did : List (Deed U)) (t : Seen T U C)
       → (hands_in {T = T} {U = U} {G = G} {C = C} (Asked step.TakeNotes (reply.TakeNotes answer)) ≡ true → kind.hands ≡ true) → NotesTaken w id offer answer s lacked did t → To s did t
@@ -304,7 +304,7 @@ module _ {T U G C : Type 0} (kind : Kind) (w : World T G C) (id : ClientParts) (
       → is_about id call ≡ true → Permits (Asked call answer) → PartStep w id offer call answer s lacked did t
       → Handed (Asked call answer) s did t
   step_goes (step.InsertClient transport client_data) answer s lacked did t about may h = absurd (true≢false (sym about))
-  step_goes (step.SetObjectData o u) answer s lacked did t about may (r, is, h) = grind (arith, of_client, same_doings, nothing_done, doings_in, data_set_moves) steps 400000
+  step_goes (step.SetObjectData o u) answer s lacked did t about may (r, is, h) = grind (arith, of_client, same_doings, nothing_done, doings_in, data_set_moves)
   step_goes (step.CreateObject target i version u) answer s lacked did t about may (r, is, h) =
       subst (λ (a : Reply T U). Handed (Asked (step.CreateObject target i version u) a) s did t) (sym is)
       (creates_goes target i version u r _ s lacked _ did t (λ unknown. ap made_ids unknown) h)

@@ -5,7 +5,6 @@ use Rattle.wl_link.specs.Exchange.{Queue, Sending}
 use Rattle.wl_link.specs.Puts.{Said}
 use Rattle.wl_link.specs.Reader.{Given, HandedOut, Queued, Received, Handled, Unread, Turn, put_and_gave}
 use Rattle.wl_server.specs.declared.notes.DisconnectReason.{DisconnectReason}
-use Rattle.wl_server.specs.HandedIds.{action_ids}
 use Rattle.wl_server.specs.Deeds.{came_in}
 use Rattle.wl_server.proofs.OverRuns.Moves.BaseMoves.{Doings, acted_in, all_action_ids, doings_of, joined, nothing_done, noting, putting, sending}
 use Rattle.wl_server.specs.Deeds.{Acted, Came, Deed, Handed, Left, Noted, NoteTaken, Put, Remembered, Sent, notes_in, sends_of}
@@ -16,7 +15,7 @@ use Rattle.wl_server.specs.Ids.{IdParts}
 
 ids_both : (acted others : List Handed) → all_action_ids (acted ++ others) ≡ all_action_ids acted ++ all_action_ids others
 ids_both [] others = refl
-ids_both (h ∷ acted) others = grind (arith, append_assoc, all_action_ids, ids_both acted others) steps 400000
+ids_both (h ∷ acted) others = grind (arith, append_assoc, all_action_ids, ids_both acted others)
 
 passes : {A : Type 0} (xs ys : List A) → xs ≡ [] → xs ++ ys ≡ ys ++ xs
 passes xs ys none = ap (λ l. l ++ ys) none ∙ sym (append-nil ys) ∙ ap (λ l. ys ++ l) (sym none)
@@ -25,10 +24,10 @@ module _ {U : Type 0} where
   -- ---- moves one behind another
 
   pub joined_assoc : (a b c : Doings U) → joined (joined a b) c ≡ joined a (joined b c)
-  joined_assoc a b c = grind (arith, append_assoc) steps 400000
+  joined_assoc a b c = grind (arith, append_assoc)
 
   pub joined_none : (a : Doings U) → joined a nothing_done ≡ a
-  joined_none a = grind (arith, append-nil) steps 400000
+  joined_none a = grind (arith, append-nil)
 
   -- sends and receives are of kinds of their own
   abbrev pub exchanging : List Sending → List (Result Queue IoFault) → Doings U
@@ -40,7 +39,7 @@ module _ {U : Type 0} where
 
   exchanges_pass : (es : List Sending) (rs : List (Result Queue IoFault)) (d : Doings U) → d.sends ≡ [] → d.came ≡ []
       → joined d (exchanging es rs) ≡ joined (exchanging es rs) d
-  exchanges_pass es rs d no_sends none_came = grind (arith, append-nil, passes) steps 400000
+  exchanges_pass es rs d no_sends none_came = grind (arith, append-nil, passes)
 
   -- ---- deeds
 
@@ -63,7 +62,7 @@ module _ {U : Type 0} where
   acted_both a b = ap (λ (d : Doings U). d.acted) (doings_both [] [] a b)
 
   pub doings_in_both : (a b : List (Deed U)) → doings_in (a ++ b) ≡ joined (doings_in a) (doings_in b)
-  doings_in_both a b = grind (arith, doings_of, all_action_ids, acted_both, ids_both, acted_in, doings_both) steps 400000
+  doings_in_both a b = grind (arith, doings_of, all_action_ids, acted_both, ids_both, acted_in, doings_both)
 
   pub doings_sends : (es : List Sending) → doings_in (map Sent es) ≡ sending es
   doings_sends [] = refl
@@ -125,12 +124,12 @@ module _ {U : Type 0} where
 
     pub deeds_done : (exchanges : List (Deed U)) (gave : List (Given (Told U))) (c : Core U C)
         → doings_in (deeds_of exchanges gave c) ≡ joined (doings_in exchanges) (joined (doings_in (deeds_in gave)) (end_of c))
-    deeds_done exchanges gave c = grind (arith, doings_in_both, deeds_in, end_deeds, joined, doings_end) steps 400000
+    deeds_done exchanges gave c = grind (arith, doings_in_both, deeds_in, end_deeds, joined, doings_end)
 
     -- a verdict's, with what it put and what it gave
     pub verdict_done : (es : List Sending) (put : List Said) (made : List (Deed U)) (gave : List (Given (Told U))) (c : Core U C) → deeds_in gave ≡ map Put put ++ made
         → doings_in (deeds_of (map Sent es) gave c) ≡ joined (putting es put) (joined (doings_in made) (end_of c))
-    verdict_done es put made gave c is = grind (arith, deeds_done, joined, deeds_in, doings_sends, sending, doings_in_both, doings_puts, joined_assoc, putting, append-nil) steps 400000
+    verdict_done es put made gave c is = grind (arith, deeds_done, joined, deeds_in, doings_sends, sending, doings_in_both, doings_puts, joined_assoc, putting, append-nil)
 
     -- what a turn sent and gave, where it killed nobody, and then what the turns behind it did
     pub turns_done : (es : List Sending) (turns : List Turn) (first others : List (Given (Told U))) (c : Core U C) → IsQuiet (deeds_in first)

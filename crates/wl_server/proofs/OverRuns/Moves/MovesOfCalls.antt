@@ -1,29 +1,25 @@
 -- That what a program does with one client is a chain of base moves.
-use Rattle.std.proofs.Common.{◌≡◌, ◌≢◌, ℕ, ◌≤◌, Bool, true, false, not, cond, eqb, List, [], ◌∷◌, ◌++◌, map, Option, None, Some, is_some, Result, Ok, Err, MatchResult, refl, sym, ap, subst, ◌∙◌, append-nil, true≢false, arith}
+use Rattle.std.proofs.Common.{◌≡◌, ◌≢◌, ℕ, ◌≤◌, Bool, true, false, cond, eqb, List, [], ◌∷◌, ◌++◌, map, Option, None, Some, is_some, Result, Ok, Err, MatchResult, refl, sym, ap, subst, ◌∙◌, append-nil, true≢false, arith}
 use mathlib.Core.Logic.{inl, inr}
 use Rattle.std.specs.Prelude.{slice_get, is_ok}
-use Rattle.std.proofs.lemmas.Bool.{eqb-true}
-use Rattle.std.proofs.lemmas.Option.{same_Some, none-some}
+use Rattle.std.proofs.lemmas.Option.{none-some}
 use Rattle.wl_wire.specs.declared.error.IoFault.{IoFault}
 use Rattle.wl_wire.specs.declared.error.IoFault.TheVariants as fault
 use Rattle.wl_wire.specs.declared.interface.InterfaceId.{InterfaceId}
-use Rattle.wl_wire.specs.MessageRows.{event_row, matches}
-use Rattle.wl_wire.specs.Table.{InterfaceRow, MessageRow}
+use Rattle.wl_wire.specs.Table.{InterfaceRow}
 use Rattle.wl_link.specs.declared.object.Object.{Object}
 use Rattle.wl_link.proofs.Calls.Branches.{either_bool, either_option}
 use Rattle.wl_link.specs.Exchange.{Queue, Sending}
-use Rattle.wl_link.specs.Identity.{Id, named_in}
+use Rattle.wl_link.specs.Identity.{Id}
 use Rattle.wl_link.specs.Link.{LinkState, WroteBy}
 use Rattle.wl_link.specs.Puts.{PutsOut, Said}
 use Rattle.wl_link.specs.Reader.{Verdict}
-use Rattle.wl_link.specs.Refusals.{first_refusal, when}
 use Rattle.wl_link.specs.Store.{Store, held, removed, server_range}
 use Rattle.wl_link.proofs.Ids.StoreLaws.{removed_here, rewritten_other}
 use Rattle.wl_server.specs.declared.reading.action.OpenAction.TheVariants as opened
 use Rattle.wl_server.specs.declared.error.CreateError.{CreateError}
 use Rattle.wl_server.specs.declared.error.DestroyError.{DestroyError}
 use Rattle.wl_server.specs.declared.error.EventError.{EventError}
-use Rattle.wl_server.specs.declared.error.EventError.TheVariants as refused
 use Rattle.wl_server.specs.declared.error.FinishError.{FinishError}
 use Rattle.wl_server.specs.declared.error.FinishRefused.{FinishRefused}
 use Rattle.wl_server.specs.declared.error.InvalidId.{InvalidId}
@@ -47,10 +43,10 @@ use Rattle.wl_server.specs.Telling.{Core, Did, Kills, Tells, Told, closed_down, 
 
 module _ {U : Type 0} where
   pub named_held : (store : Store (Kept U)) (id : IdParts) (x : Object (Kept U)) → named store id ≡ Some x → held store id.number ≡ Some x
-  named_held store id x e = grind (arith, eqb, held, serial_of, id_of) steps 400000
+  named_held store id x e = grind (arith, eqb, held, serial_of, id_of)
 
   pub named_serial : (store : Store (Kept U)) (id : IdParts) (x : Object (Kept U)) → named store id ≡ Some x → x.value.serial ≡ id.serial
-  named_serial store id x e = grind (arith, eqb, held, serial_of, id_of) steps 400000
+  named_serial store id x e = grind (arith, eqb, held, serial_of, id_of)
 
   -- the id of the object that an id names has its number and serial
   named_id : (client : ClientParts) (store : Store (Kept U)) (id : IdParts) (x : Object (Kept U)) → named store id ≡ Some x → id_of (id_at client id.number x) ≡ id_of id
@@ -58,7 +54,7 @@ module _ {U : Type 0} where
 
   -- where its number holds none, an id names none
   gone_named : (store : Store (Kept U)) (id : IdParts) → held store id.number ≡ None → is_some (named store id) ≡ false
-  gone_named store id e = grind (arith, eqb, is_some, serial_of, id_of, held) steps 400000
+  gone_named store id e = grind (arith, eqb, is_some, serial_of, id_of, held)
 
   doings_left : (id : Id) (u : Option U) → doings_in (left_if id u) ≡ record nothing_done { left = left_id id u }
   doings_left id None = refl
@@ -79,7 +75,7 @@ module _ {U : Type 0} where
   -- what a check grants is the object that the id names
   pub granted_named : (client : ClientParts) (store : Store (Kept U)) (table : List InterfaceRow) (m : SessionMessage) (g : Object (Kept U) × Bool) → event_check client store table m ≡ Ok g
       → named store m.sender ≡ Some g.0
-  granted_named client store table m g e = grind (arith, named, granted, true≢false, is_ok, checked_row, argument_faults, checked_sender) steps 400000
+  granted_named client store table m g e = grind (arith, named, granted, true≢false, is_ok, checked_row, argument_faults, checked_sender)
 
   -- data given to another object leave a free number free
   still_gone : (store : Store (Kept U)) (n : ℕ) (created : Option IdParts) (u : Option U) → held store n ≡ None → held (store_with_data store created u) n ≡ None
@@ -130,11 +126,11 @@ module _ {T U C : Type 0} (kind : Kind) (sends : T → Queue → Result ℕ IoFa
   -- ---- data, and new objects
 
   pub data_set_moves : (p : Part T U C) (id : IdParts) (u : U) (answer : Result (Unit {0}) InvalidId) (q : Part T U C) → DataSet p id u answer q → Move p nothing_done q
-  data_set_moves p id u answer q h = grind (arith, named, stayed, wrote, named_held) steps 400000
+  data_set_moves p id u answer q h = grind (arith, named, stayed, wrote, named_held)
 
   pub creates_moves : (table : List InterfaceRow) (p : Part T U C) (i : InterfaceId) (version : ℕ) (u : U) (answer : Result IdParts CreateError) (q : Part T U C)
       → Creates table client p i version u answer q → Move p (handing (made_ids answer)) q
-  creates_moves table p i version u answer q h = grind (arith, slice_get, eqb, last_possible_serial, born, new_object, not_zero, handing, stayed) steps 400000
+  creates_moves table p i version u answer q h = grind (arith, slice_get, eqb, last_possible_serial, born, new_object, not_zero, handing, stayed)
 
   -- ---- an object that leaves
 
@@ -167,7 +163,7 @@ module _ {T U C : Type 0} (kind : Kind) (sends : T → Queue → Result ℕ IoFa
   }
 
   destroyable_named : (p : Part T U C) (id : IdParts) (x : Object (Kept U)) → destroyable p id ≡ Some x → named p.store id ≡ Some x
-  destroyable_named p id x e = grind (arith, eqb, named) steps 400000
+  destroyable_named p id x e = grind (arith, eqb, named)
 
   pub destroys_moves : (p : Part T U C) (id : IdParts) (answer : Result (Unit {0}) DestroyError) (lacked : Bool) (did : List (Deed U)) (q : Part T U C)
       → Destroys sends client p id answer lacked did q → Move p (doings_in did) q
@@ -182,10 +178,10 @@ module _ {T U C : Type 0} (kind : Kind) (sends : T → Queue → Result ℕ IoFa
   -- ---- messages alone, errors, the end of a client
 
   pub tells_comes : (c : Core U C) (messages : List Said) → Calm c → Come c (tells c messages)
-  tells_comes c messages calm = grind (arith, lands_not) steps 400000
+  tells_comes c messages calm = grind (arith, lands_not)
 
   posts_comes : (table : List InterfaceRow) (c : Core U C) (id : IdParts) (code : ℕ) (text : List ℕ) → kind.kills (BrokeProtocol (error_of table id code text)) → Calm c → Come c (posts table c id code text)
-  posts_comes table c id code text may calm = grind (arith, lands_not) steps 400000
+  posts_comes table c id code text may calm = grind (arith, lands_not)
 
   pub posts_moves : (table : List InterfaceRow) (p : Part T U C) (id : IdParts) (code : ℕ) (text : List ℕ) (lacked : Bool) (did : List (Deed U)) (q : Part T U C)
       → kind.kills (BrokeProtocol (error_of table id code text)) → PostsError sends table p id code text lacked did q → Move p (doings_in did) q
@@ -292,7 +288,7 @@ module _ {T U C : Type 0} (kind : Kind) (sends : T → Queue → Result ℕ IoFa
 
   -- the object that the action made gets the data, if it is still kept
   data_moves : (p : Part T U C) (created : Option IdParts) (u : Option U) → Move p nothing_done (record p { store = store_with_data p.store created u })
-  data_moves p created u = grind (arith, stayed, named, nothing_done, data_given, wrote, named_held) steps 400000
+  data_moves p created u = grind (arith, stayed, named, nothing_done, data_given, wrote, named_held)
 
   finish_moves : kind.finishes ≡ true → (p : Part T U C) (created : Option IdParts) (u : Option U) → Move p nothing_done (record p { action = None; store = store_with_data p.store created u })
   finish_moves may p created u = followed (data_moves p created u) (finished may refl refl) refl
@@ -313,13 +309,13 @@ module _ {T U C : Type 0} (kind : Kind) (sends : T → Queue → Result ℕ IoFa
     ended_deeds = map Noted (note_of_end client id.number x) ++ left_if (id_of id) x.value.user_data
 
     doings_ended : doings_in ended_deeds ≡ leaves client false id.number x
-    doings_ended = grind (arith, doings_in, end_note, id_at, id_of, nothing_done, left_id, named_id) steps 400000
+    doings_ended = grind (arith, doings_in, end_note, id_at, id_of, nothing_done, left_id, named_id)
 
     told_ended : told_deeds (map Did ended_deeds) ≡ ended_deeds
-    told_ended = grind (arith, told_deeds, end_note, id_at, id_of) steps 400000
+    told_ended = grind (arith, told_deeds, end_note, id_at, id_of)
 
     quiet_ended : IsQuiet ended_deeds
-    quiet_ended = grind (arith, end_note, id_at, id_of) steps 400000
+    quiet_ended = grind (arith, end_note, id_at, id_of)
 
     ending_told : (e : Core U C) → e.store ≡ store_with_data (removed c.store id.number) created u → told_deeds (ending client id x e) ≡ ended_deeds
     ending_told e same =

@@ -1,15 +1,12 @@
 -- That a reading is a chain of base moves, over the reader's turns.
-use Rattle.std.proofs.Common.{◌≡◌, ◌⊎◌, ℕ, Bool, true, false, not, ◌&&◌, List, [], ◌∷◌, ◌++◌, map, Option, None, Some, is_none, Result, Ok, Err, refl, sym, ap, subst, ◌∙◌, append-nil, true≢false, arith}
+use Rattle.std.proofs.Common.{◌≡◌, ◌⊎◌, ℕ, Bool, true, false, not, ◌&&◌, List, [], ◌∷◌, ◌++◌, map, Option, None, is_none, Result, Ok, refl, sym, ap, subst, ◌∙◌, append-nil, true≢false, arith}
 use mathlib.Core.Logic.{inl, inr}
-use Rattle.std.specs.Prelude.{MatchBool, length, nat_le}
+use Rattle.std.specs.Prelude.{nat_le}
 use Rattle.wl_wire.specs.declared.argument.ArgumentType.{ArgumentType}
 use Rattle.wl_wire.specs.declared.error.IoFault.{IoFault}
-use Rattle.wl_wire.specs.declared.error.IoFault.TheVariants as fault
 use Rattle.wl_wire.specs.declared.error.MessageParseError.{MessageParseError}
-use Rattle.wl_wire.specs.declared.error.MessageParseError.TheVariants as errors
 use Rattle.wl_wire.specs.Message.{WireMessage}
-use Rattle.wl_wire.specs.Parse.{opcode_of, sender_of}
-use Rattle.wl_link.proofs.Calls.Branches.{either_bool, either_option, either_result}
+use Rattle.wl_link.proofs.Calls.Branches.{either_result}
 use Rattle.wl_link.specs.Exchange.{Queue, Sending}
 use Rattle.wl_link.proofs.Readings.HoldingLaws.{read_stays}
 use Rattle.wl_link.specs.Link.{LinkState, ReadFound, ReadOne, count_of, counted_answer}
@@ -17,7 +14,6 @@ use Rattle.wl_link.specs.Puts.{Said}
 use Rattle.wl_link.specs.Reader.{CarriesOut, Given, Gives, Handled, Reads, Received, Stops, Turn, Unread, Verdict, given_first, with_link, ReaderState}
 use Rattle.wl_server.specs.declared.reading.action.Reading.{Reading}
 use Rattle.wl_server.specs.declared.error.ActionError.{ActionError}
-use Rattle.wl_server.specs.declared.notes.DisconnectReason.TheVariants.{ConnectionClosed}
 use Rattle.wl_server.specs.declared.notes.Happening.{Happening}
 use Rattle.wl_server.proofs.OverRuns.Moves.BaseMoves.{Doings, Kind, MayRead, followed, joined, noting, putting, received, receiving, relinked, sending, stayed}
 use Rattle.wl_server.specs.Deeds.{Came, Deed, Handed, Put, Sent, notes_in}
@@ -32,11 +28,11 @@ module _ {T : Type 0} where
   -- a message that is read leaves what waits to be sent
   found_waits : (found : Option (List ArgumentType)) (before after : LinkState T) (answer : Result WireMessage MessageParseError) → ReadFound found before answer after
       → after.outgoing ≡ before.outgoing
-  found_waits found before after answer h1 = grind (arith) steps 400000
+  found_waits found before after answer h1 = grind (arith)
 
   read_waits : (looks_up : ℕ → ℕ → Option (List ArgumentType) → Type 0) (before after : LinkState T) (answer : Result WireMessage MessageParseError)
       → ReadOne looks_up before answer after → after.outgoing ≡ before.outgoing
-  read_waits looks_up before after answer h = grind (arith, nat_le, found_waits) steps 400000
+  read_waits looks_up before after answer h = grind (arith, nat_le, found_waits)
 
 both : (a b : Bool) → (a && b) ≡ true → (a ≡ true) × (b ≡ true)
 both true b e = (refl, e)
@@ -63,7 +59,7 @@ module _ {U C : Type 0} where
 
 module _ {T U G C : Type 0} (sends : T → Queue → Result ℕ IoFault → T → Type 0) (a : Around G C) where
   pub gave_none : (left : ℕ) (mid : ReaderState T (Core U C)) (rest : Gives (Told U)) → Stops sends (server a) left mid rest → rest.gave ≡ []
-  gave_none left mid rest ends = grind (arith, reads_on) steps 400000
+  gave_none left mid rest ends = grind (arith, reads_on)
 
 module _ {T U G C : Type 0} (kind : Kind) (sends : T → Queue → Result ℕ IoFault → T → Type 0) (receives : T → ℕ → Result Queue IoFault → T → Type 0)
     (a : Around G C) where
@@ -92,7 +88,7 @@ module _ {T U G C : Type 0} (kind : Kind) (sends : T → Queue → Result ℕ Io
 
   -- a receive that failed ends the client, or leaves it
   faulted_ends : (c : Core U C) (f : IoFault) → Calm c → Ends kind sends receives a.client c (faulted c f)
-  faulted_ends c f h1 = grind (arith, ends_not, ends_killed) steps 400000
+  faulted_ends c f h1 = grind (arith, ends_not, ends_killed)
 
   -- nothing more was read, or the client was read on
   over_or_on : (left : ℕ) (mid after : ReaderState T (Core U C)) (turns : List Turn) (rest : Gives (Told U)) → Reads sends (server a) receives left mid turns rest after
@@ -136,7 +132,7 @@ module _ {T U G C : Type 0} (kind : Kind) (sends : T → Queue → Result ℕ Io
 
   pub reads_moves : MayRead kind a.table a.client → (left : ℕ) (before : ReaderState T (Core U C)) (turns : List Turn) (out : Gives (Told U)) (after : ReaderState T (Core U C))
       → before.core.ended ≡ None → Calm before.core → Reads sends (server a) receives left before turns out after → Read before turns out after
-  reads_moves may left before [] out after none calm (same, ends) = grind (arith, part_of, doings_in, deeds_of, stayed, gave_none, end_deeds) steps 400000
+  reads_moves may left before [] out after none calm (same, ends) = grind (arith, part_of, doings_in, deeds_of, stayed, gave_none, end_deeds)
   reads_moves may left before (Received r ∷ turns) out after none calm (on, lacks, (n, is, (link, filled, room, h))) =
       elim (either_result (counted_answer (count_of r)) h) [
         | inl (u, more) ↦
@@ -169,4 +165,4 @@ module _ {T U G C : Type 0} (kind : Kind) (sends : T → Queue → Result ℕ Io
 
   pub next_action_moves : MayRead kind a.table a.client → (r : Reading) (p : Part T U C) (answer : Result Handed ActionError) (r' : Reading) (lacked : Bool) (did : List (Deed U)) (q : Part T U C)
       → NextAction sends receives a r p answer r' lacked did q → Step p (doings_in did) q
-  next_action_moves may r p answer r' lacked did q h = grind (arith, stayed, doings_in, part_of, reads_moves, reader_part) steps 400000
+  next_action_moves may r p answer r' lacked did q h = grind (arith, stayed, doings_in, part_of, reads_moves, reader_part)

@@ -1,15 +1,13 @@
 -- That what a request comes to is a chain of base moves.
-use Rattle.std.proofs.Common.{◌≡◌, ◌≢◌, ◌⊎◌, ℕ, Bool, true, false, not, ◌&&◌, cond, eqb, List, [], ◌∷◌, ◌++◌, map, Option, None, Some, is_some, Result, Ok, Err, refl, sym, ap, subst, ◌∙◌, append-nil, true≢false, arith}
+use Rattle.std.proofs.Common.{◌≡◌, ◌≢◌, ◌⊎◌, ℕ, Bool, true, false, not, ◌&&◌, cond, eqb, List, [], ◌∷◌, ◌++◌, map, Option, None, Some, is_some, Result, Ok, Err, refl, sym, ap, subst, append-nil, true≢false, arith}
 use mathlib.Core.Logic.{inl, inr}
-use Rattle.std.specs.Prelude.{nat_lt, if◌then◌else◌}
+use Rattle.std.specs.Prelude.{nat_lt}
 use Rattle.wl_wire.specs.declared.argument.Argument.{Argument}
-use Rattle.wl_wire.specs.declared.argument.Argument.TheVariants as arg
 use Rattle.wl_wire.specs.declared.argument.Token.{Token}
 use Rattle.wl_wire.specs.declared.error.IoFault.{IoFault}
-use Rattle.wl_wire.specs.declared.error.IoFault.TheVariants as fault
 use Rattle.wl_wire.specs.declared.interface.InterfaceId.{InterfaceId}
 use Rattle.wl_wire.specs.Argument.{WireArgument}
-use Rattle.wl_wire.specs.MessageRows.{fits, next_interface}
+use Rattle.wl_wire.specs.MessageRows.{fits}
 use Rattle.wl_wire.specs.Message.{WireMessage}
 use Rattle.wl_wire.specs.Table.{MessageRow, callback_id, name_of, registry_id}
 use Rattle.wl_link.specs.declared.object.Object.{Object}
@@ -41,7 +39,7 @@ use Rattle.wl_server.specs.Part.{Part, display_of, id_at, last_possible_serial, 
 use Rattle.wl_server.specs.Reading.{Around, binds, breaks, converted, garbled, hands_out, new_at, other_request, registers, replies, server, stops_if, synced, syncs, with_registry}
 use Rattle.wl_server.proofs.OverRuns.Announced.RequestCases.{request_case}
 use Rattle.wl_server.specs.Requests.{Converted, Converting, Outcome, Whole, Wrong, allows_null, convert, convert_one, going_on, is_valid_new, kinds_after, made_id, made_object, object_found, start, with_made, with_new_argument, with_object_argument}
-use Rattle.wl_server.specs.Telling.{Core, Did, Stops, Told, closed_down, objects_in, with_objects}
+use Rattle.wl_server.specs.Telling.{Core, Did, Told, closed_down, objects_in, with_objects}
 use Rattle.wl_link.proofs.Ids.HandedIds.{argument_ids_both}
 
 not_some : {A : Type 0} (o : Option A) (b : Bool) → (not (is_some o) && b) ≡ true → o ≡ None
@@ -54,7 +52,7 @@ both false b e = absurd (true≢false (sym e))
 
 -- a number that a client may use holds none, and is not 0
 pub valid_new : {U : Type 0} (o : Objects (Kept U)) (n : ℕ) → is_valid_new o n ≡ true → (held o.store n ≡ None) × (n ≢ 0)
-valid_new o n valid = grind (arith, both, is_free, eqb, last_possible_serial, is_server_number, not_some, held, true≢false, nat_lt, is_some) steps 400000
+valid_new o n valid = grind (arith, both, is_free, eqb, last_possible_serial, is_server_number, not_some, held, true≢false, nat_lt, is_some)
 
 module _ {T U G C : Type 0} (kind : Kind) (sends : T → Queue → Result ℕ IoFault → T → Type 0) (receives : T → ℕ → Result Queue IoFault → T → Type 0)
     (a : Around G C) where
@@ -108,14 +106,14 @@ module _ {T U G C : Type 0} (kind : Kind) (sends : T → Queue → Result ℕ Io
 
     converts_object : (d : Converting U) (null : Bool) (asked : InterfaceId) (n : ℕ) (b : Bool)
         → One d (with_object_argument d (cond b (cond null (Ok (null_id a.client)) (Err wrong.NullObject)) (object_found a.client asked n (held d.objects.store n))))
-    converts_object d null asked n b = grind (arith, converts_found, held, found_none) steps 400000
+    converts_object d null asked n b = grind (arith, converts_found, held, found_none)
 
     converts_new : (d : Converting U) (n : ℕ) (child : Option InterfaceId) → One d (with_new_argument a.client version d n child)
     converts_new d n None = tt
-    converts_new d n (Some i) = grind (arith, is_valid_new, made_id, with_made, kinds_after, makes_object) steps 400000
+    converts_new d n (Some i) = grind (arith, is_valid_new, made_id, with_made, kinds_after, makes_object)
 
     converts_one : (d : Converting U) (x : WireArgument) → One d (convert_one a.client version d x)
-    converts_one d x = grind (arith, converts_object, allows_null, eqb, converts_new, still) steps 400000
+    converts_one d x = grind (arith, converts_object, allows_null, eqb, converts_new, still)
 
     -- what the arguments came to so far, and what they came to
     abbrev SoFar : Objects (Kept U) → Converting U → List (Argument IdParts Token) → Type 0
@@ -150,7 +148,7 @@ module _ {T U G C : Type 0} (kind : Kind) (sends : T → Queue → Result ℕ Io
   -- ---- forms of a verdict
 
   told_stops : (c : Core U C) → told_deeds (stops_if c) ≡ []
-  told_stops c = grind (arith, told_deeds) steps 400000
+  told_stops c = grind (arith, told_deeds)
 
   told_did : (did : List (Deed U)) (c : Core U C) → told_deeds (map Did did ++ stops_if c) ≡ did
   told_did [] c = told_stops c
@@ -180,10 +178,10 @@ module _ {T U G C : Type 0} (kind : Kind) (sends : T → Queue → Result ℕ Io
   breaks_here may c code text calm = breaks_comes may c c code text (lands_not kind sends receives a.client c calm)
 
   replies_comes : (c m : Core U C) (puts : List Said) (did : List (Deed U)) → Lead c did m → IsQuiet did → Come c (replies m puts did)
-  replies_comes c m puts did lead quiet = grind (arith, told_did) steps 400000
+  replies_comes c m puts did lead quiet = grind (arith, told_did)
 
   hands_out_comes : (c m : Core U C) (action : OpenAction) (h : Handed) → Lead c (Acted h ∷ []) (record m { action = Some action }) → Come c (hands_out m action h)
-  hands_out_comes c m action h lead = grind (arith) steps 400000
+  hands_out_comes c m action h lead = grind (arith)
 
   -- ---- requests to a display and to a registry
 

@@ -86,7 +86,7 @@ module _ {T U C : Type 0} (kind : Kind) (sends : T → Queue → Result ℕ IoFa
 
   pub lands_at : (c : Core U C) (made : List (Deed U)) (e : Core U C) → IsCalm e → e.ended ≡ c.ended → ((l : LinkState T) → Go (at c l) (doings_in made) (at e l))
       → Lands c made e
-  lands_at c made e calm same moves = grind (arith, same_doings, doings_in, joined, nothing_done, joined_none, notes_in, end_deeds, append-nil) steps 400000
+  lands_at c made e calm same moves = grind (arith, same_doings, doings_in, joined, nothing_done, joined_none, notes_in, end_deeds, append-nil)
 
   pub lands_not : (c : Core U C) → IsCalm c → Lands c [] c
   lands_not c calm = lands_at c [] c calm refl (λ l. stayed refl refl)
@@ -119,7 +119,7 @@ module _ {T U C : Type 0} (kind : Kind) (sends : T → Queue → Result ℕ IoFa
 
   module _ (c : Core U C) (v : Verdict (Core U C) (Told U)) (comes : Comes c v) (calm : IsCalm c) where
     landed_by : (e : Core U C) → Ends v.core e → Landed c v e
-    landed_by e ends = grind (arith, lands_then) steps 400000
+    landed_by e ends = grind (arith, lands_then)
 
     last_of : (e : Core U C) → Ends v.core e → Ends v.core (v.last e)
     last_of e ends =

@@ -66,7 +66,7 @@ closed_for_none : (P : ProtocolError → Type 0) (e : ProtocolError) → Connect
 closed_for_none P e is = absurd cc
 
 killed_for : (P : ProtocolError → Type 0) (e f : ProtocolError) → BrokeProtocol e ≡ BrokeProtocol f → P e → P f
-killed_for P e f is holds = grind (arith) steps 400000
+killed_for P e f is holds = grind (arith)
 
 -- a client is killed for errors of which it holds
 abbrev killing : (ProtocolError → Type 0) → Kind
@@ -176,4 +176,4 @@ module _ {T U G C : Type 0} (w : World T G C) where
 
   pub each_error_is_caused : (table : List InterfaceRow) (run : List (Entry T U G C)) (after : ServerState T U G C) → Leads w (new_server table) run after
       → EachErrorIsCaused table run after
-  each_error_is_caused table run after leads id error tell = grind (arith, over_run, new_server, tell_none) steps 400000
+  each_error_is_caused table run after leads id error tell = grind (arith, over_run, new_server, tell_none)

@@ -1,9 +1,9 @@
 -- That each note of a destroyed object is of one that left, and that the end of a request notes at once what leaves by it.
 use Rattle.std.proofs.Common.{◌≡◌, ℕ, Bool, true, false, List, [], ◌∷◌, ◌++◌, map, Option, None, Some, Result, is_some, refl, sym, ap, subst, ◌∙◌, arith}
 use mathlib.Core.Logic.{inl, inr}
-use Rattle.std.specs.Prelude.{◌⊎◌, Contains, if◌then◌else◌}
+use Rattle.std.specs.Prelude.{◌⊎◌, Contains}
 use Rattle.std.proofs.lemmas.Bool.{false≢true}
-use Rattle.std.proofs.lemmas.List.Elements.{Contains-append_cases, Contains-append_left, Contains-append_right, Contains-push, Contains-push_cases}
+use Rattle.std.proofs.lemmas.List.Elements.{Contains-append_left, Contains-append_right, Contains-push}
 use Rattle.std.proofs.lemmas.List.Sorted.{Contains-permutation, IsPermutation-sym}
 use Rattle.wl_wire.specs.declared.error.IoFault.{IoFault}
 use Rattle.wl_wire.specs.Table.{InterfaceRow}
@@ -12,7 +12,7 @@ use Rattle.wl_link.proofs.Calls.Branches.{either_option}
 use Rattle.wl_link.specs.Exchange.{Queue, Sending}
 use Rattle.wl_link.specs.Identity.{Id}
 use Rattle.wl_link.specs.Puts.{Said}
-use Rattle.wl_link.specs.Reader.{CarriesOut, Given, Verdict, came_to}
+use Rattle.wl_link.specs.Reader.{Given, Verdict, came_to}
 use Rattle.wl_server.specs.declared.error.FinishRefused.{FinishRefused}
 use Rattle.wl_server.specs.declared.notes.DisconnectReason.{DisconnectReason}
 use Rattle.wl_server.specs.declared.notes.Happening.{Happening}
@@ -44,7 +44,7 @@ use Rattle.wl_server.proofs.OverRuns.Noted.NotedLaws.{destroyed_both, each_is_no
 
 -- one of a list stands at its front or behind that
 in_cons : {A : Type 0} (x y : A) (xs : List A) → Contains (y ∷ xs) x → (y ≡ x) ⊎ Contains xs x
-in_cons x y xs among = grind (arith) steps 400000
+in_cons x y xs among = grind (arith)
 
 at_front : {A : Type 0} (x : A) (xs : List A) → Contains (x ∷ xs) x
 at_front x xs = Contains-append_left (x ∷ []) xs x (Contains-push [] x)
@@ -135,7 +135,7 @@ module _ {U : Type 0} where
 
   module _ {C : Type 0} where
     same_ending : (client : ClientParts) (id : IdParts) (x : Object (Kept U)) (c : Core U C) → x.value.serial ≡ id.serial → SameEnds (told_deeds (ending client id x c))
-    same_ending client id x c serial = grind (arith, is_some, named, told_deeds, note_of_end, left_if, id_of, same_object) steps 400000
+    same_ending client id x c serial = grind (arith, is_some, named, told_deeds, note_of_end, left_if, id_of, same_object)
 
     same_events : (client : ClientParts) (c : Core U C) (id : IdParts) (o : Option (Object (Kept U))) (created : Option IdParts) (u : Option U)
         → ((x : Object (Kept U)) → o ≡ Some x → x.value.serial ≡ id.serial) → (d : Core U C) → SameEnds (told_deeds ((ends client c id o created u).events d))
@@ -145,7 +145,7 @@ module _ {U : Type 0} where
 module _ {T U C : Type 0} (sends : T → Queue → Result ℕ IoFault → T → Type 0) where
   same_told : (p : Part T U C) (v : Verdict (Core U C) (Told U)) (lacked : Bool) (did : List (Deed U)) (q : Part T U C)
       → ((d : Core U C) → SameEnds (told_deeds (v.events d))) → Tells sends v p.link lacked did q → SameEnds did
-  same_told p v lacked did q events (es, gave, end, by, did_so, same) = grind (arith, same_deeds, speaker, deeds_in, deeds_given, came_to, same_both, told_deeds, same_puts) steps 400000
+  same_told p v lacked did q events (es, gave, end, by, did_so, same) = grind (arith, same_deeds, speaker, deeds_in, deeds_given, came_to, same_both, told_deeds, same_puts)
 
   finish_same : (client : ClientParts) (p : Part T U C) (u : Option U) (answer : Result (Unit {0}) (FinishRefused (Option U))) (lacked : Bool) (did : List (Deed U)) (q : Part T U C)
       → FinishesRequest sends client p u answer lacked did q → SameEnds did
@@ -167,7 +167,7 @@ module _ {T U C : Type 0} (sends : T → Queue → Result ℕ IoFault → T → 
 module _ {T U C : Type 0} where
   part_same : (b : Bool) (s : Seen T U C) (R : Part T U C → Part T U C → Type 0) (missing : Type 0) (lacked : Bool) (did : List (Deed U)) (t : Seen T U C)
       → ((p q : Part T U C) → R p q → SameEnds did) → OfClient b s R missing lacked did t → SameEnds did
-  part_same b s R missing lacked did t h1 h2 = grind (arith, same_none, either_option) steps 400000
+  part_same b s R missing lacked did t h1 h2 = grind (arith, same_none, either_option)
 
 module _ {T U G C : Type 0} (w : World T G C) where
   pub end_is_noted_at_once : EndIsNotedAtOnce U w

@@ -1,5 +1,5 @@
 -- That each object that left is noted once, and each client that was killed: an induction over base moves.
-use Rattle.std.proofs.Common.{◌≡◌, ℕ, ◌+◌, ◌≤◌, Bool, true, false, List, [], ◌∷◌, ◌++◌, append-nil, append_assoc, Option, None, Some, Result, refl, sym, ap, subst, ◌∙◌, arith}
+use Rattle.std.proofs.Common.{◌≡◌, ℕ, ◌+◌, Bool, true, false, List, [], ◌∷◌, ◌++◌, append-nil, append_assoc, Option, None, Some, Result, refl, sym, ap, subst, ◌∙◌, arith}
 use Rattle.std.specs.Prelude.{IsPermutation, if◌then◌else◌}
 use Rattle.std.proofs.lemmas.List.Sorted.{IsPermutation-append_comm, IsPermutation-append_left, IsPermutation-append_right, IsPermutation-refl, IsPermutation-trans}
 use Rattle.wl_wire.specs.declared.error.IoFault.{IoFault}
@@ -86,15 +86,15 @@ module _ {T U C : Type 0} (sends : T → Queue → Result ℕ IoFault → T → 
 
   quiet : (p q r : Part T U C) (d e : Doings U) → ends_in p.waiting ≡ 0 → d ≡ e → q ≡ r → e.left ≡ [] → e.notes ≡ [] → r.waiting ≡ p.waiting → r.is_killed ≡ p.is_killed
       → Noting p d q
-  quiet p q r d e none is same no_left no_notes waits killed = grind (arith, same_permuted, destroyed_in, append-nil, ends_in, one_if) steps 400000
+  quiet p q r d e none is same no_left no_notes waits killed = grind (arith, same_permuted, destroyed_in, append-nil, ends_in, one_if)
 
   noting_then : (p m q : Part T U C) (a b : Doings U) → Noting p a m → Noting m b q → Noting p (joined a b) q
-  noting_then p m q a b first second = grind (arith, destroyed_in, destroyed_both, permuted_then, ends_both) steps 400000
+  noting_then p m q a b first second = grind (arith, destroyed_in, destroyed_both, permuted_then, ends_both)
 
   went_noting : (p q : Part T U C) (d : Doings U) (n : ℕ) (x : Object (Kept U)) (waits : Bool) → ends_in p.waiting ≡ 0
       → d.left ≡ left_id (id_of (id_at client n x)) x.value.user_data → d.notes ≡ (if waits then [] else note_of_end client n x)
       → q.waiting ≡ (if waits then p.waiting ++ note_of_end client n x else p.waiting) → q.is_killed ≡ p.is_killed → Noting p d q
-  went_noting p q d n x true none left notes waits killed = grind (arith, note_of_end, id_of, id_at, same_permuted, destroyed_in, destroyed_both, destroyed_note, ends_in, one_if, ends_both, ends_note) steps 400000
+  went_noting p q d n x true none left notes waits killed = grind (arith, note_of_end, id_of, id_at, same_permuted, destroyed_in, destroyed_both, destroyed_note, ends_in, one_if, ends_both, ends_note)
   went_noting p q d n x false none left notes waits killed =
       let note : List (Happening U) = note_of_end client n x in record {
         objects = subst (λ (l : List Id). IsPermutation (destroyed_in p.waiting ++ d.left) (l ++ destroyed_in q.waiting))
@@ -120,7 +120,7 @@ module _ {T U C : Type 0} (sends : T → Queue → Result ℕ IoFault → T → 
   moves_note p q d none (received r answer link reads filled is same) = quiet p q (record p { link = link }) d _ none is same refl refl refl refl
   moves_note p q d none (told messages es put answer link puts is same) = quiet p q (record p { link = link }) d _ none is same refl refl refl refl
   moves_note p q d none (flushed es answer link by is same) = quiet p q (record p { link = link }) d _ none is same refl refl refl refl
-  moves_note p q d none (ended reason may is same) = grind (arith, same_permuted, destroyed_in, destroyed_end, append-nil, ends_in, one_if, ends_end) steps 400000
+  moves_note p q d none (ended reason may is same) = grind (arith, same_permuted, destroyed_in, destroyed_end, append-nil, ends_in, one_if, ends_end)
   moves_note p q d none (born n x free ne serial is same) = quiet p q _ d _ none is same refl refl refl refl
   moves_note p q d none (found n x holds is same) = quiet p q p d _ none is same refl refl refl refl
   moves_note p q d none (found_none is same) = quiet p q p d _ none is same refl refl refl refl
@@ -131,7 +131,7 @@ module _ {T U C : Type 0} (sends : T → Queue → Result ℕ IoFault → T → 
   moves_note p q d none (remembered n x holds registry is same) = quiet p q _ d _ none is same refl refl refl refl
   moves_note p q d none (opens action h acts so is same) = quiet p q _ d _ none is same refl refl refl refl
   moves_note p q d none (finished may is same) = quiet p q _ d _ none is same refl refl refl refl
-  moves_note p q d none (cleaned on is same) = grind (arith, doings_of, destroyed_in) steps 400000
+  moves_note p q d none (cleaned on is same) = grind (arith, doings_of, destroyed_in)
 
   -- ---- what is held of a client
 
@@ -147,7 +147,7 @@ module _ {T U C : Type 0} (sends : T → Queue → Result ℕ IoFault → T → 
   unfelt_notes s none = record { objects = same_permuted (held_notes s ++ []) (held_notes s) (sym (append-nil (held_notes s))); ends = omega arith; none = none }
 
   taken_notes : (s : Seen T U C) → ends_in (waiting_of s.part) ≡ 0 → SeenNoting s (record (doings_of [] []) { taken = s.made }) (record { part = s.part; made = [] })
-  taken_notes s none = grind (arith, same_permuted, append-nil) steps 400000
+  taken_notes s none = grind (arith, same_permuted, append-nil)
 
   -- the notes of moves stand behind those that were made
   behind_made : (made : List (Happening U)) (p q : Part T U C) (d : Doings U) → Noting p d q
@@ -160,16 +160,16 @@ module _ {T U C : Type 0} (sends : T → Queue → Result ℕ IoFault → T → 
 
   within_notes : (made : List (Happening U)) (p q : Part T U C) (d : Doings U) → ends_in p.waiting ≡ 0 → d.taken ≡ [] → Moves (any true) sends receives client p d q
       → SeenNoting (record { part = Some p; made = made }) d (record { part = Some q; made = made ++ d.notes })
-  within_notes made p q d none no_taken moves = grind (arith, moves_note, destroyed_in, behind_made, ends_both, ends_in) steps 400000
+  within_notes made p q d none no_taken moves = grind (arith, moves_note, destroyed_in, behind_made, ends_both, ends_in)
 
   out_notes : (made : List (Happening U)) (p q : Part T U C) (d : Doings U) → ends_in p.waiting ≡ 0 → d.taken ≡ [] → p.is_killed ≡ true → q.waiting ≡ []
       → Moves (any true) sends receives client p d q → SeenNoting (record { part = Some p; made = made }) d (record { part = None; made = made ++ d.notes })
-  out_notes made p q d none no_taken killed nothing moves = grind (arith, moves_note, destroyed_in, behind_made, ends_both, ends_in, one_if) steps 400000
+  out_notes made p q d none no_taken killed nothing moves = grind (arith, moves_note, destroyed_in, behind_made, ends_both, ends_in, one_if)
 
   goes_note : (s t : Seen T U C) (d : Doings U) → ends_in (waiting_of s.part) ≡ 0 → Goes (any true) sends receives client s d t → SeenNoting s d t
   goes_note s t d none (unfelt is same) =
       subst (λ (x : Doings U). SeenNoting s x t) (sym is) (subst (λ (x : Seen T U C). SeenNoting s (doings_of [] []) x) (sym same) (unfelt_notes s none))
-  goes_note s t d none (notes_taken on is same) = grind (arith, doings_of, taken_notes) steps 400000
+  goes_note s t d none (notes_taken on is same) = grind (arith, doings_of, taken_notes)
   goes_note s t d none (within p q there moves same) =
       subst (λ (x : Seen T U C). SeenNoting s d x) (sym same)
       (subst (λ (x : Option (Part T U C)). SeenNoting (record { part = x; made = s.made }) d (record { part = Some q; made = s.made ++ d.notes })) (sym there)
@@ -207,7 +207,7 @@ module _ {T U G C : Type 0} (w : World T G C) (id : ClientParts) where
 
   own_notes : (offer : Offer G) (link : LinkState T) (client_data : C) (run : List (Own T U G C)) (t : Seen T U C) → AreMine id run → HasOwnIds w id offer (just_inserted link client_data) run t
       → Alone w id offer (just_inserted link client_data) run t → NotesEach (history run) t
-  own_notes offer link client_data run t own ids alone = grind (arith, run_notes, just_inserted, history, destroyed_in, destroyed_both, ends_both) steps 400000
+  own_notes offer link client_data run t own ids alone = grind (arith, run_notes, just_inserted, history, destroyed_in, destroyed_both, ends_both)
 
 module _ {T U G C : Type 0} where
   pub each_is_noted : (w : World T G C) (table : List InterfaceRow) (run : List (Entry T U G C)) (after : ServerState T U G C) → Leads w (new_server table) run after

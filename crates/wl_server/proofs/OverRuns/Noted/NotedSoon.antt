@@ -1,15 +1,14 @@
 -- When an object that left is noted: by the end of its destructor request, or by the next cleanup that succeeds.
-use Rattle.std.proofs.Common.{◌≡◌, ℕ, Bool, true, false, List, [], Option, None, Some, Result, Ok, Err, refl, sym, ap, subst, ◌∙◌, true≢false, arith}
+use Rattle.std.proofs.Common.{◌≡◌, ℕ, Bool, List, [], Option, None, Some, Result, Ok, refl, ap, subst, true≢false, arith}
 use mathlib.Core.Logic.{inl, inr}
 use Rattle.std.specs.Prelude.{Vec}
 use Rattle.std.specs.Global.{Global}
 use Rattle.wl_wire.specs.declared.error.IoFault.{IoFault}
-use Rattle.wl_wire.specs.declared.error.IoFault.TheVariants as fault
 use Rattle.wl_wire.specs.declared.error.OutOfMemory.{OutOfMemory}
 use Rattle.wl_link.specs.declared.object.Object.{Object}
 use Rattle.wl_link.proofs.Calls.Branches.{either_bool, either_option}
 use Rattle.wl_link.specs.Exchange.{Queue}
-use Rattle.wl_link.specs.Reader.{CarriesOut, Verdict, came_to, ReaderState}
+use Rattle.wl_link.specs.Reader.{Verdict}
 use Rattle.wl_server.specs.declared.reading.action.OpenAction.TheVariants as opened
 use Rattle.wl_server.specs.declared.error.FinishRefused.{FinishRefused}
 use Rattle.wl_server.specs.declared.objects.Kept.{Kept}
@@ -31,11 +30,11 @@ use Rattle.wl_server.specs.Telling.{Core, Tells, Told, core_of, speaker}
 
 module _ {T U G C : Type 0} (w : World T G C) (id : ClientParts) (offer : Offer G) where
   cleaned_none : (p : Part T U C) (lacked : Bool) (did : List (Deed U)) (out : List T) (q : Option (Part T U C)) → Cleaned w.sends id p lacked did out q → waiting_of q ≡ []
-  cleaned_none p lacked did out q h = grind (arith, either_bool) steps 400000
+  cleaned_none p lacked did out q h = grind (arith, either_bool)
 
   cleanup_none : (answer : Result (Vec (ClientParts × T) Global) OutOfMemory) (out : Vec (ClientParts × T) Global) (s : Seen T U C) (lacked : Bool) (did : List (Deed U))
       (t : Seen T U C) → ◌≡◌ {A = Reply T U} (reply.Cleanup (Ok out)) (reply.Cleanup answer) → CleanedAs w id offer answer s lacked did t → waiting_of t.part ≡ []
-  cleanup_none answer out s lacked did t h1 h2 = grind (arith, true≢false, either_option, cleaned_none) steps 400000
+  cleanup_none answer out s lacked did t h1 h2 = grind (arith, true≢false, either_option, cleaned_none)
 
 -- ---- the end of a request
 
@@ -43,7 +42,7 @@ module _ {T U C : Type 0} (sends : T → Queue → Result ℕ IoFault → T → 
   -- a verdict that leaves the notes that wait
   told_waits : (p : Part T U C) (v : Verdict (Core U C) (Told U)) (lacked : Bool) (did : List (Deed U)) (q : Part T U C) → ((d : Core U C) → (v.last d).waiting ≡ d.waiting)
       → v.core.waiting ≡ p.waiting → v.starved.waiting ≡ p.waiting → Tells sends v p.link lacked did q → q.waiting ≡ p.waiting
-  told_waits p v lacked did q last core starved (es, gave, end, by, did_so, same) = grind (arith, speaker) steps 400000
+  told_waits p v lacked did q last core starved (es, gave, end, by, did_so, same) = grind (arith, speaker)
 
   ends_waits : (client : ClientParts) (p : Part T U C) (id : IdParts) (o : Option (Object (Kept U))) (created : Option IdParts) (u : Option U) (lacked : Bool)
       (did : List (Deed U)) (q : Part T U C) → Tells sends (ends client (core_of p) id o created u) p.link lacked did q → q.waiting ≡ p.waiting
@@ -66,11 +65,11 @@ module _ {T U C : Type 0} (sends : T → Queue → Result ℕ IoFault → T → 
 module _ {T U C : Type 0} where
   part_waits : (b : Bool) (s : Seen T U C) (R : Part T U C → Part T U C → Type 0) (missing : Type 0) (lacked : Bool) (did : List (Deed U)) (t : Seen T U C)
       → ((p q : Part T U C) → R p q → q.waiting ≡ p.waiting) → OfClient b s R missing lacked did t → waiting_of t.part ≡ waiting_of s.part
-  part_waits b s R missing lacked did t h1 h2 = grind (arith, either_option) steps 400000
+  part_waits b s R missing lacked did t h1 h2 = grind (arith, either_option)
 
 module _ {T U G C : Type 0} (w : World T G C) where
   pub cleanup_notes_all : CleanupNotesAll U w
-  cleanup_notes_all before after e out by call id = grind (arith, cleanup_none) steps 400000
+  cleanup_notes_all before after e out by call id = grind (arith, cleanup_none)
 
   pub finish_notes_at_once : FinishNotesAtOnce U w
   finish_notes_at_once before after e target u answer by call id =

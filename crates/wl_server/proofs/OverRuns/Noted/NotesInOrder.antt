@@ -1,13 +1,12 @@
 -- The notes of all clients over a run: those that were there at an earlier point come first.
-use Rattle.std.proofs.Common.{◌≡◌, ◌∙◌, ℕ, suc, ◌<◌, ◌≤◌, Bool, true, false, List, [], ◌∷◌, ◌++◌, length, map, Option, None, Some, is_some, Result, Ok, Err, Vec, refl, sym, ap, subst, arith, append_assoc, append-nil}
+use Rattle.std.proofs.Common.{◌≡◌, ◌∙◌, ℕ, suc, ◌<◌, ◌≤◌, Bool, true, false, List, [], ◌∷◌, ◌++◌, length, map, Option, None, is_some, Ok, Vec, refl, sym, ap, subst, arith, append_assoc, append-nil}
 use mathlib.Core.Logic.{inl, inr}
 use Rattle.std.specs.Global.{Global}
-use Rattle.std.specs.Option.{option_map, option_map_or}
-use Rattle.std.specs.Prelude.{◌⊎◌, ◌==◌, IsPermutation, if◌then◌else◌}
-use Rattle.std.proofs.lemmas.Bool.{eqb-true, false≢true}
+use Rattle.std.specs.Option.{option_map_or}
+use Rattle.std.specs.Prelude.{◌⊎◌, IsPermutation}
+use Rattle.std.proofs.lemmas.Bool.{false≢true}
 use Rattle.std.proofs.lemmas.List.{append_cancel_left, map-append}
 use Rattle.wl_wire.specs.Table.{InterfaceRow}
-use Rattle.wl_wire.specs.declared.error.OutOfMemory.{OutOfMemory}
 use Rattle.wl_link.proofs.Calls.Branches.{either_option}
 use Rattle.wl_server.specs.declared.notes.Happening.{Happening}
 use Rattle.wl_server.specs.declared.notes.Note.{Note}
@@ -15,7 +14,6 @@ use Rattle.wl_server.specs.declared.notes.Note.TheVariants as note
 use Rattle.wl_server.specs.declared.notes.Happening.TheVariants as happened
 use Rattle.wl_server.specs.declared.notes.queues.NoteNumbers.{NoteNumbers}
 use Rattle.wl_server.specs.declared.notes.queues.NotePlace.{NotePlace}
-use Rattle.wl_server.specs.declared.runs.step.Reply.{Reply}
 use Rattle.wl_server.specs.declared.runs.step.Reply.TheVariants as reply
 use Rattle.wl_server.specs.declared.runs.step.Step.TheVariants as step
 use Rattle.wl_server.specs.Deeds.{Deed}
@@ -23,8 +21,7 @@ use Rattle.wl_server.specs.Globals.{Offer}
 use Rattle.wl_server.specs.Ids.{ClientParts}
 use Rattle.wl_server.specs.NoteOrder.{AreInTime, HasNumbers, Rise, all_places, last_number, slot_of, times_at, times_of}
 use Rattle.wl_server.specs.NoteOrder.Ordered.{HandsOutNone, NoneHandedOut}
-use Rattle.wl_server.specs.Part.{Part}
-use Rattle.wl_server.specs.PartStep.{Asked, Call, CleanedAs, NotesTaken, PartCall, World}
+use Rattle.wl_server.specs.PartStep.{Asked, Call, CleanedAs, PartCall, World}
 use Rattle.wl_server.specs.Runs.{Leads}
 use Rattle.wl_server.specs.Server.{Seen, ServerState, Stored, client_at, if_serial, new_server, note_of, notes_of, seen, stored_at, told_of}
 use Rattle.wl_server.specs.Steps.{Entry, GathersNotes, HandsOutNotes, MakesNotes, NotesGoOn, OneStep, StepOf}
@@ -38,7 +35,7 @@ use Rattle.wl_server.proofs.OverRuns.Noted.PlacesInOrder.{earlier_first}
 -- ---- notes by their slots and their clients
 
 slot_first : (m n : ℕ) (ms ns : List ℕ) → m ∷ ms ≡ n ∷ ns → (m ≡ n) × (ms ≡ ns)
-slot_first m n ms ns is = grind (arith) steps 400000
+slot_first m n ms ns is = grind (arith)
 
 module _ {U : Type 0} where
   abbrev pub id_of : Note U → ClientParts
@@ -52,20 +49,20 @@ module _ {U : Type 0} where
   happening_of (note.Destroyed client object u) = happened.Destroyed object u
 
   pub note_is : (n : Note U) → n ≡ note_of (id_of n) (happening_of n)
-  note_is n = grind (arith) steps 400000
+  note_is n = grind (arith)
 
   pub slot_is : (n : Note U) → slot_of n ≡ (id_of n).slot
-  slot_is n = grind (arith) steps 400000
+  slot_is n = grind (arith)
 
   pub own_first : (n : Note U) (ns : List (Note U)) → notes_of (id_of n) (n ∷ ns) ≡ happening_of n ∷ notes_of (id_of n) ns
-  own_first n ns = grind (arith, notes_of, told_of, note_is, told_same, same_self) steps 400000
+  own_first n ns = grind (arith, notes_of, told_of, note_is, told_same, same_self)
 
   -- who is told of has the slot of the note
   pub told_slot : (id : ClientParts) (n : Note U) (h : Happening U) (hs : List (Happening U)) → told_of id n ≡ h ∷ hs → id.slot ≡ slot_of n
-  told_slot id n h hs is = grind (arith, slot_of, slot_is, told_of, note_is, told_other, same_slots) steps 400000
+  told_slot id n h hs is = grind (arith, slot_of, slot_is, told_of, note_is, told_other, same_slots)
 
   first_is : (h k : Happening U) (hs ks : List (Happening U)) → h ∷ hs ≡ k ∷ ks → h ≡ k
-  first_is h k hs ks is = grind (arith) steps 400000
+  first_is h k hs ks is = grind (arith)
 
   -- Notes begin as others do, if their slots do, and what they tell of each client; and only one client of a slot is told of.
   module _ (Is : ClientParts → Type 0) (one : (i j : ClientParts) → Is i → Is j → i.slot ≡ j.slot → i ≡ j) where
@@ -104,7 +101,7 @@ module _ {U : Type 0} where
             )
 
         is_rest : (id : ClientParts) (h : Happening U) (hs : List (Happening U)) → notes_of id b ≡ h ∷ hs → Is id
-        is_rest id h hs at = grind (arith, told_of, notes_of) steps 400000
+        is_rest id h hs at = grind (arith, told_of, notes_of)
 
         whole : (rest : List (Note U)) × (b ≡ a ++ rest) → (rest : List (Note U)) × (y ∷ b ≡ (x ∷ a) ++ rest)
         whole (rest, more) = (rest, ap (λ (n : Note U). n ∷ b) same ∙ ap (λ (l : List (Note U)). x ∷ l) more)
@@ -120,7 +117,7 @@ module _ {T U G C : Type 0} (w : World T G C) (id : ClientParts) (offer : Offer 
   Grows s t = (more : List (Happening U)) × (t.made ≡ s.made ++ more)
 
   goes_grows : (s t : Seen T U C) (d : Doings U) → Goes keeping w.sends w.receives id s d t → Grows s t
-  goes_grows s t d h1 = grind (arith, unfelt, append-nil, within, taken_out, notes_taken) steps 400000
+  goes_grows s t d h1 = grind (arith, unfelt, append-nil, within, taken_out, notes_taken)
 
   none_handed : (call : Call T U G C) → HandsOutNone call → hands_in call ≡ false
   none_handed (Asked step.TakeNotes (reply.TakeNotes (Ok out))) none = absurd (none out refl)
@@ -210,10 +207,10 @@ record Makes {T U G C : Type 0} (s t : ServerState T U G C) : Type 0 where
 
 module _ {T U C : Type 0} where
   one_serial : (x : Option (Stored T U C)) (m n : ℕ) → is_some (if_serial m x) ≡ true → is_some (if_serial n x) ≡ true → m ≡ n
-  one_serial x m n h1 h2 = grind (arith, is_some, if_serial) steps 400000
+  one_serial x m n h1 h2 = grind (arith, is_some, if_serial)
 
   pub one_client : (clients : List (Option (Stored T U C))) (i j : ClientParts) → is_some (client_at i clients) ≡ true → is_some (client_at j clients) ≡ true → i.slot ≡ j.slot → i ≡ j
-  one_client clients i j a b same = grind (arith, same_parts, one_serial, stored_at, is_some, if_serial) steps 400000
+  one_client clients i j a b same = grind (arith, same_parts, one_serial, stored_at, is_some, if_serial)
 
 module _ {T U G C : Type 0} where
   -- what would have been handed out comes first
@@ -253,7 +250,7 @@ module _ {T U G C : Type 0} where
           )
 
       stored : (id : ClientParts) (h : Happening U) (hs : List (Happening U)) → notes_of id drains.more ≡ h ∷ hs → is_some (client_at id t.clients) ≡ true
-      stored id h hs is = grind (arith, client_at, is_some) steps 400000
+      stored id h hs is = grind (arith, client_at, is_some)
 
       begun : (rest : List (Note U)) × (drains.more ≡ takes.more ++ rest)
       begun = begins_so (λ id. is_some (client_at id t.clients) ≡ true) (one_client t.clients) takes.more drains.more (map (λ p. p.slot) first.0 ++ drains.slots) slots told stored
@@ -275,7 +272,7 @@ module _ {T U G C : Type 0} (w : World T G C) where
       each_of id = subst (λ (call : Call T U G C). PartCall w id s.offer call (seen id s) (e.lacks id) (e.did id) (seen id after)) is (one.each id)
 
       told : (id : ClientParts) → notes_of id out.items ≡ notes_of id s.notes ++ made_of id s.clients
-      told id = grind (arith, seen, notes_of) steps 400000
+      told id = grind (arith, seen, notes_of)
 
       of : HandsOutNotes s out.items after → Takes s out.items
       of h =
@@ -291,7 +288,7 @@ module _ {T U G C : Type 0} (w : World T G C) where
           }
 
   takes_drain : (s : ServerState T U G C) (out : List (Note U)) → Takes s out → Drains s out
-  takes_drain s out takes = grind (arith, append-nil) steps 400000
+  takes_drain s out takes = grind (arith, append-nil)
 
   -- what a cleanup gathers
   pub cleanup_drains : (s : ServerState T U G C) (e : Entry T U G C) (after : ServerState T U G C) (out : Vec (ClientParts × T) Global)
@@ -302,7 +299,7 @@ module _ {T U G C : Type 0} (w : World T G C) where
       each_of id = subst (λ (call : Call T U G C). PartCall w id s.offer call (seen id s) (e.lacks id) (e.did id) (seen id after)) is (one.each id)
 
       cleaned : (id : ClientParts) → CleanedAs w id s.offer (Ok out) (seen id s) (e.lacks id) (e.did id) (seen id after)
-      cleaned id = grind (arith, seen) steps 400000
+      cleaned id = grind (arith, seen)
 
       of : GathersNotes s after → Drains s after.notes
       of h =
@@ -331,7 +328,7 @@ module _ {T U G C : Type 0} (w : World T G C) where
           now id h = sym (ap (λ (l : List (Happening U)). notes_of id after.notes ++ l) (h.none_left id) ∙ append-nil (notes_of id after.notes))
 
           missing : (id : ClientParts) → client_at id s.clients ≡ None → (seen id after).made ≡ notes_of id s.notes ++ []
-          missing id none = grind (arith, either_option, seen, cleaned, notes_of, is_some) steps 400000
+          missing id none = grind (arith, either_option, seen, cleaned, notes_of, is_some)
 
   -- ---- a run between
 
@@ -368,7 +365,7 @@ module _ {T U G C : Type 0} (w : World T G C) where
 
       gathering : (out : Vec (ClientParts × T) Global) → e.call ≡ Asked step.Cleanup (reply.Cleanup (Ok out)) → Since s early t → Since s early u
       gathering out is (inl makes) = inr (drains_later s t early u.notes takes (cleanup_drains t e u out is one) makes below has has')
-      gathering out is (inr (rest, begun)) = grind (arith, cleanup_drains, append_assoc) steps 400000
+      gathering out is (inr (rest, begun)) = grind (arith, cleanup_drains, append_assoc)
 
       at : (call : Call T U G C) → e.call ≡ call → NotesGoOn t call u → Since s early u
       at (Asked step.TakeNotes (reply.TakeNotes (Ok out))) is h = absurd (none out is)

@@ -29,7 +29,7 @@ pub later_refl : (p : NotePlace) → IsNoLater p p
 later_refl p = (λ w. w, λ e. omega arith, λ e n. omega arith)
 
 later_trans : (p q r : NotePlace) → IsNoLater p q → IsNoLater q r → IsNoLater p r
-later_trans p q r one two = grind (arith, false≢true) steps 400000
+later_trans p q r one two = grind (arith, false≢true)
 
 pub sorted_of : (ps : List NotePlace) → Rise ps → Sorted ps
 sorted_of [] rise = tt
@@ -56,11 +56,11 @@ abbrev pub times_at_time : ℕ → ℕ → List NotePlace → ℕ
 times_at_time slot n ps = sum_by (at_time slot n) ps
 
 place_is : (p : NotePlace) (slot n : ℕ) → p.waits ≡ false → p.number ≡ n → p.slot ≡ slot → p ≡ place_at false slot n
-place_is p slot n waits number at_slot = grind (arith) steps 400000
+place_is p slot n waits number at_slot = grind (arith)
 
 count_is : (p : NotePlace) (slot n : ℕ) (w a b : Bool) → p.waits ≡ w → (p.number == n) ≡ a → (p.slot == slot) ≡ b
     → at_time slot n p ≡ (if w then 0 else (if a then (if b then 1 else 0) else 0))
-count_is p slot n w a b waits number at_slot = grind (arith) steps 400000
+count_is p slot n w a b waits number at_slot = grind (arith)
 
 -- what holds of all places holds of one that is there
 found : (P : NotePlace → Type 0) (slot n : ℕ) (ps : List NotePlace) → AllByRecursion P ps → 1 ≤ times_at_time slot n ps → P (place_at false slot n)
@@ -71,7 +71,7 @@ found P slot n (p ∷ ps) (here, all) some = at (λ more. found P slot n ps all 
     past later none = let count = sum_by-cons (at_time slot n) p ps in later (omega (arith, some, none, count))
 
     at : (1 ≤ times_at_time slot n ps → P (place_at false slot n)) → (w a b : Bool) → p.waits ≡ w → (p.number == n) ≡ a → (p.slot == slot) ≡ b → P (place_at false slot n)
-    at h1 w a b h2 h3 h4 = grind (arith, place_is, eqb-true, past, count_is) steps 400000
+    at h1 w a b h2 h3 h4 = grind (arith, place_is, eqb-true, past, count_is)
 
 -- ---- what is early comes first
 
@@ -102,7 +102,7 @@ module _ (below : ℕ) (In : ℕ → ℕ → Type 0) (apart : (i j n : ℕ) → 
       y_first = found (IsNoLater y) x.slot x.number (y ∷ b) (later_refl y, after_y) there
 
       y_made : y.waits ≡ false
-      y_made = grind (arith, false≢true, y_first) steps 400000
+      y_made = grind (arith, false≢true, y_first)
 
       y_low : y.number ≤ x.number
       y_low = y_first.1 y_made
@@ -167,12 +167,12 @@ of_made k slot n b is (m ∷ ns) = at b is (of_made k slot n b is ns) (m == n) r
         let other = sum_by-cons (λ (m : ℕ). if m == n then 1 else 0) m ns in
         let one = ap {B = ℕ} (λ (x : Bool). if x then 1 else 0) number in
         omega (arith, count, this, other, one, more)
-    at true is more false number = grind (arith, sum_by-cons, place_at, count_is) steps 400000
-    at false is more true number = grind (arith, sum_by-cons, place_at, count_is) steps 400000
-    at false is more false number = grind (arith, sum_by-cons, place_at, count_is) steps 400000
+    at true is more false number = grind (arith, sum_by-cons, place_at, count_is)
+    at false is more true number = grind (arith, sum_by-cons, place_at, count_is)
+    at false is more false number = grind (arith, sum_by-cons, place_at, count_is)
 
 of_client : (waits : Bool) (k slot n : ℕ) (b : Bool) → (k == slot) ≡ b → (t : NoteTimes) → times_at_time slot n (places_of waits k t) ≡ (if b then often n t.made else 0)
-of_client waits k slot n b is t = grind (arith, sum_by-append, place_at, of_made, none_waiting) steps 400000
+of_client waits k slot n b is t = grind (arith, sum_by-append, place_at, of_made, none_waiting)
 
 -- The places of a slot among those of all clients are its client's, if each count of places sees those of one slot alone.
 module _ (f : NotePlace → ℕ) (slot : ℕ) (waits : Bool) (g : NoteTimes → ℕ) (none : g no_times ≡ 0)
@@ -187,7 +187,7 @@ module _ (f : NotePlace → ℕ) (slot : ℕ) (waits : Bool) (g : NoteTimes → 
 
   pub among : (k j : ℕ) (ts : List NoteTimes) → slot ≡ k + j → sum_by f (all_places waits k ts) ≡ g (times_at j ts)
   among k j [] is = sym none
-  among k zero (t ∷ ts) is = grind (arith, sum_by-append, places_of, all_places, eq-eqb, past) steps 400000
+  among k zero (t ∷ ts) is = grind (arith, sum_by-append, places_of, all_places, eq-eqb, past)
   among k (suc j) (t ∷ ts) is =
       let both = sum_by-append f (places_of waits k t) (all_places waits (k + 1) ts) in
       let this = own k false (ne_eqb k slot (λ e. omega (arith, is, e))) t in
@@ -222,7 +222,7 @@ not_later low (m ∷ ns) next n (first, rest) less =
 
 -- numbers that were given later do not count among the early ones
 pub as_often : (ns more ns' : List ℕ) (next next' n : ℕ) → ns' ≡ ns ++ more → RiseWithin next more next' → n < next → often n ns ≡ often n ns'
-as_often ns more ns' next next' n is rise less = grind (arith, sum_by-append, not_later) steps 400000
+as_often ns more ns' next next' n is rise less = grind (arith, sum_by-append, not_later)
 
 -- ---- the places of what was made are early
 
@@ -267,4 +267,4 @@ earlier_first waits ts ts' a b next next' up moved up' moved' rise grow apart =
         one ∙ (three ∙ (five ∙ (sym four ∙ sym two)))
 
     known : (slot n : ℕ) → 1 ≤ times_at_time slot n b → Contains (times_at slot ts').made n
-    known slot n some = grind (arith, sum_by-IsPermutation, all_places, among_all, has_number, times_at) steps 400000
+    known slot n some = grind (arith, sum_by-IsPermutation, all_places, among_all, has_number, times_at)

@@ -6,7 +6,7 @@ use Rattle.std.specs.Global.{Global}
 use Rattle.std.specs.List.{sum_by}
 use Rattle.std.specs.Option.{option_map, option_map_or}
 use Rattle.std.specs.Prelude.{◌==◌, if◌then◌else◌}
-use Rattle.std.proofs.lemmas.Bool.{eq-eqb, eqb-true, false≢true}
+use Rattle.std.proofs.lemmas.Bool.{eqb-true, false≢true}
 use Rattle.std.proofs.lemmas.List.{append_cancel_left, length-append, map-append}
 use Rattle.std.proofs.lemmas.List.Sums.{sum_by-cons}
 use Rattle.wl_wire.specs.Table.{InterfaceRow}
@@ -16,7 +16,6 @@ use Rattle.wl_link.proofs.Calls.Branches.{either_bool, either_option}
 use Rattle.wl_link.specs.Exchange.{Queue}
 use Rattle.wl_server.specs.declared.notes.Happening.{Happening}
 use Rattle.wl_server.specs.declared.notes.Note.{Note}
-use Rattle.wl_server.specs.declared.notes.queues.NoteNumbers.{NoteNumbers}
 use Rattle.wl_server.specs.declared.notes.queues.NotePlace.{NotePlace}
 use Rattle.wl_server.specs.declared.runs.step.Reply.{Reply}
 use Rattle.wl_server.specs.declared.runs.step.Reply.TheVariants as reply
@@ -107,7 +106,7 @@ module _ {T U C : Type 0} (sends : T → Queue → Result ℕ IoFault → T → 
   moves_grow p q d (cleaned on is same) = absurd (false≢true on)
 
   goes_grow : (s t : Seen T U C) (d : Doings U) → Goes (any false) sends receives client s d t → Grown (waiting_of s.part) (waiting_of t.part)
-  goes_grow s t d h1 = grind (arith, unfelt, grown_still, within, moves_grow, taken_out, notes_taken) steps 400000
+  goes_grow s t d h1 = grind (arith, unfelt, grown_still, within, moves_grow, taken_out, notes_taken)
 
 module _ {T U G C : Type 0} where
   abbrev waits_at : ClientParts → ServerState T U G C → List (Happening U)
@@ -176,7 +175,7 @@ module _ {T U G C : Type 0} where
         id = record { slot = k; serial = x.serial }
 
         at : (b : Option (Stored T U C)) → stored_at k t.clients ≡ b → part_in (if_serial x.serial b) ≡ Some x.part → length (waits (Some x)) ≡ length (waits b)
-        at b h1 h2 = grind (arith, if_serial) steps 400000
+        at b h1 h2 = grind (arith, if_serial)
 
     -- what is left of the numbers of those that wait is all of them
     same_waiting : AllNumbered s.clients → AllNumbered t.clients → AllTakeFirst (map times_of s.clients) (map times_of t.clients) → (k : ℕ)
@@ -210,7 +209,7 @@ module _ {T U G C : Type 0} (w : World T G C) where
   Given s t k = GivesWithin (times_at k (map times_of s.clients)).waiting s.numbers.waiting (times_at k (map times_of t.clients)).waiting t.numbers.waiting
 
   given_none : (s t : ServerState T U G C) (k : ℕ) → t.numbers ≡ s.numbers → (times_at k (map times_of t.clients)).waiting ≡ (times_at k (map times_of s.clients)).waiting → Given s t k
-  given_none s t k numbers same = grind (arith, times_at, times_of, within_none) steps 400000
+  given_none s t k numbers same = grind (arith, times_at, times_of, within_none)
 
   step_given : (s : ServerState T U G C) (e : Entry T U G C) (t : ServerState T U G C) → OneStep w s e t → CleansNothing e.call → AllNumbered s.clients → (k : ℕ) → Given s t k
   step_given s e t one none all k = at e.call refl one.notes one.each
@@ -273,7 +272,7 @@ module _ {U : Type 0} where
           let long = ap length told in
           let one : one_at id.slot (slot_of n) ≡ 1 = ap (λ (x : Bool). if x then 1 else 0) is in
           omega (arith, long, rest, sums, one)
-      at rest false is = grind (arith, told_of, notes_of, slot_of, sums, true≢false, told_slot) steps 400000
+      at rest false is = grind (arith, told_of, notes_of, slot_of, sums, true≢false, told_slot)
 
   noted_all : (hs : List (Happening U)) → notes_in (map Noted hs) ≡ hs
   noted_all [] = refl
@@ -321,7 +320,7 @@ module _ {T U G C : Type 0} (w : World T G C) (s : ServerState T U G C) (e : Ent
   each_of id = subst (λ (call : Call T U G C). PartCall w id s.offer call (seen id s) (e.lacks id) (e.did id) (seen id after)) is (one.each id)
 
   cleaned_as : (id : ClientParts) → CleanedAs w id s.offer (Ok out) (seen id s) (e.lacks id) (e.did id) (seen id after)
-  cleaned_as id = grind (arith, each_of, seen) steps 400000
+  cleaned_as id = grind (arith, each_of, seen)
 
   noted_next : (id : ClientParts) (p : Part T U C) (lacked : Bool) (did : List (Deed U)) (share : List T) (q : Option (Part T U C)) → Cleaned w.sends id p lacked did share q
       → (rest : List (Happening U)) × (notes_in did ≡ p.waiting ++ rest)
@@ -371,7 +370,7 @@ module _ {T U G C : Type 0} (w : World T G C) (s : ServerState T U G C) (e : Ent
       same = append_cancel_left s.notes drains.more (made ++ (waited ++ gathers.ends)) (sym drains.behind ∙ whole)
 
   is_stored : (id : ClientParts) (h : Happening U) (hs : List (Happening U)) → notes_of id (made ++ (waited ++ gathers.ends)) ≡ h ∷ hs → is_some (client_at id s.clients) ≡ true
-  is_stored id h hs told = grind (arith, client_at, is_some, none_told) steps 400000
+  is_stored id h hs told = grind (arith, client_at, is_some, none_told)
 
   module _ (id : ClientParts) (c : Stored T U C) (here : client_at id s.clients ≡ Some c) where
     at_slot : stored_at id.slot s.clients ≡ Some c
@@ -381,7 +380,7 @@ module _ {T U G C : Type 0} (w : World T G C) (s : ServerState T U G C) (e : Ent
     times_here = times_stored s.clients id.slot ∙ ap times_of at_slot
 
     has_numbers : (length c.times.made ≡ length c.made) × (length c.times.waiting ≡ length c.part.waiting)
-    has_numbers = grind (arith, times_of, at_slot) steps 400000
+    has_numbers = grind (arith, times_of, at_slot)
 
     some_here : is_some (client_at id s.clients) ≡ true
     some_here = ap is_some here

@@ -91,7 +91,7 @@ count_made slot n (p ∷ ps) (is, all) =
     omega (arith, one, this, more)
 
 count_parted : (slot n : ℕ) (ps : List NotePlace) (parts : Parted ps) → times_at_time slot n (map made_so parts.waiting) ≡ sum_by (at_waiting slot n) ps
-count_parted slot n ps parts = grind (arith, sum_by-append, count_made, count_waiting) steps 400000
+count_parted slot n ps parts = grind (arith, sum_by-append, count_made, count_waiting)
 
 -- ---- the places of all clients
 
@@ -111,7 +111,7 @@ list_made k slot n (m ∷ ns) =
     omega (arith, one, more)
 
 of_client : (k slot n : ℕ) (b : Bool) → (k == slot) ≡ b → (t : NoteTimes) → sum_by (at_waiting slot n) (places_of true k t) ≡ (if b then often n t.waiting else 0)
-of_client k slot n b is t = grind (arith, sum_by-append, place_at, list_made, list_waiting, of_made) steps 400000
+of_client k slot n b is t = grind (arith, sum_by-append, place_at, list_made, list_waiting, of_made)
 
 among_waiting : (slot n : ℕ) (ts : List NoteTimes) → sum_by (at_waiting slot n) (all_places true 0 ts) ≡ often n (times_at slot ts).waiting
 among_waiting slot n ts = among (at_waiting slot n) slot true (λ t. often n t.waiting) refl (λ k b is t. of_client k slot n b is t) 0 slot ts (omega arith)
@@ -219,7 +219,7 @@ kind_of true t = t.waiting
 kind_of false t = t.made
 
 kind_client : (v : Bool) (k slot : ℕ) (b : Bool) → (k == slot) ≡ b → (t : NoteTimes) → sum_by (of_kind v slot) (places_of true k t) ≡ (if b then length (kind_of v t) else 0)
-kind_client v k slot b h1 t = grind (arith, sum_by-append, place_at, kind_list) steps 400000
+kind_client v k slot b h1 t = grind (arith, sum_by-append, place_at, kind_list)
 
 none_of_kind : (v : Bool) → length (kind_of v no_times) ≡ 0
 none_of_kind true = refl

@@ -2,7 +2,6 @@
 -- and the turns of a reading.
 use Rattle.std.proofs.Common.{◌≡◌, ◌≢◌, ℕ, Bool, true, false, List, [], ◌∷◌, ◌++◌, Some, Result, Ok, Err, is_ok, MatchResult, refl, sym, ap, subst, ◌∙◌, true≢false, arith}
 use mathlib.Core.Logic.{inl, inr}
-use Rattle.std.proofs.lemmas.Bool.{MatchBool-at_true}
 use Rattle.wl_wire.specs.declared.error.IoFault.{IoFault}
 use Rattle.wl_wire.specs.declared.error.IoFault.TheVariants as fault
 use Rattle.wl_wire.specs.declared.error.MessageParseError.{MessageParseError}
@@ -11,7 +10,7 @@ use Rattle.wl_wire.specs.Message.{WireMessage}
 use Rattle.wl_link.specs.Exchange.{Queue, Sending, IsFunction, IsReceiveFunction}
 use Rattle.wl_link.specs.Link.{LinkState, count_of, counted_answer}
 use Rattle.wl_link.specs.Puts.{FlushesOut, PutBy, PutsOut, Said, lacks_memory}
-use Rattle.wl_link.specs.Reader.{CarriesOut, Given, Gives, Halts, Handled, Lacks, Leaves, ReaderState, Reader, Reads, Received, Stops, Takes, Then, Turn, Unread, Verdict, stops, with_link}
+use Rattle.wl_link.specs.Reader.{CarriesOut, Given, Gives, Handled, Lacks, Leaves, ReaderState, Reader, Reads, Received, Stops, Takes, Then, Turn, Unread, Verdict, stops, with_link}
 use Rattle.wl_link.specs.Served.{Finds}
 use Rattle.wl_link.specs.Outcome.{SameCall}
 use Rattle.wl_link.proofs.Calls.OneLaws.{one_fill_lem, one_flush_lem, one_write_lem}
@@ -97,7 +96,7 @@ module _ {T : Type 0} (sends : T → Queue → Result ℕ IoFault → T → Type
     -- a reading that ends where the core would read on has no receive left
     ends : (left : ℕ) (p : ReaderState T Core) (out : Gives Event) → reader.reads_on p.core ≡ true → out.refused ≡ false → Stops sends reader left p out
         → Lacks sends reader p × (left ≡ 0)
-    ends left p out on ample stops' = grind (arith, true≢false) steps 400000
+    ends left p out on ample stops' = grind (arith, true≢false)
 
     abbrev FoundBy : Type 1
     FoundBy = ReaderState T Core → Verdict Core Event → LinkState T → Type 0

@@ -1,15 +1,10 @@
 -- That a server answers of itself what is the same to its program: no answer tells servers apart that are the same to it.
-use Rattle.std.proofs.Common.{◌≡◌, ◌⊎◌, ℕ, zero, suc, ◌+◌, true, false, List, [], ◌∷◌, ◌++◌, Option, None, Some, is_some, refl, sym, ap, ap₂, ◌∙◌, true≢false, arith}
-use Rattle.std.specs.Prelude.{◌==◌, map, option_map}
-use Rattle.std.specs.FinMap as finmap
-use Rattle.std.proofs.lemmas.Bool.{cases_Bool, eqb-true}
-use Rattle.std.proofs.lemmas.Option.{same_Some}
-use mathlib.Core.Logic.{inl, inr}
+use Rattle.std.proofs.Common.{◌≡◌, ℕ, zero, suc, ◌+◌, List, [], ◌∷◌, ◌++◌, Option, None, Some, is_some, refl, sym, ap, ap₂, ◌∙◌, true≢false, arith}
+use Rattle.std.specs.Prelude.{option_map}
 use Rattle.wl_link.specs.Store.{held}
-use Rattle.wl_server.specs.Globals.{Offer, global_of}
 use Rattle.wl_server.specs.Ids.{ClientParts, IdParts}
 use Rattle.wl_server.specs.Lookups.{and_then, client_of, global_info_of, id_if, id_if_stored, info_at, live_from, name_if, object_of}
-use Rattle.wl_server.specs.Part.{Part, id_at, named}
+use Rattle.wl_server.specs.Part.{Part, named}
 use Rattle.wl_server.specs.Server.{Seen, ServerState, Stored, if_serial, no_times, stored_at}
 use Rattle.wl_server.proofs.OverRuns.Outcome.WholeLaws.{found}
 use Rattle.wl_server.specs.Outcome.Whole.{AnswersAlike, HoldsSame}
@@ -34,7 +29,7 @@ module _ {T U C : Type 0} where
 
   -- two clients of one slot that are the same to all ids have one serial and one part
   stored_one : (n : ℕ) (x y : Stored T U C) → part_at (if_serial x.serial (Some x)) ≡ part_at (if_serial x.serial (Some y)) → id_if_stored n (Some x) ≡ id_if_stored n (Some y)
-  stored_one n x y same = grind (arith, if_serial, found, id_if_stored, none_or_some, ap₂, no_times) steps 400000
+  stored_one n x y same = grind (arith, if_serial, found, id_if_stored, none_or_some, ap₂, no_times)
 
 module _ {T U G C : Type 0} (s t : ServerState T U G C) (same : HoldsSame s t) where
   slot_one : (k n : ℕ) (a b : Option (Stored T U C)) → stored_at k s.clients ≡ a → stored_at k t.clients ≡ b → id_if_stored n a ≡ id_if_stored n b
@@ -59,4 +54,4 @@ module _ {T U G C : Type 0} (s t : ServerState T U G C) (same : HoldsSame s t) w
   object_one id = ap (λ (c : Option (Part T U C)). and_then c (λ p. named p.store id)) (client_one id.client)
 
   pub answers_alike : AnswersAlike s t
-  answers_alike = grind (arith, option_map, info_at, object_one, client_one, and_then, held, id_if, live_one, slot_one, stored_at, global_info_of, name_if) steps 400000
+  answers_alike = grind (arith, option_map, info_at, object_one, client_one, and_then, held, id_if, live_one, slot_one, stored_at, global_info_of, name_if)

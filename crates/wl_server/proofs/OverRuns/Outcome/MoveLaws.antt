@@ -1,12 +1,11 @@
 -- What a program does to a transport by script follows from the script's value; another transport it does not move.
-use Rattle.std.proofs.Common.{◌≡◌, ℕ, false, List, [], Result, Ok, Err, refl, sym, ap, ◌∙◌, true≢false, arith}
+use Rattle.std.proofs.Common.{◌≡◌, ℕ, false, List, [], Result, Ok, sym, ap, ◌∙◌, true≢false, arith}
 use Rattle.wl_wire.specs.declared.error.IoFault.{IoFault}
 use Rattle.wl_link.specs.Exchange.{Queue, IsFunction, IsReceiveFunction}
 use Rattle.wl_link.specs.Script.{Script}
 use Rattle.wl_link.proofs.Calls.OneScript.{script_receives_function, script_sends_function}
-use Rattle.wl_server.specs.declared.error.ScriptError.TheVariants as refused
 use Rattle.wl_server.specs.Ids.{ClientParts, GlobalParts}
-use Rattle.wl_server.specs.Moves.{Accept, AcceptFault, Arrive, ArriveFault, ArrivesWith, Becomes, Moved, ScriptMoves, TakeSent}
+use Rattle.wl_server.specs.Moves.{ArrivesWith, Becomes, Moved, ScriptMoves}
 use Rattle.wl_server.proofs.OverRuns.Outcome.Determined.{IsDetermined, IsMoveFunction}
 use Rattle.wl_server.specs.PartStep.{lacks_move, over, over_scripts}
 
@@ -15,14 +14,14 @@ given_one a b is is' = ap (λ (z : List Queue). let m : Moved = Ok z in m) (is �
 
 becomes_one : (before script : Script) (a b : Moved) (x y : Script) → lacks_move a ≡ false → lacks_move b ≡ false → Becomes before script a x → Becomes before script b y
     → (a ≡ b) × (x ≡ y)
-becomes_one before script a b x y h1 h2 h3 h4 = grind (arith, given_one, true≢false) steps 400000
+becomes_one before script a b x y h1 h2 h3 h4 = grind (arith, given_one, true≢false)
 
 arrives_one : (before : Script) (chunk : Queue) (a b : Moved) (x y : Script) → lacks_move a ≡ false → lacks_move b ≡ false → ArrivesWith before chunk a x
     → ArrivesWith before chunk b y → (a ≡ b) × (x ≡ y)
-arrives_one before chunk a b x y h1 h2 h3 h4 = grind (arith, given_one, true≢false) steps 400000
+arrives_one before chunk a b x y h1 h2 h3 h4 = grind (arith, given_one, true≢false)
 
 script_moves_function : IsMoveFunction ScriptMoves
-script_moves_function = grind (arith, arrives_one, becomes_one) steps 400000
+script_moves_function = grind (arith, arrives_one, becomes_one)
 
 -- so all that stands outside a server over scripts is determined
 pub scripts_determined : {G C : Type 0} (views : G → ClientParts → C → GlobalParts → _) → IsDetermined (over_scripts {G = G} {C = C} views)
@@ -31,4 +30,4 @@ scripts_determined views = record { sends = script_sends_function; receives = sc
 -- and what stands outside one over another transport, where its sends and receives are
 pub transport_determined : {T G C : Type 0} (sends : T → Queue → Result ℕ IoFault → T → Type 0) (receives : T → ℕ → Result Queue IoFault → T → Type 0)
     (views : G → ClientParts → C → GlobalParts → _) → IsFunction sends → IsReceiveFunction receives → IsDetermined (over {T = T} {G = G} {C = C} sends receives views)
-transport_determined sends receives views function receive_function = grind (arith) steps 400000
+transport_determined sends receives views function receive_function = grind (arith)

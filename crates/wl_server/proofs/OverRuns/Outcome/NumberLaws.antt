@@ -1,11 +1,10 @@
 -- That the numbers which are given out have one outcome: those of globals and of clients.
-use Rattle.std.proofs.Common.{◌≡◌, ◌≢◌, ℕ, ◌<◌, Option, None, Some, is_some, Result, Ok, Err, refl, sym, ap, ◌∙◌, true≢false, arith}
+use Rattle.std.proofs.Common.{◌≡◌, ◌≢◌, ℕ, ◌<◌, Option, None, is_some, Result, Err, sym, ap, ◌∙◌, true≢false, arith}
 use Rattle.std.specs.Prelude.{IsSome, List, nat_le, slice_get}
 use mathlib.Core.Logic.{inl, inr}
 use Rattle.std.proofs.lemmas.Bool.{cases_order}
 use Rattle.wl_wire.specs.declared.interface.InterfaceId.{InterfaceId}
 use Rattle.wl_wire.specs.Table.{InterfaceRow}
-use Rattle.wl_link.proofs.Calls.Branches.{both_bool, both_option}
 use Rattle.wl_link.proofs.Calls.NumberLaws.{full_not_absent, least_absent_one}
 use Rattle.wl_server.specs.declared.error.GlobalError.{GlobalError}
 use Rattle.wl_server.specs.declared.error.GlobalError.TheVariants as global
@@ -20,7 +19,7 @@ use Rattle.wl_server.specs.Steps.{InsertsNext, IsLeastFree, IsNextClient, LacksS
 -- ---- globals
 
 pub global_is : (a b : GlobalParts) → a.name ≡ b.name → a.serial ≡ b.serial → a ≡ b
-global_is a b names serials = grind (arith) steps 400000
+global_is a b names serials = grind (arith)
 
 module _ {G : Type 0} (globals : Globals G) where
   next_global_one : (a b : GlobalParts) → IsNextGlobal globals a → IsNextGlobal globals b → a ≡ b
@@ -32,17 +31,17 @@ module _ {G : Type 0} (globals : Globals G) where
   next_not_lacked a (least, left, next) (inr last) = omega (arith, left, last)
 
   creates_next_one : (a b : Result GlobalParts GlobalError) → a ≢ Err global.OutOfMemory → b ≢ Err global.OutOfMemory → CreatesNext globals a → CreatesNext globals b → a ≡ b
-  creates_next_one a b h1 h2 h3 h4 = grind (arith, next_global_one, next_not_lacked) steps 400000
+  creates_next_one a b h1 h2 h3 h4 = grind (arith, next_global_one, next_not_lacked)
 
   -- the answer to the creation of a global
   pub creates_global_one : (table : List InterfaceRow) (i : InterfaceId) (version : ℕ) (a b : Result GlobalParts GlobalError)
       → a ≢ Err global.OutOfMemory → b ≢ Err global.OutOfMemory → CreatesGlobal table globals i version a → CreatesGlobal table globals i version b → a ≡ b
-  creates_global_one table i version a b ok ok' h g = grind (arith, slice_get, nat_le, creates_next_one) steps 400000
+  creates_global_one table i version a b ok ok' h g = grind (arith, slice_get, nat_le, creates_next_one)
 
 -- ---- clients
 
 pub client_is : (a b : ClientParts) → a.slot ≡ b.slot → a.serial ≡ b.serial → a ≡ b
-client_is a b slots serials = grind (arith) steps 400000
+client_is a b slots serials = grind (arith)
 
 module _ {T U C : Type 0} (last : ℕ) (clients : List (Option (Stored T U C))) where
   some_not_none : {A : Type 0} (o : Option A) → IsSome o → o ≡ None → ⊥
@@ -52,7 +51,7 @@ module _ {T U C : Type 0} (last : ℕ) (clients : List (Option (Stored T U C))) 
   not_less_free n m one other less = some_not_none (stored_at n clients) (other.least n less) one.free
 
   least_free_one : (n m : ℕ) → IsLeastFree clients n → IsLeastFree clients m → n ≡ m
-  least_free_one n m one other = grind (arith, cases_order, not_less_free) steps 400000
+  least_free_one n m one other = grind (arith, cases_order, not_less_free)
 
   pub next_client_one : (a b : ClientParts) → IsNextClient last clients a → IsNextClient last clients b → a ≡ b
   next_client_one a b (least, left, next) (least', left', next') = client_is a b (least_free_one a.slot b.slot least least') (next ∙ sym next')
@@ -64,8 +63,8 @@ module _ {T U C : Type 0} (last : ℕ) (clients : List (Option (Stored T U C))) 
   -- the answer to the insertion of a client
   pub inserts_next_one : (a b : Result ClientParts InsertClientError) → a ≢ Err insert.OutOfMemory → b ≢ Err insert.OutOfMemory
       → InsertsNext last clients a → InsertsNext last clients b → a ≡ b
-  inserts_next_one a b h1 h2 h3 h4 = grind (arith, next_client_one, next_not_full) steps 400000
+  inserts_next_one a b h1 h2 h3 h4 = grind (arith, next_client_one, next_not_full)
 
   -- the id that was told is the one that is given
   pub client_is_as_told : (told : Option ClientParts) → NextClient last clients told → NextClientIsGiven last clients told
-  client_is_as_told told h1 = grind (arith, next_client_one, next_not_full) steps 400000
+  client_is_as_told told h1 = grind (arith, next_client_one, next_not_full)

@@ -12,12 +12,11 @@ use Rattle.wl_server.specs.declared.runs.step.Reply.TheVariants as reply
 use Rattle.wl_server.specs.declared.runs.step.Step.{Step}
 use Rattle.wl_server.specs.declared.runs.step.Step.TheVariants as step
 use Rattle.wl_server.specs.Deeds.{Deed}
-use Rattle.wl_server.specs.Events.{session_content}
-use Rattle.wl_server.specs.Globals.{Offer, new_offer, with_table}
+use Rattle.wl_server.specs.Globals.{Offer, with_table}
 use Rattle.wl_server.specs.Ids.{ClientParts, GlobalParts}
 use Rattle.wl_server.proofs.OverRuns.Alone.IsolationLaw.{offer_of_other, offer_run}
 use Rattle.wl_server.proofs.OverRuns.Outcome.NumberLaws.{creates_global_one}
-use Rattle.wl_server.specs.Outcome.{AreAmple, AreNumbered, AreOwn, ArrivesSame, OffersHaveOneOutcome, SameCall, SameStep, SameSteps, SendsSame, SharedAnswer, SharedSame}
+use Rattle.wl_server.specs.Outcome.{AreAmple, AreNumbered, AreOwn, OffersHaveOneOutcome, SameCall, SameStep, SameSteps, SharedAnswer, SharedSame}
 use Rattle.wl_server.specs.PartStep.{Asked, Call, Changed, Grown, PartCall, PartStep, World}
 use Rattle.wl_server.specs.Runs.{Leads, Own, concerns, is_about, mine, offer_over, own_of}
 use Rattle.wl_server.specs.Server.{Seen, ServerState, new_server}
@@ -54,11 +53,11 @@ module _ {T U G C : Type 0} where
 
   -- what a step leaves of the offer, another leaves that is the same
   pub offer_as : (offer : Offer G) (s s' : Step T U G C) (q : Reply T U) → SameStep s s' → offer_after offer (Asked s q) ≡ offer_after offer (Asked s' q)
-  offer_as offer s s' q h1 = grind (arith, offer_after) steps 400000
+  offer_as offer s s' q h1 = grind (arith, offer_after)
 
   -- and so it is of the ids of globals
   pub numbers_as : (offer : Offer G) (s s' : Step T U G C) (q : Reply T U) → SameStep s s' → AnswersShared offer (Asked s' q) → AnswersShared offer (Asked s q)
-  numbers_as offer s s' q h1 h2 = grind (arith) steps 400000
+  numbers_as offer s s' q h1 h2 = grind (arith)
 
   -- the creation of a global is answered as one
   abbrev pub Answered : Call T U G C → Type 0
@@ -72,7 +71,7 @@ module _ {T U G C : Type 0} where
 
   pub answered_call : (w : World T G C) (id : ClientParts) (offer : Offer G) (call : Call T U G C) (before : Seen T U C) (lacked : Bool) (did : List (Deed U)) (after : Seen T U C)
       → PartCall w id offer call before lacked did after → Answered call
-  answered_call w id offer call before lacked did after h1 = grind (arith, answered_step) steps 400000
+  answered_call w id offer call before lacked did after h1 = grind (arith, answered_step)
 
   module _ (id : ClientParts) (offer : Offer G) where
     abbrev Ample : Step T U G C → Reply T U → Type 0
@@ -80,20 +79,20 @@ module _ {T U G C : Type 0} where
 
     -- a want of memory for a global is told by its answer
     created_allowed : (s : Step T U G C) (r : Result GlobalParts GlobalError) → Ample s (reply.CreateGlobal r) → r ≢ Err global.OutOfMemory
-    created_allowed s r ample is = grind (arith, true≢false) steps 400000
+    created_allowed s r ample is = grind (arith, true≢false)
 
     -- a client's own calls and the shared ones are answered alike, where their answers tell what all clients share
     pub shared_same : (s : Step T U G C) (p q : Reply T U) → is_about id s ≡ true → Ample s p → Ample s q → AnswersShared offer (Asked s p) → AnswersShared offer (Asked s q)
         → Answered (Asked s p) → Answered (Asked s q) → SharedSame s p q
-    shared_same s p q h1 h2 h3 h4 h5 h6 h7 = grind (arith, true≢false, creates_global_one, created_allowed) steps 400000
+    shared_same s p q h1 h2 h3 h4 h5 h6 h7 = grind (arith, true≢false, creates_global_one, created_allowed)
 
     answered_as : (s s' : Step T U G C) (q : Reply T U) → SameStep s s' → Answered (Asked s' q) → Answered (Asked s q)
-    answered_as s s' q h1 h2 = grind (arith) steps 400000
+    answered_as s s' q h1 h2 = grind (arith)
 
     -- so it is of calls: they are answered alike, and leave one offer
     pub shared_call : (call call' : Call T U G C) → SameCall call call' → concerns id call ≡ true → lacks_growth call ≡ false → lacks_growth call' ≡ false
         → AnswersShared offer call → AnswersShared offer call' → Answered call → Answered call' → SharedAnswer call call' × (offer_after offer call ≡ offer_after offer call')
-    shared_call (Asked s p) (Asked s' q) same own ample ample' n n' h g = grind (arith, shared_same, numbers_as, answered_as, offer_one, offer_as) steps 400000
+    shared_call (Asked s p) (Asked s' q) same own ample ample' n n' h g = grind (arith, shared_same, numbers_as, answered_as, offer_one, offer_as)
     shared_call (Changed target t) (Changed target' t') same own ample ample' n n' h g = (tt, refl)
     shared_call (Grown rows p) (Grown rows' q) same own ample ample' n n' h g =
         let answers = growth_same T U G C offer rows rows' p q same ample ample' n n' in (answers, growth_offer offer rows rows' p q same answers)
@@ -139,7 +138,7 @@ module _ {T U G C : Type 0} where
   pub mine_numbered : (w : World T G C) (id : ClientParts) (before after : ServerState T U G C) (run : List (Entry T U G C)) → Leads w before run after
       → AreNumbered before.offer (mine id run)
   mine_numbered w id before after [] same = tt
-  mine_numbered w id before after (e ∷ run) (mid, by, leads) = grind (arith, numbered_more, concerns, mine, mine_numbered w id mid after run leads) steps 400000
+  mine_numbered w id before after (e ∷ run) (mid, by, leads) = grind (arith, numbered_more, concerns, mine, mine_numbered w id mid after run leads)
 
   answered_more : (id : ClientParts) (e : Entry T U G C) (run : List (Entry T U G C)) (b : Bool) → Answered e.call → AreAnswered (mine id run)
       → AreAnswered (if b then (own_of id e ∷ mine id run) else mine id run)
@@ -164,4 +163,4 @@ module _ {T U G C : Type 0} where
   mine_offer id offer (e ∷ run) = offer_more id offer e run (concerns id e.call) refl (mine_offer id (offer_after offer e.call) run)
 
   pub offers_one : (w : World T G C) → OffersHaveOneOutcome U w
-  offers_one w table id run run' after after' leads leads' same ample ample' = grind (arith, offer_run, new_server, mine_offer, own_offer_one, mine, mine_own, mine_numbered, mine_answered) steps 400000
+  offers_one w table id run run' after after' leads leads' same ample ample' = grind (arith, offer_run, new_server, mine_offer, own_offer_one, mine, mine_own, mine_numbered, mine_answered)

@@ -3,8 +3,7 @@
 use Rattle.std.proofs.Common.{◌≡◌, ℕ, Bool, true, false, List, [], ◌∷◌, ◌++◌, Option, None, Some, Result, Ok, Err, refl, sym, ap, subst, ◌∙◌, true≢false, arith}
 use mathlib.Core.Logic.{inl, inr}
 use Rattle.wl_wire.specs.declared.error.IoFault.{IoFault}
-use Rattle.wl_link.proofs.Calls.Branches.{both_bool, both_option}
-use Rattle.wl_link.specs.Exchange.{Queue}
+use Rattle.wl_link.proofs.Calls.Branches.{both_bool}
 use Rattle.wl_link.specs.Link.{LinkState}
 use Rattle.wl_server.specs.declared.error.EventError.TheVariants as event
 use Rattle.wl_server.specs.declared.error.GlobalError.{GlobalError}
@@ -19,12 +18,12 @@ use Rattle.wl_server.specs.declared.runs.step.Step.{Step}
 use Rattle.wl_server.specs.declared.runs.step.Step.TheVariants as step
 use Rattle.wl_server.specs.Deeds.{Deed, notes_in}
 use Rattle.wl_server.specs.Events.{SendsEvent, SessionMessage, session_content}
-use Rattle.wl_server.specs.Globals.{Offer, global_of, is_enabled}
+use Rattle.wl_server.specs.Globals.{Offer}
 use Rattle.wl_server.specs.Ids.{ClientParts, GlobalParts, same_client}
-use Rattle.wl_server.specs.Moves.{Accept, AcceptFault, Arrive, ArriveFault, Moved, TakeSent, nothing_taken, taken}
+use Rattle.wl_server.specs.Moves.{Moved, nothing_taken, taken}
 use Rattle.wl_link.proofs.Calls.NumberLaws.{fresh_one}
 use Rattle.wl_server.proofs.OverRuns.Outcome.Determined.{IsDetermined}
-use Rattle.wl_server.specs.Outcome.{ArrivesSame, SameAnswer, SameCall, SameOutcome, SameReply, SameStep, SendsSame, SharedAnswer, SharedSame}
+use Rattle.wl_server.specs.Outcome.{SameAnswer, SameCall, SameOutcome, SameReply, SameStep, SendsSame, SharedAnswer, SharedSame}
 use Rattle.wl_server.specs.Part.{Part, fresh_part}
 use Rattle.wl_server.proofs.OverRuns.Outcome.PartOutcome.{SameEnd, SameFelt, changes_one, cleaned_one, creates_one, destroys_one, finishes_bind_one, finishes_request_one, flushed_one, flushes_live_one, hears_one, kills_one, limits_one, moves_one, next_action_one, posts_error_one, same_felt, sends_event_one, sets_one}
 use Rattle.wl_server.specs.PartStep.{Asked, Call, Changed, CleanedAs, FeelsGlobal, FeelsLoss, FlushedFor, Grown, InsertedAs, MovedFor, NotesTaken, OfClient, OnPart, PartCall, PartStep, Unfelt, World, around, share_of}
@@ -68,7 +67,7 @@ module _ {T U C : Type 0} (before : Seen T U C) (d e : List (Deed U)) (x y : See
   with_part q did = record { part = q; made = before.made ++ notes_in did }
 
   part_one : (q q' : Option (Part T U C)) → SameFelt d e q q' → x ≡ with_part q d → y ≡ with_part q' e → SameFelt d e x y
-  part_one q q' one same same' = grind (arith) steps 400000
+  part_one q q' one same same' = grind (arith)
 
   unfelt_one : Unfelt before false d x → Unfelt before false e y → SameFelt d e x y
   unfelt_one (unlacked, did, same) (unlacked', did', same') = same_felt did did' same same'
@@ -77,7 +76,7 @@ module _ {T U C : Type 0} (before : Seen T U C) (d e : List (Deed U)) (x y : See
   on_one : {P : Type 0} (R R' : Part T U C → Part T U C → Type 0) (missing missing' : Type 0) → (missing → missing' → P)
       → ((p q q' : Part T U C) → R p q → R' p q' → SameFelt d e q q' × P) → OnPart before R missing false d x → OnPart before R' missing' false e y
       → SameFelt d e x y × P
-  on_one R R' missing missing' absent each h g = grind (arith, unfelt_one, part_one) steps 400000
+  on_one R R' missing missing' absent each h g = grind (arith, unfelt_one, part_one)
 
   -- a step about this client or about another
   of_one : {P : Type 0} (b : Bool) (R R' : Part T U C → Part T U C → Type 0) (missing missing' : Type 0) → (missing → missing' → P)
@@ -131,7 +130,7 @@ module _ {T U G C : Type 0} (w : World T G C) (known : IsDetermined w) (id : Cli
   global_one i version handler (Err f) h h' = unfelt_one before d e x y h h'
 
   loss_one : (g : GlobalParts) → FeelsLoss w id offer g before false d x → FeelsLoss w id offer g before false e y → SameFelt d e x y
-  loss_one g h h' = grind (arith, on_one, with_none, hears_one, unfelt_one) steps 400000
+  loss_one g h h' = grind (arith, on_one, with_none, hears_one, unfelt_one)
 
   flushed_for_one : (target : Option ClientParts) (r r' : Result (Unit {0}) IoFault) → FlushedFor w id offer target r before false d x
       → FlushedFor w id offer target r' before false e y → SameFelt d e x y × ((let s : Step T U G C = step.Flush target in is_about id s) ≡ true → r ≡ r')
@@ -148,18 +147,18 @@ module _ {T U G C : Type 0} (w : World T G C) (known : IsDetermined w) (id : Cli
   cleaned_as_one : (r r' : _) → Ample step.Cleanup (reply.Cleanup r)
       → Ample step.Cleanup (reply.Cleanup r')
       → CleanedAs w id offer r before false d x → CleanedAs w id offer r' before false e y → SameFelt d e x y × SameReply {T = T} {U = U} id (reply.Cleanup r) (reply.Cleanup r')
-  cleaned_as_one r r' h1 h2 h3 h4 = grind (arith, true≢false, unfelt_one, cleaned_one, share_of, part_one, with_answer) steps 400000
+  cleaned_as_one r r' h1 h2 h3 h4 = grind (arith, true≢false, unfelt_one, cleaned_one, share_of, part_one, with_answer)
 
   notes_taken_one : (r r' : _) → Ample step.TakeNotes (reply.TakeNotes r)
       → Ample step.TakeNotes (reply.TakeNotes r')
       → NotesTaken w id offer r before false d x → NotesTaken w id offer r' before false e y → SameFelt d e x y × SameReply {T = T} {U = U} id (reply.TakeNotes r) (reply.TakeNotes r')
-  notes_taken_one r r' h1 h2 h3 h4 = grind (arith, true≢false, same_felt) steps 400000
+  notes_taken_one r r' h1 h2 h3 h4 = grind (arith, true≢false, same_felt)
 
   -- each step has one outcome
   pub step_one : (s : Step T U G C) (p q : Reply T U) → Ample s p → Ample s q → SharedSame s p q
       → PartStep w id offer s p before false d x → PartStep w id offer s q before false e y → Same (is_about id s) p q
-  step_one (step.InsertClient transport client_data) p q ample ample' shared (r, is, h) (r', is', g) = grind (arith, outcome, inserted_one, true≢false) steps 400000
-  step_one (step.SetObjectData o u) p q ample ample' shared (r, is, h) (r', is', g) = grind (arith, of_one, with_answer, sets_one, outcome, same_reply) steps 400000
+  step_one (step.InsertClient transport client_data) p q ample ample' shared (r, is, h) (r', is', g) = grind (arith, outcome, inserted_one, true≢false)
+  step_one (step.SetObjectData o u) p q ample ample' shared (r, is, h) (r', is', g) = grind (arith, of_one, with_answer, sets_one, outcome, same_reply)
   step_one (step.CreateObject target i version u) p q ample ample' shared (r, is, h) (r', is', g) =
       let one = of_one before d e x y (same_client target id) _ _ _ _ (λ a b. a ∙ sym b)
       (λ s q q' f f'. with_answer (creates_one id s r r' d e q q' f.0 f'.0 f.1 f'.1 offer.table i version u f.2 f'.2)) h g in
@@ -172,9 +171,9 @@ module _ {T U G C : Type 0} (w : World T G C) (known : IsDetermined w) (id : Cli
       let one = of_one before d e x y (same_client m.sender_id.client id) _ _ _ _ (λ a b. a ∙ sym b)
       (λ s q q' f f'. with_answer (sends_event_one w.sends known.sends id s (session_content m) r r' d e q q' offer.table f f')) h g in
       outcome (same_client m.sender_id.client id) p q one.0 (λ own. same_reply id p q _ _ is is' (ap reply.SendEvent (one.1 own)))
-  step_one (step.PostError o code text) p q ample ample' shared (is, h) (is', g) = grind (arith, of_one, with_none, posts_error_one, outcome, same_reply) steps 400000
-  step_one (step.KillClient target reason) p q ample ample' shared (is, h) (is', g) = grind (arith, of_one, with_none, kills_one, outcome, same_reply) steps 400000
-  step_one (step.CreateGlobal i version handler) p q ample ample' shared (r, is, h) (r', is', g) = grind (arith, outcome, global_one, same_reply) steps 400000
+  step_one (step.PostError o code text) p q ample ample' shared (is, h) (is', g) = grind (arith, of_one, with_none, posts_error_one, outcome, same_reply)
+  step_one (step.KillClient target reason) p q ample ample' shared (is, h) (is', g) = grind (arith, of_one, with_none, kills_one, outcome, same_reply)
+  step_one (step.CreateGlobal i version handler) p q ample ample' shared (r, is, h) (r', is', g) = grind (arith, outcome, global_one, same_reply)
   step_one (step.DisableGlobal g) p q ample ample' shared (is, h) (is', h') =
       outcome true p q (loss_one g h h') (λ own. same_reply id p q reply.DisableGlobal reply.DisableGlobal is is' refl)
   step_one (step.RemoveGlobal g) p q ample ample' shared (is, h) (is', h') =
@@ -202,16 +201,16 @@ module _ {T U G C : Type 0} (w : World T G C) (known : IsDetermined w) (id : Cli
       let one = of_one before d e x y (same_client target id) _ _ _ _ (λ a b. a ∙ sym b)
       (λ s q q' f f'. with_answer (finishes_request_one w.sends known.sends id s u r r' d e q q' f f')) h g in
       outcome (same_client target id) p q one.0 (λ own. same_reply id p q _ _ is is' (ap reply.FinishRequest (one.1 own)))
-  step_one (step.FinishBind target u) p q ample ample' shared (r, is, h) (r', is', g) = grind (arith, of_one, with_answer, finishes_bind_one, outcome, same_reply) steps 400000
+  step_one (step.FinishBind target u) p q ample ample' shared (r, is, h) (r', is', g) = grind (arith, of_one, with_answer, finishes_bind_one, outcome, same_reply)
   step_one step.Cleanup p q ample ample' shared (r, is, h) (r', is', g) =
       let one = cleaned_as_one r r' (subst (λ z. Ample step.Cleanup z) is ample) (subst (λ z. Ample step.Cleanup z) is' ample') h g in
       outcome true p q one.0 (λ own. same_reply id p q (reply.Cleanup r) (reply.Cleanup r') is is' one.1)
-  step_one step.TakeNotes p q ample ample' shared (r, is, h) (r', is', g) = grind (arith, notes_taken_one, outcome, same_reply) steps 400000
-  step_one (step.Arrive target bytes tokens) p q ample ample' shared (r, is, h) (r', is', g) = grind (arith, moved_one, nothing_taken, outcome, same_reply, nothing_taken_one) steps 400000
-  step_one (step.ArriveFault target f) p q ample ample' shared (r, is, h) (r', is', g) = grind (arith, moved_one, nothing_taken, outcome, same_reply, nothing_taken_one) steps 400000
-  step_one (step.Accept target n) p q ample ample' shared (r, is, h) (r', is', g) = grind (arith, moved_one, nothing_taken, outcome, same_reply, nothing_taken_one) steps 400000
-  step_one (step.AcceptFault target f) p q ample ample' shared (r, is, h) (r', is', g) = grind (arith, moved_one, nothing_taken, outcome, same_reply, nothing_taken_one) steps 400000
-  step_one (step.TakeSent target) p q ample ample' shared (r, is, h) (r', is', g) = grind (arith, moved_one, taken, outcome, same_reply) steps 400000
+  step_one step.TakeNotes p q ample ample' shared (r, is, h) (r', is', g) = grind (arith, notes_taken_one, outcome, same_reply)
+  step_one (step.Arrive target bytes tokens) p q ample ample' shared (r, is, h) (r', is', g) = grind (arith, moved_one, nothing_taken, outcome, same_reply, nothing_taken_one)
+  step_one (step.ArriveFault target f) p q ample ample' shared (r, is, h) (r', is', g) = grind (arith, moved_one, nothing_taken, outcome, same_reply, nothing_taken_one)
+  step_one (step.Accept target n) p q ample ample' shared (r, is, h) (r', is', g) = grind (arith, moved_one, nothing_taken, outcome, same_reply, nothing_taken_one)
+  step_one (step.AcceptFault target f) p q ample ample' shared (r, is, h) (r', is', g) = grind (arith, moved_one, nothing_taken, outcome, same_reply, nothing_taken_one)
+  step_one (step.TakeSent target) p q ample ample' shared (r, is, h) (r', is', g) = grind (arith, moved_one, taken, outcome, same_reply)
 
   -- what a step does, another does that is the same
   pub part_as : (s s' : Step T U G C) (q : Reply T U) → SameStep s s' → PartStep w id offer s' q before false e y → PartStep w id offer s q before false e y
@@ -222,7 +221,7 @@ module _ {T U G C : Type 0} (w : World T G C) (known : IsDetermined w) (id : Cli
           subst (λ (c : SessionMessage). (r : _) × (q ≡ reply.SendEvent r)
           × OfClient (same_client c.sender.client id) before (λ s t. SendsEvent w.sends id offer.table s c r false e t) (r ≡ Err event.InvalidId) false e y) (sym same) h
       at s' same h = absurd same
-  part_as (step.Arrive target bytes tokens) s' q same h = grind (arith, nothing_taken) steps 400000
+  part_as (step.Arrive target bytes tokens) s' q same h = grind (arith, nothing_taken)
   part_as s s' q same h = subst (λ (z : Step T U G C). PartStep w id offer z q before false e y) (sym same) h
 
   -- a want of memory for what a call makes of its own is told by its reply
@@ -240,7 +239,7 @@ module _ {T U G C : Type 0} (w : World T G C) (known : IsDetermined w) (id : Cli
   call_one (Asked s p) (Asked s' q) same ample ample' shared h g =
       let one = same_step_one s s' p q same ample ample' shared h g in
       (one.reply, record { did = one.deeds; after = one.held })
-  call_one (Changed target t) (Changed target' t') (same, same_value) ample ample' shared h g = grind (arith, of_one, with_none, changes_one) steps 400000
+  call_one (Changed target t) (Changed target' t') (same, same_value) ample ample' shared h g = grind (arith, of_one, with_none, changes_one)
   call_one (Grown rows p) (Grown rows' q) same ample ample' shared h g = (λ own. shared, unfelt_one before d e x y h g)
   call_one _ _ same ample ample' shared h g = absurd same
 

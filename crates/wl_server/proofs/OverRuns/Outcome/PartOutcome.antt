@@ -10,7 +10,7 @@ use Rattle.wl_wire.specs.Table.{InterfaceRow}
 use Rattle.wl_link.specs.declared.object.Object.{Object}
 use Rattle.wl_link.proofs.Calls.Branches.{both_bool, both_option, both_result}
 use Rattle.wl_link.specs.Exchange.{Queue, Sending, IsFunction, IsReceiveFunction}
-use Rattle.wl_link.specs.Link.{LinkState, LimitSet, with_transport}
+use Rattle.wl_link.specs.Link.{LinkState, LimitSet}
 use Rattle.wl_link.proofs.Calls.OneLaws.{one_flush_lem, one_write_lem}
 use Rattle.wl_link.specs.Puts.{Said}
 use Rattle.wl_link.proofs.Readings.PutsLaws.{not_lacked}
@@ -35,13 +35,13 @@ use Rattle.wl_server.specs.Errors.{PostsError, posts}
 use Rattle.wl_server.specs.Events.{SendsEvent, SendsGranted, SentAs, SessionMessage, ends_closed, ends_sender, event_check, said, wire_message}
 use Rattle.wl_server.proofs.OverRuns.Outcome.ExchangeLaws.{carries_sends, reads_turns}
 use Rattle.wl_server.specs.Felt.{Cleaned, FlushedTo, FlushesLive, Hears, objects_leave}
-use Rattle.wl_server.specs.Finish.{EndsRequest, FinishesBind, FinishesOpen, FinishesOpenBind, FinishesRequest, ends_request, refusal}
+use Rattle.wl_server.specs.Finish.{EndsRequest, FinishesBind, FinishesOpen, FinishesRequest, ends_request, refusal}
 use Rattle.wl_server.specs.Ids.{ClientParts, IdParts}
 use Rattle.wl_server.specs.Moves.{Move, Moved}
 use Rattle.wl_link.proofs.Calls.NumberLaws.{full_not_absent, least_absent_one, limit_set_one}
 use Rattle.wl_server.specs.Objects.{Creates, CreatesAt, DataSet, Destroys, destroyable, destroys, new_object}
 use Rattle.wl_server.proofs.OverRuns.Outcome.Determined.{IsMoveFunction}
-use Rattle.wl_server.specs.Part.{Part, last_possible_serial, named, with_link}
+use Rattle.wl_server.specs.Part.{Part, last_possible_serial, with_link}
 use Rattle.wl_server.specs.PartStep.{WithTransport, lacks_create, lacks_move}
 use Rattle.wl_server.specs.Reading.{Around, NextAction, ReadsTo, answered, exchanges_in, read_on, server}
 use Rattle.wl_server.specs.Telling.{Core, Kills, Tells, Told, core_of, deeds_of, part_of, reader_part, speaker, tells}
@@ -77,12 +77,12 @@ module _ {T U C : Type 0} where
 
   pub sets_one : (s : Part T U C) (id : IdParts) (u : U) (a b : Result (Unit {0}) InvalidId) (d e : List (Deed U)) (x y : Part T U C)
       → d ≡ [] → e ≡ [] → DataSet s id u a x → DataSet s id u b y → SameEnd a b d e x y
-  sets_one s id u a b d e x y did did' h g = grind (arith, same_end) steps 400000
+  sets_one s id u a b d e x y did did' h g = grind (arith, same_end)
 
   module _ (client : ClientParts) (s : Part T U C) (a b : Result IdParts CreateError) (d e : List (Deed U)) (x y : Part T U C)
       (unlacked : false ≡ lacks_create a) (unlacked' : false ≡ lacks_create b) (did : d ≡ []) (did' : e ≡ []) where
     creates_at_one : (n : ℕ) (o : Object (Kept U)) → CreatesAt client s n o a x → CreatesAt client s n o b y → SameEnd a b d e x y
-    creates_at_one n o h1 h2 = grind (arith, same_end, not_so, lacks_create) steps 400000
+    creates_at_one n o h1 h2 = grind (arith, same_end, not_so, lacks_create)
 
     -- what a creation does at its number
     abbrev AtNumber : InterfaceId → ℕ → U → Result IdParts CreateError → Part T U C → ℕ → Type 0
@@ -125,18 +125,18 @@ module _ {T U C : Type 0} where
 
   pub changes_one : (s : Part T U C) (t : T) (d e : List (Deed U)) (x y : Part T U C) → d ≡ [] → e ≡ []
       → WithTransport (λ _ t'. t' ≡ t) s x → WithTransport (λ _ t'. t' ≡ t) s y → SameFelt d e x y
-  changes_one s t d e x y did did' (to, is, same) (to', is', same') = grind (arith) steps 400000
+  changes_one s t d e x y did did' (to, is, same) (to', is', same') = grind (arith)
 
   pub moves_one : (moves : T → Move → Moved → T → Type 0) → IsMoveFunction moves → (s : Part T U C) (m : Move) (a b : Moved) (d e : List (Deed U)) (x y : Part T U C)
       → (false ≡ lacks_move a) × (d ≡ []) × WithTransport (λ t t'. moves t m a t') s x → (false ≡ lacks_move b) × (e ≡ []) × WithTransport (λ t t'. moves t m b t') s y
       → SameEnd a b d e x y
-  moves_one moves function s m a b d e x y (unlacked, did, (t, moved, same)) (unlacked', did', (t', moved', same')) = grind (arith) steps 400000
+  moves_one moves function s m a b d e x y (unlacked, did, (t, moved, same)) (unlacked', did', (t', moved', same')) = grind (arith)
 
   -- ---- the end of a bind
 
   pub finishes_bind_one : (s : Part T U C) (u : U) (a b : Result (Unit {0}) (FinishRefused U)) (d e : List (Deed U)) (x y : Part T U C)
       → FinishesBind s u a false d x → FinishesBind s u b false e y → SameEnd a b d e x y
-  finishes_bind_one s u a b d e x y h g = grind (arith, same_end) steps 400000
+  finishes_bind_one s u a b d e x y h g = grind (arith, same_end)
 
   module _ (sends : T → Queue → Result ℕ IoFault → T → Type 0) (function : IsFunction sends) where
     -- ---- what is told
@@ -226,7 +226,7 @@ module _ {T U C : Type 0} where
 
       wrote_allowed : (sender : Object (Kept U)) (ends : Bool) (wrote : Result (Unit {0}) IoFault) (link : LinkState T) (answer : Result (Unit {0}) EventError) (rest : List (Deed U))
           (after : Part T U C) → SentAs sends client s m sender ends wrote link answer false rest after → wrote ≢ Err fault.OutOfMemory
-      wrote_allowed sender ends wrote link answer rest after sent is = grind (arith, true≢false) steps 400000
+      wrote_allowed sender ends wrote link answer rest after sent is = grind (arith, true≢false)
 
       sends_granted_one : (sender : Object (Kept U)) (ends : Bool) → SendsGranted sends client s m sender ends a false d x → SendsGranted sends client s m sender ends b false e y
           → SameEnd a b d e x y

@@ -40,7 +40,7 @@ module _ {T U G C : Type 0} where
   -- from its insertion on
   later_numbered : (w : World T G C) (table : List InterfaceRow) (id : ClientParts) (earlier later : List (Entry T U G C)) (e : Entry T U G C) (after : ServerState T U G C)
       → Leads w (new_server table) (earlier ++ e ∷ later) after → AreNumbered (offer_over (new_offer table) (earlier ++ e ∷ [])) (mine id later)
-  later_numbered w table id earlier later e after leads = grind (arith, split_run, mine, offer_run, offer_over_one, mine_numbered) steps 400000
+  later_numbered w table id earlier later e after leads = grind (arith, split_run, mine, offer_run, offer_over_one, mine_numbered)
 
   -- the insertion of a client leaves the offer
   inserted_offer : (offer : Offer G) (id : ClientParts) (transport : T) (client_data : C) (earlier : List (Entry T U G C)) (e : Entry T U G C) → InsertsAs id transport client_data e

@@ -19,10 +19,9 @@ use Rattle.wl_server.specs.declared.runs.step.Reply.{Reply}
 use Rattle.wl_server.specs.declared.runs.step.Reply.TheVariants as reply
 use Rattle.wl_server.specs.declared.runs.step.Step.{Step}
 use Rattle.wl_server.specs.declared.runs.step.Step.TheVariants as step
-use Rattle.wl_server.specs.Events.{session_content}
 use Rattle.wl_server.specs.Ids.{ClientParts}
 use Rattle.wl_server.specs.NoteOrder.{AllNumbered, AllTakeFirst, GivesNumbers, InTurn, IsInOrder, IsNoLater, IsNumbered, Rise, RiseFromSlot, all_places, number_past, numbers_from, places_of, slot_of, times_at, times_of}
-use Rattle.wl_server.specs.Outcome.{ArrivesSame, SameCall, SameStep, SendsSame}
+use Rattle.wl_server.specs.Outcome.{SameCall, SameStep}
 use Rattle.wl_server.specs.Outcome.Whole.{OrdersSame}
 use Rattle.wl_server.specs.Part.{Part}
 use Rattle.wl_server.specs.PartStep.{Asked, Call, Changed, Grown, PartCall, World}
@@ -37,7 +36,7 @@ use Rattle.wl_server.proofs.OverRuns.Outcome.WholeLaws.{found, slot_same}
 -- ---- lists
 
 cons_one : {A : Type 0} (x y : A) (xs ys : List A) → x ∷ xs ≡ y ∷ ys → (x ≡ y) × (xs ≡ ys)
-cons_one {A = A} x y xs ys is = grind (arith) steps 400000
+cons_one {A = A} x y xs ys is = grind (arith)
 
 -- two fronts of the same list are one if they are as long
 pub fronts_one : {A : Type 0} (xs ys zs ws : List A) → xs ++ ys ≡ zs ++ ws → length xs ≡ length zs → (xs ≡ zs) × (ys ≡ ws)
@@ -64,7 +63,7 @@ kind true = 1
 kind false = 0
 
 same_kind : (a b : Bool) → kind a ≡ kind b → a ≡ b
-same_kind a b h1 = grind (arith) steps 400000
+same_kind a b h1 = grind (arith)
 
 abbrev is_at : NotePlace → NotePlace → ℕ
 is_at q p = if kind p.waits == kind q.waits then (if p.number == q.number then (if p.slot == q.slot then 1 else 0) else 0) else 0
@@ -75,13 +74,13 @@ often_at q ps = sum_by (is_at q) ps
 
 at_is : (q p : NotePlace) (a b c : Bool) → (kind p.waits == kind q.waits) ≡ a → (p.number == q.number) ≡ b → (p.slot == q.slot) ≡ c
     → is_at q p ≡ (if a then (if b then (if c then 1 else 0) else 0) else 0)
-at_is q p a b c same_kind number at_slot = grind (arith) steps 400000
+at_is q p a b c same_kind number at_slot = grind (arith)
 
 at_itself : (q : NotePlace) → is_at q q ≡ 1
 at_itself q = at_is q q true true true (eq-eqb (kind q.waits) (kind q.waits) refl) (eq-eqb q.number q.number refl) (eq-eqb q.slot q.slot refl)
 
 same_place : (p q : NotePlace) → p.waits ≡ q.waits → p.number ≡ q.number → p.slot ≡ q.slot → p ≡ q
-same_place p q waits number at_slot = grind (arith) steps 400000
+same_place p q waits number at_slot = grind (arith)
 
 -- what holds of all places holds of one that is there
 holds_there : (P : NotePlace → Type 0) (q : NotePlace) (ps : List NotePlace) → AllByRecursion P ps → 1 ≤ often_at q ps → P q
@@ -93,11 +92,11 @@ holds_there P q (p ∷ ps) (here, all) some =
     past later none = let count = sum_by-cons (is_at q) p ps in later (omega (arith, some, none, count))
 
     at : (1 ≤ often_at q ps → P q) → (a b c : Bool) → (kind p.waits == kind q.waits) ≡ a → (p.number == q.number) ≡ b → (p.slot == q.slot) ≡ c → P q
-    at h1 a b c h2 h3 h4 = grind (arith, same_place, same_kind, eqb-true, past, at_is) steps 400000
+    at h1 a b c h2 h3 h4 = grind (arith, same_place, same_kind, eqb-true, past, at_is)
 
 -- a place that is no later than another, and no earlier
 one_place : (p q : NotePlace) → IsNoLater p q → IsNoLater q p → p ≡ q
-one_place p q first second = grind (arith, same_place, false≢true) steps 400000
+one_place p q first second = grind (arith, same_place, false≢true)
 
 -- two orders of the same places are one
 one_order : (a b : List NotePlace) → Sorted a → Sorted b → ((q : NotePlace) → often_at q a ≡ often_at q b) → a ≡ b
@@ -172,7 +171,7 @@ orders_one waits ts us a b up moved up' moved' same =
 
 module _ (of : NoteTimes → List ℕ) where
   gives_one_way : (ns ns' ms ms' : List ℕ) (a b c d : ℕ) → GivesNumbers ns a ns' b → GivesNumbers ms c ms' d → ns ≡ ms → a ≡ c → length ns' ≡ length ms' → (b ≡ d) × (ns' ≡ ms')
-  gives_one_way ns ns' ms ms' a b c d one two same next long = grind (arith, number_past, length-append, numbers_from) steps 400000
+  gives_one_way ns ns' ms ms' a b c d one two same next long = grind (arith, number_past, length-append, numbers_from)
 
   -- the next slot
   turn_next : (n : ℕ) (ts us ts' us' : List NoteTimes) (mid mid' b d : ℕ) → of (times_at n ts) ≡ of (times_at n us)
@@ -185,7 +184,7 @@ module _ (of : NoteTimes → List ℕ) where
       this = gives_one_way (of (times_at n ts)) (of (times_at n ts')) (of (times_at n us)) (of (times_at n us')) mid b mid' d gives gives' same before.0 long
 
       each : (k : ℕ) → k < suc n → of (times_at k ts') ≡ of (times_at k us')
-      each k below = grind (arith, times_at, eqb-true, this, false≢true, eq-eqb) steps 400000
+      each k below = grind (arith, times_at, eqb-true, this, false≢true, eq-eqb)
 
   turn_one : (n : ℕ) (ts us ts' us' : List NoteTimes) (a c b d : ℕ) → ((k : ℕ) → of (times_at k ts) ≡ of (times_at k us))
       → ((k : ℕ) → length (of (times_at k ts')) ≡ length (of (times_at k us'))) → a ≡ c → InTurn of n ts a ts' b → InTurn of n us c us' d
@@ -225,13 +224,13 @@ module _ (of : NoteTimes → List ℕ) where
         where
           at : (x : Bool) → nat_lt k (m + n) ≡ x → of (times_at k ts') ≡ of (times_at k us')
           at true below = both.1 k (ltb-true k (m + n) below)
-          at false past = grind (arith, ltb-false) steps 400000
+          at false past = grind (arith, ltb-false)
 
 both_times : (t u : NoteTimes) → t.made ≡ u.made → t.waiting ≡ u.waiting → t ≡ u
-both_times t u made waiting = grind (arith) steps 400000
+both_times t u made waiting = grind (arith)
 
 both_numbers : (a b : NoteNumbers) → a.made ≡ b.made → a.waiting ≡ b.waiting → a ≡ b
-both_numbers a b made waiting = grind (arith) steps 400000
+both_numbers a b made waiting = grind (arith)
 
 -- ---- the clients of a slot
 
@@ -243,15 +242,15 @@ module _ {T U C : Type 0} where
   Alike _ _ = ⊥
 
   pub times_stored : (clients : List (Option (Stored T U C))) (k : ℕ) → times_at k (map times_of clients) ≡ times_of (stored_at k clients)
-  times_stored clients k = grind (arith, times_in, slice_get, time_in, times_of) steps 400000
+  times_stored clients k = grind (arith, times_in, slice_get, time_in, times_of)
 
   as_long : (a b : Option (Stored T U C)) → Alike a b → IsNumbered a → IsNumbered b
       → (length (times_of a).made ≡ length (times_of b).made) × (length (times_of a).waiting ≡ length (times_of b).waiting)
-  as_long a b h1 h2 h3 = grind (arith) steps 400000
+  as_long a b h1 h2 h3 = grind (arith)
 
 module _ {T U G C : Type 0} (s t : ServerState T U G C) (each : (id : ClientParts) → seen id s ≡ seen id t) (notes : s.notes ≡ t.notes) where
   made_one : (id : ClientParts) → made_of id s.clients ≡ made_of id t.clients
-  made_one id = grind (arith, append_cancel_left, notes_of, made_of) steps 400000
+  made_one id = grind (arith, append_cancel_left, notes_of, made_of)
 
   alike_at : (k : ℕ) (a b : Option (Stored T U C)) → stored_at k s.clients ≡ a → stored_at k t.clients ≡ b → Alike a b
   alike_at k None None is is' = tt
@@ -283,7 +282,7 @@ module _ {T U G C : Type 0} (s t : ServerState T U G C) (each : (id : ClientPart
             same_Some x.part y.part (parts ∙ ap part_of now),
             sym (ap of_made here) ∙ (made_one id ∙ ap of_made (there ∙ now)),
           )
-      at false other = grind (arith, if_serial, true≢false, is_some, parts, part_of) steps 400000
+      at false other = grind (arith, if_serial, true≢false, is_some, parts, part_of)
 
   -- as many numbers, where each note has one
   numbers_long : AllNumbered s.clients → AllNumbered t.clients → (k : ℕ)
@@ -348,7 +347,7 @@ module _ {U : Type 0} where
             (told id ∙ ap (λ (n : Note U). told_of id n ++ notes_of id b) (sym same))
 
         is_rest : (id : ClientParts) (h : Happening U) (hs : List (Happening U)) → notes_of id b ≡ h ∷ hs → Is id
-        is_rest id h hs at = grind (arith, told_of, notes_of) steps 400000
+        is_rest id h hs at = grind (arith, told_of, notes_of)
 
     -- notes along the same slots, that tell the same of each client
     along_one : (a b : List (Note U)) → map slot_of a ≡ map slot_of b → ((id : ClientParts) → notes_of id a ≡ notes_of id b)
@@ -415,7 +414,7 @@ module _ {T U G C : Type 0} where
   -- who is told of is stored
   is_stored : (t : ServerState T U G C) (more : List (Note U)) → ((id : ClientParts) → client_at id t.clients ≡ None → notes_of id more ≡ [])
       → (id : ClientParts) (h : Happening U) (hs : List (Happening U)) → notes_of id more ≡ h ∷ hs → IsStored t id
-  is_stored t more stored id h hs is = grind (arith, client_at, is_some) steps 400000
+  is_stored t more stored id h hs is = grind (arith, client_at, is_some)
 
   -- the same is handed out
   out_one : (s t : ServerState T U G C) → OrdersSame s t → ((id : ClientParts) → seen id s ≡ seen id t) → (out out' : List (Note U)) → Takes s out → Takes t out' → out ≡ out'
@@ -550,10 +549,10 @@ module _ {T U G C : Type 0} where
   call_kind (Grown rows answer) = 2
 
   step_kinds : (s s' : Step T U G C) → SameStep s s' → step_kind s ≡ step_kind s'
-  step_kinds s s' h1 = grind (arith) steps 400000
+  step_kinds s s' h1 = grind (arith)
 
   call_kinds : (c c' : Call T U G C) → SameCall c c' → call_kind c ≡ call_kind c'
-  call_kinds c c' h1 = grind (arith, step_kinds) steps 400000
+  call_kinds c c' h1 = grind (arith, step_kinds)
 
   -- the notes were handed out, or gathered, or none was moved
   abbrev MovesSo : ServerState T U G C → Entry T U G C → ServerState T U G C → Type 0

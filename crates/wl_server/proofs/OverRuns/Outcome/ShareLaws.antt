@@ -1,6 +1,6 @@
 -- What a cleanup hands out is determined by the share that each client has in it.
-use Rattle.std.proofs.Common.{◌≡◌, ℕ, zero, suc, ◌<◌, ◌⊎◌, Bool, true, false, List, [], ◌∷◌, length, refl, sym, ap, subst, ◌∙◌, true≢false, arith}
-use Rattle.std.specs.Prelude.{◌==◌, ◌&&◌, slice_index_or}
+use Rattle.std.proofs.Common.{◌≡◌, ℕ, zero, suc, ◌<◌, ◌⊎◌, true, false, List, [], ◌∷◌, length, refl, sym, ap, subst, ◌∙◌, true≢false, arith}
+use Rattle.std.specs.Prelude.{slice_index_or}
 use mathlib.Core.Logic.{inl, inr}
 use Rattle.std.proofs.lemmas.Bool.{cases_Bool, cases_order, eqb-true}
 use Rattle.wl_server.specs.Ids.{ClientParts, same_client}
@@ -12,7 +12,7 @@ use Rattle.wl_server.specs.Steps.{RiseBySlot}
 -- ---- ids
 
 same_slot : (a b : ClientParts) → same_client a b ≡ true → a.slot ≡ b.slot
-same_slot a b same = grind (arith, eqb-true, true≢false) steps 400000
+same_slot a b same = grind (arith, eqb-true, true≢false)
 
 pub same_client_is : (a b : ClientParts) → same_client a b ≡ true → a ≡ b
 same_client_is a b same = client_is a b (same_slot a b same) (same_serial a b same)
@@ -68,10 +68,10 @@ module _ {T : Type 0} where
         ap (λ (i : ClientParts). let z : ClientParts × T = (i, e.1) in z) (sym (same_client_is f.0 e.0 same)) ∙ ap (λ (t : T). let z : ClientParts × T = (f.0, t) in z) values
 
     same_behind : (id : ClientParts) → e ≡ f → (same_client e.0 id ≡ true) ⊎ (same_client e.0 id ≡ false) → share_of id rest ≡ share_of id rest'
-    same_behind id h1 h2 = grind (arith, share_first, share_later) steps 400000
+    same_behind id h1 h2 = grind (arith, share_first, share_later)
 
     found : same_client f.0 e.0 ≡ true → e ∷ rest ≡ f ∷ rest'
-    found same = grind (arith, same_front, same_behind, cases_Bool) steps 400000
+    found same = grind (arith, same_front, same_behind, cases_Bool)
 
     one_slot : e.0.slot ≡ f.0.slot → (same_client f.0 e.0 ≡ true) ⊎ (same_client f.0 e.0 ≡ false) → e ∷ rest ≡ f ∷ rest'
     one_slot slots (inl same) = found same

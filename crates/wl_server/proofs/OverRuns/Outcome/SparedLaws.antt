@@ -31,7 +31,7 @@ module _ {H T U G C : Type 0} (w : World T G C) (answers : Answering H T U G C) 
   Server = ServerState T U G C
 
   deterministic : IsDeterministic ordered (with_memory answers spared)
-  deterministic = grind (arith) steps 400000
+  deterministic = grind (arith)
 
   module _ (id : ClientParts) where
     -- ---- an action
@@ -43,7 +43,7 @@ module _ {H T U G C : Type 0} (w : World T G C) (answers : Answering H T U G C) 
 
     answers_back : (h h' : H) (before after : BackendState T U G C) (a : Action) (end : Step T U G C) → spared h' ≡ true → Answers w answers id h before a end h' after
         → spared h ≡ true
-    answers_back h h' before after a end h1 h2 = grind (arith) steps 400000
+    answers_back h h' before after a end h1 h2 = grind (arith)
 
     handles_so : {h h' : H} {before : BackendState T U G C} {a : Action} {run : List (Entry T U G C)} {lacked : Bool} {why : Option FinishError} {after : Server}
         → spared h' ≡ true → Handles w answers id h before a run lacked why h' after → Handles w (with_memory answers spared) id h before a run lacked why h' after

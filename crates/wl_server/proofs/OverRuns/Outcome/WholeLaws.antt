@@ -1,12 +1,10 @@
 -- What is the same to each client is the same to the program: the slots that are free, whether memory was refused, and
 -- replies.
-use Rattle.std.proofs.Common.{◌≡◌, ℕ, Bool, true, false, List, Option, None, Some, is_some, Result, Ok, Err, Vec, refl, sym, ap, subst, ◌∙◌, true≢false}
+use Rattle.std.proofs.Common.{arith, ◌≡◌, ℕ, Bool, true, false, List, Option, None, Some, is_some, Result, Ok, Err, Vec, refl, sym, ap, subst, ◌∙◌, true≢false}
 use Rattle.std.specs.Global.{Global}
 use Rattle.std.specs.Prelude.{IsTrue, option_map}
 use Rattle.std.proofs.lemmas.Bool.{eq-eqb}
-use mathlib.Core.Logic.{inl, inr}
 use Rattle.wl_server.specs.declared.error.InsertClientError.{InsertClientError}
-use Rattle.wl_server.specs.declared.error.InsertClientError.TheVariants as insert
 use Rattle.wl_wire.specs.declared.error.OutOfMemory.{OutOfMemory}
 use Rattle.wl_server.specs.declared.notes.Note.{Note}
 use Rattle.wl_server.specs.declared.runs.step.Reply.{Reply}
@@ -41,11 +39,11 @@ module _ {T U C : Type 0} where
   SameSlots clients others = (k : ℕ) → is_some (stored_at k clients) ≡ is_some (stored_at k others)
 
   free_there : (clients others : List (Option (Stored T U C))) → SameSlots clients others → (n : ℕ) → IsLeastFree clients n → IsLeastFree others n
-  free_there clients others same n least = grind (arith, is_none_by, stored_at, is_some) steps 400000
+  free_there clients others same n least = grind (arith, is_none_by, stored_at, is_some)
 
   pub inserts_there : (last : ℕ) (clients others : List (Option (Stored T U C))) → SameSlots clients others → (r : Result ClientParts InsertClientError)
       → InsertsNext last clients r → InsertsNext last others r
-  inserts_there last clients others h1 r h2 = grind (arith, free_there) steps 400000
+  inserts_there last clients others h1 r h2 = grind (arith, free_there)
 
   abbrev has_part : Option (Stored T U C) → Bool
   has_part c = is_some (option_map (λ z. z.part) c)
@@ -77,7 +75,7 @@ module _ {T U G C : Type 0} where
 
   -- where memory was not refused, it was refused neither for what a call makes of its own nor to any client
   pub ample_by : (e : Entry T U G C) → IsRefused e → e.refused ≡ false → (lacks_growth e.call ≡ false) × ((id : ClientParts) → e.lacks id ≡ false)
-  ample_by e tells none = grind (arith, not_true, lacks_growth, true≢false) steps 400000
+  ample_by e tells none = grind (arith, not_true, lacks_growth, true≢false)
 
 -- ---- replies
 
@@ -157,7 +155,7 @@ module _ {T U G C : Type 0} (ordered : Bool) (w : World T G C) (any : ClientPart
       same_whole ordered p q (reply.FinishRequest r) (reply.FinishRequest r') is is' (let here = same_here target p q _ _ is is' (one target (same_self target)) in λ id. here)
   whole_one (step.FinishBind target u) p q one shared ample ample' rises rises' took (r, is, h) (r', is', g) =
       same_whole ordered p q (reply.FinishBind r) (reply.FinishBind r') is is' (let here = same_here target p q _ _ is is' (one target (same_self target)) in λ id. here)
-  whole_one step.Cleanup p q one shared ample ample' rises rises' took (r, is, h) (r', is', g) = grind (arith, same_whole, cleanup_one, same_here) steps 400000
+  whole_one step.Cleanup p q one shared ample ample' rises rises' took (r, is, h) (r', is', g) = grind (arith, same_whole, cleanup_one, same_here)
   whole_one step.TakeNotes p q one shared ample ample' rises rises' took (r, is, h) (r', is', g) =
       same_whole ordered p q (reply.TakeNotes r) (reply.TakeNotes r') is is'
       (taken_one r r' (subst (λ z. Ample step.TakeNotes z) is ample) (subst (λ z. Ample step.TakeNotes z) is' ample')

@@ -10,12 +10,11 @@ use Rattle.wl_server.specs.declared.runs.step.Reply.TheVariants as reply
 use Rattle.wl_server.specs.declared.runs.step.Step.{Step}
 use Rattle.wl_server.specs.declared.runs.step.Step.TheVariants as step
 use Rattle.wl_server.specs.Deeds.{Deed}
-use Rattle.wl_server.specs.Events.{session_content}
 use Rattle.wl_server.specs.Globals.{Offer}
 use Rattle.wl_server.specs.Ids.{ClientParts}
 use Rattle.wl_server.proofs.OverRuns.Outcome.NumberLaws.{inserts_next_one}
 use Rattle.wl_server.proofs.OverRuns.Outcome.Determined.{IsDetermined}
-use Rattle.wl_server.specs.Outcome.{ArrivesSame, SameCall, SameStep, SendsSame, SharedAnswer, SharedSame}
+use Rattle.wl_server.specs.Outcome.{SameCall, SameStep, SharedAnswer, SharedSame}
 use Rattle.wl_server.proofs.OverRuns.Outcome.OutcomeLaws.{call_one, part_as}
 use Rattle.wl_server.proofs.OverRuns.Outcome.PartOutcome.{SameFelt}
 use Rattle.wl_server.specs.PartStep.{Asked, Call, Changed, Grown, PartCall, PartStep, World}
@@ -35,19 +34,19 @@ module _ {T U G C : Type 0} where
   inserted_one s p q shared = refl
 
   inserted_as : (s s' : Step T U G C) (q : Reply T U) → SameStep s s' → inserted_by (Asked s q) ≡ inserted_by (Asked s' q)
-  inserted_as s s' q h1 = grind (arith, inserted_by) steps 400000
+  inserted_as s s' q h1 = grind (arith, inserted_by)
 
   clients_as : (before : ServerState T U G C) (s s' : Step T U G C) (q : Reply T U) → SameStep s s' → NumbersClient before (Asked s' q) → NumbersClient before (Asked s q)
-  clients_as before s s' q h1 h2 = grind (arith) steps 400000
+  clients_as before s s' q h1 h2 = grind (arith)
 
   rises_as : (s s' : Step T U G C) (q : Reply T U) → SameStep s s' → RisesBySlot (Asked s' q) → RisesBySlot (Asked s q)
-  rises_as s s' q h1 h2 = grind (arith) steps 400000
+  rises_as s s' q h1 h2 = grind (arith)
 
   call_offer : (offer : Offer G) (call call' : Call T U G C) → SameCall call call' → SharedAnswer call call' → offer_after offer call ≡ offer_after offer call'
-  call_offer offer call call' h1 h2 = grind (arith, offer_one, offer_as, growth_offer) steps 400000
+  call_offer offer call call' h1 h2 = grind (arith, offer_one, offer_as, growth_offer)
 
   call_inserted : (call call' : Call T U G C) → SameCall call call' → SharedAnswer call call' → inserted_by call ≡ inserted_by call'
-  call_inserted call call' h1 h2 = grind (arith, inserted_one, inserted_as) steps 400000
+  call_inserted call call' h1 h2 = grind (arith, inserted_one, inserted_as)
 
   -- ---- a call
 
@@ -56,7 +55,7 @@ module _ {T U G C : Type 0} where
     Ample step answer = lacks_growth (Asked step answer) ≡ false
 
     inserted_allowed : (step : Step T U G C) (r : Result ClientParts InsertClientError) → Ample step (reply.InsertClient r) → r ≢ Err insert.OutOfMemory
-    inserted_allowed step r ample is = grind (arith, true≢false) steps 400000
+    inserted_allowed step r ample is = grind (arith, true≢false)
 
     -- what is shared determines the answers that tell it
     whole_shared : (any : ClientParts) (k : Step T U G C) (p q : Reply T U) → Ample k p → Ample k q → NumbersClient s (Asked k p) → NumbersClient t (Asked k q)
@@ -70,7 +69,7 @@ module _ {T U G C : Type 0} where
         let back = inserts_there s.last_client t.clients s.clients (λ j. sym (slots_same s t same_server j)) r' last in
         let one = inserts_next_one s.last_client s.clients r r' (inserted_allowed k r (subst (λ z. Ample k z) is ample)) (inserted_allowed k r' (subst (λ z. Ample k z) is' ample')) here back in
         is ∙ ap (λ (z : Result ClientParts InsertClientError). let a : Reply T U = reply.InsertClient z in a) one ∙ sym is'
-    whole_shared any (step.CreateGlobal i version handler) p q ample ample' c c' n n' h g = grind (arith, shared_same, answered_step) steps 400000
+    whole_shared any (step.CreateGlobal i version handler) p q ample ample' c c' n n' h g = grind (arith, shared_same, answered_step)
     whole_shared any k p q ample ample' c c' n n' h g = tt
 
     -- who takes notes in one run does in the other
@@ -147,14 +146,14 @@ module _ {T U G C : Type 0} where
   -- ---- steps with their replies
 
   same_as_itself : (k : Step T U G C) → SameStep k k
-  same_as_itself k = grind (arith) steps 400000
+  same_as_itself k = grind (arith)
 
   pub asked_one : (c c' : Call T U G C) (k : Step T U G C) (p q : Reply T U) → c ≡ Asked k p → c' ≡ Asked k q → SameCall c c'
   asked_one c c' k p q is is' =
       subst (λ (z : Call T U G C). SameCall z c') (sym is) (subst (λ (z : Call T U G C). SameCall (Asked k p) z) (sym is') (same_as_itself k))
 
   pub replied_one : (ordered : Bool) (c c' : Call T U G C) (k : Step T U G C) (p q : Reply T U) → c ≡ Asked k p → c' ≡ Asked k q → WholeAnswer ordered c c' → WholeReply ordered p q
-  replied_one ordered c c' k p q is is' same = grind (arith) steps 400000
+  replied_one ordered c c' k p q is is' same = grind (arith)
 
   pub performance_one : (w : World T G C) → IsDetermined w → PerformancesHaveOneOutcome U w
   performance_one w known ordered s t x y [] [] [] n n' same h g =
