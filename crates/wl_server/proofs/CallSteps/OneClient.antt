@@ -1,5 +1,5 @@
 -- A call that is about one client, as a step of the server.
-use Rattle.std.proofs.Common.{◌≡◌, ℕ, ◌+◌, Bool, true, false, List, [], Option, None, Some, refl, sym, ap, subst, ◌∙◌, arith}
+use Rattle.std.proofs.Common.{◌≡◌, ℕ, ◌+◌, Bool, true, false, not, List, [], Option, None, Some, refl, sym, ap, subst, ◌∙◌, arith}
 use mathlib.Core.Logic.{inl, inr}
 use Rattle.std.specs.Prelude.{◌⊎◌, slice_get, slice_set}
 use Rattle.std.proofs.lemmas.Bool.{false≢true}
@@ -10,6 +10,7 @@ use Rattle.wl_server.specs.declared.notes.Note.{Note}
 use Rattle.wl_server.specs.declared.notes.queues.NoteNumbers.{NoteNumbers}
 use Rattle.wl_server.specs.declared.runs.step.Reply.{Reply}
 use Rattle.wl_server.specs.declared.runs.step.Step.{Step}
+use Rattle.wl_server.specs.declared.runs.step.Step.TheVariants as step
 use Rattle.wl_server.proofs.OverRuns.Alone.AccountLaws.{calls}
 use Rattle.wl_server.specs.Backend.{Calls}
 use Rattle.wl_server.specs.Inside.Client.{Does}
@@ -24,7 +25,7 @@ use Rattle.wl_server.proofs.CallSteps.Numbering.{all_none, numbered_set, set_in_
 use Rattle.wl_server.proofs.CallSteps.Slots.{Kind, did_at, each_missing, each_set, lacks_at, same_self, slot_of_client}
 
 -- a call that is about one client: nothing changes that all share, and no memory is wanted but for that client
-pub record IsOwn {T U G C : Type 0} (call : Call T U G C) : Type 0 where
+record IsOwn {T U G C : Type 0} (call : Call T U G C) : Type 0 where
   pub offer : (offer : Offer G) → offer_after offer call ≡ offer
   pub last : inserted_by call ≡ 0
   pub client : (before : ServerState T U G C) → NumbersClient before call
@@ -33,6 +34,40 @@ pub record IsOwn {T U G C : Type 0} (call : Call T U G C) : Type 0 where
   pub room : (before : ServerState T U G C) → AsksForRoom before call
   pub growth : lacks_growth call ≡ false
   pub notes : (before after : ServerState T U G C) → MakesNotes before after → NotesGoOn before call after
+
+-- whether this is such a call; all but seven are
+abbrev pub is_own : {T U G C : Type 0} → Step T U G C → Reply T U → Bool
+is_own (step.InsertClient _ _) answer = false
+is_own (step.CreateGlobal _ _ _) answer = false
+is_own (step.DisableGlobal _) answer = false
+is_own (step.RemoveGlobal _) answer = false
+is_own (step.SetDefaultMaxBufferSize _) answer = false
+is_own step.Cleanup answer = false
+is_own step.TakeNotes answer = false
+is_own s answer = not (lacks_growth (Asked s answer))
+
+not_true : (b : Bool) → not b ≡ true → b ≡ false
+not_true false h = refl
+not_true true h = absurd (false≢true h)
+
+own_of : {T U G C : Type 0} (s : Step T U G C) (answer : Reply T U) → is_own s answer ≡ true → IsOwn (Asked s answer)
+own_of (step.InsertClient _ _) answer h = absurd (false≢true h)
+own_of (step.CreateGlobal _ _ _) answer h = absurd (false≢true h)
+own_of (step.DisableGlobal _) answer h = absurd (false≢true h)
+own_of (step.RemoveGlobal _) answer h = absurd (false≢true h)
+own_of (step.SetDefaultMaxBufferSize _) answer h = absurd (false≢true h)
+own_of step.Cleanup answer h = absurd (false≢true h)
+own_of step.TakeNotes answer h = absurd (false≢true h)
+own_of s answer h = record {
+  offer = λ o. refl;
+  last = refl;
+  client = λ b. tt;
+  global = λ o. tt;
+  order = tt;
+  room = λ b. tt;
+  growth = not_true (lacks_growth (Asked s answer)) h;
+  notes = λ b a h. h;
+}
 
 -- a server of these values
 abbrev pub held_by : {T U G C : Type 0} → List InterfaceRow → Store (KeptGlobal G) → ℕ → ℕ → ℕ → List (Option (Stored T U C)) → List (Note U) → NoteNumbers → ServerState T U G C
@@ -44,10 +79,13 @@ held_by table globals last_global default_limit last_client clients notes number
   numbers = numbers;
 }
 
-module _ {T U G C : Type 0} (w : World T G C) (before : ServerState T U G C) (s : Step T U G C) (answer : Reply T U) (own : IsOwn (Asked s answer)) (target : ClientParts)
+module _ {T U G C : Type 0} (w : World T G C) (before : ServerState T U G C) (s : Step T U G C) (answer : Reply T U) (is_one : is_own s answer ≡ true) (target : ClientParts)
     (R : Kind T U C) (missing : Type 0)
     (to : (id : ClientParts) (lacked : Bool) (did : List (Deed U)) (b a : Seen T U C) → OfClient (same_client target id) b (λ p q. R id p lacked did q) missing lacked did a
     → PartStep w id before.offer s answer b lacked did a) where
+  own : IsOwn (Asked s answer)
+  own = own_of s answer is_one
+
   abbrev with_clients : List (Option (Stored T U C)) → NoteNumbers → ServerState T U G C
   with_clients clients numbers = record before { clients = clients; numbers = numbers }
 

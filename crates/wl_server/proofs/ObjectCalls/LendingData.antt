@@ -21,7 +21,7 @@ use Rattle.wl_server.proofs.CallSteps.Slots.{slot_of_client}
 use Rattle.wl_server.proofs.CallSteps.Numbering.{in_time_none}
 use Rattle.wl_server.proofs.CleanupSteps.Gathering.{set_itself}
 use Rattle.wl_server.proofs.Plain.Data.{sets_object_data}
-use Rattle.wl_server.proofs.ObjectCalls.Setting.{own, set_does, sets}
+use Rattle.wl_server.proofs.ObjectCalls.Setting.{set_does, sets}
 
 abbrev data_in : {U : Type 0} → Option (Object (Kept U)) → Option U
 data_in found = and_then found (λ x. x.value.user_data)
@@ -62,7 +62,7 @@ module _ {T U G C R : Type 0} (call : U → R → U → Type 0) (w : World T G C
     set_to : (x : Object (Kept U)) (left : U) (store : Store (Kept U)) → named s.part.store o ≡ Some x → store ≡ rewritten s.part.store o.number (with_user_data left x)
         → Calls w (record { server = before; refused = was }) (step.SetObjectData o left) (reply.SetObjectData (Ok tt)) (at_slot (having store))
     set_to x left store found written =
-        done_to _ _ _ _ (own o left (Ok tt)) o.client (sets o left (Ok tt)) (◌≡◌ {A = Result (Unit {0}) InvalidId} (Ok tt) (Err _))
+        done_to _ _ _ _ refl o.client (sets o left (Ok tt)) (◌≡◌ {A = Result (Unit {0}) InvalidId} (Ok tt) (Err _))
         (λ i l d b a h. (_, refl, h)) read s (having store) false same there
         (set_does s o left (Ok tt) store (rw found refl) (rw found written)) before.numbers (in_time_none s.times before.numbers) (λ is. is) all
 

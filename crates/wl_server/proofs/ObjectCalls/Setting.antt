@@ -8,20 +8,13 @@ use Rattle.wl_server.specs.Finish.{data_given}
 use Rattle.wl_server.specs.Ids.{IdParts}
 use Rattle.wl_server.specs.Objects.{DataSet}
 use Rattle.wl_server.specs.Part.{Part, named}
-use Rattle.wl_server.specs.PartStep.{Asked, Quietly}
+use Rattle.wl_server.specs.PartStep.{Quietly}
 use Rattle.wl_server.specs.Server.{Stored, no_times}
-use Rattle.wl_server.specs.declared.runs.step.Reply.TheVariants as reply
-use Rattle.wl_server.specs.declared.runs.step.Step.TheVariants as step
-use Rattle.wl_server.proofs.CallSteps.OneClient.{IsOwn}
 use Rattle.wl_server.proofs.CallSteps.Doing.{does_quietly}
 use Rattle.wl_server.proofs.CallSteps.Slots.{Kind}
 
 abbrev pub sets : {T U C : Type 0} → IdParts → U → Result (Unit {0}) InvalidId → Kind T U C
 sets o u answer id p lacked did q = Quietly lacked did (DataSet p o u answer q)
-
-pub own : {T U G C : Type 0} (o : IdParts) (u : U) (answer : Result (Unit {0}) InvalidId)
-    → IsOwn {T = T} {U = U} {G = G} {C = C} (Asked (step.SetObjectData o u) (reply.SetObjectData answer))
-own o u answer = record { offer = λ o. refl; last = refl; client = λ b. tt; global = λ o. tt; order = tt; room = λ b. tt; growth = refl; notes = λ b a h. h }
 
 -- a store is given data: so a part is
 data_set : {T U C : Type 0} (p : Part T U C) (id : IdParts) (u : U) (answer : Result (Unit {0}) InvalidId) (store : Store (Kept U))

@@ -6,12 +6,10 @@ use Rattle.wl_server.specs.declared.error.CreateError.TheVariants as create
 use Rattle.wl_server.specs.Inside.Client.{Does}
 use Rattle.wl_server.specs.Ids.{ClientParts, IdParts}
 use Rattle.wl_server.specs.Objects.{Creates}
-use Rattle.wl_server.specs.PartStep.{Asked, lacks_create}
+use Rattle.wl_server.specs.PartStep.{lacks_create}
 use Rattle.wl_server.specs.Server.{Stored}
-use Rattle.wl_server.specs.declared.runs.step.Reply.TheVariants as reply
-use Rattle.wl_server.specs.declared.runs.step.Step.TheVariants as step
 use Rattle.wl_server.proofs.CallSteps.Numbering.{in_time_same, numbered_at, numbers_stay}
-use Rattle.wl_server.proofs.CallSteps.OneClient.{IsOwn, done_to, none_stored}
+use Rattle.wl_server.proofs.CallSteps.OneClient.{done_to, none_stored}
 use Rattle.wl_server.proofs.CallSteps.Slots.{Kind}
 use Rattle.wl_server.proofs.CleanupSteps.Taken.{slots_set}
 use Rattle.wl_server.proofs.Plain.Creation.{creates_object}
@@ -19,10 +17,6 @@ use Rattle.wl_server.proofs.backend.Backend.create_object.Goals as goal
 
 abbrev creates : {T U C : Type 0} → List InterfaceRow → InterfaceId → ℕ → U → Result IdParts CreateError → Kind T U C
 creates table i version u answer id p lacked did q = (lacked ≡ lacks_create answer) × (did ≡ []) × Creates table id p i version u answer q
-
-own : {T U G C : Type 0} (id : ClientParts) (i : InterfaceId) (version : ℕ) (u : U) (answer : Result IdParts CreateError)
-    → IsOwn {T = T} {U = U} {G = G} {C = C} (Asked (step.CreateObject id i version u) (reply.CreateObject answer))
-own id i version u answer = record { offer = λ o. refl; last = refl; client = λ b. tt; global = λ o. tt; order = tt; room = λ b. tt; growth = refl; notes = λ b a h. h }
 
 -- with whether memory was refused
 does : {T U C : Type 0} (table : List InterfaceRow) (id : ClientParts) (before after : Stored T U C) (i : InterfaceId) (version : ℕ) (u : U) (answer : Result IdParts CreateError)
@@ -32,12 +26,12 @@ does table id before after i version u answer lacked refused (did, q, (none, mak
 
 pub returns-in_default-clause-call : goal.returns-in_default-clause-call
 returns-in_default-clause-call g c = rw (← c.self.view_is)
-    (none_stored _ _ _ _ (own _ _ _ _ _) c.args.client.now (creates _ c.args.interface c.args.version c.args.user_data (Err create.InvalidId))
+    (none_stored _ _ _ _ refl c.args.client.now (creates _ c.args.interface c.args.version c.args.user_data (Err create.InvalidId))
     (◌≡◌ {A = Result IdParts CreateError} (Err create.InvalidId) (Err create.InvalidId)) (λ i l d b a h. (_, refl, h)) _ refl c.in_default.ensures.value refl c.self.invariant.2)
 
 pub returns-clause-call : goal.returns-clause-call
 returns-clause-call g c = rw (← c.self.view_is)
-    (done_to _ _ _ _ (own _ _ _ _ _) c.args.client.now (creates _ c.args.interface c.args.version c.args.user_data c.create_object-answer.result)
+    (done_to _ _ _ _ refl c.args.client.now (creates _ c.args.interface c.args.version c.args.user_data c.create_object-answer.result)
     (c.create_object-answer.result ≡ Err create.InvalidId) (λ i l d b a h. (_, refl, h)) _ c.in-Some.stored.now c.create_object-answer.new.self
     c.lacks_memory-self-inside.result refl c.in-Some.ensures.value
     (does c.self.inside.protocol c.args.client.now c.in-Some.stored.now c.create_object-answer.new.self c.args.interface c.args.version c.args.user_data c.create_object-answer.result _ c.lacks_memory-self-inside.ensures c.create_object-answer.ensures.does) _ (in_time_same _ _ _ _ c.create_object-answer.ensures.times refl) c.create_object-answer.ensures.numbered c.self.invariant.2)

@@ -7,12 +7,9 @@ use Rattle.wl_server.specs.Inside.Client.{Does}
 use Rattle.wl_server.specs.Inside.Destruction.{lacks_destroy}
 use Rattle.wl_server.specs.Ids.{IdParts}
 use Rattle.wl_server.specs.Objects.{Destroys}
-use Rattle.wl_server.specs.PartStep.{Asked}
 use Rattle.wl_server.specs.Server.{Stored}
-use Rattle.wl_server.specs.declared.runs.step.Reply.TheVariants as reply
-use Rattle.wl_server.specs.declared.runs.step.Step.TheVariants as step
 use Rattle.wl_server.proofs.CallSteps.Numbering.{numbered_at, numbers_set}
-use Rattle.wl_server.proofs.CallSteps.OneClient.{IsOwn, done_to, none_stored}
+use Rattle.wl_server.proofs.CallSteps.OneClient.{done_to, none_stored}
 use Rattle.wl_server.proofs.CallSteps.Slots.{Kind}
 use Rattle.wl_server.proofs.CleanupSteps.Taken.{slots_set}
 use Rattle.wl_server.proofs.Plain.Destruction.{destroys_object}
@@ -20,10 +17,6 @@ use Rattle.wl_server.proofs.backend.Backend.destroy_object.Goals as goal
 
 abbrev destroys : {T U C : Type 0} → (T → Queue → Result ℕ IoFault → T → Type 0) → IdParts → Result (Unit {0}) DestroyError → Kind T U C
 destroys sends o answer id p lacked did q = Destroys sends id p o answer lacked did q
-
-own : {T U G C : Type 0} (o : IdParts) (answer : Result (Unit {0}) DestroyError)
-    → IsOwn {T = T} {U = U} {G = G} {C = C} (Asked (step.DestroyObject o) (reply.DestroyObject answer))
-own o answer = record { offer = λ o. refl; last = refl; client = λ b. tt; global = λ o. tt; order = tt; room = λ b. tt; growth = refl; notes = λ b a h. h }
 
 -- with whether memory was refused
 does : {T U C : Type 0} (sends : T → Queue → Result ℕ IoFault → T → Type 0) (o : IdParts) (before after : Stored T U C) (answer : Result (Unit {0}) DestroyError)
@@ -33,12 +26,12 @@ does sends o before after answer lacked is done = subst (λ (b : Bool). Does bef
 
 pub returns-in_default-clause-call : goal.returns-in_default-clause-call
 returns-in_default-clause-call g c = rw (← c.self.view_is)
-    (none_stored _ _ _ _ (own _ _) c.args.id.now.client (destroys _ c.args.id.now (Err destroy.InvalidId)) (◌≡◌ {A = Result (Unit {0}) DestroyError} (Err destroy.InvalidId) (Err destroy.InvalidId))
+    (none_stored _ _ _ _ refl c.args.id.now.client (destroys _ c.args.id.now (Err destroy.InvalidId)) (◌≡◌ {A = Result (Unit {0}) DestroyError} (Err destroy.InvalidId) (Err destroy.InvalidId))
     (λ i l d b a h. (_, refl, h)) _ c.client-client.ensures c.in_default.ensures.value refl c.self.invariant.2)
 
 pub returns-clause-call : goal.returns-clause-call
 returns-clause-call g c = rw (← c.self.view_is)
-    (done_to _ _ _ _ (own _ _) c.args.id.now.client (destroys g.T.Transport.sends c.args.id.now c.destroy_object-answer.result) (c.destroy_object-answer.result ≡ Err destroy.InvalidId)
+    (done_to _ _ _ _ refl c.args.id.now.client (destroys g.T.Transport.sends c.args.id.now c.destroy_object-answer.result) (c.destroy_object-answer.result ≡ Err destroy.InvalidId)
     (λ i l d b a h. (_, refl, h)) _ c.in-Some.client.now c.destroy_object-answer.new.self c.lacks_memory-self-inside.result
     c.client-client.ensures c.in-Some.ensures.value (does g.T.Transport.sends c.args.id.now c.in-Some.client.now c.destroy_object-answer.new.self c.destroy_object-answer.result _ c.lacks_memory-self-inside.ensures c.destroy_object-answer.ensures.does) _ c.destroy_object-answer.ensures.in_time c.destroy_object-answer.ensures.numbered c.self.invariant.2)
 

@@ -9,11 +9,7 @@ use Rattle.wl_server.specs.declared.error.FinishError.TheVariants as finish
 use Rattle.wl_server.specs.declared.error.FinishRefused.{FinishRefused}
 use Rattle.wl_server.specs.Finish.{FinishesRequest}
 use Rattle.wl_server.specs.Inside.Finishing.{lacks_finish}
-use Rattle.wl_server.specs.Ids.{ClientParts}
-use Rattle.wl_server.specs.PartStep.{Asked}
-use Rattle.wl_server.specs.declared.runs.step.Reply.TheVariants as reply
-use Rattle.wl_server.specs.declared.runs.step.Step.TheVariants as step
-use Rattle.wl_server.proofs.CallSteps.OneClient.{IsOwn, done_to, none_stored}
+use Rattle.wl_server.proofs.CallSteps.OneClient.{done_to, none_stored}
 use Rattle.wl_server.proofs.CallSteps.Slots.{Kind}
 use Rattle.wl_server.proofs.CleanupSteps.Taken.{slots_set}
 use Rattle.wl_server.proofs.Plain.Requests.{ends_open_request}
@@ -24,22 +20,18 @@ use Rattle.wl_server.proofs.backend.Backend.finish_request_returning.Goals as go
 abbrev finishes : {T U C : Type 0} → (T → Queue → Result ℕ IoFault → T → Type 0) → Option U → Result (Unit {0}) (FinishRefused (Option U)) → Kind T U C
 finishes sends u answer id p lacked did q = FinishesRequest sends id p u answer lacked did q
 
-own : {T U G C : Type 0} (id : ClientParts) (u : Option U) (answer : Result (Unit {0}) (FinishRefused (Option U)))
-    → IsOwn {T = T} {U = U} {G = G} {C = C} (Asked (step.FinishRequest id u) (reply.FinishRequest answer))
-own id u answer = record { offer = λ o. refl; last = refl; client = λ b. tt; global = λ o. tt; order = tt; room = λ b. tt; growth = refl; notes = λ b a h. h }
-
 abbrev Unknown : {U : Type 0} → Option U → Result (Unit {0}) (FinishRefused (Option U)) → Type 0
 Unknown u answer = answer ≡ Err (record { error = finish.InvalidId; user_data = u })
 
 pub returns-in_default-clause-call : goal.returns-in_default-clause-call
 returns-in_default-clause-call g c = rw (← c.self.view_is)
-    (none_stored _ _ _ _ (own _ _ _) c.args.client.now (finishes g.T.Transport.sends c.args.user_data (Err (record { error = finish.InvalidId; user_data = c.args.user_data })))
+    (none_stored _ _ _ _ refl c.args.client.now (finishes g.T.Transport.sends c.args.user_data (Err (record { error = finish.InvalidId; user_data = c.args.user_data })))
     (Unknown c.args.user_data (Err (record { error = finish.InvalidId; user_data = c.args.user_data }))) (λ i l d b a h. (_, refl, h))
     _ refl c.in_default.ensures.value refl c.self.invariant.2)
 
 pub returns-clause-call : goal.returns-clause-call
 returns-clause-call g c = rw (← c.self.view_is, c.lacks_memory-self-inside.ensures)
-    (done_to _ _ _ _ (own _ _ _) c.args.client.now (finishes g.T.Transport.sends c.args.user_data (result_and c.finish_request-answer.result (Ok tt)))
+    (done_to _ _ _ _ refl c.args.client.now (finishes g.T.Transport.sends c.args.user_data (result_and c.finish_request-answer.result (Ok tt)))
     (Unknown c.args.user_data (result_and c.finish_request-answer.result (Ok tt))) (λ i l d b a h. (_, refl, h)) _ c.in-Some.stored.now
     c.finish_request-answer.new.self (lacks_finish (result_and c.finish_request-answer.result (Ok tt))) refl c.in-Some.ensures.value c.finish_request-answer.ensures.done _ c.finish_request-answer.ensures.in_time c.finish_request-answer.ensures.numbered c.self.invariant.2)
 

@@ -7,15 +7,12 @@ use Rattle.wl_server.specs.declared.runs.step.Reply.TheVariants as reply
 use Rattle.wl_server.specs.declared.runs.step.Step.TheVariants as step
 use Rattle.wl_server.specs.NoteOrder.{HasNumbers}
 use Rattle.wl_server.proofs.CallSteps.Numbering.{all_same, in_time_same, numbered_at, numbers_stay}
-use Rattle.wl_server.proofs.CallSteps.OneClient.{IsOwn, done_to, none_stored}
+use Rattle.wl_server.proofs.CallSteps.OneClient.{done_to, none_stored}
 use Rattle.wl_server.proofs.CallSteps.Feeling.{IsFelt, felt_call}
 use Rattle.wl_server.proofs.CleanupSteps.Taken.{slots_set, taken_felt}
 use Rattle.wl_server.proofs.Plain.Sending.{flushes_clients}
 use Rattle.wl_server.proofs.backend.Backend.flush.Goals as goal
 use Rattle.wl_server.specs.Server.{NoteTimes}
-
-own : {T U G C : Type 0} (client : Option ClientParts) (answer : _) → IsOwn {T = T} {U = U} {G = G} {C = C} (Asked (step.Flush client) (reply.Flush answer))
-own client answer = record { offer = λ o. refl; last = refl; client = λ b. tt; global = λ o. tt; order = tt; room = λ b. tt; growth = refl; notes = λ b a h. h }
 
 felt : {T U G C : Type 0} (client : Option ClientParts) (answer : _) → IsFelt {T = T} {U = U} {G = G} {C = C} (Asked (step.Flush client) (reply.Flush answer))
 felt client answer = record { last = refl; client = λ b. tt; order = tt; room = λ b. tt; notes = λ b a h. h }
@@ -42,7 +39,7 @@ invariant_of-self g c =
 
 pub returns-in_default-stored_mut-clause-call : goal.returns-in_default-stored_mut-clause-call
 returns-in_default-stored_mut-clause-call g c = rw (← c.self.view_is, c.in-Some.is)
-    (none_stored _ _ _ _ (own _ _) c.in-Some.id (λ i p lacked did q. FlushedTo g.T.Transport.sends p (Ok tt) lacked did q) (Ok tt ≡ Ok tt) (λ i l d b a h. (_, refl, h))
+    (none_stored _ _ _ _ refl c.in-Some.id (λ i p lacked did q. FlushedTo g.T.Transport.sends p (Ok tt) lacked did q) (Ok tt ≡ Ok tt) (λ i l d b a h. (_, refl, h))
     _ refl c.in_default-stored_mut.ensures.value refl c.self.invariant.2)
 
 pub returns-clause-call : goal.returns-clause-call
@@ -51,7 +48,7 @@ returns-clause-call g c =
     subst (λ (l : Bool). Does c.in-Some-stored_mut.client.now (λ p did q. FlushedTo g.T.Transport.sends p c.flush-answer.result l did q) c.flush-answer.new.self)
     (sym c.is_out_of_memory-self-inside.ensures) c.flush-answer.ensures.flushed in
     rw (← c.self.view_is, c.in-Some.is)
-    (done_to _ _ _ _ (own _ _) c.in-Some.id (λ i p lacked did q. FlushedTo g.T.Transport.sends p c.flush-answer.result lacked did q) (c.flush-answer.result ≡ Ok tt) (λ i l d b a h. (_, refl, h))
+    (done_to _ _ _ _ refl c.in-Some.id (λ i p lacked did q. FlushedTo g.T.Transport.sends p c.flush-answer.result lacked did q) (c.flush-answer.result ≡ Ok tt) (λ i l d b a h. (_, refl, h))
     _ c.in-Some-stored_mut.client.now c.flush-answer.new.self c.is_out_of_memory-self-inside.result refl c.in-Some-stored_mut.ensures.value does _ (in_time_same _ _ _ _ c.flush-answer.ensures.times refl) c.flush-answer.ensures.numbered c.self.invariant.2)
 
 pub invariant_of-self-in_default-stored_mut : goal.invariant_of-self-in_default-stored_mut

@@ -9,10 +9,7 @@ use Rattle.wl_wire.specs.Table.{InterfaceRow}
 use Rattle.wl_link.specs.Exchange.{Queue}
 use Rattle.wl_server.specs.Errors.{PostsError}
 use Rattle.wl_server.specs.Ids.{IdParts}
-use Rattle.wl_server.specs.PartStep.{Asked}
-use Rattle.wl_server.specs.declared.runs.step.Reply.TheVariants as reply
-use Rattle.wl_server.specs.declared.runs.step.Step.TheVariants as step
-use Rattle.wl_server.proofs.CallSteps.OneClient.{IsOwn, done_to, none_stored}
+use Rattle.wl_server.proofs.CallSteps.OneClient.{done_to, none_stored}
 use Rattle.wl_server.proofs.CallSteps.Slots.{Kind, stored_by}
 use Rattle.wl_server.proofs.CleanupSteps.Taken.{slots_set}
 use Rattle.wl_server.proofs.Plain.Errors.{kills_for_error}
@@ -25,17 +22,14 @@ mapped_some f None = refl
 abbrev posts : {T U C : Type 0} → (T → Queue → Result ℕ IoFault → T → Type 0) → List InterfaceRow → IdParts → ℕ → List ℕ → Kind T U C
 posts sends table o code text id p lacked did q = PostsError sends table p o code text lacked did q
 
-own : {T U G C : Type 0} (o : IdParts) (code : ℕ) (text : List ℕ) → IsOwn {T = T} {U = U} {G = G} {C = C} (Asked (step.PostError o code text) reply.PostError)
-own o code text = record { offer = λ o. refl; last = refl; client = λ b. tt; global = λ o. tt; order = tt; room = λ b. tt; growth = refl; notes = λ b a h. h }
-
 pub returns-in_default-clause-call : goal.returns-in_default-clause-call
 returns-in_default-clause-call g c = rw (← c.self.view_is)
-    (none_stored _ _ _ _ (own _ _ _) c.args.id.now.client (posts g.T.Transport.sends c.self.inside.protocol c.args.id.now c.args.code c.args.text) (Unit {0})
+    (none_stored _ _ _ _ refl c.args.id.now.client (posts g.T.Transport.sends c.self.inside.protocol c.args.id.now c.args.code c.args.text) (Unit {0})
     (λ i l d b a h. (refl, h)) _ c.client-client.ensures c.in_default.ensures.value tt c.self.invariant.2)
 
 pub returns-clause-call : goal.returns-clause-call
 returns-clause-call g c = rw (← c.self.view_is)
-    (done_to _ _ _ _ (own _ _ _) c.args.id.now.client (posts g.T.Transport.sends c.self.inside.protocol c.args.id.now c.args.code c.args.text) (Unit {0})
+    (done_to _ _ _ _ refl c.args.id.now.client (posts g.T.Transport.sends c.self.inside.protocol c.args.id.now c.args.code c.args.text) (Unit {0})
     (λ i l d b a h. (refl, h)) _ c.in-Some.client.now c.post_error-self-inside.new.self c.post_error-self-inside.result
     c.client-client.ensures c.in-Some.ensures.value c.post_error-self-inside.ensures.does _ c.post_error-self-inside.ensures.in_time c.post_error-self-inside.ensures.numbered c.self.invariant.2)
 

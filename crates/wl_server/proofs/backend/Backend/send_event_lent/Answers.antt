@@ -6,13 +6,10 @@ use Rattle.wl_wire.specs.Table.{InterfaceRow}
 use Rattle.wl_link.specs.Exchange.{Queue}
 use Rattle.wl_server.specs.declared.error.EventError.{EventError}
 use Rattle.wl_server.specs.declared.error.EventError.TheVariants as refused
-use Rattle.wl_server.specs.declared.runs.step.Reply.TheVariants as reply
-use Rattle.wl_server.specs.declared.runs.step.Step.TheVariants as step
 use Rattle.wl_server.specs.Events.{SendsEvent, session_content}
 use Rattle.wl_server.specs.Ids.{IdParts}
-use Rattle.wl_server.specs.PartStep.{Asked}
 use Rattle.wl_server.proofs.CallSteps.Numbering.{numbered_at, numbers_set}
-use Rattle.wl_server.proofs.CallSteps.OneClient.{IsOwn, done_to, none_stored}
+use Rattle.wl_server.proofs.CallSteps.OneClient.{done_to, none_stored}
 use Rattle.wl_server.proofs.CallSteps.Slots.{Kind}
 use Rattle.wl_server.proofs.CleanupSteps.Taken.{slots_set}
 use Rattle.wl_server.proofs.Plain.Events.{emits_event}
@@ -21,20 +18,17 @@ use Rattle.wl_server.proofs.backend.Backend.send_event_lent.Goals as goal
 abbrev sends_event : {T U C : Type 0} → (T → Queue → Result ℕ IoFault → T → Type 0) → List InterfaceRow → Message IdParts Token → Result (Unit {0}) EventError → Kind T U C
 sends_event sends table m answer id p lacked did q = SendsEvent sends id table p (session_content m) answer lacked did q
 
-own : {T U G C : Type 0} (m : Message IdParts Token) (answer : Result (Unit {0}) EventError) → IsOwn {T = T} {U = U} {G = G} {C = C} (Asked (step.SendEvent m) (reply.SendEvent answer))
-own m answer = record { offer = λ o. refl; last = refl; client = λ b. tt; global = λ o. tt; order = tt; room = λ b. tt; growth = refl; notes = λ b a h. h }
-
 abbrev unknown : Result (Unit {0}) EventError
 unknown = Err refused.InvalidId
 
 pub returns-in_default-clause-call : goal.returns-in_default-clause-call
 returns-in_default-clause-call g c = rw (← c.self.view_is)
-    (none_stored _ _ _ _ (own _ _) c.args.message.now.sender_id.client (sends_event g.T.Transport.sends c.self.inside.protocol c.args.message.now unknown) (unknown ≡ unknown)
+    (none_stored _ _ _ _ refl c.args.message.now.sender_id.client (sends_event g.T.Transport.sends c.self.inside.protocol c.args.message.now unknown) (unknown ≡ unknown)
     (λ i l d b a h. (unknown, refl, h)) _ c.client-id.ensures c.in_default.ensures.value refl c.self.invariant.2)
 
 pub returns-clause-call : goal.returns-clause-call
 returns-clause-call g c = rw (← c.self.view_is)
-    (done_to _ _ _ _ (own _ _) c.args.message.now.sender_id.client (sends_event g.T.Transport.sends c.self.inside.protocol c.args.message.now c.send_event-answer.result.0)
+    (done_to _ _ _ _ refl c.args.message.now.sender_id.client (sends_event g.T.Transport.sends c.self.inside.protocol c.args.message.now c.send_event-answer.result.0)
     (c.send_event-answer.result.0 ≡ unknown) (λ i l d b a h. (c.send_event-answer.result.0, refl, h))
     _ c.in-Some.client.now c.send_event-answer.new.self c.send_event-answer.result.1
     c.client-id.ensures c.in-Some.ensures.value

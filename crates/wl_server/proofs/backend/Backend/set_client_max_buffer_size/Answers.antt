@@ -2,14 +2,11 @@ use Rattle.std.proofs.Common.{◌≡◌, ℕ, List, Some, false, refl, sym, subs
 use Rattle.wl_link.specs.Link.{LinkState, LimitSet}
 use Rattle.wl_server.specs.Inside.Client.{Does}
 use Rattle.wl_server.specs.Deeds.{Deed}
-use Rattle.wl_server.specs.Ids.{ClientParts}
 use Rattle.wl_server.specs.Part.{Part, with_link}
-use Rattle.wl_server.specs.PartStep.{Asked, Quietly}
+use Rattle.wl_server.specs.PartStep.{Quietly}
 use Rattle.wl_server.specs.Server.{Stored, no_times}
-use Rattle.wl_server.specs.declared.runs.step.Reply.TheVariants as reply
-use Rattle.wl_server.specs.declared.runs.step.Step.TheVariants as step
 use Rattle.wl_server.proofs.CallSteps.Numbering.{in_time_same, numbered_at, numbers_stay}
-use Rattle.wl_server.proofs.CallSteps.OneClient.{IsOwn, done_to, none_stored}
+use Rattle.wl_server.proofs.CallSteps.OneClient.{done_to, none_stored}
 use Rattle.wl_server.proofs.CallSteps.Doing.{does_quietly}
 use Rattle.wl_server.proofs.CallSteps.Slots.{Kind}
 use Rattle.wl_server.proofs.CleanupSteps.Taken.{slots_set}
@@ -18,10 +15,6 @@ use Rattle.wl_server.proofs.backend.Backend.set_client_max_buffer_size.Goals as 
 
 abbrev limits : {T U C : Type 0} → ℕ → Kind T U C
 limits {T} limit id p lacked did q = Quietly lacked did ((link : LinkState T) × LimitSet p.link (Some limit) link × (q ≡ with_link p link))
-
-own : {T U G C : Type 0} (id : ClientParts) (limit : ℕ)
-    → IsOwn {T = T} {U = U} {G = G} {C = C} (Asked (step.SetClientMaxBufferSize id limit) reply.SetClientMaxBufferSize)
-own id limit = record { offer = λ o. refl; last = refl; client = λ b. tt; global = λ o. tt; order = tt; room = λ b. tt; growth = refl; notes = λ b a h. h }
 
 limit_set : {T U C : Type 0} (s : Stored T U C) (limit : ℕ) (before link : LinkState T) → s.part.link ≡ before → LimitSet before (Some limit) link
     → Does s (λ p did q. Quietly false did ((link : LinkState T) × LimitSet p.link (Some limit) link × (q ≡ with_link p link)))
@@ -34,12 +27,12 @@ limit_set {T} {U} {C} s limit before link is set =
 
 pub returns-in_default-clause-call : goal.returns-in_default-clause-call
 returns-in_default-clause-call g c = rw (← c.self.view_is)
-    (none_stored _ _ _ _ (own _ _) c.args.client.now (limits c.args.max_buffer_size) (Unit {0}) (λ i l d b a h. (refl, h))
+    (none_stored _ _ _ _ refl c.args.client.now (limits c.args.max_buffer_size) (Unit {0}) (λ i l d b a h. (refl, h))
     _ refl c.in_default.ensures.value tt c.self.invariant.2)
 
 pub returns-clause-call : goal.returns-clause-call
 returns-clause-call g c = rw (← c.self.view_is)
-    (done_to _ _ _ _ (own _ _) c.args.client.now (limits c.args.max_buffer_size) (Unit {0}) (λ i l d b a h. (refl, h))
+    (done_to _ _ _ _ refl c.args.client.now (limits c.args.max_buffer_size) (Unit {0}) (λ i l d b a h. (refl, h))
     _ c.in-Some.stored.now _ false refl c.in-Some.ensures.value
     (rw (← c.stored.view_is) (limit_set (record { serial = _; part = _; made = _; times = no_times }) c.args.max_buffer_size c.stored.inside.socket c.set_max_buffer_size.new.self refl c.set_max_buffer_size.ensures)) _ (in_time_same _ _ _ _ (ap (λ (s : Stored _ _ _). s.times) c.stored.view_is) refl) (λ is. (
       ap (λ (s : Stored _ _ _). length s.times.made) c.stored.view_is ∙ (is.0 ∙ sym (ap (λ (s : Stored _ _ _). length s.made) c.stored.view_is)),

@@ -1,4 +1,4 @@
-use Rattle.std.proofs.Common.{◌≡◌, Bool, Err, Result, List, [], refl, subst, ap, ◌∙◌, length, sym}
+use Rattle.std.proofs.Common.{◌≡◌, Bool, true, Err, Result, List, [], refl, subst, ap, ◌∙◌, length, sym}
 use Rattle.wl_link.specs.Script.{Script}
 use Rattle.wl_server.specs.declared.error.ScriptError.{ScriptError}
 use Rattle.wl_server.specs.declared.error.ScriptError.TheVariants as refused
@@ -8,11 +8,11 @@ use Rattle.wl_server.specs.Inside.Client.{Does}
 use Rattle.wl_server.specs.Deeds.{Deed}
 use Rattle.wl_server.specs.Ids.{ClientParts, same_client}
 use Rattle.wl_server.specs.Moves.{ScriptMoves, nothing_taken}
-use Rattle.wl_server.specs.PartStep.{Asked, OfClient, PartStep, WithTransport, lacks_move, over_scripts}
+use Rattle.wl_server.specs.PartStep.{OfClient, PartStep, WithTransport, lacks_move, over_scripts}
 use Rattle.wl_server.specs.Inside.Scripting.{Scripts, move_of, reply_to, step_of}
 use Rattle.wl_server.specs.Server.{Seen, ServerState, Stored, no_times}
 use Rattle.wl_server.proofs.CallSteps.Numbering.{in_time_same, numbered_at, numbers_stay}
-use Rattle.wl_server.proofs.CallSteps.OneClient.{IsOwn, done_to, held_by, none_stored}
+use Rattle.wl_server.proofs.CallSteps.OneClient.{is_own, done_to, held_by, none_stored}
 use Rattle.wl_server.proofs.CallSteps.Moved.{moved}
 use Rattle.wl_server.proofs.CallSteps.Slots.{Kind}
 use Rattle.wl_server.proofs.CleanupSteps.Taken.{slots_set}
@@ -21,10 +21,10 @@ use Rattle.wl_server.proofs.runs.script.Backend+Memory+U+G+C.script.Goals as goa
 abbrev scripts : {U C : Type 0} → ScriptCall → Result (Unit {0}) ScriptError → Kind Script U C
 scripts x answer id p lacked did q = (lacked ≡ lacks_move (nothing_taken answer)) × (did ≡ []) × WithTransport (λ t t'. ScriptMoves t (move_of x) (nothing_taken answer) t') p q
 
-own : {T U G C : Type 0} (id : ClientParts) (x : ScriptCall) (answer : Result (Unit {0}) ScriptError)
-    → IsOwn {T = T} {U = U} {G = G} {C = C} (Asked (step_of id x) (reply_to x answer))
-own id (call.Arrive bytes tokens) answer = record { offer = λ o. refl; last = refl; client = λ b. tt; global = λ o. tt; order = tt; room = λ b. tt; growth = refl; notes = λ b a h. h }
-own id _ answer = record { offer = λ o. refl; last = refl; client = λ b. tt; global = λ o. tt; order = tt; room = λ b. tt; growth = refl; notes = λ b a h. h }
+own : (T U G C : Type 0) (id : ClientParts) (x : ScriptCall) (answer : Result (Unit {0}) ScriptError)
+    → is_own {T = T} {U = U} {G = G} {C = C} (step_of id x) (reply_to x answer) ≡ true
+own T U G C id (call.Arrive bytes tokens) answer = refl
+own T U G C id _ answer = refl
 
 -- the step is that of its script's call, whichever it is
 to : {U G C : Type 0} (views : _) (before : ServerState Script U G C) (target : ClientParts) (x : ScriptCall) (answer : Result (Unit {0}) ScriptError) (id : ClientParts) (lacked : Bool)
@@ -43,7 +43,7 @@ returns-in_default g c =
     let i = c.self.inside in
     let before = held_by i.protocol i.globals.store i.last_global i.default_limit i.last_client i.clients.items i.notes.items i.numbers in
     rw (← c.self.view_is)
-    (none_stored (over_scripts g.G.GlobalHandler.views) before (step_of c.args.id.now c.args.call) (reply_to c.args.call (Err refused.InvalidId)) (own _ _ _) c.args.id.now
+    (none_stored (over_scripts g.G.GlobalHandler.views) before (step_of c.args.id.now c.args.call) (reply_to c.args.call (Err refused.InvalidId)) (own _ _ _ _ _ _ _) c.args.id.now
     (scripts c.args.call (Err refused.InvalidId)) (nothing_taken (Err refused.InvalidId) ≡ Err refused.InvalidId) (to g.G.GlobalHandler.views before c.args.id.now c.args.call (Err refused.InvalidId))
     _ refl c.in_default.ensures.value refl c.self.invariant.2)
 
@@ -53,7 +53,7 @@ returns g c =
     let before = held_by i.protocol i.globals.store i.last_global i.default_limit i.last_client i.clients.items i.notes.items i.numbers in
     let answer = c.make_move-answer.result in
     rw (← c.self.view_is, c.lacks_memory-self-inside.ensures)
-    (done_to (over_scripts g.G.GlobalHandler.views) before (step_of c.args.id.now c.args.call) (reply_to c.args.call answer) (own _ _ _) c.args.id.now (scripts c.args.call answer)
+    (done_to (over_scripts g.G.GlobalHandler.views) before (step_of c.args.id.now c.args.call) (reply_to c.args.call answer) (own _ _ _ _ _ _ _) c.args.id.now (scripts c.args.call answer)
     (nothing_taken answer ≡ Err refused.InvalidId) (to g.G.GlobalHandler.views before c.args.id.now c.args.call answer)
     _ c.in-Some.client.now _ (lacks_move (nothing_taken answer)) refl c.in-Some.ensures.value (does c.args.id.now c.args.call c.in-Some.client.now (record { serial = _; part = _; made = _; times = no_times }) answer
     (rw (← c.client.view_is)

@@ -1,17 +1,14 @@
-use Rattle.std.proofs.Common.{◌≡◌, ◌∙◌, Ok, Err, List, Result, [], false, refl, sym, ap, length}
-use Rattle.wl_server.specs.declared.error.InvalidId.{InvalidId}
-use Rattle.wl_server.specs.declared.runs.step.Reply.TheVariants as reply
-use Rattle.wl_server.specs.declared.runs.step.Step.TheVariants as step
+use Rattle.std.proofs.Common.{◌≡◌, ◌∙◌, Ok, Err, List, [], false, refl, sym, ap, length}
 use Rattle.wl_link.specs.Exchange.{Queue}
 use Rattle.wl_link.specs.Script.{Script}
 use Rattle.wl_server.specs.Inside.Client.{Does}
 use Rattle.wl_server.specs.Ids.{ClientParts}
 use Rattle.wl_server.specs.Moves.{Moved, ScriptMoves, TakeSent, taken}
-use Rattle.wl_server.specs.PartStep.{Asked, WithTransport, lacks_move}
+use Rattle.wl_server.specs.PartStep.{WithTransport, lacks_move}
 use Rattle.wl_server.specs.Inside.Scripting.{Scripts}
 use Rattle.wl_server.specs.Server.{Stored, no_times}
 use Rattle.wl_server.proofs.CallSteps.Numbering.{in_time_same, numbered_at, numbers_stay}
-use Rattle.wl_server.proofs.CallSteps.OneClient.{IsOwn, done_to, none_stored}
+use Rattle.wl_server.proofs.CallSteps.OneClient.{done_to, none_stored}
 use Rattle.wl_server.proofs.CallSteps.Moved.{moved}
 use Rattle.wl_server.proofs.CallSteps.Slots.{Kind}
 use Rattle.wl_server.proofs.CleanupSteps.Taken.{slots_set}
@@ -20,16 +17,13 @@ use Rattle.wl_server.proofs.runs.script.Backend+Memory+U+G+C.take_sent.Goals as 
 abbrev takes : {U C : Type 0} → Moved → Kind Script U C
 takes answer id p lacked did q = (lacked ≡ lacks_move answer) × (did ≡ []) × WithTransport (λ t t'. ScriptMoves t TakeSent answer t') p q
 
-own : {T U G C : Type 0} (id : ClientParts) (answer : Result _ InvalidId) → IsOwn {T = T} {U = U} {G = G} {C = C} (Asked (step.TakeSent id) (reply.TakeSent answer))
-own id answer = record { offer = λ o. refl; last = refl; client = λ b. tt; global = λ o. tt; order = tt; room = λ b. tt; growth = refl; notes = λ b a h. h }
-
 does : {U C : Type 0} (id : ClientParts) (before after : Stored Script U C) (answer : Moved) → lacks_move answer ≡ false
     → Does before (λ p did q. (did ≡ []) × Scripts p TakeSent answer q) after → Does before (λ p did q. takes answer id p false did q) after
 does id before after answer calm (did, q, (none, moves), is) = (did, q, (sym calm, none, moves), is)
 
 pub returns-in_default : goal.returns-in_default
 returns-in_default g c = rw (← c.self.view_is)
-    (none_stored _ _ _ _ (own _ _) c.args.id.now (takes (taken (Err _))) _ (λ i l d b a h. (_, refl, h)) _ refl c.in_default.ensures.value refl c.self.invariant.2)
+    (none_stored _ _ _ _ refl c.args.id.now (takes (taken (Err _))) _ (λ i l d b a h. (_, refl, h)) _ refl c.in_default.ensures.value refl c.self.invariant.2)
 
 abbrev emptied : Script → Script
 emptied s = record s { sent = [] }
@@ -39,7 +33,7 @@ returns g c =
     let sent = c.take_sent.ensures.taken ∙ ap (λ (s : Script). s.sent) c.transport_mut.ensures.value in
     let rest : ◌≡◌ {A = Script} c.take_sent.new.self (record c.client.inside.socket.transport { sent = [] }) = c.take_sent.ensures.rest ∙ ap emptied c.transport_mut.ensures.value in
     rw (← c.self.view_is)
-    (done_to _ _ _ _ (own _ _) c.args.id.now (takes (taken (Ok c.take_sent.result))) _ (λ i l d b a h. (_, refl, h))
+    (done_to _ _ _ _ refl c.args.id.now (takes (taken (Ok c.take_sent.result))) _ (λ i l d b a h. (_, refl, h))
     _ c.in-Some.client.now _ false refl c.in-Some.ensures.value (does c.args.id.now c.in-Some.client.now (record { serial = _; part = _; made = _; times = no_times }) _ refl
     (rw (← c.client.view_is)
     (moved (record { serial = _; part = _; made = _; times = no_times }) (λ t t'. ScriptMoves t TakeSent (taken (Ok c.take_sent.result)) t') c.take_sent.new.self
