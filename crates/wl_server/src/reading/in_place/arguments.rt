@@ -67,7 +67,7 @@ fn copied_text(alloc: Global, bytes: &[u8]) -> Option<Option<CString>>
     let Some((last, text)) = bytes.split_last() else {
         return Some(None);
     };
-    if *last != 0 || text.contains(&0) {
+    if *last != 0 {
         return None;
     }
     let Ok(copy) = Vec::from_slice(alloc, text) else {

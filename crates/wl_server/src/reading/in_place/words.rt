@@ -163,7 +163,31 @@ pub fn empty(args: &mut Args<ObjectId>)
     }
 }
 
-/// Puts the arguments of the request, which are at most four words, into `args`, which is emptied first.
+/// Puts the arguments of the request, which are words, over those that are there, which are as many.
+#[inline(always)]
+fn replace_words<U: Drop>(
+    client: ClientId,
+    objects: &ObjectMap<Kept<U>>,
+    kinds: &[ArgumentType],
+    payload: &[u8],
+    args: &mut [Argument<ObjectId, Token>],
+)
+    requires as_many { length args.old ≡ length kinds.now }
+    requires words { 4 * length kinds.now ≤ length payload.now }
+    ensures { args.new ≡ handed_words client objects.now.store kinds.now payload.now }
+{
+    let mut at = 0usize;
+    let mut left = kinds;
+    let mut bytes = payload;
+    while let Some((kind, others)) = left.split_first() {
+        args[at] = handed_word(client, objects, *kind, first_word(bytes));
+        at += 1;
+        left = others;
+        bytes = bytes.split_at(4).1;
+    }
+}
+
+/// Puts the arguments of the request, which are at most four words, in place of those in `args`.
 pub fn put_words<U: Drop>(
     client: ClientId,
     objects: &ObjectMap<Kept<U>>,
@@ -176,11 +200,16 @@ pub fn put_words<U: Drop>(
     ensures put { args.new.items ≡ handed_words client objects.now.store desc.now.signature.items payload.now }
     ensures capacity { args.new.capacity ≡ args.old.capacity }
 {
+    let mut kinds = desc.signature.as_slice();
+    // A client often sends requests of as many arguments behind each other.
+    if args.len() == kinds.len() {
+        replace_words(client, objects, kinds, payload, args.as_mut_slice());
+        return;
+    }
     // There is always room for so many.
     let room = args.capacity();
     prove!(INLINE_ARGS <= room);
     empty(args);
-    let mut kinds = desc.signature.as_slice();
     let mut bytes = payload;
     while let Some((kind, others)) = kinds.split_first() {
         put_word(client, objects, *kind, first_word(bytes), args);
