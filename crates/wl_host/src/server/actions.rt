@@ -195,7 +195,9 @@ fn keep(ledger: &mut Ledger, action: &mut Action, needs: Needs, alloc: Global, o
     ledger.kept = Some(mem::replace(action, no_action(alloc)));
 }
 
-/// Writes the action to the lent memory, if that has room for it. Else it is kept in the client's ledger.
+/// Writes the action to the lent memory, if that has room for it. Else it is kept in the client's ledger. It is not inlined: among
+/// the code of its caller it would have too few registers.
+#[inline(never)]
 fn hand_out(
     core: &Core,
     ledger: &mut Ledger,
