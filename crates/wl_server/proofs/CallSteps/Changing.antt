@@ -21,8 +21,7 @@ module _ {T U G C : Type 0} (w : World T G C) (before : ServerState T U G C) (ta
   changes id p lacked did q = Quietly lacked did (WithTransport (λ _ t'. t' ≡ t) p q)
 
   none_lacks : (b : Bool) → lacks_at b false ≡ true → false ≡ true
-  none_lacks true is = is
-  none_lacks false is = is
+  none_lacks h1 is = grind (arith)
 
   changed_at : (c : Stored T U C) → slice_get before.clients target.slot ≡ Some (Some c) → c.serial ≡ target.serial → AllNumbered before.clients
       → Makes w before (Changed target t) false (record before { clients = slice_set before.clients target.slot (Some (over_transport c t)) })

@@ -1,7 +1,7 @@
 -- What all slots give, by the client that it is about.
 use Rattle.std.proofs.Common.{◌≡◌, ℕ, zero, suc, ◌+◌, ◌<◌, ◌≤◌, Bool, true, false, List, [], ◌∷◌, ◌++◌, length, get_or, map, Option, None, Some, refl, ap, subst, ◌∙◌, arith, append-nil}
 use Rattle.std.specs.FinMap.{entries}
-use Rattle.std.specs.Option.{option_map, option_map_or}
+use Rattle.std.specs.Option.{option_map_or}
 use Rattle.std.specs.Prelude.{AllPairs, ◌==◌, if◌then◌else◌, slice_get}
 use Rattle.std.proofs.lemmas.Bool.{eqb-true, ne_eqb}
 use Rattle.std.proofs.lemmas.Option.{slice_get-map}
@@ -25,19 +25,13 @@ module _ {T U C : Type 0} where
       (other : (n : ℕ) (x : Option (Stored T U C)) → (n == slot) ≡ false → part (give n x) ≡ []) where
     collected_past : (n : ℕ) (clients : List (Option (Stored T U C))) → slot < n → part (collected give n clients) ≡ []
     collected_past n [] past = none
-    collected_past n (x ∷ clients) past =
-        both (give n x) (collected give (n + 1) clients)
-        ∙ (ap (λ (l : List B). l ++ part (collected give (n + 1) clients)) (other n x (ne_eqb n slot (λ e. omega (arith, past, e))))
-        ∙ collected_past (n + 1) clients (omega (arith, past)))
+    collected_past n (x ∷ clients) past = grind (arith, collected, ne_eqb, collected_past (n + 1) clients)
 
     pub collected_at : (n k : ℕ) (clients : List (Option (Stored T U C))) → slot ≡ n + k
         → part (collected give n clients) ≡ option_map_or (λ x. part (give slot x)) (slice_get clients k) []
     collected_at n k [] at = none
     collected_at n zero (x ∷ clients) at = grind (arith, collected, collected_past, append-nil)
-    collected_at n (suc k) (x ∷ clients) at =
-        both (give n x) (collected give (n + 1) clients)
-        ∙ (ap (λ (l : List B). l ++ part (collected give (n + 1) clients)) (other n x (ne_eqb n slot (λ e. omega (arith, at, e))))
-        ∙ collected_at (n + 1) k clients (omega (arith, at)))
+    collected_at n (suc k) (x ∷ clients) at = grind (arith, collected, ne_eqb, collected_at (n + 1) k clients)
 
   -- ---- notes
 
@@ -68,37 +62,24 @@ module _ {T U C : Type 0} where
       collected_at (notes_of id) ends_at id.slot refl (notes_append id) (other_ends id) 0 id.slot clients (omega arith) ∙ at (slice_get clients id.slot)
     where
       at : (o : Option (Option (Stored T U C))) → option_map_or (λ x. notes_of id (ends_at id.slot x)) o [] ≡ ends_in id (if_serial id.serial (option_map_or (λ s. s) o None))
-      at None = refl
-      at (Some x) = own_ends id x
+      at h1 = grind (arith, own_ends)
 
   -- ---- transports
 
   other_given : (id : ClientParts) (n : ℕ) (x : Option (Stored T U C)) → (n == id.slot) ≡ false → share_of id (given_at n x) ≡ []
   other_given id n x h1 = grind (arith, id_in, same_slots)
 
-  own_given : (id : ClientParts) (x : Option (Stored T U C)) → share_of id (given_at id.slot x) ≡ given_in (if_serial id.serial x)
-  own_given id x = grind (arith, id_in, given_in, same_parts, same_self, same_serials)
-
   pub given_for : (id : ClientParts) (clients : List (Option (Stored T U C))) → share_of id (collected given_at 0 clients) ≡ given_in (client_at id clients)
   given_for id clients =
       collected_at (share_of id) given_at id.slot refl (share_append id) (other_given id) 0 id.slot clients (omega arith) ∙ at (slice_get clients id.slot)
     where
       at : (o : Option (Option (Stored T U C))) → option_map_or (λ x. share_of id (given_at id.slot x)) o [] ≡ given_in (if_serial id.serial (option_map_or (λ s. s) o None))
-      at None = refl
-      at (Some x) = own_given id x
+      at h1 = grind (arith, id_in, given_in, same_parts, same_self, same_serials)
 
   -- ---- who stays
 
-  staying_if : (serial : ℕ) (x : Option (Stored T U C)) → if_serial serial (staying x) ≡ staying (if_serial serial x)
-  staying_if serial x = grind (arith, if_serial, staying)
-
   pub staying_for : (id : ClientParts) (clients : List (Option (Stored T U C))) → client_at id (all_staying clients) ≡ staying (client_at id clients)
-  staying_for id clients =
-      ap (λ (o : Option (Option (Stored T U C))). if_serial id.serial (option_map_or (λ s. s) o None)) (slice_get-map staying clients id.slot) ∙ at (slice_get clients id.slot)
-    where
-      at : (o : Option (Option (Stored T U C))) → if_serial id.serial (option_map_or (λ s. s) (option_map staying o) None) ≡ staying (if_serial id.serial (option_map_or (λ s. s) o None))
-      at None = refl
-      at (Some x) = staying_if id.serial x
+  staying_for id clients = grind (arith, if_serial, option_map_or, slice_get-map, staying, slice_get)
 
 -- ---- the order
 
@@ -114,23 +95,17 @@ module _ {T : Type 0} where
   from_more n (e ∷ first) rest a b zero d below = a 0 d (omega arith)
   from_more n (e ∷ first) rest a b (suc j) d below = from_more n first rest (λ i d lt. a (suc i) d (omega (arith, lt))) b j d (omega (arith, below))
 
-  one_from : (n : ℕ) (i : ClientParts) (t : T) (b : Bool) → n ≡ i.slot → AreFrom n (if b then ((i, t) ∷ []) else [])
-  one_from n i t b h1 = grind (arith)
-
   one_rises : (n : ℕ) (i : ClientParts) (t : T) (c : Bool) (rest : List (ClientParts × T)) → n ≡ i.slot → AreFrom (n + 1) rest → Rises rest
       → Rises ((if c then ((i, t) ∷ []) else []) ++ rest)
   one_rises n i t c rest h1 h2 h3 = grind (arith)
 
 module _ {T U C : Type 0} where
   given_from : (n : ℕ) (x : Option (Stored T U C)) → AreFrom n (given_at n x)
-  given_from n None j d below = absurd (omega (arith, below))
-  given_from n (Some s) j d below = one_from n (id_in n s) s.part.link.transport s.part.is_killed refl j d below
+  given_from n h2 j d below = grind (arith, id_in)
 
   collected_from : (m n : ℕ) (clients : List (Option (Stored T U C))) → m ≤ n → AreFrom m (collected given_at n clients)
   collected_from m n [] le j d below = absurd (omega (arith, below))
-  collected_from m n (x ∷ clients) le j d below =
-      from_more m (given_at n x) (collected given_at (n + 1) clients) (λ i e lt. let from = given_from n x i e lt in omega (arith, from, le))
-      (collected_from m (n + 1) clients (omega (arith, le))) j d below
+  collected_from m n (x ∷ clients) le j d below = grind (arith, from_more, given_at, collected, given_from, collected_from m (n + 1) clients)
 
   rises_more : (n : ℕ) (x : Option (Stored T U C)) (rest : List (ClientParts × T)) → AreFrom (n + 1) rest → Rises rest → Rises (given_at n x ++ rest)
   rises_more n None rest from rises = rises
@@ -139,5 +114,4 @@ module _ {T U C : Type 0} where
   -- the clients that leave stand by slot
   pub given_rises : (n : ℕ) (clients : List (Option (Stored T U C))) → Rises (collected given_at n clients)
   given_rises n [] i j d less below = absurd (omega (arith, below))
-  given_rises n (x ∷ clients) i j d less below =
-      rises_more n x (collected given_at (n + 1) clients) (collected_from (n + 1) (n + 1) clients (omega arith)) (given_rises (n + 1) clients) i j d less below
+  given_rises n (x ∷ clients) i j d less below = grind (arith, rises_more, collected, given_at, collected_from, given_rises (n + 1) clients)

@@ -69,30 +69,16 @@ module _ {T U C : Type 0} (R : Kind T U C) where
 
       at : (k : ℕ) (b : Bool) → (k == slot) ≡ b → k < slot + 1
           → FeltAt R k (slice_get start k) (if b then lacked else all.lacks k) (slice_get (slice_set now slot place') k)
-      at k true is below =
-          subst (λ (m : ℕ). FeltAt R m (slice_get start m) lacked (slice_get (slice_set now slot place') m)) (sym (eqb-true k slot is))
-          (subst (λ (x : Option (Option (Stored T U C))). FeltAt R slot x lacked (slice_get (slice_set now slot place') slot))
-          (sym here ∙ all.rest slot (omega arith)) (place', feels, get_set_same now slot place place' here))
-      at k false is below = grind (arith, slice_get, get_set_other, other_of, less)
-
-      either : (r : Bool) → lacked ≡ true → (r || lacked) ≡ true
-      either true h = refl
-      either false h = h
+      at k h2 is below = grind (arith, slice_get, slice_set, eqb-true, get_set_same, get_set_other, other_of, less)
 
       tells : (k : ℕ) (b : Bool) → (k == slot) ≡ b → k < slot + 1 → (if b then lacked else all.lacks k) ≡ true → (refused || lacked) ≡ true
-      tells k true is below h = either refused h
-      tells k false is below h = rw (all.told k (less k is below) h) refl
+      tells k h2 is below h = grind (arith, less)
 
       here_lacks : (b : Bool) → (slot == slot) ≡ b → lacked ≡ true → (if b then lacked else all.lacks slot) ≡ true
-      here_lacks true is h = h
-      here_lacks false is h = absurd (other_of slot slot is refl)
-
-      there_lacks : (k : ℕ) (b : Bool) → (k == slot) ≡ b → k < slot → all.lacks k ≡ true → (if b then lacked else all.lacks k) ≡ true
-      there_lacks k true is below h = let same : k ≡ slot = eqb-true k slot is in absurd (omega (arith, same, below))
-      there_lacks k false is below h = h
+      here_lacks h1 is h = grind (arith, other_of)
 
       blames : (r l : Bool) → refused ≡ r → lacked ≡ l → (r || l) ≡ true → (k : ℕ) × (k < slot + 1) × (now_lacks k ≡ true)
-      blames true l was is h = grind (arith, there_lacks)
+      blames true l was is h = grind (arith, eqb-true)
       blames false true was is h = (slot, omega arith, here_lacks (slot == slot) refl is)
       blames false false was is h = absurd (false≢true h)
 
@@ -121,8 +107,7 @@ module _ {T U C : Type 0} (R : Kind T U C) where
   felt_by : (id : ClientParts) (gathered : List (Happening U)) (lacked : Bool) (before after : Option (Option (Stored T U C)))
       → FeltAt R id.slot before lacked after → FeltBy id gathered lacked before after
   felt_by id gathered lacked None after (none, is) = subst (λ (x : Option (Option (Stored T U C))). FeltBy id gathered lacked None x) (sym is) ([], (tt, (refl, refl, refl)))
-  felt_by id gathered lacked (Some None) after (place', (none, gone), is) =
-      subst (λ (x : Option (Option (Stored T U C))). FeltBy id gathered lacked (Some None) x) (sym (is ∙ ap Some gone)) ([], (tt, (refl, refl, refl)))
+  felt_by id gathered lacked (Some None) after (place', (none, gone), is) = grind (arith)
   felt_by id gathered lacked (Some (Some s)) after (place', (s', (did, q, feels, made), now), is) =
       subst (λ (x : Option (Option (Stored T U C))). FeltBy id gathered lacked (Some (Some s)) x) (sym (is ∙ ap Some now)) (at (s.serial == id.serial) refl)
     where
@@ -149,9 +134,7 @@ module _ {T U C : Type 0} (R : Kind T U C) where
         at b h1 = grind (arith, felt_by, slice_get_past, slice_get)
 
     pub some_lacks : refused ≡ true → (id : ClientParts) × (lacks_of id ≡ true)
-    some_lacks is =
-        let (k, below, lacks) = all.blame is in
-        at k (slice_get start k) refl lacks (all.felt k below)
+    some_lacks is = grind (arith, at, slice_get)
       where
         at : (k : ℕ) (x : Option (Option (Stored T U C))) → slice_get start k ≡ x → all.lacks k ≡ true → FeltAt R k x (all.lacks k) (slice_get now k)
             → (id : ClientParts) × (lacks_of id ≡ true)
@@ -162,13 +145,10 @@ module _ {T U C : Type 0} (R : Kind T U C) where
             (id, subst (λ (o : Option (Stored T U C)). lacks_in o (all.lacks k) ≡ true) (sym (client_present id start s here refl)) lacks)
 
     pub one_lacks : (id : ClientParts) → lacks_of id ≡ true → refused ≡ true
-    one_lacks id lacks =
-        let (some, is) = stored (client_at id start) (all.lacks id.slot) lacks in
-        all.told id.slot (slot_within start id some) is
+    one_lacks id lacks = grind (arith, stored, client_at, slot_within)
       where
         stored : (o : Option (Stored T U C)) (l : Bool) → lacks_in o l ≡ true → (is_some o ≡ true) × (l ≡ true)
-        stored None l h = absurd (false≢true h)
-        stored (Some s) l h = (refl, h)
+        stored h1 l h = grind (arith, false≢true)
 
 -- A call that each client feels by itself, or none: no client is inserted, and no memory is wanted but for those that are
 -- stored.
@@ -191,17 +171,7 @@ module _ {T U G C : Type 0} (w : World T G C) (before : ServerState T U G C) (ca
     record { call = call; refused = refused; lacks = λ id. false; did = λ id. [] },
     refl,
     refl,
-    record {
-      offer = becomes;
-      last = last _ felt.last;
-      client = felt.client before;
-      global = numbers;
-      order = felt.order;
-      room = felt.room before;
-      refused = (λ is. inl (growth ∙ is), λ h. was_refused h);
-      notes = felt.notes before _ (record { gathered = refl; times = all_none _ _; numbered = all });
-      each = λ id. to id _;
-    },
+    grind (arith, last, was_refused, all_none),
   )
     where
       was_refused : (lacks_growth call ≡ true) ⊎ ((id : ClientParts) × (false ≡ true)) → refused ≡ true

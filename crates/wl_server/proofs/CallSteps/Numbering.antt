@@ -40,10 +40,8 @@ rise_up low (n ∷ ns) next (first, rest) = let more = rise_up (n + 1) ns next r
 
 among : (low : ℕ) (ns : List ℕ) (next n : ℕ) → RiseWithin low ns next → Contains ns n → (low ≤ n) × (n < next)
 among low [] next n is (k, below, at) = absurd (omega (arith, below))
-among low (m ∷ ns) next n (first, rest) (zero, below, at) =
-    let up = rise_up (m + 1) ns next rest in (omega (arith, first, at), omega (arith, up, at))
-among low (m ∷ ns) next n (first, rest) (suc k, below, at) =
-    let more = among (m + 1) ns next n rest (k, omega (arith, below), at) in (omega (arith, first, more.0), more.1)
+among low (m ∷ ns) next n (first, rest) (zero, below, at) = grind (arith, rise_up)
+among low (m ∷ ns) next n (first, rest) (suc k, below, at) = grind (arith, among (m + 1) ns next n rest)
 
 -- ---- numbers that are given
 
@@ -62,27 +60,10 @@ past_more next (suc k) m =
     let one : suc k + m ≡ suc (k + m) = omega arith in
     ap (number_past next) one ∙ past_more (number_after next) k m
 
-gives_both : (ns ms ks : List ℕ) (a b c : ℕ) → GivesNumbers ns a ms b → GivesNumbers ms b ks c → GivesNumbers ns a ks c
-gives_both ns ms ks a b c one two = record {
-  more = one.more ++ two.more;
-  behind = two.behind ∙ (ap (λ (l : List ℕ). l ++ two.more) one.behind ∙ append_assoc ns one.more two.more);
-  given = ap (λ (l : List ℕ). l ++ two.more) one.given
-      ∙ (ap (λ (l : List ℕ). numbers_from a (length one.more) ++ l) (two.given ∙ ap (λ (n : ℕ). numbers_from n (length two.more)) one.past)
-      ∙ (sym (numbers_more a (length one.more) (length two.more)) ∙ ap (numbers_from a) (sym long)));
-  past = two.past ∙ (ap (λ (n : ℕ). number_past n (length two.more)) one.past ∙ (sym (past_more a (length one.more) (length two.more)) ∙ ap (number_past a) (sym long)));
-}
-  where
-    long : length (one.more ++ two.more) ≡ length one.more + length two.more
-    long = length-append one.more two.more
-
 -- as long as they are not used up, the numbers rise
 rise_from : (next count : ℕ) → number_past next count < last_number → RiseWithin next (numbers_from next count) (number_past next count)
 rise_from next zero below = omega arith
-rise_from next (suc count) below =
-    let rest = rise_from (number_after next) count below in
-    let up = rise_up (number_after next) (numbers_from (number_after next) count) (number_past (number_after next) count) rest in
-    let step : number_after next ≡ next + 1 = omega (arith, up, below) in
-    (omega arith, subst (λ (n : ℕ). RiseWithin n (numbers_from (number_after next) count) (number_past (number_after next) count)) step rest)
+rise_from next (suc count) below = grind (arith, number_after, rise_up, numbers_from, number_past, rise_from (number_after next) count below)
 
 -- Numbers were given while the next number went from `next` to `next'`.
 pub record GivesWithin (ns : List ℕ) (next : ℕ) (ns' : List ℕ) (next' : ℕ) : Type 0 where
@@ -102,19 +83,13 @@ within_both ns ms ks a b c one two = grind (arith, append_assoc, rise_up, rise_a
 within_lower : (ns : List ℕ) (a b : ℕ) (ns' : List ℕ) (c : ℕ) → (c < last_number → a ≤ b) → GivesWithin ns b ns' c → GivesWithin ns a ns' c
 within_lower ns a b ns' c up gives = record { more = gives.more; behind = gives.behind; rise = λ below. rise_lower a b gives.more c (up below) (gives.rise below) }
 
-within_higher : (ns : List ℕ) (a : ℕ) (ns' : List ℕ) (b c : ℕ) → (c < last_number → b ≤ c) → GivesWithin ns a ns' b → GivesWithin ns a ns' c
-within_higher ns a ns' b c up gives = grind (arith, rise_higher)
-
 -- ---- the notes of one client
 
 pub in_time_none : (t : NoteTimes) (n : NoteNumbers) → NotesInTime t n t n
 in_time_none t n = record { made = gives_none t.made n.made; waiting = gives_none t.waiting n.waiting }
 
 pub in_time_both : (t u v : NoteTimes) (a b c : NoteNumbers) → NotesInTime t a u b → NotesInTime u b v c → NotesInTime t a v c
-in_time_both t u v a b c one two = record {
-  made = gives_both t.made u.made v.made a.made b.made c.made one.made two.made;
-  waiting = gives_both t.waiting u.waiting v.waiting a.waiting b.waiting c.waiting one.waiting two.waiting;
-}
+in_time_both t u v a b c one two = grind (arith, append_assoc, numbers_from, length, numbers_more, number_past, past_more, length-append)
 
 pub in_time_same : (t u : NoteTimes) (a b : NoteNumbers) → u ≡ t → b ≡ a → NotesInTime t a u b
 in_time_same t u a b same none =
@@ -179,10 +154,7 @@ module _ (of : NoteTimes → List ℕ) where
       up = rise_up next gives.more next' more
 
       rise_at : (k : ℕ) (b : Bool) → (k == i) ≡ b → RiseWithin 0 (of (times_at k ts')) next'
-      rise_at k true same = grind (arith, times_at, rise_append)
-      rise_at k false other =
-          subst (λ (t : NoteTimes). RiseWithin 0 (of t) next') (sym (others k (other_of k i other)))
-          (rise_higher 0 (of (times_at k ts)) next next' up (is.rise k))
+      rise_at k h2 same = grind (arith, times_at, rise_append, other_of, rise_higher, up)
 
       -- a number that is there was there, or is new
       old_or_new : (k n : ℕ) (b : Bool) → (k == i) ≡ b → Contains (of (times_at k ts')) n → Contains (of (times_at k ts)) n ⊎ ((k ≡ i) × (next ≤ n))
@@ -226,21 +198,13 @@ module _ (of : NoteTimes → List ℕ) where
   -- no client of these slots got a number
   turn_still : (n : ℕ) (ts ts' : List NoteTimes) (next : ℕ) → ((k : ℕ) → k < n → times_at k ts' ≡ times_at k ts) → InTurn of n ts next ts' next
   turn_still zero ts ts' next same = refl
-  turn_still (suc n) ts ts' next same = (
-    next,
-    turn_still n ts ts' next (λ k below. same k (omega (arith, below))),
-    subst (λ (t : NoteTimes). GivesNumbers (of (times_at n ts)) next (of t) next) (sym (same n (omega arith))) (gives_none (of (times_at n ts)) next),
-  )
+  turn_still (suc n) ts ts' next same = grind (arith, times_at, gives_none, turn_still n ts ts' next)
 
   -- clients of other slots are not looked at
   turn_other : (n : ℕ) (ts : List NoteTimes) (next : ℕ) (us vs : List NoteTimes) (next' : ℕ) → ((k : ℕ) → k < n → times_at k vs ≡ times_at k us)
       → InTurn of n ts next us next' → InTurn of n ts next vs next'
   turn_other zero ts next us vs next' same is = is
-  turn_other (suc n) ts next us vs next' same (mid, turn, gives) = (
-    mid,
-    turn_other n ts next us vs mid (λ k below. same k (omega (arith, below))) turn,
-    subst (λ (t : NoteTimes). GivesNumbers (of (times_at n ts)) mid (of t) next') (sym (same n (omega arith))) gives,
-  )
+  turn_other (suc n) ts next us vs next' same (mid, turn, gives) = grind (arith, times_at, turn_other n ts next us vs mid)
 
   turn_up : (n : ℕ) (ts : List NoteTimes) (next : ℕ) (ts' : List NoteTimes) (next' : ℕ) → InTurn of n ts next ts' next' → next' < last_number → next ≤ next'
   turn_up zero ts next ts' next' is below = omega (arith, is)
@@ -262,16 +226,7 @@ module _ (of : NoteTimes → List ℕ) where
       up below = rise_up mid more.more next' (more.rise below)
 
       at : (k < n → GivesWithin (of (times_at k ts)) next (of (times_at k ts')) mid) → (b : Bool) → (k == n) ≡ b → GivesWithin (of (times_at k ts)) next (of (times_at k ts')) next'
-      at earlier true same =
-          subst (λ (m : ℕ). GivesWithin (of (times_at m ts)) next (of (times_at m ts')) next') (sym (eqb-true k n same))
-          (within_lower (of (times_at n ts)) next mid (of (times_at n ts')) next'
-          (λ below. let high = up below in turn_up n ts next ts' mid turn (omega (arith, high, below))) more)
-      at earlier false other =
-          let differ = other_of k n other in
-          within_higher (of (times_at k ts)) next (of (times_at k ts')) mid next' up (earlier (lower differ))
-        where
-          lower : k ≢ n → k < n
-          lower differ = omega (arith, less, differ)
+      at earlier h2 same = grind (arith, times_at, eqb-true, within_lower, up, turn_up, more, other_of, rise_higher)
 
 -- the made notes of a client, whether or not others got numbers meanwhile
 pub all_each : (ts : List NoteTimes) (a : NoteNumbers) (ts' : List NoteTimes) (b : NoteNumbers) → AllInTime ts a ts' b → (k : ℕ)
@@ -280,9 +235,7 @@ all_each ts a ts' b (slots, all) k = at (nat_lt k slots) refl
   where
     at : (x : Bool) → nat_lt k slots ≡ x → GivesWithin (times_at k ts).made a.made (times_at k ts').made b.made
     at true less = turn_each (λ t. t.made) slots k ts a.made ts' b.made (ltb-true k slots less) all.made
-    at false past =
-        subst (λ (t : NoteTimes). GivesWithin (times_at k ts).made a.made t.made b.made) (sym (all.others k (ltb-false k slots past)))
-        (within_none (times_at k ts).made a.made b.made (turn_up (λ t. t.made) slots ts a.made ts' b.made all.made))
+    at false past = grind (arith, times_at, ltb-false, within_none, turn_up)
 
 pub all_waiting : (ts : List NoteTimes) (a : NoteNumbers) (ts' : List NoteTimes) (b : NoteNumbers) → AllInTime ts a ts' b → (k : ℕ)
     → GivesWithin (times_at k ts).waiting a.waiting (times_at k ts').waiting b.waiting
@@ -290,17 +243,10 @@ all_waiting ts a ts' b (slots, all) k = at (nat_lt k slots) refl
   where
     at : (x : Bool) → nat_lt k slots ≡ x → GivesWithin (times_at k ts).waiting a.waiting (times_at k ts').waiting b.waiting
     at true less = turn_each (λ t. t.waiting) slots k ts a.waiting ts' b.waiting (ltb-true k slots less) all.waiting
-    at false past =
-        subst (λ (t : NoteTimes). GivesWithin (times_at k ts).waiting a.waiting t.waiting b.waiting) (sym (all.others k (ltb-false k slots past)))
-        (within_none (times_at k ts).waiting a.waiting b.waiting (turn_up (λ t. t.waiting) slots ts a.waiting ts' b.waiting all.waiting))
+    at false past = grind (arith, times_at, ltb-false, within_none, turn_up)
 
 pub below_none : (n : ℕ) (ts : List NoteTimes) (a : NoteNumbers) → InTimeBelow n ts a ts a
-below_none n ts a = record {
-  made = turn_still (λ t. t.made) n ts ts a.made (λ k below. refl);
-  waiting = turn_still (λ t. t.waiting) n ts ts a.waiting (λ k below. refl);
-  others = λ k past. refl;
-  keeps = λ has. has;
-}
+below_none n ts a = grind (arith, turn_still)
 
 pub all_none : (ts : List NoteTimes) (a : NoteNumbers) → AllInTime ts a ts a
 all_none ts a = (0, below_none 0 ts a)
@@ -395,15 +341,7 @@ module _ {T U C : Type 0} where
 module _ {T U C : Type 0} where
   pub numbered_set : (clients : List (Option (Stored T U C))) (i : ℕ) (x x' : Option (Stored T U C)) → slice_get clients i ≡ Some x
       → (IsNumbered x → IsNumbered x') → AllNumbered clients → AllNumbered (slice_set clients i x')
-  numbered_set clients i x x' here stays all k = at (i == k) refl
-    where
-      at : (b : Bool) → (i == k) ≡ b → IsNumbered (stored_at k (slice_set clients i x'))
-      at true same =
-          subst (λ (n : ℕ). IsNumbered (stored_at n (slice_set clients i x'))) (eqb-true i k same)
-          (subst (λ (o : Option (Option (Stored T U C))). IsNumbered (option_map_or (λ s. s) o None)) (sym (get_set_same clients i x x' here))
-          (stays (subst (λ (o : Option (Option (Stored T U C))). IsNumbered (option_map_or (λ s. s) o None)) here (all i))))
-      at false other =
-          subst (λ (o : Option (Option (Stored T U C))). IsNumbered (option_map_or (λ s. s) o None)) (sym (get_set_other clients i k x' (other_of i k other))) (all k)
+  numbered_set clients i x x' here stays all k = grind (arith, stored_at, slice_set, eqb-true, option_map_or, get_set_same, get_set_other, other_of)
 
   -- the client of an id was written
   pub numbered_at : (clients : List (Option (Stored T U C))) (id : ClientParts) (s s' : Stored T U C) → Some s ≡ client_at id clients
@@ -460,9 +398,7 @@ numbers_left ts ts' a first has = record {
 
 -- where all notes were gathered, none waits after killed clients are gone
 pub none_waits : (ts ts' : List NoteTimes) → NoneNumbered true ts → AllTakeFirst ts ts' → NoneWaits ts'
-none_waits ts ts' none first k =
-    let took = first k in
-    last_nil took.waiting (times_at k ts').waiting (sym took.of_waiting ∙ waiting_nil (times_at k ts).made (times_at k ts).waiting (none k))
+none_waits ts ts' none first k = grind (arith, last_nil, times_at, waiting_nil)
   where
     last_nil : (xs ys : List ℕ) → xs ++ ys ≡ [] → ys ≡ []
     last_nil [] ys is = is
@@ -471,8 +407,7 @@ none_waits ts ts' none first k =
     waiting_nil : (ms ws : List ℕ) → map (place_at false 0) ms ++ map (place_at true 0) ws ≡ [] → ws ≡ []
     waiting_nil [] [] is = refl
     waiting_nil [] (w ∷ ws) is = let long : suc (length (map (place_at true 0) ws)) ≡ 0 = ap length is in absurd (omega (arith, long))
-    waiting_nil (m ∷ ms) ws is =
-        let long : suc (length (map (place_at false 0) ms ++ map (place_at true 0) ws)) ≡ 0 = ap length is in absurd (omega (arith, long))
+    waiting_nil (m ∷ ms) ws is = grind (arith, length, map, place_at)
 
 module _ {T U C : Type 0} where
   pub take_set : (clients : List (Option (Stored T U C))) (i : ℕ) (x x' : Option (Stored T U C)) → slice_get clients i ≡ Some x

@@ -47,27 +47,10 @@ is_own step.TakeNotes answer = false
 is_own s answer = not (lacks_growth (Asked s answer))
 
 not_true : (b : Bool) → not b ≡ true → b ≡ false
-not_true false h = refl
-not_true true h = absurd (false≢true h)
+not_true h1 h = grind (arith, false≢true)
 
 own_of : {T U G C : Type 0} (s : Step T U G C) (answer : Reply T U) → is_own s answer ≡ true → IsOwn (Asked s answer)
-own_of (step.InsertClient _ _) answer h = absurd (false≢true h)
-own_of (step.CreateGlobal _ _ _) answer h = absurd (false≢true h)
-own_of (step.DisableGlobal _) answer h = absurd (false≢true h)
-own_of (step.RemoveGlobal _) answer h = absurd (false≢true h)
-own_of (step.SetDefaultMaxBufferSize _) answer h = absurd (false≢true h)
-own_of step.Cleanup answer h = absurd (false≢true h)
-own_of step.TakeNotes answer h = absurd (false≢true h)
-own_of s answer h = record {
-  offer = λ o. refl;
-  last = refl;
-  client = λ b. tt;
-  global = λ o. tt;
-  order = tt;
-  room = λ b. tt;
-  growth = not_true (lacks_growth (Asked s answer)) h;
-  notes = λ b a h. h;
-}
+own_of s answer h = grind (arith, false≢true, not_true, lacks_growth)
 
 -- a server of these values
 abbrev pub held_by : {T U G C : Type 0} → List InterfaceRow → Store (KeptGlobal G) → ℕ → ℕ → ℕ → List (Option (Stored T U C)) → List (Note U) → NoteNumbers → ServerState T U G C

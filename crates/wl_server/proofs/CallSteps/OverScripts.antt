@@ -17,7 +17,7 @@ use Rattle.wl_server.specs.Globals.{Offer}
 use Rattle.wl_server.specs.Ids.{ClientParts, GlobalParts, same_client}
 use Rattle.wl_server.specs.Moves.{Accept, AcceptFault, Arrive, ArriveFault, Move, Moved, TakeSent}
 use Rattle.wl_server.specs.Part.{Part}
-use Rattle.wl_server.specs.PartStep.{Asked, Call, Changed, MovedFor, OfClient, OnPart, PartCall, PartStep, Quietly, Unfelt, WithTransport, World, lacks_move, over, over_scripts}
+use Rattle.wl_server.specs.PartStep.{Asked, Call, Changed, MovedFor, OfClient, OnPart, PartStep, Quietly, Unfelt, WithTransport, World, lacks_move, over, over_scripts}
 use Rattle.wl_server.specs.Runs.{Leads}
 use Rattle.wl_server.specs.Server.{Seen, ServerState, seen}
 use Rattle.wl_server.specs.Steps.{EachStandsFor, Entry, IsChangeFor, MakesNotes, OneStep, StandsFor, StepOf}
@@ -54,23 +54,9 @@ module _ {U G C : Type 0} (views : G → ClientParts → C → GlobalParts → B
     part_step (step.TakeSent target) answer before lacked did after (r, is, h) = (r, is, moved target TakeSent _ before lacked did after h)
     part_step s answer before lacked did after h = h
 
-    part_call : (call : Call Script U G C) (before : Seen Script U C) (lacked : Bool) (did : List (Deed U)) (after : Seen Script U C)
-        → PartCall (by_script views) id offer call before lacked did after → PartCall (over_scripts views) id offer call before lacked did after
-    part_call call before lacked did after h1 = grind (arith, part_step)
-
   pub one_over_script : (before : ServerState Script U G C) (e : Entry Script U G C) (after : ServerState Script U G C)
       → OneStep (by_script views) before e after → OneStep (over_scripts views) before e after
-  one_over_script before e after one = record {
-    offer = one.offer;
-    last = one.last;
-    client = one.client;
-    global = one.global;
-    order = one.order;
-    room = one.room;
-    refused = one.refused;
-    notes = one.notes;
-    each = λ id. part_call id before.offer e.call _ _ _ _ (one.each id);
-  }
+  one_over_script before e after one = grind (arith, part_step)
 
   pub run_over_script : (before : ServerState Script U G C) (run : List (Entry Script U G C)) (after : ServerState Script U G C)
       → Leads (by_script views) before run after → Leads (over_scripts views) before run after
@@ -119,24 +105,13 @@ module _ {U G C : Type 0} (views : G → ClientParts → C → GlobalParts → B
       where
         on : (b : Bool) → same_client target id ≡ b → OfMoved (over_scripts views) b (moves id).0 m (seen id before) (e.lacks id) (e.did id) (seen id after)
             → IsSet target becomes.0 b id (e.did id)
-        on true same h = subst (λ (i : ClientParts). IsSet target becomes.0 true i (e.did i)) (same_is target id same) becomes.1
-        on false other (lacked, none, same) = (refl, none, same)
+        on h1 same h = grind (arith, becomes, same_is)
 
     stands : after.offer ≡ before.offer → after.last_client ≡ before.last_client + 0 → MakesNotes before after → IsChangeFor e.call (Changed target becomes.0) → Stands e
     stands offer last notes is = (
       record { call = Changed target becomes.0; refused = false; lacks = λ id. false; did = e.did },
       inr (is, refl, refl),
-      record {
-        offer = offer;
-        last = last;
-        client = tt;
-        global = tt;
-        order = tt;
-        room = tt;
-        refused = (λ is. absurd (false≢true is), λ is. elim is [ inl growth ↦ growth | inr (id, lacked) ↦ lacked ]);
-        notes = notes;
-        each = each_set;
-      },
+      grind (arith, false≢true, each_set),
     )
 
   pub call_or_change : (e : Entry Script U G C) → OneStep (over_scripts views) before e after → Stands e
@@ -159,17 +134,7 @@ module _ {U G C : Type 0} (views : G → ClientParts → C → GlobalParts → B
       on call one = (
         with_call call,
         inl refl,
-        record {
-          offer = one.offer;
-          last = one.last;
-          client = one.client;
-          global = one.global;
-          order = one.order;
-          room = one.room;
-          refused = one.refused;
-          notes = one.notes;
-          each = one.each;
-        },
+        grind (arith),
       )
 
 module _ {U G C : Type 0} (views : G → ClientParts → C → GlobalParts → Bool) where

@@ -94,8 +94,7 @@ module _ {T U C : Type 0} where
   as_other : (b : Bool) (id : ClientParts) (before after : Seen T U C) (R : Kind T U C) (missing : Type 0) (lacked : Bool) (did : List (Deed U))
       → b ≡ false → after ≡ before
       → OfClient b before (λ p q. R id p (lacks_at b lacked) (did_at b did) q) missing (lacks_at b lacked) (did_at b did) after
-  as_other true id before after R missing lacked did other same = absurd (true≢false other)
-  as_other false id before after R missing lacked did other same = (refl, refl, same)
+  as_other h1 id before after h5 missing lacked did other same = grind (arith, true≢false)
 
   as_meant : (b : Bool) (id : ClientParts) (before after : Seen T U C) (R : Kind T U C) (missing : Type 0) (lacked : Bool) (did : List (Deed U))
       → b ≡ true → OnPart before (λ p q. R id p lacked did q) missing lacked did after
@@ -109,8 +108,7 @@ module _ {T U C : Type 0} where
   on_part gathered s s' R missing lacked did q does is = (
     q,
     does,
-    ap (λ (x : Stored T U C). seen_as gathered (Some x)) is
-        ∙ ap (λ (notes : List (Happening U)). let x : Seen T U C = record { part = Some q; made = notes } in x) (sym (append_assoc gathered s.made (notes_in did))),
+    grind (arith, seen_as, append_assoc, notes_in),
   )
 
   -- what is held of an id
@@ -133,12 +131,8 @@ module _ {T U C : Type 0} where
       elim (compare target id) [
         | Are slot serial ↦ subst (λ (i : ClientParts). DoneFor target R missing lacked did i (held_of notes clients i) (held_of notes (slice_set clients target.slot (Some s')) i))
             (same_parts target id slot serial) meant
-        | Slots slot ↦ as_other (same_client target id) id _ _ R missing lacked did (same_slots target id slot)
-            (ap (λ (x : Option (Option (Stored T U C))). seen_as (notes_of id notes) (if_serial id.serial (option_map_or (λ s. s) x None)))
-            (get_set_other clients target.slot id.slot _ (other_of target.slot id.slot slot)))
-        | Serials slot differ ↦ as_other (same_client target id) id _ _ R missing lacked did (same_serials target id slot differ)
-            (ap (seen_as (notes_of id notes))
-            (client_absent id _ s' (at_slot _ s' slot after) (rw (serial' ∙ known) differ) ∙ sym (client_absent id _ s (at_slot _ s slot here) (rw known differ))))
+        | Slots slot ↦ grind (arith, as_other, same_client, same_slots, seen_as, notes_of, if_serial, option_map_or, get_set_other, other_of)
+        | Serials slot differ ↦ grind (arith, as_other, same_client, same_serials, seen_as, notes_of, client_absent, at_slot, after, serial')
       ]
     where
       after : slice_get (slice_set clients target.slot (Some s')) target.slot ≡ Some (Some s')

@@ -1,5 +1,5 @@
 -- What a cleanup, and what the list of notes, asks for memory for.
-use Rattle.std.proofs.Common.{◌≡◌, ◌≢◌, ℕ, zero, suc, ◌+◌, ◌<◌, ◌≤◌, ◌^◌, Bool, true, false, List, [], ◌∷◌, ◌++◌, length, min, Option, None, Some, Result, Ok, Err, OnErr, refl, sym, ap, ◌∙◌, arith, append-nil}
+use Rattle.std.proofs.Common.{◌≡◌, ◌≢◌, ℕ, zero, suc, ◌+◌, ◌<◌, ◌≤◌, ◌^◌, Bool, true, false, List, [], ◌∷◌, ◌++◌, length, min, Option, None, Some, Result, OnErr, refl, sym, ap, ◌∙◌, arith, append-nil}
 use mathlib.Core.Logic.{inl, inr}
 use Rattle.std.specs.Prelude.{◌⊎◌}
 use Rattle.std.proofs.lemmas.List.{nil_from_length}
@@ -12,12 +12,10 @@ use Rattle.wl_server.specs.Steps.{SomeClient}
 use Rattle.wl_server.proofs.CleanupSteps.Gathering.{count_at}
 
 pub on_err : {A E P : Type 0} (r : Result A E) → P → OnErr r P
-on_err (Ok x) p = tt
-on_err (Err e) p = p
+on_err h1 p = grind (arith)
 
 pub positive : (n m : ℕ) → n ≢ 0 → n ≤ m → 0 < m
-positive zero m some more = absurd (some refl)
-positive (suc n) m some more = omega (arith, more)
+positive h1 m some more = grind (arith)
 
 -- what is none in all is none
 pub none_of : (n m : ℕ) → n ≡ 0 → (n < 0xFFFFFFFFFFFFFFFF → m ≤ n) → m ≤ 0
@@ -39,8 +37,7 @@ pub none_both : (n m count : ℕ) → count ≡ min (n + m) 0xFFFFFFFFFFFFFFFF �
 none_both n m count is none = (omega (arith, is, none), omega (arith, is, none))
 
 pub some_of : (n m count some more : ℕ) → count ≡ min (n + m) 0xFFFFFFFFFFFFFFFF → count ≢ 0 → n ≤ some → m ≤ more → 0 < some + more
-some_of n m zero some more is not within within' = absurd (not refl)
-some_of n m (suc count) some more is not within within' = omega (arith, is, within, within')
+some_of n m h3 some more is not within within' = grind (arith)
 
 module _ {T U C : Type 0} where
   -- ---- what nobody asks for

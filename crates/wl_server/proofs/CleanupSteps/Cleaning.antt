@@ -10,7 +10,7 @@ use Rattle.wl_link.specs.declared.object.Object.{Object}
 use Rattle.wl_link.specs.Link.{LinkState}
 use Rattle.wl_server.specs.declared.objects.Kept.{Kept}
 use Rattle.wl_server.specs.declared.notes.Happening.{Happening}
-use Rattle.wl_server.specs.Deeds.{Deed, Noted, left_if, notes_in}
+use Rattle.wl_server.specs.Deeds.{Deed, Noted, notes_in}
 use Rattle.wl_server.specs.Felt.{FlushedTo, objects_leave}
 use Rattle.wl_server.specs.Inside.Gathering.{emptied}
 use Rattle.wl_server.specs.NoteOrder.{to_gather}
@@ -30,13 +30,9 @@ module _ {U : Type 0} where
   noted_notes [] = refl
   noted_notes (h ∷ told) = ap (λ (l : List (Happening U)). h ∷ l) (noted_notes told)
 
-  left_notes : (id : _) (given : Option U) (did : List (Deed U)) → notes_in (left_if id given ++ did) ≡ notes_in did
-  left_notes id None did = refl
-  left_notes id (Some u) did = refl
-
   leave_notes : (client : ClientParts) (objects : List (ℕ × Object (Kept U))) → notes_in (objects_leave client objects) ≡ ends_of client objects
   leave_notes client [] = refl
-  leave_notes client (e ∷ objects) = grind (arith, notes_append, note_of_end, id_of, id_at, noted_notes, left_notes, leave_notes client objects)
+  leave_notes client (e ∷ objects) = grind (arith, notes_append, note_of_end, id_of, id_at, noted_notes, leave_notes client objects)
 
   killed_notes : (n m w e s d n2 n3 : List (Happening U)) → n2 ≡ n ++ (m ++ w) → n3 ≡ n2 ++ e → s ≡ [] → d ≡ w ++ (e ++ s) → n3 ++ [] ≡ (n ++ m) ++ d
   killed_notes n m w e s d n2 n3 is is' none all = grind (arith, append-nil, append_assoc)
@@ -52,42 +48,26 @@ module _ {T U G C : Type 0} (w : World T G C) (id : ClientParts) (offer : Offer 
       → n3 ≡ n2 ++ ends_of id (entries s.part.store.objects) → share_of id out.items ≡ link.transport ∷ [] → CleanedBy (Some s) n lacked None n3
   killed_cleaned s link answer lacked sent n n2 n3 killed flushed quiet gathered noted given =
       let did : List (Deed U) = map Noted s.part.waiting ++ (objects_leave id (entries s.part.store.objects) ++ sent) in
-      let told : notes_in did ≡ s.part.waiting ++ (ends_of id (entries s.part.store.objects) ++ notes_in sent) =
-      notes_append (map Noted s.part.waiting) (objects_leave id (entries s.part.store.objects) ++ sent)
-      ∙ (ap (λ (l : List (Happening U)). l ++ notes_in (objects_leave id (entries s.part.store.objects) ++ sent)) (noted_notes s.part.waiting)
-      ∙ ap (λ (l : List (Happening U)). s.part.waiting ++ l)
-      (notes_append (objects_leave id (entries s.part.store.objects)) sent ∙ ap (λ (l : List (Happening U)). l ++ notes_in sent) (leave_notes id (entries s.part.store.objects))))
+      let told : notes_in did ≡ s.part.waiting ++ (ends_of id (entries s.part.store.objects) ++ notes_in sent) = grind (arith, notes_append, map, objects_leave, entries, notes_in, noted_notes, leave_notes)
       in (
         did,
         (
           None,
           if_true s.part.is_killed _ _ killed (sent, answer, with_link s.part link, flushed, refl, given, refl),
-          ap (λ (m : List (Happening U)). let x : Seen T U C = record { part = None; made = m } in x)
-              (killed_notes n s.made s.part.waiting (ends_of id (entries s.part.store.objects)) (notes_in sent) (notes_in did) n2 n3 gathered noted quiet told),
+          grind (arith, killed_notes, ends_of, entries, notes_in),
         ),
       )
 
   live_cleaned : (s s' : Stored T U C) (n n2 n3 : List (Happening U)) → s.part.is_killed ≡ false → s'.part ≡ record s.part { waiting = [] } → s'.made ≡ []
       → n2 ≡ n ++ (s.made ++ s.part.waiting) → n3 ≡ n2 ++ [] → share_of id out.items ≡ [] → CleanedBy (Some s) n false (Some s') n3
   live_cleaned s s' n n2 n3 live part made gathered noted given =
-      let told : n3 ++ s'.made ≡ (n ++ s.made) ++ notes_in (map Noted s.part.waiting) =
-      ap (λ (m : List (Happening U)). n3 ++ m) made ∙ (append-nil n3 ∙ (noted ∙ (append-nil n2 ∙ (gathered
-      ∙ (sym (append_assoc n s.made s.part.waiting) ∙ ap (λ (l : List (Happening U)). (n ++ s.made) ++ l) (sym (noted_notes s.part.waiting)))))))
-      in (
-        map Noted s.part.waiting,
-        (
-          Some (record s.part { waiting = [] }),
-          if_false s.part.is_killed _ _ live (refl, refl, given, refl),
-          ap (λ (p : Part T U C). let x : Seen T U C = record { part = Some p; made = n3 ++ s'.made } in x) part
-              ∙ ap (λ (m : List (Happening U)). let x : Seen T U C = record { part = Some (record s.part { waiting = [] }); made = m } in x) told,
-        ),
-      )
+      let told : n3 ++ s'.made ≡ (n ++ s.made) ++ notes_in (map Noted s.part.waiting) = grind (arith, append-nil, append_assoc, noted_notes)
+      in grind (arith, map, if_false)
 
   left_is : (x : Option (Stored T U C)) → to_gather true x ≡ [] → option_map untimed x ≡ option_map (emptied true) x
   left_is None none = refl
   left_is (Some s) none = both s.made s.part.waiting none
-      (λ made waiting. ap (λ (m : List (Happening U)). let x : Stored T U C = record { serial = s.serial; part = s.part; made = m; times = no_times } in Some x) made
-      ∙ ap (λ (m : List (Happening U)). let x : Stored T U C = record { serial = s.serial; part = record s.part { waiting = m }; made = []; times = no_times } in Some x) waiting)
+      (grind (arith, no_times))
     where
       both : {P : Type 0} (a b : List (Happening U)) → a ++ b ≡ [] → (a ≡ [] → b ≡ [] → P) → P
       both [] b none goes = goes refl none
@@ -102,8 +82,7 @@ module _ {T U G C : Type 0} (w : World T G C) (id : ClientParts) (offer : Offer 
       made_so quiet = made ∙ (ap (λ (l : List (Happening U)). s.made ++ l) quiet ∙ append-nil s.made)
 
       gathered_so : notes_in sent ≡ [] → s1.part.waiting ≡ s.part.waiting → n2 ≡ n ++ (s.made ++ s.part.waiting)
-      gathered_so quiet waits = sym (append-nil n2) ∙ (gathered ∙ (ap (λ (m : List (Happening U)). n ++ (m ++ s1.part.waiting)) (made_so quiet)
-          ∙ ap (λ (l : List (Happening U)). n ++ (s.made ++ l)) waits))
+      gathered_so quiet waits = grind (arith, append-nil, made_so)
 
       at : (b : Bool) → s.part.is_killed ≡ b
           → MatchBool b ((answer : Result (Unit {0}) IoFault) × FlushedTo w.sends s.part answer lacked sent s1.part) ((lacked ≡ false) × (sent ≡ []) × (s1.part ≡ s.part))
@@ -129,21 +108,17 @@ module _ {T U G C : Type 0} (w : World T G C) (id : ClientParts) (offer : Offer 
   seen_untimed n x = grind (arith, seen_as, untimed)
 
   ends_untimed : (x : Option (Stored T U C)) → ends_in id x ≡ ends_in id (option_map untimed x)
-  ends_untimed None = refl
-  ends_untimed (Some s) = refl
+  ends_untimed h1 = grind (arith)
 
   given_untimed : (x : Option (Stored T U C)) → given_in x ≡ given_in (option_map untimed x)
-  given_untimed None = refl
-  given_untimed (Some s) = refl
+  given_untimed h1 = grind (arith)
 
   -- it felt the flush, its notes were gathered, and it left if it was killed
   pub cleaned_one : (x0 x1 x2 : Option (Stored T U C)) (lacked : Bool) (sent : List (Deed U)) (n n2 n3 : List (Happening U))
       → Feels (seen_as [] x0) (λ p q. FlushesKilled w.sends p lacked sent q) lacked sent (seen_as [] x1)
       → option_map (emptied true) x2 ≡ option_map (emptied true) x1 → to_gather true x2 ≡ [] → n2 ++ to_gather true x2 ≡ n ++ to_gather true x1
       → n3 ≡ n2 ++ ends_in id x2 → share_of id out.items ≡ given_in x2 → CleanedBy x0 n lacked (staying x2) n3
-  cleaned_one x0 x1 x2 lacked sent n n2 n3 felt same none told noted given =
-      subst (λ (held : Seen T U C). (did : List (Deed U)) × CleanedAs w id offer (Ok out) (seen_as n x0) lacked did held) (seen_untimed n3 x2)
-      (subst (λ (x : Option (Stored T U C)). CleanedBy x0 n lacked (staying x) n3) (sym is) (at x0 x1 felt told1 noted1 given1))
+  cleaned_one x0 x1 x2 lacked sent n n2 n3 felt same none told noted given = grind (arith, seen_as, seen_untimed, staying, is, at, told1, noted1, given1)
     where
       is : option_map untimed x2 ≡ option_map (emptied true) x1
       is = left_is x2 none ∙ same

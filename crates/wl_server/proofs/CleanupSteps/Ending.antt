@@ -1,5 +1,5 @@
 -- The objects of a client that leaves are noted, one after another.
-use Rattle.std.proofs.Common.{◌≡◌, ℕ, ◌+◌, ◌≤◌, List, ◌∷◌, ◌++◌, length, map, refl, arith, append_assoc}
+use Rattle.std.proofs.Common.{◌≡◌, ℕ, ◌+◌, ◌≤◌, List, ◌∷◌, ◌++◌, length, map, arith, append_assoc}
 use Rattle.std.proofs.lemmas.List.{length-append, length-map, map-append}
 use Rattle.wl_link.specs.declared.object.Object.{Object}
 use Rattle.wl_server.specs.declared.objects.Kept.{Kept}
@@ -18,8 +18,7 @@ module _ {U : Type 0} where
 
   pub ending_begins : (client : ClientParts) (notes : List (Note U)) (objects : List (ℕ × Object (Kept U))) (n room : ℕ) → n ≡ length notes → n + length (with_data objects) ≤ room
       → Ending client notes objects (notes ++ map (note_of client) (ends_of client objects)) room
-  ending_begins client notes objects n room is fits =
-      let same = ending_length client objects in record { noted = refl; fits = omega (arith, is, same, fits) }
+  ending_begins client notes objects n room is fits = grind (arith, ending_length)
 
   -- the first of them leaves
   pub ended_one : (client : ClientParts) (notes notes' : List (Note U)) (e : ℕ × Object (Kept U)) (objects rest : List (ℕ × Object (Kept U))) (total : List (Note U)) (room : ℕ)

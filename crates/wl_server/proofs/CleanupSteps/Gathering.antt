@@ -33,8 +33,7 @@ module _ {U : Type 0} where
 
   pub notes_other : (target id : ClientParts) (told : List (Happening U)) → same_client target id ≡ false → notes_of id (map (note_of target) told) ≡ []
   notes_other target id [] other = refl
-  notes_other target id (h ∷ told) other =
-      ap (λ (l : List (Happening U)). l ++ notes_of id (map (note_of target) told)) (told_other target id h other) ∙ notes_other target id told other
+  notes_other target id (h ∷ told) other = grind (arith, notes_of, map, note_of, told_other, notes_other target id told other)
 
 -- ---- lists
 
@@ -52,8 +51,7 @@ module _ {T U C : Type 0} (waits : Bool) where
   count_set : (clients : List (Option (Stored T U C))) (k : ℕ) (x y : Option (Stored T U C)) → slice_get clients k ≡ Some x
       → count_leaving waits (slice_set clients k y) + length (to_gather waits x) ≡ count_leaving waits clients + length (to_gather waits y)
   count_set [] k x y here = absurd (false≢true (ap is_some here))
-  count_set (z ∷ clients) zero x y here =
-      let same : length (to_gather waits z) ≡ length (to_gather waits x) = ap (λ (o : Option (Stored T U C)). length (to_gather waits o)) (same_Some z x here) in omega (arith, same)
+  count_set (z ∷ clients) zero x y here = grind (arith, length, to_gather, same_Some)
   count_set (z ∷ clients) (suc k) x y here = let more = count_set clients k x y here in omega (arith, more)
 
   -- ---- one client's notes
@@ -71,8 +69,7 @@ module _ {T U C : Type 0} (waits : Bool) where
   pub count_at : (clients : List (Option (Stored T U C))) (k : ℕ) (x : Option (Stored T U C)) → slice_get clients k ≡ Some x
       → length (to_gather waits x) ≤ count_leaving waits clients
   count_at [] k x here = absurd (false≢true (ap is_some here))
-  count_at (z ∷ clients) zero x here =
-      let same : length (to_gather waits z) ≡ length (to_gather waits x) = ap (λ (o : Option (Stored T U C)). length (to_gather waits o)) (same_Some z x here) in omega (arith, same)
+  count_at (z ∷ clients) zero x here = grind (arith, length, to_gather, same_Some)
   count_at (z ∷ clients) (suc k) x here = let more = count_at clients k x here in omega (arith, more)
 
   drop_more : (clients : List (Option (Stored T U C))) (k : ℕ) (x : Option (Stored T U C)) → slice_get clients k ≡ Some x
@@ -83,14 +80,11 @@ module _ {T U C : Type 0} (waits : Bool) where
 
   pub count_drop : (clients : List (Option (Stored T U C))) (k : ℕ) (x : Option (Stored T U C)) → slice_get clients k ≡ Some x
       → count_leaving waits (drop k clients) ≡ length (to_gather waits x) + count_leaving waits (drop (k + 1) clients)
-  count_drop clients k x here =
-      let next : suc k ≡ k + 1 = omega arith in
-      subst (λ (n : ℕ). count_leaving waits (drop k clients) ≡ length (to_gather waits x) + count_leaving waits (drop n clients)) next (drop_more clients k x here)
+  count_drop clients k x here = grind (arith, count_leaving, drop, length, to_gather, drop_more)
 
   pub gathers_length : (clients : List (Option (Stored T U C))) (notes : List (Note U)) (clients' : List (Option (Stored T U C))) (notes' : List (Note U))
       → Gathers waits clients notes clients' notes' → length clients' ≡ length clients
-  gathers_length clients notes clients' notes' by =
-      sym (length-map clients' (option_map (emptied waits))) ∙ (ap length by.rest ∙ length-map clients (option_map (emptied waits)))
+  gathers_length clients notes clients' notes' by = grind (arith, length-map, option_map, emptied, length)
 
   -- there is room for the notes of each client
   pub room_at : (clients : List (Option (Stored T U C))) (notes : List (Note U)) (clients' : List (Option (Stored T U C))) (notes' : List (Note U)) (n n' room room' k : ℕ)
@@ -131,9 +125,7 @@ module _ {T U C : Type 0} (waits : Bool) where
             ∙ (ap (λ (l : List (Happening U)). l ++ to_gather waits (Some s'))
             (ap (notes_of id) is ∙ (notes_append id notes (map (note_of target) told)
             ∙ ap (λ (l : List (Happening U)). notes_of id notes ++ l) (notes_same target id told (is_same at same))))
-            ∙ (append_assoc (notes_of id notes) told (to_gather waits (Some s'))
-            ∙ (ap (λ (l : List (Happening U)). notes_of id notes ++ l) (sym left)
-            ∙ ap (λ (o : Option (Stored T U C)). notes_of id notes ++ to_gather waits o) (sym (client_present id clients s (before at) same)))))
+            ∙ (grind (arith, append_assoc, notes_of, told, to_gather, client_present, before)))
         | Slots at ↦ told_if clients clients' notes notes' target told id (same_slots target id at) is
             (ap (λ (o : Option (Option (Stored T U C))). if_serial id.serial (option_map_or (λ s. s) o None)) (get_set_other clients slot id.slot (Some s') (other_of slot id.slot at)))
         | Serials at differ ↦ told_if clients clients' notes notes' target told id (same_serials target id at differ) is

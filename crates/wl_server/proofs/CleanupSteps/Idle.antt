@@ -1,5 +1,5 @@
 -- A cleanup of which no client is to be taken out.
-use Rattle.std.proofs.Common.{◌≡◌, ◌∙◌, ℕ, ◌+◌, ◌≤◌, Bool, true, false, List, [], ◌∷◌, length, Option, None, Some, refl, sym, ap, arith}
+use Rattle.std.proofs.Common.{◌≡◌, ℕ, ◌+◌, ◌≤◌, Bool, true, false, List, [], ◌∷◌, length, Option, None, Some, refl, ap, arith}
 use Rattle.std.specs.Prelude.{Result, if◌then◌else◌, slice_get}
 use Rattle.std.proofs.lemmas.List.{length-append, nil_from_length}
 use Rattle.wl_wire.specs.declared.error.IoFault.{IoFault}
@@ -12,8 +12,7 @@ use Rattle.wl_server.proofs.CleanupSteps.Asking.{none_ends}
 use Rattle.wl_server.proofs.CleanupSteps.Outgoing.{not_killed, part_length}
 
 live_one : {T : Type 0} (i : ClientParts) (t : T) (b : Bool) → length {A = ClientParts × T} (if b then ((i, t) ∷ []) else []) ≤ 0 → b ≡ false
-live_one i t true none = absurd (omega (arith, none))
-live_one i t false none = refl
+live_one i t h3 none = grind (arith)
 
 module _ {T U C : Type 0} where
   -- no client is killed
@@ -48,12 +47,7 @@ module _ {T U C : Type 0} where
   pub none_leaves : (n : ℕ) (clients : List (Option (Stored T U C))) → length (collected given_at n clients) ≤ 0 → clients ≡ all_staying clients
   none_leaves n [] none = refl
   none_leaves n (None ∷ clients) none = ap (λ (l : List (Option (Stored T U C))). None ∷ l) (none_leaves (n + 1) clients none)
-  none_leaves n (Some s ∷ clients) none =
-      let both = length-append (given_at n (Some s)) (collected given_at (n + 1) clients) in
-      let live = live_one (id_in n s) s.part.link.transport s.part.is_killed (omega (arith, both, none)) in
-      let rest = none_leaves (n + 1) clients (omega (arith, both, none)) in
-      ap (λ (l : List (Option (Stored T U C))). Some s ∷ l) rest
-      ∙ ap (λ (b : Bool). (if b then None else Some s) ∷ all_staying clients) (sym live)
+  none_leaves n (Some s ∷ clients) none = grind (arith, length-append, given_at, collected, live_one, id_in, all_staying, none_leaves (n + 1) clients)
 
   pub none_given : (clients : List (Option (Stored T U C))) → length (collected given_at 0 clients) ≤ 0 → collected given_at 0 clients ≡ []
   none_given clients none = nil_from_length (collected given_at 0 clients) (omega (arith, none))

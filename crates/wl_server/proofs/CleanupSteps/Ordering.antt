@@ -15,7 +15,6 @@ use Rattle.wl_server.specs.declared.notes.queues.NotePlace.{NotePlace}
 use Rattle.wl_server.specs.Inside.Gathering.{AllLeft, MovesNote}
 use Rattle.wl_server.specs.NoteOrder.{Along, IsOrderOf, all_places, place_at, places_at, places_of, slot_of, times_at, times_of, to_gather}
 use Rattle.wl_server.specs.Inside.NoteOrder.{AreNumbered, NoneNumbered, count_places, place_of}
-use Rattle.wl_server.specs.Ids.{ClientParts}
 use Rattle.wl_server.specs.Server.{NoteTimes, Stored, no_times, note_of, stored_at}
 use Rattle.wl_sets.proofs.Lists.{get_set_other, get_set_same, other_of}
 
@@ -27,8 +26,7 @@ places_cons k p order = sum_by-cons (λ (q : NotePlace). if q.slot == k then 1 e
 places_more : (order : List NotePlace) (i k : ℕ) (p : NotePlace) → slice_get order i ≡ Some p
     → places_at k (drop i order) ≡ (if p.slot == k then 1 else 0) + places_at k (drop (suc i) order)
 places_more [] i k p here = absurd (false≢true (ap is_some here))
-places_more (q ∷ order) zero k p here =
-    places_cons k q order ∙ ap (λ (r : NotePlace). (if r.slot == k then 1 else 0) + places_at k order) (same_Some q p here)
+places_more (q ∷ order) zero k p here = grind (arith, places_cons, places_at, same_Some)
 places_more (q ∷ order) (suc i) k p here = places_more order i k p here
 
 places_drop : (order : List NotePlace) (i k : ℕ) (p : NotePlace) → slice_get order i ≡ Some p
@@ -42,12 +40,6 @@ slots_more : (order : List NotePlace) (i : ℕ) (p : NotePlace) → slice_get or
 slots_more [] i p here = absurd (false≢true (ap is_some here))
 slots_more (q ∷ order) zero p here = ap (λ (r : NotePlace). r.slot ∷ []) (same_Some q p here)
 slots_more (q ∷ order) (suc i) p here = ap (λ (l : List ℕ). q.slot ∷ l) (slots_more order i p here)
-
-pub slots_take : (order : List NotePlace) (i : ℕ) (p : NotePlace) → slice_get order i ≡ Some p
-    → map (λ q. q.slot) (take (i + 1) order) ≡ map (λ q. q.slot) (take i order) ++ p.slot ∷ []
-slots_take order i p here =
-    let next : suc i ≡ i + 1 = omega arith in
-    subst (λ (n : ℕ). map (λ (q : NotePlace). q.slot) (take n order) ≡ map (λ (q : NotePlace). q.slot) (take i order) ++ p.slot ∷ []) next (slots_more order i p here)
 
 pub places_moved : (k : ℕ) (order order' : List NotePlace) → IsPermutation order order' → places_at k order' ≡ places_at k order
 places_moved k order order' moves = sum_by-IsPermutation (λ (p : NotePlace). if p.slot == k then 1 else 0) order order' moves
@@ -72,8 +64,7 @@ places_by_number waits slot (n ∷ notes) = ap (λ (l : List NotePlace). place_o
 
 pub put_made_places : {U : Type 0} (slot : ℕ) (made : List (ℕ × Happening U)) (ws : List ℕ) (order order' : List NotePlace) → order' ≡ order ++ map (place_of false slot) made
     → order' ≡ order ++ places_of false slot (record { made = map (λ n. n.0) made; waiting = ws })
-put_made_places slot made ws order order' is =
-    is ∙ ap (λ (l : List NotePlace). order ++ l) (places_by_number false slot made ∙ sym (append-nil (map (place_at false slot) (map (λ n. n.0) made))))
+put_made_places slot made ws order order' is = grind (arith, places_by_number, append-nil, map, place_at)
 
 pub put_both_places : {U : Type 0} (slot : ℕ) (made waiting : List (ℕ × Happening U)) (order order' order'' : List NotePlace) → order' ≡ order ++ map (place_of false slot) made
     → order'' ≡ order' ++ map (place_of true slot) waiting
@@ -81,19 +72,11 @@ pub put_both_places : {U : Type 0} (slot : ℕ) (made waiting : List (ℕ × Hap
 put_both_places slot made waiting order order' order'' is is' = grind (arith, place_of, append_assoc, places_by_number, place_at)
 
 pub put_no_places : (waits : Bool) (slot : ℕ) (order : List NotePlace) → order ≡ order ++ places_of waits slot no_times
-put_no_places true slot order = sym (append-nil order)
-put_no_places false slot order = sym (append-nil order)
-
--- how many places a client's notes have does not hang on its slot
-places_length : (waits : Bool) (slot : ℕ) (t : NoteTimes) → length (places_of waits slot t) ≡ length (places_of waits 0 t)
-places_length waits slot t = grind (arith, length-append, place_at, length-map)
+put_no_places h1 slot order = grind (arith, append-nil)
 
 no_places : (waits : Bool) (slot : ℕ) (ts : List NoteTimes) → count_places waits ts ≤ 0 → all_places waits slot ts ≡ []
 no_places waits slot [] few = refl
-no_places waits slot (t ∷ ts) few =
-    let same = places_length waits slot t in
-    ap (λ (l : List NotePlace). l ++ all_places waits (slot + 1) ts) (nil_from_length (places_of waits slot t) (omega (arith, few, same)))
-    ∙ no_places waits (slot + 1) ts (omega (arith, few))
+no_places waits slot (t ∷ ts) few = grind (arith, length-append, place_at, length-map, all_places, nil_from_length, places_of, no_places waits (slot + 1) ts)
 
 -- ---- the places of a client's notes
 
@@ -107,19 +90,11 @@ module _ {U : Type 0} (slot k : ℕ) where
       ∙ ap (λ (b : Bool). (if b then 1 else 0) + places_at k (map (place_of waits slot) notes)) is
       in
       let more = each_place waits true is notes in omega (arith, one, more)
-  each_place waits false is (n ∷ notes) =
-      let one : places_at k (map (place_of waits slot) (n ∷ notes)) ≡ 0 + places_at k (map (place_of waits slot) notes) =
-      places_cons k (place_of waits slot n) (map (place_of waits slot) notes)
-      ∙ ap (λ (b : Bool). (if b then 1 else 0) + places_at k (map (place_of waits slot) notes)) is
-      in
-      let more = each_place waits false is notes in omega (arith, one, more)
+  each_place waits false is (n ∷ notes) = grind (arith, places_at, map, place_of, places_cons, each_place waits false is notes)
 
   put : (waits : Bool) (notes : List (ℕ × Happening U)) (order order' : List NotePlace) → order' ≡ order ++ map (place_of waits slot) notes
       → places_at k order' ≡ places_at k order + (if slot == k then length notes else 0)
-  put waits notes order order' is =
-      ap (places_at k) is
-      ∙ (sum_by-append (λ (p : NotePlace). if p.slot == k then 1 else 0) order (map (place_of waits slot) notes)
-      ∙ ap (λ (n : ℕ). places_at k order + n) (each_place waits (slot == k) refl notes))
+  put waits notes order order' is = grind (arith, places_at, sum_by-append, map, place_of, each_place)
 
   pub put_made : (made : List (ℕ × Happening U)) (order order' : List NotePlace) → order' ≡ order ++ map (place_of false slot) made
       → places_at k order' ≡ places_at k order + (if slot == k then length (map (λ n. n.1) made ++ []) else 0)
@@ -144,52 +119,17 @@ at_place waits slot k true is (n ∷ ns) =
     ∙ ap (λ (b : Bool). (if b then 1 else 0) + places_at k (map (place_at waits slot) ns)) is
     in
     let more = at_place waits slot k true is ns in omega (arith, one, more)
-at_place waits slot k false is (n ∷ ns) =
-    let one : places_at k (map (place_at waits slot) (n ∷ ns)) ≡ 0 + places_at k (map (place_at waits slot) ns) =
-    places_cons k (place_at waits slot n) (map (place_at waits slot) ns)
-    ∙ ap (λ (b : Bool). (if b then 1 else 0) + places_at k (map (place_at waits slot) ns)) is
-    in
-    let more = at_place waits slot k false is ns in omega (arith, one, more)
-
-at_places : (waits : Bool) (slot k : ℕ) (b : Bool) → (slot == k) ≡ b → (t : NoteTimes) → places_at k (places_of waits slot t) ≡ (if b then length (places_of waits 0 t) else 0)
-at_places waits slot k b is t =
-    sum_by-append (λ (p : NotePlace). if p.slot == k then 1 else 0) (map (place_at false slot) t.made) (if waits then map (place_at true slot) t.waiting else [])
-    ∙ (both waits b is ∙ sym (whole b))
-  where
-    whole : (b : Bool) → (if b then length (places_of waits 0 t) else 0)
-        ≡ (if b then length (map (place_at false 0) t.made) + length (if waits then map (place_at true 0) t.waiting else []) else 0)
-    whole true = length-append (map (place_at false 0) t.made) (if waits then map (place_at true 0) t.waiting else [])
-    whole false = refl
-
-    both : (v b : Bool) → (slot == k) ≡ b → places_at k (map (place_at false slot) t.made) + places_at k (if v then map (place_at true slot) t.waiting else [])
-        ≡ (if b then length (map (place_at false 0) t.made) + length (if v then map (place_at true 0) t.waiting else []) else 0)
-    both v b h1 = grind (arith, at_place, length-map, place_at)
+at_place waits slot k false is (n ∷ ns) = grind (arith, places_at, map, place_at, places_cons, at_place waits slot k false is ns)
 
 -- all the places of a slot, among those of all clients, are of its client
 past_places : (waits : Bool) (slot k : ℕ) (ts : List NoteTimes) → k < slot → places_at k (all_places waits slot ts) ≡ 0
 past_places waits slot k [] past = refl
-past_places waits slot k (t ∷ ts) past =
-    let both = sum_by-append (λ (p : NotePlace). if p.slot == k then 1 else 0) (places_of waits slot t) (all_places waits (slot + 1) ts) in
-    let this = at_places waits slot k false (ne_eqb slot k (λ e. omega (arith, past, e))) t in
-    let rest = past_places waits (slot + 1) k ts (omega (arith, past)) in
-    omega (arith, both, this, rest)
+past_places waits slot k (t ∷ ts) past = grind (arith, sum_by-append, places_of, all_places, map, place_at, length-append, at_place, length-map, ne_eqb, past_places waits (slot + 1) k ts)
 
 places_among : (waits : Bool) (slot k n : ℕ) (ts : List NoteTimes) → n ≡ slot + k → places_at n (all_places waits slot ts) ≡ length (places_of waits 0 (times_at k ts))
 places_among waits slot k n [] at = grind (arith, places_of, no_times)
-places_among waits slot zero n (t ∷ ts) at =
-    let both = sum_by-append (λ (p : NotePlace). if p.slot == n then 1 else 0) (places_of waits slot t) (all_places waits (slot + 1) ts) in
-    let this = at_places waits slot n true (eq-eqb slot n (omega (arith, at))) t in
-    let rest = past_places waits (slot + 1) n ts (omega (arith, at)) in
-    omega (arith, both, this, rest)
-places_among waits slot (suc k) n (t ∷ ts) at =
-    let both = sum_by-append (λ (p : NotePlace). if p.slot == n then 1 else 0) (places_of waits slot t) (all_places waits (slot + 1) ts) in
-    let this = at_places waits slot n false (ne_eqb slot n (λ e. omega (arith, at, e))) t in
-    let rest = places_among waits (slot + 1) k n ts (omega (arith, at)) in
-    omega (arith, both, this, rest)
-
--- the note of a client has its slot
-slot_told : {U : Type 0} (id : ClientParts) (h : Happening U) → slot_of (note_of id h) ≡ id.slot
-slot_told id h = grind (arith)
+places_among waits slot zero n (t ∷ ts) at = grind (arith, sum_by-append, places_of, all_places, map, place_at, length-append, at_place, length-map, eq-eqb, past_places)
+places_among waits slot (suc k) n (t ∷ ts) at = grind (arith, sum_by-append, places_of, all_places, map, place_at, length-append, at_place, length-map, ne_eqb, places_among waits (slot + 1) k n ts)
 
 -- ---- the places of all clients
 
@@ -225,10 +165,6 @@ module _ {T U C : Type 0} (waits : Bool) where
       → places_at k order ≡ length (to_gather waits (stored_at k clients))
   placed_all clients slot order ends placed k = grind (arith, split, places_at, to_gather, stored_at, none_stored)
 
-  -- where there is no note, there is no place
-  pub none_placed : (clients : List (Option (Stored T U C))) → AllLeft waits clients → (k : ℕ) → places_at k [] ≡ length (to_gather waits (stored_at k clients))
-  none_placed clients none k = grind (arith, slice_get, to_gather)
-
   -- ---- places that are left
 
   -- each slot has as many places left as its client has notes
@@ -237,8 +173,7 @@ module _ {T U C : Type 0} (waits : Bool) where
 
   next_count : (clients : List (Option (Stored T U C))) (order : List NotePlace) (i k : ℕ) (p : NotePlace) (b : Bool) → slice_get order i ≡ Some p → Left clients (drop i order)
       → (p.slot == k) ≡ b → length (to_gather waits (stored_at k clients)) ≡ (if b then 1 else 0) + places_at k (drop (i + 1) order)
-  next_count clients order i k p b here left is =
-      sym (left k) ∙ (places_drop order i k p here ∙ ap (λ (b : Bool). (if b then 1 else 0) + places_at k (drop (i + 1) order)) is)
+  next_count clients order i k p b here left is = grind (arith, places_drop, places_at, drop)
 
   -- the client at the next place has a note
   pub next_some : (clients : List (Option (Stored T U C))) (order : List NotePlace) (i : ℕ) (p : NotePlace) → slice_get order i ≡ Some p → Left clients (drop i order)
@@ -262,25 +197,7 @@ module _ {T U C : Type 0} (waits : Bool) where
   left_after clients notes notes' order i p x x' here there (h, one, rest, is) left k = at (p.slot == k) refl
     where
       at : (b : Bool) → (p.slot == k) ≡ b → places_at k (drop (i + 1) order) ≡ length (to_gather waits (stored_at k (slice_set clients p.slot x')))
-      at true same =
-          let at_slot = eqb-true p.slot k same in
-          let count = next_count clients order i k p true here left same in
-          let before : length (to_gather waits (stored_at k clients)) ≡ length (to_gather waits x) =
-          ap (λ (o : Option (Stored T U C)). length (to_gather waits o)) (subst (λ (n : ℕ). stored_at n clients ≡ x) at_slot (stored_is clients p.slot x there))
-          in
-          let fewer : length (to_gather waits x) ≡ suc (length (to_gather waits x')) = ap length one in
-          let after : length (to_gather waits (stored_at k (slice_set clients p.slot x'))) ≡ length (to_gather waits x') =
-          ap (λ (o : Option (Stored T U C)). length (to_gather waits o))
-          (subst (λ (n : ℕ). stored_at n (slice_set clients p.slot x') ≡ x') at_slot
-          (stored_is (slice_set clients p.slot x') p.slot x' (get_set_same clients p.slot x x' there)))
-          in
-          omega (arith, count, before, fewer, after)
-      at false other =
-          let count = next_count clients order i k p false here left other in
-          let same : length (to_gather waits (stored_at k (slice_set clients p.slot x'))) ≡ length (to_gather waits (stored_at k clients)) =
-          ap (λ (o : Option (Option (Stored T U C))). length (to_gather waits (option_map_or (λ s. s) o None))) (get_set_other clients p.slot k x' (other_of p.slot k other))
-          in
-          omega (arith, count, same)
+      at h1 same = grind (arith, eqb-true, next_count, length, to_gather, stored_at, stored_is, slice_set, get_set_same, option_map_or, get_set_other, other_of)
 
   -- ---- the numbers that are left
 
@@ -298,13 +215,7 @@ module _ {T U C : Type 0} (waits : Bool) where
 
   pub set_numbered : (clients : List (Option (Stored T U C))) (i : ℕ) (x x' : Option (Stored T U C)) → slice_get clients i ≡ Some x → AreNumbered waits x'
       → ((k : ℕ) → AreNumbered waits (stored_at k clients)) → (k : ℕ) → AreNumbered waits (stored_at k (slice_set clients i x'))
-  set_numbered clients i x x' here new old k = at (i == k) refl
-    where
-      at : (b : Bool) → (i == k) ≡ b → AreNumbered waits (stored_at k (slice_set clients i x'))
-      at true same =
-          subst (λ (n : ℕ). AreNumbered waits (stored_at n (slice_set clients i x'))) (eqb-true i k same)
-          (subst (λ (o : Option (Stored T U C)). AreNumbered waits o) (sym (stored_is (slice_set clients i x') i x' (get_set_same clients i x x' here))) new)
-      at false other = grind (arith, get_set_other, other_of)
+  set_numbered clients i x x' here new old k = grind (arith, stored_at, slice_set, eqb-true, stored_is, get_set_same, get_set_other, other_of)
 
   pub none_numbered : (clients : List (Option (Stored T U C))) (order : List NotePlace) → order ≡ [] → Left clients order → ((k : ℕ) → AreNumbered waits (stored_at k clients))
       → NoneNumbered waits (map times_of clients)
@@ -314,21 +225,17 @@ module _ {T U C : Type 0} (waits : Bool) where
 
   pub slots_after : (notes notes' : List (Note U)) (slot : ℕ) (x x' : Option (Stored T U C)) → MovesNote waits slot x notes x' notes'
       → (one : List (Note U)) × (notes' ≡ notes ++ one) × (map slot_of one ≡ slot ∷ [])
-  slots_after notes notes' slot x x' h1 = grind (arith, to_gather, note_of, slot_told)
+  slots_after notes notes' slot x x' h1 = grind (arith, to_gather, note_of)
 
   -- ---- a round of the loop that gathers
 
   pub place_within : (clients : List (Option (Stored T U C))) (order : List NotePlace) (i n : ℕ) (d : NotePlace) → i < length order → n ≡ (get_or order i d).slot
       → Left clients (drop i order) → n < length clients
-  place_within clients order i n d within is left =
-      subst (λ (m : ℕ). m < length clients) (sym is) (next_within clients order i (get_or order i d) (slice_get-get_or order i d within) left)
+  place_within clients order i n d within is left = grind (arith, length, next_within, get_or, slice_get-get_or)
 
   pub place_some : (clients : List (Option (Stored T U C))) (order : List NotePlace) (i n : ℕ) (d : NotePlace) (x : Option (Stored T U C)) → i < length order
       → n ≡ (get_or order i d).slot → slice_get clients n ≡ Some x → Left clients (drop i order) → 0 < length (to_gather waits x)
-  place_some clients order i n d x within is there left =
-      subst (λ (o : Option (Stored T U C)). 0 < length (to_gather waits o)) (stored_is clients n x there)
-      (subst (λ (m : ℕ). 0 < length (to_gather waits (stored_at m clients))) (sym is)
-      (next_some clients order i (get_or order i d) (slice_get-get_or order i d within) left))
+  place_some clients order i n d x within is there left = grind (arith, length, to_gather, stored_is, stored_at, next_some, get_or, slice_get-get_or)
 
   pub place_left : (clients : List (Option (Stored T U C))) (notes notes' : List (Note U)) (order : List NotePlace) (i n : ℕ) (d : NotePlace) (x x' : Option (Stored T U C))
       → i < length order → n ≡ (get_or order i d).slot → slice_get clients n ≡ Some x → MovesNote waits n x notes x' notes' → Left clients (drop i order)
@@ -342,7 +249,7 @@ module _ {T U C : Type 0} (waits : Bool) where
   -- there is no place where there is no note
   pub none_order : (clients : List (Option (Stored T U C))) (order : List NotePlace) → order ≡ [] → AllLeft waits clients → count_places waits (map times_of clients) ≤ 0
       → IsOrderOf waits clients order
-  none_order clients order none left few = grind (arith, none_placed, no_places, times_of)
+  none_order clients order none left few = grind (arith, slice_get, to_gather, no_places, times_of)
 
   -- ---- the places, client by client
 
@@ -363,11 +270,4 @@ module _ {T U C : Type 0} (waits : Bool) where
 
 pub along_more : {U : Type 0} (start now now' : List (Note U)) (order : List NotePlace) (i n : ℕ) (d : NotePlace) → i < length order → n ≡ (get_or order i d).slot
     → Along start now (take i order) → (one : List (Note U)) × (now' ≡ now ++ one) × (map slot_of one ≡ n ∷ []) → Along start now' (take (i + 1) order)
-along_more {U} start now now' order i n d within is (more, before, slots) (one, after, slot) = (
-  more ++ one,
-  after ∙ (ap (λ (l : List (Note U)). l ++ one) before ∙ append_assoc start more one),
-  map-append slot_of more one
-      ∙ (ap (λ (l : List ℕ). l ++ map slot_of one) slots
-      ∙ (ap (λ (l : List ℕ). map (λ q. q.slot) (take i order) ++ l) (slot ∙ ap (λ (m : ℕ). m ∷ []) is)
-      ∙ sym (slots_take order i (get_or order i d) (slice_get-get_or order i d within)))),
-)
+along_more {U} start now now' order i n d within is h11 h12 = grind (arith, append_assoc, map-append, slot_of, map, take, slots_more, get_or, slice_get-get_or)

@@ -17,7 +17,7 @@ use Rattle.wl_server.specs.Inside.Client.{Does}
 use Rattle.wl_server.specs.Felt.{FlushedTo}
 use Rattle.wl_server.specs.Ids.{ClientParts}
 use Rattle.wl_server.specs.Inside.Leaving.{Flushes, FlushesKilled, all_staying, collected, with_data, ends_at, ends_of, given_at, id_in, staying}
-use Rattle.wl_server.specs.NoteOrder.{RiseFromSlot, slot_of}
+use Rattle.wl_server.specs.NoteOrder.{RiseFromSlot}
 use Rattle.wl_server.specs.Server.{Stored, no_times, note_of}
 use Rattle.wl_server.proofs.Readings.Flushing.{killed_stays, live_flushed}
 use Rattle.wl_server.proofs.CleanupSteps.Gathering.{map_set}
@@ -28,20 +28,16 @@ map_itself f [] all = refl
 map_itself f (x ∷ xs) all = ap (λ y. y ∷ map f xs) (all 0 x refl) ∙ ap (λ l. x ∷ l) (map_itself f xs (λ k y here. all (suc k) y here))
 
 pub if_true : (b : Bool) (A B : Type 0) → b ≡ true → A → MatchBool b A B
-if_true true A B is a = a
-if_true false A B is a = absurd (false≢true is)
+if_true h1 h2 h3 is a = grind (arith, false≢true)
 
 pub if_false : (b : Bool) (A B : Type 0) → b ≡ false → B → MatchBool b A B
-if_false true A B is a = absurd (false≢true (sym is))
-if_false false A B is a = a
+if_false h1 h2 h3 is a = grind (arith, false≢true)
 
 not_true : (b : Bool) → (b ≡ true → ⊥) → b ≡ false
-not_true true other = absurd (other refl)
-not_true false other = refl
+not_true h1 other = grind (arith)
 
 not_false : (b : Bool) → (b ≡ false → ⊥) → b ≡ true
-not_false true other = refl
-not_false false other = absurd (other refl)
+not_false h1 other = grind (arith)
 
 pub same_killed : (a b : Bool) → beq a b ≡ true → a ≡ b
 same_killed a b h1 = grind (arith)
@@ -85,9 +81,7 @@ module _ {T U C : Type 0} where
 
   pub ends_length : (slot : ℕ) (o : Option (Stored T U C)) (s : Stored T U C) → o ≡ Some s → s.part.is_killed ≡ true
       → length (ends_at slot o) ≡ length (with_data (entries s.part.store.objects))
-  ends_length slot o s is killed =
-      ap (λ (x : Option (Stored T U C)). length (ends_at slot x)) is
-      ∙ rw killed (length-map (ends_of (id_in slot s) (entries s.part.store.objects)) (note_of (id_in slot s)) ∙ ending_length (id_in slot s) (entries s.part.store.objects))
+  ends_length slot o s is killed = grind (arith, length, ends_at, length-map, ends_of, id_in, entries, note_of, ending_length)
 
   pub ends_killed : (slot : ℕ) (o : Option (Stored T U C)) (s : Stored T U C) → o ≡ Some s → s.part.is_killed ≡ true
       → ends_at slot o ≡ map (note_of (id_in slot s)) (ends_of (id_in slot s) (entries s.part.store.objects))
@@ -111,14 +105,8 @@ module _ {T U C : Type 0} where
   pub part_length : {A : Type 0} (give : ℕ → Option (Stored T U C) → List A) (n slot k : ℕ) (clients : List (Option (Stored T U C))) (x : Option (Stored T U C)) → slot ≡ n + k
       → slice_get clients k ≡ Some x → length (give slot x) ≤ length (collected give n clients)
   part_length give n slot k [] x at here = absurd (none-some x here)
-  part_length give n slot zero (z ∷ clients) x at here =
-      let same : length (give slot x) ≡ length (give n z) = ap (λ (y : Option (Stored T U C)). length (give slot y)) (sym (same_Some z x here)) ∙ ap (λ (m : ℕ). length (give m z)) (omega (arith, at)) in
-      let all = length-append (give n z) (collected give (n + 1) clients) in
-      omega (arith, same, all)
-  part_length give n slot (suc k) (z ∷ clients) x at here =
-      let more = part_length give (n + 1) slot k clients x (omega (arith, at)) here in
-      let all = length-append (give n z) (collected give (n + 1) clients) in
-      omega (arith, more, all)
+  part_length give n slot zero (z ∷ clients) x at here = grind (arith, length, same_Some, length-append, collected)
+  part_length give n slot (suc k) (z ∷ clients) x at here = grind (arith, length-append, collected, part_length give (n + 1) slot k clients x)
 
   -- the killed ones of the slots below this one have left, and the others are as they were
   pub record Leave (slot : ℕ) (start now : List (Option (Stored T U C))) (notes notes' : List (Note U)) (given given' : List (ClientParts × T)) : Type 0 where
@@ -168,11 +156,7 @@ module _ {T U C : Type 0} where
   pub leave_ends : (slot : ℕ) (start now : List (Option (Stored T U C))) (notes notes' : List (Note U)) (given given' : List (ClientParts × T)) → Leave slot start now notes notes' given given'
       → length start ≤ slot → length now ≡ length start
       → (now ≡ all_staying start) × (notes' ≡ notes ++ collected ends_at 0 start) × (given' ≡ given ++ collected given_at 0 start)
-  leave_ends slot start now notes notes' given given' before past len = (
-    sym (map_itself staying now (λ k x here. before.left k x (let within = slice_get_within now k x here in omega (arith, within, past, len)) here)) ∙ before.same,
-    sym (append-nil notes') ∙ (ap (λ (l : List (Option (Stored T U C))). notes' ++ collected ends_at slot l) (sym (drop_all slot start past)) ∙ before.noted),
-    sym (append-nil given') ∙ (ap (λ (l : List (Option (Stored T U C))). given' ++ collected given_at slot l) (sym (drop_all slot start past)) ∙ before.gave),
-  )
+  leave_ends slot start now notes notes' given given' before past len = grind (arith, map_itself, staying, slice_get_within, append-nil, collected, ends_at, drop_all, given_at)
 
   -- ---- how many they are
 
@@ -202,9 +186,6 @@ module _ {T U C : Type 0} where
 
 -- ---- the notes of ends are in the order of the slots
 
-slot_noted : {U : Type 0} (id : ClientParts) (h : Happening U) → slot_of (note_of id h) ≡ id.slot
-slot_noted id h = grind (arith)
-
 from_lower : {U : Type 0} (low slot : ℕ) (ns : List (Note U)) → low ≤ slot → RiseFromSlot slot ns → RiseFromSlot low ns
 from_lower low slot [] less rise = tt
 from_lower low slot (n ∷ ns) less (first, rest) = (omega (arith, less, first), rest)
@@ -212,7 +193,7 @@ from_lower low slot (n ∷ ns) less (first, rest) = (omega (arith, less, first),
 noted_rise : {U : Type 0} (slot : ℕ) (id : ClientParts) (hs : List (Happening U)) (rest : List (Note U)) → id.slot ≡ slot → RiseFromSlot slot rest
     → RiseFromSlot slot (map (note_of id) hs ++ rest)
 noted_rise slot id [] rest is rise = rise
-noted_rise slot id (h ∷ hs) rest is rise = grind (arith, slot_noted, note_of, noted_rise slot id hs rest is rise)
+noted_rise slot id (h ∷ hs) rest is rise = grind (arith, note_of, noted_rise slot id hs rest is rise)
 
 pub ends_rise : {T U C : Type 0} (low slot : ℕ) (clients : List (Option (Stored T U C))) → low ≤ slot → RiseFromSlot low (collected ends_at slot clients)
 ends_rise low slot [] less = tt

@@ -1,28 +1,21 @@
 -- The room that a cleanup made is enough, also once the killed clients were flushed and all notes gathered.
-use Rattle.std.proofs.Common.{◌≡◌, ℕ, suc, ◌+◌, Bool, true, false, List, [], ◌∷◌, ◌++◌, length, Option, None, Some, is_some, Result, refl, sym, ap, subst, ◌∙◌, arith, append-nil}
+use Rattle.std.proofs.Common.{◌≡◌, ℕ, suc, ◌+◌, Bool, true, List, [], ◌∷◌, ◌++◌, length, Option, None, Some, is_some, Result, refl, sym, subst, arith, append-nil}
 use Rattle.std.specs.Option.{option_map, option_map_or}
-use Rattle.std.specs.Prelude.{MatchBool, map, if◌then◌else◌, slice_get}
+use Rattle.std.specs.Prelude.{map, slice_get}
 use Rattle.std.proofs.lemmas.List.{length-append}
 use Rattle.std.proofs.lemmas.Option.{slice_get_within}
 use Rattle.wl_wire.specs.declared.error.IoFault.{IoFault}
 use Rattle.wl_link.specs.Exchange.{Queue}
 use Rattle.wl_server.specs.declared.notes.Note.{Note}
 use Rattle.wl_server.specs.Deeds.{Deed, notes_in}
-use Rattle.wl_server.specs.Felt.{FlushedTo}
 use Rattle.wl_server.specs.Inside.Gathering.{Gathers, all_emptied, count_leaving, emptied}
 use Rattle.wl_server.specs.NoteOrder.{IsOrderOf, times_of, to_gather}
-use Rattle.wl_server.specs.Ids.{ClientParts}
 use Rattle.wl_server.specs.Inside.Leaving.{FlushesKilled, collected, ends_at, given_at}
 use Rattle.wl_server.specs.Part.{Part, with_link}
 use Rattle.wl_server.specs.Inside.Places.{AllFeel, FeltAt, PlaceFeels}
 use Rattle.wl_server.specs.Server.{Stored, no_times, stored_at}
 use Rattle.wl_server.specs.declared.notes.queues.NotePlace.{NotePlace}
 use Rattle.wl_server.proofs.Readings.Notes.{notes_of_sends}
-
-given_length : {T : Type 0} (i : ClientParts) (t t' : T) (b : Bool)
-    → length {A = ClientParts × T} (if b then ((i, t') ∷ []) else []) ≡ length {A = ClientParts × T} (if b then ((i, t) ∷ []) else [])
-given_length i t t' true = refl
-given_length i t t' false = refl
 
 module _ {T U C : Type 0} where
   -- two places at which a cleanup finds as much
@@ -42,26 +35,13 @@ module _ {T U C : Type 0} where
   same_counts n (x ∷ xs) [] len all = absurd (omega (arith, len))
   same_counts n (x ∷ xs) (y ∷ ys) len all =
       let here = all n 0 x y (omega arith) refl refl in
-      let more = same_counts (n + 1) xs ys (omega (arith, len)) (λ slot k a b at is is'. all slot (suc k) a b (omega (arith, at)) is is') in (
-        omega (arith, here.0, more.0),
-        (length-append (ends_at n y) (collected ends_at (n + 1) ys) ∙ omega (arith, here.1, more.1, length-append (ends_at n x) (collected ends_at (n + 1) xs))),
-        (length-append (given_at n y) (collected given_at (n + 1) ys) ∙ omega (arith, here.2, more.2, length-append (given_at n x) (collected given_at (n + 1) xs))),
-      )
+      let more = same_counts (n + 1) xs ys (omega (arith, len)) (λ slot k a b at is is'. all slot (suc k) a b (omega (arith, at)) is is') in grind (arith, length-append, ends_at, collected, given_at)
 
   -- ---- a flush
 
   same_flushed : (sends : T → Queue → Result ℕ IoFault → T → Type 0) (slot : ℕ) (s : Stored T U C) (q : Part T U C) (lacked : Bool) (did : List (Deed U))
       → FlushesKilled sends s.part lacked did q → SamePlace slot (Some s) (Some (record { serial = s.serial; part = q; made = s.made ++ notes_in did; times = no_times }))
-  same_flushed sends slot s q lacked did flushes = at s.part.is_killed flushes
-    where
-      as_new : (notes_in did ≡ []) → q ≡ with_link s.part q.link → SamePlace slot (Some s) (Some (record { serial = s.serial; part = q; made = s.made ++ notes_in did; times = no_times }))
-      as_new quiet is = grind (arith, no_times, append-nil, given_length)
-
-      at : (b : Bool) → MatchBool b ((answer : Result (Unit {0}) IoFault) × FlushedTo sends s.part answer lacked did q) ((lacked ≡ false) × (did ≡ []) × (q ≡ s.part))
-          → SamePlace slot (Some s) (Some (record { serial = s.serial; part = q; made = s.made ++ notes_in did; times = no_times }))
-      at true (answer, (es, link, by, lack, sent, is)) =
-          as_new (ap notes_in sent ∙ notes_of_sends es) (is ∙ ap (λ (l : _). with_link s.part l) (sym (ap (λ (p : Part T U C). p.link) is)))
-      at false (not, none, same) = as_new (ap notes_in none) (same ∙ ap (λ (l : _). with_link s.part l) (sym (ap (λ (p : Part T U C). p.link) same)))
+  same_flushed sends slot s q lacked did flushes = grind (arith, no_times, append-nil, notes_in, notes_of_sends, with_link)
 
   same_place : (sends : T → Queue → Result ℕ IoFault → T → Type 0) (slot : ℕ) (x y : Option (Stored T U C)) (lacked : Bool)
       → PlaceFeels (λ id p lacked did q. FlushesKilled sends p lacked did q) slot x lacked y → SamePlace slot x y
@@ -85,39 +65,23 @@ module _ {T U C : Type 0} where
 
   -- ---- the places of notes
 
-  felt_leaves : (sends : T → Queue → Result ℕ IoFault → T → Type 0) (k : ℕ) (lacked : Bool) (o o' : Option (Option (Stored T U C)))
-      → FeltAt (λ id p lacked did q. FlushesKilled sends p lacked did q) k o lacked o'
-      → length (to_gather true (option_map_or (λ s. s) o' None)) ≡ length (to_gather true (option_map_or (λ s. s) o None))
-  felt_leaves sends k lacked o o' h1 = grind (arith, option_map_or, same_place)
-
   -- the places that were taken down before the flush are still those of the notes
   pub flushed_order : (sends : T → Queue → Result ℕ IoFault → T → Type 0) (refused : Bool) (start now : List (Option (Stored T U C))) (order : List NotePlace)
       → AllFeel (λ id p lacked did q. FlushesKilled sends p lacked did q) refused (length start) start now → map times_of now ≡ map times_of start
       → IsOrderOf true start order → IsOrderOf true now order
-  flushed_order sends refused start now order all times is = grind (arith, stored_at, felt_leaves, slice_get, option_map_or)
+  flushed_order sends refused start now order all times is = grind (arith, stored_at, same_place, slice_get, option_map_or)
 
   -- ---- gathered notes
-
-  ends_emptied : (slot : ℕ) (x : Option (Stored T U C)) → ends_at slot (option_map (emptied true) x) ≡ ends_at slot x
-  ends_emptied slot None = refl
-  ends_emptied slot (Some s) = refl
-
-  given_emptied : (slot : ℕ) (x : Option (Stored T U C)) → given_at slot (option_map (emptied true) x) ≡ given_at slot x
-  given_emptied slot None = refl
-  given_emptied slot (Some s) = refl
 
   collected_emptied : {A : Type 0} (give : ℕ → Option (Stored T U C) → List A) → ((slot : ℕ) (x : Option (Stored T U C)) → give slot (option_map (emptied true) x) ≡ give slot x)
       → (n : ℕ) (clients : List (Option (Stored T U C))) → collected give n (all_emptied true clients) ≡ collected give n clients
   collected_emptied give same n [] = refl
-  collected_emptied give same n (x ∷ clients) =
-      ap (λ l. l ++ collected give (n + 1) (all_emptied true clients)) (same n x) ∙ ap (λ l. give n x ++ l) (collected_emptied give same (n + 1) clients)
+  collected_emptied give same n (x ∷ clients) = grind (arith, collected, all_emptied, collected_emptied give same (n + 1) clients)
 
   pub gathered_ends : (clients : List (Option (Stored T U C))) (notes : List (Note U)) (clients' : List (Option (Stored T U C))) (notes' : List (Note U))
       → Gathers true clients notes clients' notes' → collected ends_at 0 clients' ≡ collected ends_at 0 clients
-  gathered_ends clients notes clients' notes' by =
-      sym (collected_emptied ends_at ends_emptied 0 clients') ∙ (ap (collected ends_at 0) by.rest ∙ collected_emptied ends_at ends_emptied 0 clients)
+  gathered_ends clients notes clients' notes' by = grind (arith, collected_emptied, ends_at, collected)
 
   pub gathered_given : (clients : List (Option (Stored T U C))) (notes : List (Note U)) (clients' : List (Option (Stored T U C))) (notes' : List (Note U))
       → Gathers true clients notes clients' notes' → collected given_at 0 clients' ≡ collected given_at 0 clients
-  gathered_given clients notes clients' notes' by =
-      sym (collected_emptied given_at given_emptied 0 clients') ∙ (ap (collected given_at 0) by.rest ∙ collected_emptied given_at given_emptied 0 clients)
+  gathered_given clients notes clients' notes' by = grind (arith, collected_emptied, given_at, collected)

@@ -1,5 +1,5 @@
 -- The notes that were gathered are handed out, as a step of the server.
-use Rattle.std.proofs.Common.{◌≡◌, ◌≢◌, ℕ, ◌<◌, Bool, true, false, List, [], ◌++◌, map, Option, None, Some, Ok, Err, Vec, refl, sym, ap, subst, ◌∙◌, append-nil, arith}
+use Rattle.std.proofs.Common.{◌≡◌, ◌≢◌, ℕ, ◌<◌, Bool, true, false, List, [], ◌++◌, map, Option, None, Ok, Err, Vec, refl, sym, ap, subst, ◌∙◌, append-nil, arith}
 use mathlib.Core.Logic.{inl, inr}
 use Rattle.std.specs.Global.{Global}
 use Rattle.std.specs.Option.{option_map, option_map_or}
@@ -7,7 +7,6 @@ use Rattle.std.specs.Prelude.{◌⊎◌, slice_get}
 use Rattle.std.proofs.lemmas.Bool.{false≢true}
 use Rattle.std.proofs.lemmas.Option.{slice_get-map}
 use Rattle.wl_wire.specs.declared.error.OutOfMemory.{OutOfMemory}
-use Rattle.wl_server.specs.declared.notes.Happening.{Happening}
 use Rattle.wl_server.specs.declared.notes.Note.{Note}
 use Rattle.wl_server.specs.declared.runs.step.Reply.TheVariants as reply
 use Rattle.wl_server.specs.declared.runs.step.Step.TheVariants as step
@@ -18,9 +17,8 @@ use Rattle.wl_server.specs.Inside.Gathering.{AllLeft, Gathers, all_emptied, coun
 use Rattle.wl_server.specs.NoteOrder.{AllNumbered, AllTakeFirst, IsInOrder, times_of, to_gather}
 use Rattle.wl_server.specs.Globals.{Offer}
 use Rattle.wl_server.specs.Ids.{ClientParts}
-use Rattle.wl_server.specs.Part.{Part}
 use Rattle.wl_server.specs.PartStep.{Asked, NotesTaken, World}
-use Rattle.wl_server.specs.Server.{Seen, ServerState, Stored, client_at, if_serial, notes_of, seen_as}
+use Rattle.wl_server.specs.Server.{ServerState, Stored, client_at, if_serial, notes_of, seen_as}
 use Rattle.wl_server.specs.Steps.{SomeClient, StepOf}
 use Rattle.wl_server.proofs.CallSteps.Numbering.{all_none}
 use Rattle.wl_server.proofs.CleanupSteps.Asking.{notes_ask}
@@ -28,18 +26,12 @@ use Rattle.wl_server.proofs.CleanupSteps.Asking.{notes_ask}
 module _ {T U C : Type 0} where
   -- ---- what is left of each client
 
-  emptied_if : (waits : Bool) (serial : ℕ) (x : Option (Stored T U C)) → if_serial serial (option_map (emptied waits) x) ≡ option_map (emptied waits) (if_serial serial x)
-  emptied_if waits serial x = grind (arith, emptied)
-
   emptied_at : (waits : Bool) (serial : ℕ) (x : Option (Option (Stored T U C)))
       → if_serial serial (option_map_or (λ s. s) (option_map (option_map (emptied waits)) x) None) ≡ option_map (emptied waits) (if_serial serial (option_map_or (λ s. s) x None))
-  emptied_at waits serial None = refl
-  emptied_at waits serial (Some x) = emptied_if waits serial x
+  emptied_at waits serial h3 = grind (arith, emptied)
 
   pub client_emptied : (waits : Bool) (clients : List (Option (Stored T U C))) (id : ClientParts) → client_at id (all_emptied waits clients) ≡ option_map (emptied waits) (client_at id clients)
-  client_emptied waits clients id =
-      ap (λ (x : Option (Option (Stored T U C))). if_serial id.serial (option_map_or (λ s. s) x None)) (slice_get-map (option_map (emptied waits)) clients id.slot)
-      ∙ emptied_at waits id.serial (slice_get clients id.slot)
+  client_emptied waits clients id = grind (arith, if_serial, option_map_or, slice_get-map, option_map, emptied, emptied_at, slice_get)
 
   -- of each id the same client is left
   pub same_left : (waits : Bool) (clients : List (Option (Stored T U C))) (notes : List (Note U)) (clients' : List (Option (Stored T U C))) (notes' : List (Note U))
@@ -51,13 +43,8 @@ module _ {T U C : Type 0} where
 
   -- ---- the notes that were made
 
-  made_of : (x : Option (Stored T U C)) → to_gather false x ≡ option_map_or (λ s. s.made) x []
-  made_of None = refl
-  made_of (Some s) = append-nil s.made
-
   part_of_left : (x : Option (Stored T U C)) → option_map (λ s. s.part) (option_map (emptied false) x) ≡ option_map (λ s. s.part) x
-  part_of_left None = refl
-  part_of_left (Some s) = refl
+  part_of_left h1 = grind (arith)
 
   -- what is held of the id, once all notes are gathered and taken
   each_taken : {G : Type 0} (w : World T G C) (offer : Offer G) (clients : List (Option (Stored T U C))) (notes : List (Note U)) (clients' : List (Option (Stored T U C))) (out : Vec (Note U) Global)
@@ -70,15 +57,14 @@ module _ {T U C : Type 0} where
       none = none_left false clients' left id
 
       told : notes_of id out.items ≡ notes_of id notes ++ option_map_or (λ s. s.made) (client_at id clients) []
-      told = grind (arith, append-nil, notes_of, none, made_of, client_at)
+      told = grind (arith, append-nil, notes_of, none, client_at)
 
       parts : option_map (λ s. s.part) (client_at id clients') ≡ option_map (λ s. s.part) (client_at id clients)
       parts = sym (part_of_left (client_at id clients'))
           ∙ (ap (option_map (λ (s : Stored T U C). s.part)) (same_left false clients notes clients' out.items by id) ∙ part_of_left (client_at id clients))
 
       held : seen_as [] (client_at id clients') ≡ record { part = option_map (λ s. s.part) (client_at id clients); made = [] }
-      held = ap (λ (p : Option (Part T U C)). let s : Seen T U C = record { part = p; made = option_map_or (λ s. s.made) (client_at id clients') [] } in s) parts
-          ∙ ap (λ (m : List (Happening U)). let s : Seen T U C = record { part = option_map (λ s. s.part) (client_at id clients); made = m } in s) (sym (made_of (client_at id clients')) ∙ none)
+      held = grind (arith, option_map_or, client_at, parts, option_map, append-nil, none)
 
 module _ {T U G C : Type 0} (w : World T G C) (before : ServerState T U G C) where
   -- ---- the step
@@ -119,8 +105,7 @@ module _ {T U G C : Type 0} (w : World T G C) (before : ServerState T U G C) whe
   notes_taken clients' gathered out notes' are none by left in_order first numbered =
       calls _ _ _ _ _
       (subst (λ (ns : List (Note U)). StepOf w before step.TakeNotes (reply.TakeNotes (Ok out)) false (record before { clients = clients'; notes = ns })) (sym none)
-      (taken_so clients' out (subst (λ (ns : List (Note U)). Gathers false before.clients before.notes clients' ns) (sym are) by) left
-      (subst (λ (ns : List (Note U)). IsInOrder false before.clients before.notes ns) (sym are) in_order) first numbered))
+      (grind (arith, taken_so)))
 
   -- there is no memory for it
   not_taken : (e : OutOfMemory) → SomeClient before.clients (λ s. s.made ≢ []) → AllNumbered before.clients → StepOf w before step.TakeNotes (reply.TakeNotes (Err e)) true before

@@ -1,10 +1,8 @@
 -- How a handler comes to its promise: by joining what its calls say of themselves.
-use Rattle.std.proofs.Common.{◌≡◌, true, List, [], ◌∷◌, ◌++◌, Result, refl, subst, sym}
-use Rattle.wl_wire.specs.declared.protocol.TableError.{TableError}
-use Rattle.wl_wire.specs.Table.{InterfaceRow}
+use Rattle.std.proofs.Common.{◌≡◌, true, List, [], ◌∷◌, ◌++◌, refl, subst, sym}
 use Rattle.wl_server.specs.declared.runs.step.Reply.{Reply}
 use Rattle.wl_server.specs.declared.runs.step.Step.{Step}
-use Rattle.wl_server.specs.Backend.{BackendState, Calls, IsChange, IsGrowth}
+use Rattle.wl_server.specs.Backend.{BackendState, Calls, IsChange}
 use Rattle.wl_server.specs.Ids.{ClientParts}
 use Rattle.wl_server.proofs.OverRuns.Alone.IsolationLaw.{join_runs}
 use Rattle.wl_server.specs.PartStep.{Asked, World}
@@ -40,17 +38,6 @@ reached_change {T} {U} {G} {C} {w} {id} {target} {before} {after} {t} change =
     record {
       run = e ∷ [];
       leads = (after, one, refl);
-      spared = (subst (λ (c : _). spares id c ≡ true) (sym is) refl, tt);
-    }
-
--- interfaces that were to be added
-pub reached_growth : {T U G C : Type 0} {w : World T G C} {id : ClientParts} {before after : BackendState T U G C} {rows : List InterfaceRow}
-    {answer : Result (Unit {0}) TableError} → IsGrowth w before rows answer after → Reached w id before.server after.server
-reached_growth {T} {U} {G} {C} {w} {id} {before} {after} {rows} {answer} growth =
-    let (e, is, refused, one) = growth.step in
-    record {
-      run = e ∷ [];
-      leads = (after.server, one, refl);
       spared = (subst (λ (c : _). spares id c ≡ true) (sym is) refl, tt);
     }
 

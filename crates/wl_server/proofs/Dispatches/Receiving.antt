@@ -1,19 +1,15 @@
 -- How often calls receive from a client: only readings do, and each at most as often as it is allowed.
 --
 -- A call that does not read a client is the same over a transport that never receives, and over that no base move does.
-use Rattle.std.proofs.Common.{◌≡◌, ℕ, ◌+◌, ◌≤◌, Bool, true, false, List, [], ◌∷◌, ◌++◌, append_assoc, append-nil, length, Option, None, Some, Result, Ok, Err, MatchBool, refl, sym, ap, subst, ◌∙◌, true≢false, arith}
-use mathlib.Core.Logic.{inl, inr}
+use Rattle.std.proofs.Common.{◌≡◌, ℕ, ◌+◌, ◌≤◌, Bool, true, false, List, [], ◌∷◌, ◌++◌, append_assoc, append-nil, length, Option, None, Some, Result, Ok, Err, MatchBool, refl, ap, subst, ◌∙◌, true≢false, arith}
 use Rattle.wl_wire.specs.declared.error.IoFault.{IoFault}
-use Rattle.wl_wire.specs.declared.error.IoFault.TheVariants as fault
 use Rattle.wl_link.proofs.Calls.Branches.{either_bool, either_option, either_result}
 use Rattle.wl_link.specs.Exchange.{Queue}
 use Rattle.wl_link.specs.Link.{count_of, counted_answer}
 use Rattle.wl_link.specs.Reader.{Gives, Handled, ReaderState, Reads, Received, Turn, Unread, with_link}
 use Rattle.wl_server.specs.declared.error.ActionError.{ActionError}
-use Rattle.wl_server.specs.declared.error.ActionError.TheVariants.{Io}
 use Rattle.wl_server.specs.declared.error.FinishError.{FinishError}
 use Rattle.wl_server.specs.declared.reading.action.Action.{Action}
-use Rattle.wl_server.specs.declared.reading.action.Action.TheVariants as action
 use Rattle.wl_server.specs.declared.reading.action.Reading.{Reading}
 use Rattle.wl_server.specs.declared.runs.step.Reply.{Reply}
 use Rattle.wl_server.specs.declared.runs.step.Reply.TheVariants as reply
@@ -26,7 +22,7 @@ use Rattle.wl_server.specs.Dispatch.{Answering, Answers, EndsDispatch, Handles, 
 use Rattle.wl_server.specs.Globals.{Offer}
 use Rattle.wl_server.specs.Ids.{ClientParts, same_client}
 use Rattle.wl_server.specs.Part.{Part}
-use Rattle.wl_server.specs.PartStep.{Asked, Call, OfClient, PartCall, ReadsFor, World, around}
+use Rattle.wl_server.specs.PartStep.{Asked, Call, PartCall, ReadsFor, World, around}
 use Rattle.wl_server.specs.Reached.{AllSpare}
 use Rattle.wl_server.specs.Reading.{Around, NextAction, action_content, new_reading, server}
 use Rattle.wl_server.specs.Runs.{Leads}
@@ -36,7 +32,7 @@ use Rattle.wl_server.specs.Telling.{Core, Told}
 use Rattle.wl_server.proofs.Dispatches.Waiting.{spared_unread, stops_left, unread_goes, unread_moves}
 use Rattle.wl_server.proofs.OverRuns.Alone.IsolationLaw.{same_self}
 use Rattle.wl_server.proofs.OverRuns.Cut.RoomLaws.{no_more, none_sent, received, received_deeds}
-use Rattle.wl_server.proofs.OverRuns.Moves.BaseMoves.{Doings, Goes, Moves, born, cleaned, finished, ended, flushed, followed, found, found_none, handed_out, notes_taken, opens, received as received_move, relinked, remembered, stayed, taken_out, told, unfelt, went, within, wrote}
+use Rattle.wl_server.proofs.OverRuns.Moves.BaseMoves.{Doings, Goes, Moves, followed, handed_out, notes_taken, moved, stayed, taken_out, unfelt, within}
 use Rattle.wl_server.proofs.OverRuns.Moves.BaseMovesLaw.{reads_of}
 
 -- ---- a call that does not read the client
@@ -48,34 +44,16 @@ module _ {U : Type 0} where
 module _ {T U C : Type 0} (sends : T → Queue → Result ℕ IoFault → T → Type 0) (receives : T → ℕ → Result Queue IoFault → T → Type 0) (client : ClientParts) where
   moves_quiet : (p q : Part T U C) (d : Doings U) → Moves unread_moves sends receives client p d q → d.came ≡ []
   moves_quiet p q d (stayed is same) = came_of d _ is refl
-  moves_quiet p q d (followed {m = m} {a = a} {b = b} first second is) =
-      ap (λ (x : Doings U). x.came) is ∙ no_more a.came b.came (moves_quiet p m a first) (moves_quiet m q b second)
+  moves_quiet p q d (followed {m = m} {a = a} {b = b} first second is) = grind (arith, no_more, moves_quiet p m a first, moves_quiet m q b second)
   moves_quiet p q d (handed_out {a = a} ids moves among is) = ap (λ (x : Doings U). x.came) is ∙ moves_quiet p q a moves
-  moves_quiet p q d (relinked link waits stays unread is same) = came_of d _ is refl
-  moves_quiet p q d (received_move r answer link reads filled is same) = absurd (true≢false (sym reads))
-  moves_quiet p q d (told messages es put answer link puts is same) = came_of d _ is refl
-  moves_quiet p q d (flushed es answer link by is same) = came_of d _ is refl
-  moves_quiet p q d (ended reason may is same) = came_of d _ is refl
-  moves_quiet p q d (born n x free ne serial is same) = came_of d _ is refl
-  moves_quiet p q d (found n x holds is same) = came_of d _ is refl
-  moves_quiet p q d (found_none is same) = came_of d _ is refl
-  moves_quiet p q d (wrote n x u holds is same) = came_of d _ is refl
-  moves_quiet p q d (went n x waits holds is same) = came_of d _ is refl
-  moves_quiet p q d (remembered n x holds registry is same) = came_of d _ is refl
-  moves_quiet p q d (opens action h reads so is same) = came_of d _ is refl
-  moves_quiet p q d (finished may is same) = came_of d _ is refl
-  moves_quiet p q d (cleaned on is same) = came_of d _ is refl
+  moves_quiet p q d (moved move) = grind (arith, true≢false)
 
   goes_quiet : (s t : Seen T U C) (d : Doings U) → Goes unread_moves sends receives client s d t → d.came ≡ []
   goes_quiet s t d h1 = grind (arith, unfelt, came_of, within, moves_quiet, taken_out, notes_taken)
 
 pub call_quiet : {T U G C : Type 0} (w : World T G C) (id : ClientParts) (offer : Offer G) (before after : Seen T U C) (lacked : Bool) (did : List (Deed U)) (call : Call T U G C)
     → reads_of id call ≡ false → PartCall w id offer call before lacked did after → came_in did ≡ []
-call_quiet w id offer before after lacked did call other h =
-    elim (unread_goes w id offer before after lacked did call other h) [
-      | inl (ids, goes) ↦ goes_quiet w.sends w.receives id before after _ goes
-      | inr (p, none_waits, empty, did_so, same) ↦ ap came_in did_so
-    ]
+call_quiet w id offer before after lacked did call other h = grind (arith, unread_goes, goes_quiet, came_in)
 
 -- ---- a reading
 
@@ -85,28 +63,13 @@ module _ {T U G C : Type 0} (sends : T → Queue → Result ℕ IoFault → T �
   turns_bounded : (left : ℕ) (p after : ReaderState T (Core U C)) (turns : List Turn) (out : Gives (Told U)) → Reads sends (server a) receives left p turns out after
       → length (received U turns) + out.left ≤ left
   turns_bounded left p after [] out (same, ends) = let few = stops_left sends receives (server a) left p out ends in omega (arith, few)
-  turns_bounded left p after (Received r ∷ turns) out (on, lacks, (n, is, (link, filled, finds, h))) =
-      elim (either_result (counted_answer (count_of r)) h) [
-        | inl (u, next) ↦ let few = turns_bounded n (with_link p link) after turns out next in omega (arith, few, is)
-        | inr (f, (over, ends, same)) ↦
-            let none' : length (received U turns) ≡ 0 = ap (λ (ts : List Turn). length (received U ts)) over in
-            let left_is : out.left ≡ n = ap (λ (o : Gives (Told U)). o.left) ends in omega (arith, none', left_is, is)
-      ]
-  turns_bounded left p after (Handled es ∷ turns) out (on, (v, link, first, lacked, mid, rest, found', by, split, next)) =
-      let few = turns_bounded left mid after turns rest next in
-      let heard : length (received U (Handled es ∷ turns)) ≡ length (received U turns) = ap length (none_sent {U = U} es _) in
-      let left_is : out.left ≡ rest.left = ap (λ (o : Gives (Told U)). o.left) split in omega (arith, few, heard, left_is)
-  turns_bounded left p after (Unread es ∷ turns) out (on, (v, link, first, lacked, mid, rest, found', by, split, next)) =
-      let few = turns_bounded left mid after turns rest next in
-      let heard : length (received U (Unread es ∷ turns)) ≡ length (received U turns) = ap length (none_sent {U = U} es _) in
-      let left_is : out.left ≡ rest.left = ap (λ (o : Gives (Told U)). o.left) split in omega (arith, few, heard, left_is)
-
-  none_left : (did : List (Deed U)) (r r' : Reading) → did ≡ [] → r' ≡ r → receives_in did + r'.turns_left ≤ r.turns_left
-  none_left did r r' none' same = grind (arith, receives_in)
+  turns_bounded left p after (Received r ∷ turns) out (on, lacks, (n, is, (link, filled, finds, h))) = grind (arith, either_result, counted_answer, count_of, with_link, length, received, turns_bounded n (with_link p link) after turns out)
+  turns_bounded left p after (Handled es ∷ turns) out (on, (v, link, first, lacked, mid, rest, found', by, split, next)) = grind (arith, length, received, none_sent, turns_bounded left mid after turns rest next)
+  turns_bounded left p after (Unread es ∷ turns) out (on, (v, link, first, lacked, mid, rest, found', by, split, next)) = grind (arith, length, received, none_sent, turns_bounded left mid after turns rest next)
 
   part_bounded : (r : Reading) (p : Part T U C) (answer : Result Handed ActionError) (r' : Reading) (lacked : Bool) (did : List (Deed U)) (q : Part T U C)
       → NextAction sends receives a r p answer r' lacked did q → receives_in did + r'.turns_left ≤ r.turns_left
-  part_bounded r p answer r' lacked did q h = grind (arith, either_option, none_left, either_bool, turns_bounded, receives_in, received, received_deeds)
+  part_bounded r p answer r' lacked did q h = grind (arith, either_option, either_bool, turns_bounded, receives_in, received, received_deeds)
 
 -- ---- a call
 
@@ -114,29 +77,18 @@ module _ {T U G C : Type 0} (w : World T G C) (id : ClientParts) (offer : Offer 
   -- one that may read this client
   reads_bounded : (target : ClientParts) (r : Reading) (answer : Result Handed ActionError) (r' : Reading) → ReadsFor w id offer target r answer r' before lacked did after
       → MatchBool (same_client target id) (receives_in did + r'.turns_left ≤ r.turns_left) (receives_in did ≡ 0)
-  reads_bounded target r answer r' h = go (same_client target id) h
-    where
-      go : (b : Bool) → OfClient b before (λ p q. NextAction w.sends w.receives (around w id offer) r p answer r' lacked did q)
-          ((answer ≡ Err (Io fault.InvalidInput)) × (r' ≡ r)) lacked did after
-          → MatchBool b (receives_in did + r'.turns_left ≤ r.turns_left) (receives_in did ≡ 0)
-      go b h1 = grind (arith, receives_in, either_option, none_left, around, part_bounded)
+  reads_bounded target r answer r' h = grind (arith, same_client, receives_in, either_option, around, part_bounded)
 
   of_reply : (target : ClientParts) (reading r' : Reading) (r : Result Action ActionError) (answer : Reply T U) → answer ≡ reply.NextActionWithin r r'
       → MatchBool (same_client target id) (receives_in did + r'.turns_left ≤ reading.turns_left) (receives_in did ≡ 0)
       → KeepsTo {T = T} {U = U} {G = G} {C = C} id (Asked (step.NextActionWithin target reading) answer) (receives_in did)
-  of_reply target reading r' r answer is h =
-      subst (λ (x : Reply T U). KeepsTo {T = T} {U = U} {G = G} {C = C} id (Asked (step.NextActionWithin target reading) x) (receives_in did)) (sym is) h
-
-  at_most_new : (b : Bool) (n left : ℕ) → MatchBool b (n + left ≤ 64) (n ≡ 0) → MatchBool b (n ≤ 64) (n ≡ 0)
-  at_most_new true n left few = omega (arith, few)
-  at_most_new false n left none' = none'
+  of_reply target reading r' r answer is h = grind (arith, receives_in)
 
   nothing : (call : Call T U G C) → reads_of id call ≡ false → PartCall w id offer call before lacked did after → receives_in did ≡ 0
   nothing call other h = ap length (call_quiet w id offer before after lacked did call other h)
 
   keeps_to : (call : Call T U G C) → PartCall w id offer call before lacked did after → KeepsTo id call (receives_in did)
-  keeps_to (Asked (step.NextAction target) answer) (r, left, is, h) =
-      at_most_new (same_client target id) (receives_in did) left.turns_left (reads_bounded target new_reading (action_content r) left h)
+  keeps_to (Asked (step.NextAction target) answer) (r, left, is, h) = grind (arith, same_client, receives_in, reads_bounded, new_reading, action_content)
   keeps_to (Asked (step.NextActionWithin target reading) answer) (r, left, is, h) = of_reply target reading left r answer is (reads_bounded target reading (action_content r) left h)
   keeps_to call h = nothing call refl h
 
@@ -160,9 +112,7 @@ module _ {T U G C : Type 0} (w : World T G C) (id : ClientParts) where
 
   calls_quiet : (before after : ServerState T U G C) (run : List (Entry T U G C)) → Leads w before run after → AllSpare id run → receives_over id run ≡ 0
   calls_quiet before after [] same spared = refl
-  calls_quiet before after (e ∷ run) (mid, one, leads) (spared, others) =
-      let first = one_quiet before mid e (spared_unread id e.call spared) one in
-      let rest = calls_quiet mid after run leads others in omega (arith, first, rest)
+  calls_quiet before after (e ∷ run) (mid, one, leads) (spared, others) = grind (arith, one_quiet, spared_unread, calls_quiet mid after run leads others)
 
   -- a reading of this client with so many receives left
   pub reading_bounded : (before after : ServerState T U G C) (e : Entry T U G C) (r r' : Reading) (answer : Result Action ActionError)
@@ -173,8 +123,7 @@ module _ {T U G C : Type 0} (w : World T G C) (id : ClientParts) where
     where
       own : (b : Bool) → b ≡ true → MatchBool b (receives_in (e.did id) + r'.turns_left ≤ r.turns_left) (receives_in (e.did id) ≡ 0)
           → receives_in (e.did id) + r'.turns_left ≤ r.turns_left
-      own true is few = few
-      own false is h = absurd (true≢false (sym is))
+      own h1 is few = grind (arith, true≢false)
 
 -- ---- a dispatch
 
@@ -187,8 +136,7 @@ module _ {H T U G C : Type 0} (w : World T G C) (answers : Answering H T U G C) 
       let both = over_split id run handles.calls (handles.ended ∷ []) handles.run_is in omega (arith, calls, last, both)
     where
       unread : (a : Action) (end : Step T U G C) (answer : Reply T U) → Answers w answers id h before a end h' handles.left → reads_of id (Asked end answer) ≡ false
-      unread (action.Request sender opcode args is_destructor created) end answer (u, so, is) = ap (λ (s : Step T U G C). reads_of {T = T} {U = U} {G = G} {C = C} id (Asked s answer)) is
-      unread (action.Bind global object) end answer (u, so, is) = ap (λ (s : Step T U G C). reads_of {T = T} {U = U} {G = G} {C = C} id (Asked s answer)) is
+      unread h1 end answer h4 = grind (arith, reads_of)
 
       ended_unread : reads_of id handles.ended.call ≡ false
       ended_unread = ap (λ (c : Call T U G C). reads_of id c) handles.ended_is ∙ unread a handles.end handles.answer handles.answers_so
@@ -242,18 +190,14 @@ module _ {H T U G C : Type 0} (w : World T G C) (answers : Answering H T U G C) 
 module _ {T U G C : Type 0} where
   one_more_part : (earlier : List ClientParts) (id : ClientParts) (first next : List (Entry T U G C)) → EachPartIsBounded earlier first → receives_over id next ≤ 64
       → EachPartIsBounded (earlier ++ (id ∷ [])) (first ++ next)
-  one_more_part [] id first next nothing' few =
-      (next, [], ap (λ (run : List (Entry T U G C)). run ++ next) nothing' ∙ sym (append-nil next), few, refl)
-  one_more_part (e ∷ earlier) id first next (own, rest, is, own_few, others) few =
-      (own, rest ++ next, ap (λ (run : List (Entry T U G C)). run ++ next) is ∙ append_assoc own rest next, own_few, one_more_part earlier id rest next others few)
+  one_more_part [] id first next nothing' few = grind (arith, append-nil)
+  one_more_part (e ∷ earlier) id first next (own, rest, is, own_few, others) few = grind (arith, append_assoc, one_more_part earlier id rest next others few)
 
 module _ {H T U G C : Type 0} (w : World T G C) (answers : Answering H T U G C) where
   pub parts_bounded : (ids : List ClientParts) (h h' : H) (before after : ServerState T U G C) (run : List (Entry T U G C)) (lacked : Bool) (total : ℕ)
       → EachIsDispatched w answers ids h before run lacked total h' after → EachPartIsBounded ids run
-  parts_bounded ids h h' before after run lacked total (none no_ids nothing' unlacked no_total) =
-      subst (λ (l : List ClientParts). EachPartIsBounded l run) (sym no_ids) nothing'
+  parts_bounded ids h h' before after run lacked total (none no_ids nothing' unlacked no_total) = grind (arith)
   parts_bounded ids h h' before after run lacked total (more {earlier = earlier} {h1 = h1} {s1 = s1} {first = first} {next = next} {before = was} {now = now} {count = count} id answer each serves ids_are run_is lacked_is total_is) =
       let first_parts = parts_bounded earlier h h1 before s1 first was count each in
       let few = run_bounded w answers id h1 h' s1 after next now answer serves in
-      subst (λ (l : List ClientParts). EachPartIsBounded l run) (sym ids_are)
-      (subst (λ (x : List (Entry T U G C)). EachPartIsBounded (earlier ++ (id ∷ [])) x) (sym run_is) (one_more_part earlier id first next first_parts few))
+      grind (arith, one_more_part)

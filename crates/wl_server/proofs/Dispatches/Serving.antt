@@ -2,7 +2,6 @@
 use Rattle.std.proofs.Common.{◌≡◌, ◌<◌, ◌≤◌, ℕ, ◌+◌, length, get_or, take, arith, List, [], ◌∷◌, ◌++◌, append_assoc, append-nil, Bool, true, false, Option, None, Some, is_some, Result, Ok, Err, ap, refl, sym, subst, ◌∙◌, true≢false}
 use Rattle.std.specs.Prelude.{◌||◌, Vec}
 use Rattle.std.proofs.lemmas.List.{take_all, take_more}
-use mathlib.Core.Logic.{inl, inr}
 use Rattle.std.specs.Global.{Global}
 use Rattle.wl_wire.specs.declared.error.IoFault.{IoFault}
 use Rattle.wl_wire.specs.declared.error.OutOfMemory.{OutOfMemory}
@@ -35,8 +34,7 @@ or_false true = refl
 or_false false = refl
 
 or_assoc : (a b c : Bool) → ((a || b) || c) ≡ (a || (b || c))
-or_assoc true b c = refl
-or_assoc false b c = refl
+or_assoc h1 b c = grind (arith)
 
 pub handles_by : {H T U G C : Type 0} (w : World T G C) (answers : Answering H T U G C) (id : ClientParts) (h h' : H) (before left after : BackendState T U G C)
     (a : Action) (end : Step T U G C) (answer : Reply T U) → Answers w answers id h before a end h' left → Reached w id before.server left.server
@@ -112,8 +110,7 @@ module _ {H T U G C : Type 0} (w : World T G C) (answers : Answering H T U G C) 
       }
 
   refused_both : (a b c : Bool) (was read : Bool) → was ≡ a → read ≡ b → ((was || read) || c) ≡ a || (b || c)
-  refused_both a b c was read was_is read_is =
-      ap (λ (x : Bool). (x || read) || c) was_is ∙ ap (λ (x : Bool). (a || x) || c) read_is ∙ or_assoc a b c
+  refused_both a b c was read was_is read_is = grind (arith, or_assoc)
 
   pub serves_refused : (h h' : H) (r r' : Reading) (before found left : BackendState T U G C) (a : Action) (error : FinishError) (f : IoFault) (after : BackendState T U G C) (was read : Bool)
       → was ≡ before.refused → read ≡ found.refused → Calls w before (step.NextActionWithin id r) (reply.NextActionWithin (Ok a) r') found
@@ -241,8 +238,7 @@ module _ {H T U G C : Type 0} (w : World T G C) (answers : Answering H T U G C) 
 -- no receive was used up, so fewer bytes wait
 pub fewer_wait : {T U G C : Type 0} (id : ClientParts) (r : Reading) (s : ServerState T U G C) (r' : Reading) (s' : ServerState T U G C) (left : ℕ) → Fewer id r s r' s'
     → r.turns_left ≡ left → left ≤ r'.turns_left → (r'.turns_left ≡ left) × (waiting_of id s' < waiting_of id s)
-fewer_wait id r s r' s' left (inl fewer) was many = absurd (omega (arith, fewer, was, many))
-fewer_wait id r s r' s' left (inr (same, less)) was many = (same ∙ was, less)
+fewer_wait id r s r' s' left h7 was many = grind (arith)
 
 -- ---- that it is a run
 
@@ -375,5 +371,4 @@ module _ {H T U G C : Type 0} (w : World T G C) (answers : Answering H T U G C) 
 
   pub all_served : {h h' : H} {before after : BackendState T U G C} {total : ℕ} (ids : List ClientParts) (n : ℕ) → length ids ≤ n
       → ClientsSoFar w answers (take n ids) h before total h' after → ClientsSoFar w answers ids h before total h' after
-  all_served {h} {h'} {before} {after} {total} ids n all each =
-      subst (λ (xs : List ClientParts). ClientsSoFar w answers xs h before total h' after) (take_all n ids all) each
+  all_served {h} {h'} {before} {after} {total} ids n all each = grind (arith, take_all)

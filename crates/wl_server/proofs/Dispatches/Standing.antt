@@ -15,7 +15,7 @@ use Rattle.wl_server.specs.Server.{Seen, ServerState, seen}
 use Rattle.wl_server.specs.Steps.{Entry}
 use Rattle.wl_server.proofs.Dispatches.Waiting.{spared_unread}
 use Rattle.wl_server.proofs.OverRuns.Alone.IsolationLaw.{not_again, other_call}
-use Rattle.wl_server.proofs.OverRuns.Moves.BaseMoves.{Doings, Goes, Kind, Moves, born as born_one, cleaned, ended, finished, flushed, followed, found as found_one, found_none, handed_out, notes_taken, opens, received, relinked, remembered, stayed, taken_out, told, unfelt, went, within, wrote}
+use Rattle.wl_server.proofs.OverRuns.Moves.BaseMoves.{Doings, Goes, Kind, Moves, followed, handed_out, notes_taken, moved, stayed, taken_out, unfelt, within}
 use Rattle.wl_server.proofs.OverRuns.Moves.BaseMovesLaw.{call_moves, finishes_of}
 use Rattle.wl_server.proofs.Plain.Base.{none_and_some, one_value}
 
@@ -36,20 +36,7 @@ module _ {T U C : Type 0} (sends : T → Queue → Result ℕ IoFault → T → 
   moves_stand p q d (stayed is same) = ap (λ (x : Part T U C). x.action) same
   moves_stand p q d (followed {m = m} {a = a} {b = b} first second is) = moves_stand m q b second ∙ moves_stand p m a first
   moves_stand p q d (handed_out {a = a} ids moves among is) = moves_stand p q a moves
-  moves_stand p q d (relinked link waits stays unread is same) = ap (λ (x : Part T U C). x.action) same
-  moves_stand p q d (received r answer link reads filled is same) = ap (λ (x : Part T U C). x.action) same
-  moves_stand p q d (told messages es put answer link puts is same) = ap (λ (x : Part T U C). x.action) same
-  moves_stand p q d (flushed es answer link by is same) = ap (λ (x : Part T U C). x.action) same
-  moves_stand p q d (ended reason may is same) = ap (λ (x : Part T U C). x.action) same
-  moves_stand p q d (born_one n x free ne serial is same) = ap (λ (x : Part T U C). x.action) same
-  moves_stand p q d (found_one n x holds is same) = ap (λ (x : Part T U C). x.action) same
-  moves_stand p q d (found_none is same) = ap (λ (x : Part T U C). x.action) same
-  moves_stand p q d (wrote n x u holds is same) = ap (λ (x : Part T U C). x.action) same
-  moves_stand p q d (went n x waits holds is same) = ap (λ (x : Part T U C). x.action) same
-  moves_stand p q d (remembered n x holds registry is same) = ap (λ (x : Part T U C). x.action) same
-  moves_stand p q d (opens action h reads so is same) = absurd (true≢false (sym reads))
-  moves_stand p q d (finished may is same) = absurd (true≢false (sym may))
-  moves_stand p q d (cleaned on is same) = ap (λ (x : Part T U C). x.action) same
+  moves_stand p q d (moved move) = grind (arith, true≢false)
 
   goes_stand : (s t : Seen T U C) (d : Doings U) → Goes standing sends receives client s d t → Stands s.part → Stands t.part
   goes_stand s t d (unfelt none same) h = subst Stands (sym (ap (λ (x : Seen T U C). x.part) same)) h
@@ -72,13 +59,7 @@ module _ {T U G C : Type 0} (w : World T G C) (id : ClientParts) where
       go true about =
           goes_stand w.sends w.receives id s t _
           (call_moves standing w id offer call s lacked did t about
-          (record {
-            kills = λ e may. tt;
-            gathers = λ is. refl;
-            hands = λ is. refl;
-            reads = λ is. absurd (true≢false (sym is ∙ spared_unread id call spared));
-            finishes = λ is. absurd (true≢false (sym is ∙ spared_unended id call spared));
-          }) h) stands
+          (grind (arith, true≢false, spared_unread, spared_unended)) h) stands
       go false far = subst Stands (sym (ap (λ (x : Seen T U C). x.part) (other_call w id offer call s lacked did t other far h).2)) stands
 
   -- so it is over all calls of a handler, if the id was given before

@@ -1,8 +1,8 @@
 -- That a dispatch ends: each action that is read takes a message off what waits to be read of its client, or a receive is
 -- used up; and what is called in between adds nothing to what waits.
-use Rattle.std.proofs.Common.{◌≡◌, ◌⊎◌, ℕ, suc, ◌<◌, ◌≤◌, Bool, true, false, List, [], ◌∷◌, ◌++◌, length, Option, None, Some, Result, Ok, Err, MatchBool, refl, sym, ap, subst, ◌∙◌, true≢false, arith}
+use Rattle.std.proofs.Common.{◌≡◌, ◌⊎◌, ℕ, suc, ◌<◌, ◌≤◌, Bool, true, false, List, [], ◌∷◌, ◌++◌, length, Option, Some, Result, Ok, Err, refl, sym, ap, subst, ◌∙◌, true≢false, arith}
 use Rattle.std.specs.Option.{option_map_or}
-use Rattle.std.specs.Prelude.{◌||◌, MatchResult, not}
+use Rattle.std.specs.Prelude.{◌||◌, MatchResult}
 use Rattle.std.proofs.lemmas.List.{length-drop}
 use mathlib.Core.Logic.{inl, inr}
 use Rattle.wl_wire.specs.declared.error.IoFault.{IoFault}
@@ -43,17 +43,9 @@ use Rattle.wl_server.specs.Steps.{Entry, OneStep}
 use Rattle.wl_server.specs.Telling.{Core, Finish, Stops, Told, core_of, part_of, reader_part, speaker, tells}
 use Rattle.wl_server.proofs.OverRuns.Alone.IsolationLaw.{same_self}
 use Rattle.wl_server.proofs.OverRuns.Ids.ReplyLaws.{own_step}
-use Rattle.wl_server.proofs.OverRuns.Moves.BaseMoves.{Doings, Goes, Kind, Moves, born, cleaned, ended, finished, flushed, followed, found as found_one, found_none, handed_out, notes_taken, opens, received as received_move, relinked, remembered, stayed, taken_out, told, unfelt, went, within, wrote as wrote_data}
+use Rattle.wl_server.proofs.OverRuns.Moves.BaseMoves.{Doings, Goes, Kind, Moves, followed, handed_out, notes_taken, moved, stayed, taken_out, unfelt, within}
 use Rattle.wl_server.proofs.OverRuns.Moves.BaseMovesLaw.{AnyGoes, any_moves, reads_of}
 use Rattle.wl_server.proofs.OverRuns.Moves.MovesOfReadings.{gave_none}
-
-pub not_true : (b : Bool) → not b ≡ true → b ≡ false
-not_true true is = absurd (true≢false (sym is))
-not_true false is = refl
-
-pub at_other : (P Q : Type 0) (b : Bool) → b ≡ false → MatchBool b P Q → Q
-at_other P Q true is p = absurd (true≢false is)
-at_other P Q false is q = q
 
 -- ---- what calls keep
 
@@ -82,21 +74,7 @@ module _ {T U C : Type 0} (sends : T → Queue → Result ℕ IoFault → T → 
   moves_keep p q d (stayed is same) = same_keeps p q same
   moves_keep p q d (followed {m = m} {a = a} {b = b} first second is) = moves_keep m q b second ∙ moves_keep p m a first
   moves_keep p q d (handed_out {a = a} ids moves among is) = moves_keep p q a moves
-  moves_keep p q d (relinked link waits stays unread is same) = ap (λ (x : Part T U C). x.link.incoming) same ∙ unread refl
-  moves_keep p q d (received_move r answer link reads filled is same) = absurd (true≢false (sym reads))
-  moves_keep p q d (told messages es put answer link puts is same) =
-      ap (λ (x : Part T U C). x.link.incoming) same ∙ told_keeps (core_of p) messages p.link link es put answer puts
-  moves_keep p q d (flushed es answer link by is same) = ap (λ (x : Part T U C). x.link.incoming) same ∙ ap (λ (l : LinkState T). l.incoming) by.2
-  moves_keep p q d (ended reason may is same) = ap (λ (x : Part T U C). x.link.incoming) same
-  moves_keep p q d (born n x free ne serial is same) = ap (λ (x : Part T U C). x.link.incoming) same
-  moves_keep p q d (found_one n x holds is same) = same_keeps p q same
-  moves_keep p q d (found_none is same) = same_keeps p q same
-  moves_keep p q d (wrote_data n x u holds is same) = ap (λ (x : Part T U C). x.link.incoming) same
-  moves_keep p q d (went n x waits holds is same) = ap (λ (x : Part T U C). x.link.incoming) same
-  moves_keep p q d (remembered n x holds registry is same) = ap (λ (x : Part T U C). x.link.incoming) same
-  moves_keep p q d (opens action h reads so is same) = absurd (true≢false (sym reads))
-  moves_keep p q d (finished may is same) = ap (λ (x : Part T U C). x.link.incoming) same
-  moves_keep p q d (cleaned on is same) = ap (λ (x : Part T U C). x.link.incoming) same
+  moves_keep p q d (moved move) = grind (arith, true≢false, told_keeps (core_of p))
 
 -- ---- what waits of a client
 
@@ -109,7 +87,7 @@ module _ {T U C : Type 0} where
   goes_no_more sends receives client before after d h1 = grind (arith, unfelt, within, moves_keep, taken_out, notes_taken)
 
 pub spared_unread : {T U G C : Type 0} (id : ClientParts) (call : Call T U G C) → spares id call ≡ true → reads_of id call ≡ false
-spared_unread id call h1 = grind (arith, not_true)
+spared_unread id call h1 = grind (arith, true≢false)
 
 module _ {T U G C : Type 0} (w : World T G C) (id : ClientParts) (offer : Offer G) (before after : Seen T U C) (lacked : Bool) (did : List (Deed U)) where
   pub unread_goes : (call : Call T U G C) → reads_of id call ≡ false → PartCall w id offer call before lacked did after → AnyGoes unread_moves w id offer before did after
@@ -117,24 +95,16 @@ module _ {T U G C : Type 0} (w : World T G C) (id : ClientParts) (offer : Offer 
       any_moves unread_moves w id offer call before lacked did after
       (record { kills = λ e may. tt; gathers = λ is. refl; hands = λ is. refl; reads = λ is. absurd (true≢false (sym is ∙ other)); finishes = λ is. refl }) h
 
-  -- a call that is no reading of the client adds nothing to what waits of it
-  pub adds_nothing : (call : Call T U G C) → reads_of id call ≡ false → PartCall w id offer call before lacked did after → waits after ≤ waits before
-  adds_nothing call other h = grind (arith, unread_goes, goes_no_more)
-
 module _ {T U G C : Type 0} (w : World T G C) (id : ClientParts) where
   one_adds_nothing : (before after : ServerState T U G C) (e : Entry T U G C) → reads_of id e.call ≡ false → OneStep w before e after
       → waiting_of id after ≤ waiting_of id before
-  one_adds_nothing before after e other one =
-      adds_nothing w id before.offer (seen id before) (seen id after) (e.lacks id) (e.did id) e.call other (one.each id)
+  one_adds_nothing before after e other one = grind (arith, unread_goes, goes_no_more, seen)
 
   -- so does what a handler calls
   calls_add_nothing : (before after : ServerState T U G C) (run : List (Entry T U G C)) → Leads w before run after → AllSpare id run
       → waiting_of id after ≤ waiting_of id before
   calls_add_nothing before after [] same spared = let e : waiting_of id after ≡ waiting_of id before = ap (λ (s : ServerState T U G C). waiting_of id s) same in omega (arith, e)
-  calls_add_nothing before after (e ∷ run) (mid, one, leads) (spared, others) =
-      let first = one_adds_nothing before mid e (spared_unread id e.call spared) one in
-      let rest = calls_add_nothing mid after run leads others in
-      omega (arith, first, rest)
+  calls_add_nothing before after (e ∷ run) (mid, one, leads) (spared, others) = grind (arith, one_adds_nothing, spared_unread, calls_add_nothing mid after run leads others)
 
 -- ---- what a reading takes
 
@@ -143,11 +113,7 @@ module _ {T Core Event Finish : Type 0} (sends : T → Queue → Result ℕ IoFa
   -- a message that was taken is no longer there
   taken_shorter : (look_up : ℕ → ℕ → Option (List ArgumentType)) (before after : LinkState T) (m : WireMessage) → ReadOne (λ sender opcode found. found ≡ look_up sender opcode) before (Ok m) after
       → length after.incoming.bytes < length before.incoming.bytes
-  taken_shorter look_up before after m read =
-      let taken = read_left (λ t n c u. ⊥) look_up nothing before after m read in
-      let whole = taken.2.whole in
-      let left = ap (λ (q : Queue). length q.bytes) taken.3 in
-      omega (arith, whole.counts_header, whole.there, left, length-drop (length_of before.incoming.bytes) before.incoming.bytes)
+  taken_shorter look_up before after m read = grind (arith, read_left, nothing, length, length-drop, length_of)
 
   carried_length : (v : Verdict Core Event) (link : LinkState T) (mid : ReaderState T Core) (es : List Sending) (first : List (Given Event)) (lacked : Bool)
       → CarriesOut sends reader v link es first lacked mid → length mid.link.incoming.bytes ≡ length link.incoming.bytes
@@ -163,31 +129,23 @@ module _ {T Core Event Finish : Type 0} (sends : T → Queue → Result ℕ IoFa
   abbrev Less : ℕ → ReaderState T Core → Gives Event → ReaderState T Core → Type 0
   Less left p out end = (out.left < left) ⊎ ((out.left ≡ left) × (length end.link.incoming.bytes < length p.link.incoming.bytes))
 
-  not_above : (left : ℕ) (p end : ReaderState T Core) (out : Gives Event) → NotMore left p out end → out.left ≤ left
-  not_above left p end out (inl fewer) = omega (arith, fewer)
-  not_above left p end out (inr (same, no_more)) = omega (arith, same)
-
   less_behind : (left : ℕ) (p mid end : ReaderState T Core) (out rest : Gives Event) → out.left ≡ rest.left → length mid.link.incoming.bytes < length p.link.incoming.bytes
       → NotMore left mid rest end → Less left p out end
-  less_behind left p mid end out rest is shorter (inl fewer) = inl (omega (arith, is, fewer))
-  less_behind left p mid end out rest is shorter (inr (same, no_more)) = inr (is ∙ same, omega (arith, shorter, no_more))
+  less_behind left p mid end out rest is shorter h9 = grind (arith)
 
   as_much_behind : (left : ℕ) (p mid end : ReaderState T Core) (out rest : Gives Event) → out.left ≡ rest.left → length mid.link.incoming.bytes ≤ length p.link.incoming.bytes
       → NotMore left mid rest end → NotMore left p out end
-  as_much_behind left p mid end out rest is no_longer (inl fewer) = inl (omega (arith, is, fewer))
-  as_much_behind left p mid end out rest is no_longer (inr (same, no_more)) = inr (is ∙ same, omega (arith, no_longer, no_more))
+  as_much_behind left p mid end out rest is no_longer h9 = grind (arith)
 
   received : (left n : ℕ) (p end : ReaderState T Core) (link : LinkState T) (turns : List Turn) (out : Gives Event) (c : Result (Unit {0}) IoFault) → left ≡ suc n
       → MatchResult c (λ _. Reads sends reader receives n (at_link p link) turns out end)
       (λ f. (turns ≡ []) × (out ≡ stops (Some f) (lacks_memory (Err f)) n) × (end ≡ record { core = reader.faulted p.core f; link = link }))
       → (Reads sends reader receives n (at_link p link) turns out end → out.left ≤ n) → out.left < left
-  received left n p end link turns out (Ok u) is more goes = let few = goes more in omega (arith, is, few)
-  received left n p end link turns out (Err f) is (none, ends, same) goes = let e = ap (λ (o : Gives Event). o.left) ends in omega (arith, is, e)
+  received left n p end link turns out h8 is more goes = grind (arith)
 
   reads_no_more : (left : ℕ) (p end : ReaderState T Core) (turns : List Turn) (out : Gives Event) → Reads sends reader receives left p turns out end → NotMore left p out end
   reads_no_more left p end [] out (same, ends) = grind (arith, stops_left)
-  reads_no_more left p end (Received r ∷ turns) out (on, lacks, (n, is, (link, filled, finds, h))) =
-      inl (received left n p end link turns out (counted_answer (count_of r)) is h (λ more. not_above n (at_link p link) end out (reads_no_more n (at_link p link) end turns out more)))
+  reads_no_more left p end (Received r ∷ turns) out (on, lacks, (n, is, (link, filled, finds, h))) = grind (arith, received, counted_answer, count_of, at_link, reads_no_more n (at_link p link) end turns out)
   reads_no_more left p end (Handled es ∷ turns) out (on, (v, link, first, lacked, mid, rest, (m, read, is), carried, split, more)) =
       let shorter = taken_shorter (reader.signature p.core) p.link link m read in
       let kept = carried_length v link mid es first lacked carried in
@@ -200,10 +158,6 @@ module _ {T Core Event Finish : Type 0} (sends : T → Queue → Result ℕ IoFa
 -- ---- a reading that hands out an action
 
 module _ {U : Type 0} where
-  not_answered : (stopped : Option IoFault) (e : ActionError) (gave : List (Given (Told U))) (h : Handed) → action_in gave ≡ Err e → answered stopped gave ≡ Ok h → ⊥
-  not_answered None e gave h is so = cc
-  not_answered (Some f) e gave h is so = cc
-
   -- malformed bytes end the reading
   ends_garbled : (put : List Said) (rest : List (Given (Told U))) → action_in (put_and_gave put (Stops fault.Proto ∷ []) ++ rest) ≡ Err (Io fault.Proto)
   ends_garbled [] rest = refl
@@ -220,15 +174,13 @@ module _ {T U G C : Type 0} (sends : T → Queue → Result ℕ IoFault → T �
   -- A reading that hands out an action took its message off what waits, or made a receive.
   reads_less : (left : ℕ) (p end : ReaderState T (Core U C)) (turns : List Turn) (out : Gives (Told U)) (h : Handed) → Reads sends reader receives left p turns out end
       → answered out.stopped out.gave ≡ Ok h → Less sends receives reader left p out end
-  reads_less left p end [] out h (same, ends) is =
-      absurd (not_answered out.stopped (Io fault.Pipe) out.gave h (ap action_in (gave_none sends a left p out ends)) is)
-  reads_less left p end (Received r ∷ turns) out h (on, lacks, (n, one, (link, filled, finds, more))) is = grind (arith, received, not_above, at_link, reads_no_more)
+  reads_less left p end [] out h (same, ends) is = grind (arith, action_in, gave_none)
+  reads_less left p end (Received r ∷ turns) out h (on, lacks, (n, one, (link, filled, finds, more))) is = grind (arith, received, at_link, reads_no_more)
   reads_less left p end (Handled es ∷ turns) out h (on, (v, link, first, lacked, mid, rest, (m, read, so), carried, split, more)) is =
       let shorter = taken_shorter sends receives reader (reader.signature p.core) p.link link m read in
       let kept = carried_length sends receives reader v link mid es first lacked carried in
-      less_behind sends receives reader left p mid end out rest (ap (λ (o : Gives (Told U)). o.left) split) (omega (arith, shorter, kept))
-      (reads_no_more sends receives reader left mid end turns rest more)
-  reads_less left p end (Unread es ∷ turns) out h (on, (v, link, first, lacked, mid, rest, (malformed, same, so), carried, split, more)) is = grind (arith, action_in, not_answered, unread_ends)
+      grind (arith, less_behind, reader, reads_no_more)
+  reads_less left p end (Unread es ∷ turns) out h (on, (v, link, first, lacked, mid, rest, (malformed, same, so), carried, split, more)) is = grind (arith, action_in, unread_ends)
 
 module _ {T U G C : Type 0} (w : World T G C) (id : ClientParts) where
   part_less : (offer : Offer G) (r r' : Reading) (p q : Part T U C) (h : Handed) (lacked : Bool) (did : List (Deed U))
@@ -253,8 +205,7 @@ module _ {T U G C : Type 0} (w : World T G C) (id : ClientParts) where
   -- what the call is to this client
   of_call : (before after : ServerState T U G C) (e : Entry T U G C) (call : Call T U G C) → e.call ≡ call → OneStep w before e after
       → PartCall w id before.offer call (seen id before) (e.lacks id) (e.did id) (seen id after)
-  of_call before after e call is by =
-      subst (λ (c : Call T U G C). PartCall w id before.offer c (seen id before) (e.lacks id) (e.did id) (seen id after)) is (by.each id)
+  of_call before after e call is by = grind (arith, seen)
 
   -- what a reading of this client says of itself
   reads_fewer : (r r' : Reading) (before : BackendState T U G C) (a : Action) (found : BackendState T U G C)
@@ -284,9 +235,7 @@ module _ {T U G C : Type 0} (w : World T G C) (id : ClientParts) where
               of_part : (p q : Part T U C) → (seen id before.server).part ≡ Some p → waiting_of id found.server ≡ length q.link.incoming.bytes
                   → (r'.turns_left < r.turns_left) ⊎ ((r'.turns_left ≡ r.turns_left) × (length q.link.incoming.bytes < length p.link.incoming.bytes))
                   → Fewer id r before.server r' found.server
-              of_part p q there now (inl fewer) = inl fewer
-              of_part p q there now (inr (same, less)) =
-                  let was : waiting_of id before.server ≡ length p.link.incoming.bytes = ap waits_in there in inr (same, omega (arith, was, now, less))
+              of_part p q there now h5 = grind (arith, waiting_of, length, waits_in)
 
   -- a round whose end was accepted leaves less to do
   pub round_fewer : {H : Type 0} (answers : Answering H T U G C) (h h' : H) (r r' : Reading) (before found : BackendState T U G C) (after : ServerState T U G C) (a : Action)
@@ -305,5 +254,4 @@ module _ {T U G C : Type 0} (w : World T G C) (id : ClientParts) where
 
       go : Fewer id r before.server r' found.server → waiting_of id handles.left.server ≤ waiting_of id found.server → waiting_of id after ≤ waiting_of id handles.left.server
           → Fewer id r before.server r' after
-      go (inl fewer) first second = inl fewer
-      go (inr (same, less)) first second = inr (same, omega (arith, less, first, second))
+      go h1 first second = grind (arith)

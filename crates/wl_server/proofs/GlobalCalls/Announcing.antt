@@ -1,5 +1,5 @@
 -- How a registry is told of globals, one after another.
-use Rattle.std.proofs.Common.{arith, ◌≡◌, ◌∙◌, ℕ, true, List, [], ◌∷◌, ◌++◌, append_assoc, length, map, Result, Ok, Err, refl, sym, ap, subst}
+use Rattle.std.proofs.Common.{arith, ◌≡◌, ℕ, true, List, [], ◌∷◌, ◌++◌, append_assoc, length, map, Result, Ok, Err, refl, sym, ap, subst}
 use Rattle.std.specs.List.{filter}
 use Rattle.std.specs.Prelude.{nat_lt}
 use Rattle.wl_wire.specs.declared.error.IoFault.{IoFault}
@@ -54,8 +54,7 @@ module _ {T G C : Type 0} (sends : T → Queue → Result ℕ IoFault → T → 
   told_one start now after all room next e old left step shown length_is one (first, puts, is) = (
     first ++ told_of room e ∷ [],
     puts_more sends start now after first (told_of room e ∷ []) (Ok tt) puts one,
-    told_is first all room e old left step shown is
-        ∙ ap (λ (n : ℕ). (first ++ told_of room e ∷ []) ++ told_of_all a client_data id n left) (sym length_is),
+    grind (arith, told_is, told_of, told_of_all),
   )
 
   pub told_failed : (start now after : LinkState T) (all : List Said) (room : ℕ) (e : Entry) (old left : List Entry) (f : IoFault) → old ≡ e ∷ left

@@ -1,5 +1,5 @@
 -- What becomes of the globals by a change at one name.
-use Rattle.std.proofs.Common.{◌≡◌, ◌<◌, ℕ, ◌+◌, Bool, true, false, List, Option, None, Some, Bor, Err, Result, is_some, not, refl, ap, ◌∙◌, nat_le, subst, arith, Ok}
+use Rattle.std.proofs.Common.{◌≡◌, ◌<◌, ℕ, ◌+◌, Bool, true, false, List, Option, Some, Bor, Err, Result, is_some, not, refl, ap, ◌∙◌, nat_le, subst, arith, Ok}
 use Rattle.std.specs.Prelude.{MatchOption, option_copied, slice_get}
 use Rattle.std.proofs.lemmas.Bool.{eq-eqb, false≢true, ne_eqb}
 use Rattle.wl_wire.specs.declared.interface.InterfaceId.{InterfaceId}
@@ -25,10 +25,6 @@ module _ {G : Type 0} where
   abbrev global_by : Store (KeptGlobal G) → GlobalParts → Option (Object (KeptGlobal G))
   global_by store id = names global_serial (record { number = id.name; serial = id.serial }) store
 
-  -- it is the one at the name
-  by_held : (store : Store (KeptGlobal G)) (id : GlobalParts) (x : Object (KeptGlobal G)) → global_by store id ≡ Some x → held store id.name ≡ Some x
-  by_held store id x is = grind (arith, global_serial, false≢true, is_some)
-
   pub nothing_disabled : (store : Store (KeptGlobal G)) (id : GlobalParts) (last : ℕ) → is_some (global_by store id) ≡ false
       → globals_of store last ≡ disabled (globals_of store last) id
   nothing_disabled store id last none = grind (arith, is_some, disabled_at, false≢true)
@@ -36,7 +32,7 @@ module _ {G : Type 0} where
   pub one_disabled : (store after : Store (KeptGlobal G)) (id : GlobalParts) (last : ℕ) → is_some (global_by store id) ≡ true
       → MatchOption (held store id.name) (after ≡ store) (λ x. after ≡ rewritten store id.name (as_disabled x))
       → globals_of after last ≡ disabled (globals_of store last) id
-  one_disabled store after id last some becomes = grind (arith, is_some, disabled_at, false≢true, as_disabled, by_held)
+  one_disabled store after id last some becomes = grind (arith, is_some, disabled_at, false≢true, as_disabled, global_serial)
 
   pub nothing_freed : (store : Store (KeptGlobal G)) (id : GlobalParts) (last : ℕ) → is_some (global_by store id) ≡ false
       → globals_of store last ≡ freed (globals_of store last) id
@@ -66,5 +62,4 @@ module _ {G : Type 0} where
 
 -- whether something was found
 pub was_found : {A : Type 0} (found : Option (Bor A)) (x : Option A) (none : Bool) → option_copied found ≡ x → is_some found ≡ not none → is_some x ≡ not none
-was_found None x none is some = rw (← is) some
-was_found (Some y) x none is some = rw (← is) some
+was_found h1 x none is some = grind (arith)

@@ -40,8 +40,7 @@ module _ {T A : Type 0} (sends : T → Queue → Result ℕ IoFault → T → Ty
 
   -- they were all put
   pub first_all : (before after : LinkState T) (xs : List A) (n : ℕ) → length xs ≤ n → PutsFirst before xs n (Ok tt) after → Puts sends before (map say xs) (Ok tt) after
-  first_all before after xs n end puts =
-      subst (λ (ys : List A). Puts sends before (map say ys) (Ok tt) after) (take_all n xs end) puts
+  first_all before after xs n end puts = grind (arith, map, take_all)
 
 -- a message that an object was given as its sender
 pub wrote_by : {T : Type 0} (sends : T → Queue → Result ℕ IoFault → T → Type 0) (before after : LinkState T) (r : Id) (number opcode opcode' : ℕ) (args args' : List WireArgument)

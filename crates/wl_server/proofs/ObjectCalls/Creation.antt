@@ -1,5 +1,5 @@
 -- How an insertion, or why there is none, is a creation.
-use Rattle.std.proofs.Common.{◌≡◌, ℕ, ◌+◌, ◌<◌, Bool, true, false, List, [], Option, None, Some, is_some, Result, Ok, Err, MatchOption, MatchBool, Bor, not, option_copied, option_map, refl, ap, subst, ◌∙◌, inl, inr, true≢false, arith}
+use Rattle.std.proofs.Common.{◌≡◌, ℕ, ◌+◌, ◌<◌, Bool, true, false, List, [], Option, Some, is_some, Result, Ok, Err, MatchOption, MatchBool, Bor, not, option_copied, option_map, refl, ap, subst, ◌∙◌, inl, inr, true≢false, arith}
 use Rattle.std.specs.Prelude.{◌==◌, slice_get}
 use Rattle.std.proofs.lemmas.Bool.{eqb-true, eq-eqb, false≢true}
 use Rattle.wl_wire.specs.declared.interface.InterfaceId.{InterfaceId}
@@ -22,26 +22,21 @@ use Rattle.wl_server.specs.Server.{Stored, no_times}
 use Rattle.wl_server.proofs.CallSteps.Doing.{does_quietly}
 
 known : {A : Type 0} (o : Option A) (X Y : Type 0) → is_some o ≡ true → Y → MatchOption o X (λ _. Y)
-known None X Y is y = absurd (false≢true is)
-known (Some a) X Y is y = y
+known h1 h2 h3 is y = grind (arith, false≢true)
 
 unknown : {A : Type 0} (o : Option A) (X Y : Type 0) → is_some o ≡ false → X → MatchOption o X (λ _. Y)
-unknown None X Y is x = x
-unknown (Some a) X Y is x = absurd (true≢false is)
+unknown h1 h2 h3 is x = grind (arith, true≢false)
 
 -- a row of the table is found where the interface is
 pub row_found : {A B : Type 0} (f : A → B) (found : Option (Bor A)) (row : Option B) (none : Bool) → option_map f (option_copied found) ≡ row → is_some found ≡ not none
     → is_some row ≡ not none
-row_found f None row none is some = rw (← is) some
-row_found f (Some x) row none is some = rw (← is) some
+row_found f h2 row none is some = grind (arith)
 
 with_serial : (b : Bool) (X Y : Type 0) → b ≡ false → Y → MatchBool b X Y
-with_serial true X Y is y = absurd (true≢false is)
-with_serial false X Y is y = y
+with_serial h1 h2 h3 is y = grind (arith, true≢false)
 
 no_serial : (b : Bool) (X Y : Type 0) → b ≡ true → X → MatchBool b X Y
-no_serial true X Y is x = x
-no_serial false X Y is x = absurd (false≢true is)
+no_serial h1 h2 h3 is x = grind (arith, false≢true)
 
 module _ {T U C : Type 0} (table : List InterfaceRow) (client : ClientParts) (s : Stored T U C) (i : InterfaceId) (version : ℕ) (u : U) where
   abbrev pub Created : Result IdParts CreateError → Part T U C → List (Deed U) → Part T U C → Type 0
@@ -79,8 +74,7 @@ module _ {T U C : Type 0} (table : List InterfaceRow) (client : ClientParts) (s 
     created n serial x store next is (least, put) =
         does_quietly s (Created (Ok (id serial))) (with_both store serial) (
           refl,
-          known (slice_get table i.0) _ _ is_known
-              (inr (n, least, with_serial (s.part.last_serial == last_possible_serial) _ _ serial_left (inl (ap (λ (k : ℕ). Ok (id k)) next, becomes)))),
+          grind (arith, known, slice_get, with_serial, last_possible_serial, serial_left, id, becomes),
         )
       where
         id : ℕ → IdParts
@@ -108,6 +102,5 @@ module _ {T U C : Type 0} (table : List InterfaceRow) (client : ClientParts) (s 
         at ((n, least, unused), same) =
             does_quietly s (Created (Err create.OutOfMemory)) (over store) (
               refl,
-              known (slice_get table i.0) _ _ is_known
-                  (inr (n, least, with_serial (s.part.last_serial == last_possible_serial) _ _ serial_left (inr (refl, unused, ap over same)))),
+              grind (arith, known, slice_get, with_serial, last_possible_serial, serial_left, over),
             )

@@ -31,18 +31,12 @@ use Rattle.wl_server.proofs.ObjectCalls.Posting.{arrived, kills_is, linked}
 
 -- ---- what an id names
 
-chosen : {X : Type 0} (b : Bool) (y x : X) → cond b (Some y) None ≡ Some x → y ≡ x
-chosen true y x e = cc
-chosen false y x e = absurd cc
-
 module _ {U : Type 0} where
   found : (id : Id) (h : Option (Object (Kept U))) (x : Object (Kept U)) → named_in serial_of id h ≡ Some x → h ≡ Some x
-  found id None x e = absurd cc
-  found id (Some y) x e = ap Some (chosen (eqb (serial_of y.value) id.serial) y x e)
+  found id h2 x e = grind (arith, eqb, serial_of)
 
   not_null : (b : Bool) (id : Id) (h : Option (Object (Kept U))) (x : Object (Kept U)) → cond b None (named_in serial_of id h) ≡ Some x → h ≡ Some x
-  not_null true id h x e = absurd cc
-  not_null false id h x e = found id h x e
+  not_null h1 id h x e = grind (arith, found)
 
   -- an object that an id names is the one at the id's number
   pub named_is_held : (store : Store (Kept U)) (id : IdParts) (x : Object (Kept U)) → named store id ≡ Some x → held store id.number ≡ Some x
@@ -53,10 +47,6 @@ module _ {U : Type 0} where
   leaves_no_note id u c = grind (arith, is_some, named, id_of)
 
 -- ---- the object that may be destroyed
-
-module _ {T U C : Type 0} where
-  destroyable_named : (p : Part T U C) (id : IdParts) (x : Object (Kept U)) → destroyable p id ≡ Some x → named p.store id ≡ Some x
-  destroyable_named p id x = grind (arith, named)
 
 at_none : {A : Type 0} (o : Option A) (X : Type 0) (Y : A → Type 0) → o ≡ None → X → MatchOption o X Y
 at_none o X Y is x = rw is x
@@ -118,8 +108,7 @@ module _ {T U C : Type 0} (sends : T → Queue → Result ℕ IoFault → T → 
       where
         at : (wrote : Result (Unit {0}) IoFault) → lacks_memory wrote ≡ true → Puts sends s.part.link (deletions id.number) wrote link
             → Puts sends s.part.link (deletions id.number) (Err fault.OutOfMemory) link
-        at (Err fault.OutOfMemory) lacked puts = puts
-        at _ lacked puts = absurd (false≢true lacked)
+        at h1 lacked puts = grind (arith, false≢true)
 
     -- it is gone, and this is the link
     abbrev pub gone : LinkState T → Stored T U C
@@ -169,7 +158,7 @@ module _ {T U C : Type 0} (sends : T → Queue → Result ℕ IoFault → T → 
         → IfSome (held s.part.store id.number) (λ y. registries ≡ registries_without s.part.registries id.number y)
         → IfSome (held s.part.store id.number) (λ y. waiting ≡ before ++ note_of_end id.client id.number y) → before ≡ s.part.waiting
         → with_all link store registries waiting ≡ gone link
-    left link store registries before waiting without forgotten noted same = grind (arith, registries_without, note_of_end, named_is_held, destroyable_named)
+    left link store registries before waiting without forgotten noted same = grind (arith, registries_without, note_of_end, named_is_held, named)
 
     -- what was taken out is gone, and the client was told, or closed down where it could not be
     pub destroyed : (link : LinkState T) (n : ℕ) (store : Store (Kept U)) (registries : List Id) (before waiting : List (Happening U))

@@ -1,5 +1,5 @@
 -- The checks of an event's arguments.
-use Rattle.std.proofs.Common.{◌≡◌, ℕ, ◌<◌, ◌≤◌, ◌∷◌, [], List, length, drop, None, refl, sym, ap, arith, inl, inr}
+use Rattle.std.proofs.Common.{◌≡◌, ℕ, ◌<◌, ◌∷◌, [], List, length, drop, None, refl, sym, ap, arith}
 use Rattle.std.proofs.lemmas.List.{drop_all}
 use Rattle.std.proofs.lemmas.Bool.{cases_lt}
 use Rattle.wl_wire.specs.declared.argument.Argument.{Argument}
@@ -21,11 +21,7 @@ module _ {U : Type 0} (client : ClientParts) (store : Store (Kept U)) (row : Mes
 
   no_faults_left : (kinds : List ArgumentType) (asked : List InterfaceId) (args : List (Argument IdParts Token)) (i : ℕ)
       → (i < length kinds → i < length args → ⊥) → argument_faults client store row (drop i kinds) asked (drop i args) ≡ []
-  no_faults_left kinds asked args i none =
-      elim (cases_lt i (length kinds)) [
-        | inl some ↦ let past : length args ≤ i = omega (arith, none some) in rw (drop_all i args past) (faults-no_args (drop i kinds) asked)
-        | inr past ↦ rw (drop_all i kinds past) refl
-      ]
+  no_faults_left kinds asked args i none = grind (arith, cases_lt, length, drop_all, faults-no_args, drop)
 
   -- so there is none behind what was looked at
   pub no_fault : (kinds : List ArgumentType) (asked : List InterfaceId) (args : List (Argument IdParts Token)) (i : ℕ)

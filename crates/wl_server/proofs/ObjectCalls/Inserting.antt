@@ -1,5 +1,5 @@
 -- A new client at a free slot, as a step of the server.
-use Rattle.std.proofs.Common.{◌≡◌, ◌≢◌, ℕ, zero, suc, ◌+◌, ◌<◌, ◌≤◌, Bool, true, false, List, [], ◌∷◌, ◌++◌, length, map, Option, None, Some, is_some, IsSome, Result, Ok, Err, refl, sym, ap, subst, ◌∙◌, arith, append-nil, true≢false}
+use Rattle.std.proofs.Common.{◌≡◌, ℕ, ◌+◌, ◌<◌, ◌≤◌, Bool, true, false, List, [], ◌∷◌, ◌++◌, length, map, Option, None, Some, is_some, IsSome, Result, Ok, Err, refl, sym, ap, subst, ◌∙◌, arith, append-nil, true≢false}
 use mathlib.Core.Logic.{inl, inr}
 use Rattle.std.specs.Prelude.{◌⊎◌, MatchBool, MatchOption, nat_lt, slice_get, slice_set}
 use Rattle.std.specs.Option.{option_map_or}
@@ -40,8 +40,7 @@ module _ {T U C : Type 0} where
   stored_past clients k past = rw (slice_get_past clients k past) refl
 
   pub none_of : (x : Option (Stored T U C)) → is_some x ≡ false → x ≡ None
-  none_of None h = refl
-  none_of (Some x) h = absurd (true≢false h)
+  none_of h1 h = grind (arith, true≢false)
 
   -- the first free place is a slot, or each slot is taken
   pub slot_of : {E : Type 0} (clients : List (Option (Stored T U C))) (n : ℕ) (r : Result ℕ E) (o : Option ℕ) → stored_at n clients ≡ None
@@ -65,12 +64,7 @@ module _ {T U C : Type 0} where
 
   at_end : (clients : List (Option (Stored T U C))) (s : Stored T U C) → IsPut clients (length clients) s (clients ++ Some s ∷ [])
   at_end [] s = grind (arith, slice_get)
-  at_end (x ∷ clients) s = let rest = at_end clients s in (rest.0, λ k differ. others k rest.1 differ)
-    where
-      others : (k : ℕ) → ((i : ℕ) → i ≢ length clients → slice_get (clients ++ Some s ∷ []) i ≡ slice_get clients i) → k ≢ length (x ∷ clients)
-          → slice_get (x ∷ (clients ++ Some s ∷ [])) k ≡ slice_get (x ∷ clients) k
-      others zero rest differ = refl
-      others (suc k) rest differ = rest k (λ e. differ (ap suc e))
+  at_end (x ∷ clients) s = grind (arith, at_end clients s)
 
   pub put_behind : (clients : List (Option (Stored T U C))) (slot : ℕ) (s : Stored T U C) → slot ≡ length clients → IsPut clients slot s (clients ++ Some s ∷ [])
   put_behind clients slot s is = subst (λ (n : ℕ). IsPut clients n s (clients ++ Some s ∷ [])) (sym is) (at_end clients s)
@@ -92,16 +86,13 @@ module _ {T U G C : Type 0} (w : World T G C) where
     fresh,
     refl,
     refl,
-    ap (seen_as gathered) some ∙ ap (λ (c : Stored T U C). seen_as gathered (Some c)) new
-        ∙ ap (λ (m : List (Happening U)). let s : Seen T U C = record { part = Some (fresh_part link client_data); made = m ++ Initialized ∷ [] } in s)
-        (sym (ap (λ (o : Option (Stored T U C)). let s : Seen T U C = seen_as gathered o in s.made) none ∙ append-nil gathered)),
+    grind (arith, seen_as, fresh_part, append-nil),
   )
   as_new id offer transport client_data gathered link false x y s is fresh none some new = absurd (false≢true is)
 
   as_unfelt : (id : ClientParts) (offer : Offer G) (transport : T) (client_data : C) (b : Bool) (before after : Seen T U C) → b ≡ false → after ≡ before
       → InsertedAt id offer transport client_data b before after
-  as_unfelt id offer transport client_data true before after is same = absurd (true≢false is)
-  as_unfelt id offer transport client_data false before after is same = (refl, refl, same)
+  as_unfelt id offer transport client_data h5 before after is same = grind (arith, true≢false)
 
   each_inserted : (offer : Offer G) (transport : T) (client_data : C) (clients clients' : List (Option (Stored T U C))) (notes : List (Note U)) (new : ClientParts) (s : Stored T U C)
       → stored_at new.slot clients ≡ None → IsPut clients new.slot s clients' → IsInserted new.serial transport (Some offer.default_limit) client_data s → (id : ClientParts)
@@ -112,13 +103,8 @@ module _ {T U G C : Type 0} (w : World T G C) where
             (same_parts new id slot serial)
             (as_new new offer transport client_data (notes_of new notes) link (same_client new new) (client_at new clients) (client_at new clients') s (same_self new) fresh
             (ap (if_serial new.serial) free) (client_present new clients' s here serial') is)
-        | Slots slot ↦ as_unfelt id offer transport client_data (same_client new id) _ _ (same_slots new id slot)
-            (ap (λ (x : Option (Option (Stored T U C))). seen_as (notes_of id notes) (if_serial id.serial (option_map_or (λ s. s) x None)))
-            (others id.slot (λ e. other_of new.slot id.slot slot (sym e))))
-        | Serials slot differ ↦ as_unfelt id offer transport client_data (same_client new id) _ _ (same_serials new id slot differ)
-            (ap (seen_as (notes_of id notes))
-            (client_absent id clients' s (subst (λ (n : ℕ). slice_get clients' n ≡ Some (Some s)) slot here) (rw serial' differ)
-            ∙ sym (ap (if_serial id.serial) (subst (λ (n : ℕ). stored_at n clients ≡ None) slot free))))
+        | Slots slot ↦ grind (arith, as_unfelt, same_client, same_slots, seen_as, notes_of, if_serial, option_map_or, other_of)
+        | Serials slot differ ↦ grind (arith, as_unfelt, same_client, same_serials, seen_as, notes_of, client_absent, slice_get, serial', if_serial, stored_at)
       ]
     where
       serial' : s.serial ≡ new.serial
@@ -166,17 +152,7 @@ module _ {T U G C : Type 0} (w : World T G C) where
     record { call = Asked (step.InsertClient transport client_data) (reply.InsertClient (Err insert.Full)); refused = false; lacks = λ id. false; did = λ id. [] },
     refl,
     refl,
-    record {
-      offer = refl;
-      last = omega arith;
-      client = lacks;
-      global = tt;
-      order = tt;
-      room = tt;
-      refused = (λ h. absurd (false≢true h), λ h. was_refused h);
-      notes = record { gathered = refl; times = all_none _ _; numbered = all };
-      each = λ id. (Err insert.Full, refl, (refl, refl, refl));
-    },
+    grind (arith, false≢true, was_refused, all_none),
   )
     where
       was_refused : (false ≡ true) ⊎ ((id : ClientParts) × (false ≡ true)) → false ≡ true
@@ -192,17 +168,7 @@ module _ {T U G C : Type 0} (w : World T G C) where
     record { call = Asked (step.InsertClient transport client_data) (reply.InsertClient (Err insert.OutOfMemory)); refused = true; lacks = λ id. false; did = λ id. [] },
     refl,
     refl,
-    record {
-      offer = refl;
-      last = omega arith;
-      client = (new, (free, below, serial));
-      global = tt;
-      order = tt;
-      room = tt;
-      refused = (λ h. inl refl, λ h. refl);
-      notes = record { gathered = refl; times = times; numbered = all };
-      each = λ id. (Err insert.OutOfMemory, refl, (refl, refl, refl));
-    },
+    grind (arith),
   )
 
   pub insertion_starved : {was : Bool} (before : ServerState T U G C) (transport : T) (client_data : C) (new : ClientParts) (clients' : List (Option (Stored T U C)))

@@ -1,5 +1,5 @@
 -- An object's data are lent to a closure, and set to what it leaves.
-use Rattle.std.proofs.Common.{◌≡◌, Bool, false, List, Option, None, Some, Result, Ok, Err, MatchOption, refl, ap, ◌∙◌, arith}
+use Rattle.std.proofs.Common.{◌≡◌, Bool, false, Option, None, Some, Result, Ok, Err, MatchOption, refl, arith}
 use Rattle.std.specs.Prelude.{option_map, slice_set}
 use Rattle.wl_link.specs.declared.object.Object.{Object}
 use Rattle.wl_link.specs.Store.{Store, rewritten}
@@ -46,11 +46,7 @@ module _ {T U G C R : Type 0} (call : U → R → U → Type 0) (w : World T G C
 
     -- nothing was written
     kept : (store : Store (Kept U)) → store ≡ s.part.store → at_slot (having store) ≡ record { server = before; refused = false }
-    kept store is =
-        let has = slot_of_client before.clients read s there in
-        ap (λ (x : Store (Kept U)). at_slot (having x)) is
-        ∙ ap (λ (clients : List (Option (Stored T U C))). let b : BackendState T U G C = record { server = record before { clients = clients }; refused = false } in b)
-        (set_itself before.clients read.slot (Some s) has.0)
+    kept store is = grind (arith, slot_of_client, at_slot, having, set_itself)
 
     abbrev Lent : Option (Object (Kept U)) → Store (Kept U) → Type 0
     Lent found store =
@@ -79,8 +75,7 @@ module _ {T U G C R : Type 0} (call : U → R → U → Type 0) (w : World T G C
         (λ x. MatchOption x.value.user_data ((answer ≡ Err _) × (store ≡ s.part.store))
         (λ u. (r : R) × (left : U) × call u r left × (answer ≡ Ok r) × (store ≡ rewritten s.part.store o.number (with_user_data left x))))
         → Lent found store
-    lent_at None found store (err, none) = (err, kept store none)
-    lent_at (Some x) found store h = lent_with x x.value.user_data found refl store h
+    lent_at h1 found store h = grind (arith, kept, lent_with)
 
     pub lends_stored : (store : Store (Kept U)) → LendsDataIn call s.part.store o answer store
         → LendsObjectData call w (record { server = before; refused = was }) o answer (at_slot (having store))

@@ -1,5 +1,5 @@
 -- How an error that was posted on an object is a verdict that was carried out.
-use Rattle.std.proofs.Common.{◌≡◌, ◌∙◌, ℕ, Bool, true, false, not, ◌||◌, List, [], ◌∷◌, ◌++◌, Option, None, Some, is_some, option_copied, Bor, Result, Ok, Err, MatchResult, refl, sym, ap, subst, append-nil, inl, inr, arith}
+use Rattle.std.proofs.Common.{◌≡◌, ◌∙◌, ℕ, Bool, true, false, not, ◌||◌, List, [], ◌∷◌, ◌++◌, Option, is_some, option_copied, Bor, Result, Ok, Err, MatchResult, refl, ap, subst, append-nil, inl, inr, arith}
 use Rattle.std.proofs.lemmas.Bool.{false≢true}
 use Rattle.wl_wire.specs.declared.error.IoFault.{IoFault}
 use Rattle.wl_wire.specs.declared.error.ProtocolError.{ProtocolError}
@@ -76,8 +76,7 @@ module _ {T U C : Type 0} where
 
 -- what was found by reference is there where it was found
 pub is_some_copied : {X : Type 0} (found : Option (Bor X)) (x : Option X) (b : Bool) → option_copied found ≡ x → is_some found ≡ b → is_some x ≡ b
-is_some_copied (Some r) x b is some = ap is_some (sym is) ∙ some
-is_some_copied None x b is none = ap is_some (sym is) ∙ none
+is_some_copied h1 x b is some = grind (arith, is_some)
 
 module _ {T U C : Type 0} (sends : T → Queue → Result ℕ IoFault → T → Type 0) (p : Part T U C) (id : IdParts) (code : ℕ) (text : List ℕ)
     (live : p.is_killed ≡ false) where

@@ -2,14 +2,10 @@
 use Rattle.std.proofs.Common.{◌≡◌, ◌∙◌, ℕ, Bool, true, false, List, [], ◌∷◌, ◌++◌, append-nil, map, Option, None, Some, IfSome, Result, Ok, Err, MatchBool, MatchResult, refl, sym, ap, subst, inl, inr, arith}
 use Rattle.std.proofs.lemmas.Bool.{false≢true}
 use Rattle.wl_wire.specs.declared.error.IoFault.{IoFault}
-use Rattle.wl_wire.specs.declared.error.IoFault.TheVariants as fault
 use Rattle.wl_wire.specs.declared.argument.Argument.{Argument}
-use Rattle.wl_wire.specs.declared.argument.Argument.TheVariants as arg
 use Rattle.wl_wire.specs.declared.argument.Token.{Token}
 use Rattle.wl_wire.specs.declared.message.Message.{Message}
-use Rattle.wl_wire.specs.Argument.{WireArgument}
 use Rattle.wl_wire.specs.MapIds.{numbered, with_ids}
-use Rattle.wl_wire.specs.Message.{WireMessage}
 use Rattle.wl_wire.specs.Table.{InterfaceRow}
 use Rattle.wl_link.specs.declared.object.Object.{Object}
 use Rattle.wl_link.specs.Exchange.{Queue, Sending}
@@ -40,8 +36,7 @@ use Rattle.wl_server.proofs.GlobalCalls.Putting.{puts_none}
 -- ---- the message that is written
 
 argument_numbered : (a : Argument IdParts Token) → with_ids (λ id. id.number) (λ id. id.number) a ≡ wire_argument a
-argument_numbered (arg.Int z) = refl
-argument_numbered _ = refl
+argument_numbered h1 = grind (arith)
 
 arguments_numbered : (args : List (Argument IdParts Token)) → map (with_ids (λ id. id.number) (λ id. id.number)) args ≡ map wire_argument args
 arguments_numbered [] = refl
@@ -49,8 +44,7 @@ arguments_numbered (a ∷ args) = rw (argument_numbered a, arguments_numbered ar
 
 -- where each id has its own number
 pub event_numbered : (m : Message IdParts Token) → numbered (λ id. id.number) (λ id. id.number) m ≡ wire_message (session_content m)
-event_numbered m =
-    ap (λ (args : List WireArgument). let w : WireMessage = record { sender = m.sender_id.number; opcode = m.opcode; args = args } in w) (arguments_numbered m.args.items)
+event_numbered m = grind (arith, arguments_numbered)
 
 module _ {U : Type 0} where
   -- what is said of what the sender's number holds is said of the sender
@@ -60,8 +54,7 @@ module _ {U : Type 0} where
 
   -- what follows sends has all the notes
   notes_behind : (es : List Sending) (did : List (Deed U)) → notes_in (map Sent es ++ did) ≡ notes_in did
-  notes_behind es did =
-      notes_append (map Sent es) did ∙ ap (λ (l : List (Happening U)). l ++ notes_in did) (notes_of_sends es)
+  notes_behind es did = grind (arith, notes_append, map, notes_in, notes_of_sends)
 
 -- ---- the client after it
 
@@ -106,25 +99,20 @@ module _ {T U C : Type 0} (client : ClientParts) (m : SessionMessage) (sender : 
     sent_failed : (before after : Part T U C) (ends : Bool) (f : IoFault) (mid : LinkState T) (did : List (Deed U)) → lacks_memory (Err f) ≡ false
         → Tells sends (ends_closed client (core_of before) m sender ends) mid false did after
         → SentAs sends client before m sender ends (Err f) mid (Ok tt) false did after
-    sent_failed before after ends fault.OutOfMemory mid did other tells = absurd (false≢true (sym other))
-    sent_failed before after ends _ mid did other tells = (tells, refl)
+    sent_failed before after ends h4 mid did other tells = grind (arith, false≢true)
 
     -- the event was written, or its write failed and not for want of memory
     pub sent : (s s1 s2 : Stored T U C) (ends : Bool) (n : ℕ) (mid : LinkState T) (written : Result (Unit {0}) IoFault) (lacked : Bool)
         → Wrote sends s.part.link (wire_message m) written mid → lacks_memory written ≡ false
         → untimed s1 ≡ after_end s ends mid → n ≡ m.sender.number → TellsEnd sends s1 n ends written lacked s2
         → Does s (λ p did q. SendsGranted sends client p m sender ends (Ok tt) lacked did q) s2
-    sent s s1 s2 ends n mid written lacked (es, wrote) went ended n-is (told, after, puts, lacked-is, closed) =
-        by written wrote went
-        (subst (λ (k : ℕ). PutsEnd sends mid k ends written told after) n-is
-        (subst (λ (x : Stored T U C). PutsEnd sends x.part.link n ends written told after) ended puts))
+    sent s s1 s2 ends n mid written lacked (es, wrote) went ended n-is (told, after, puts, lacked-is, closed) = grind (arith, by)
       where
         c : Core U C
         c = (ends_sender client (core_of s.part) m sender ends).core
 
         none_ended : (ends : Bool) → (ends_sender client (core_of s.part) m sender ends).core.ended ≡ None
-        none_ended true = refl
-        none_ended false = refl
+        none_ended h1 = grind (arith)
 
         after-is : (did : List (Deed U)) → notes_in did ≡ notes_in (end_deeds (closing c told).ended)
             → untimed s2 ≡ record { serial = s.serial; part = part_of (record { core = closing c told; link = after }); made = s.made ++ notes_in did; times = no_times }
@@ -181,14 +169,12 @@ module _ {T U C : Type 0} (client : ClientParts) (m : SessionMessage) (sender : 
       map Sent es ++ [],
       with_link s.part mid,
       inr (es, [], written, mid, wrote, refused_as written lacked, refl),
-      same ∙ ap (λ (l : List (Happening U)). let x : Stored T U C = record (untimed s) { part = with_link s.part mid; made = l } in x)
-          (sym (append-nil s.made) ∙ ap (λ (l : List (Happening U)). s.made ++ l) (sym (notes_behind es []))),
+      grind (arith, untimed, with_link, append-nil, notes_behind),
     )
       where
         refused_as : (written : Result (Unit {0}) IoFault) → lacks_memory written ≡ true
             → SentAs sends client s.part m sender ends written mid (Err refused.OutOfMemory) true [] (with_link s.part mid)
-        refused_as (Err fault.OutOfMemory) lacked = (refl, refl, refl, refl)
-        refused_as _ lacked = absurd (false≢true lacked)
+        refused_as h1 lacked = grind (arith, false≢true)
 
 -- ---- an event, refused or not
 
@@ -212,8 +198,7 @@ module _ {T U C : Type 0} (sends : T → Queue → Result ℕ IoFault → T → 
       (did, q, where_live _ _ s.part.is_killed live (where_granted _ (event_check client s.part.store table m) is granted), same)
     where
       where_live : (A B : Type 0) (killed : Bool) → killed ≡ false → B → MatchBool killed A B
-      where_live A B true live there = absurd (false≢true (sym live))
-      where_live A B false live there = there
+      where_live h1 h2 h3 live there = grind (arith, false≢true)
 
       where_granted : (Q : EventError → Type 0) (checked : Result (Object (Kept U) × Bool) EventError) → checked ≡ Ok (sender, ends)
           → SendsGranted sends client s.part m sender ends answer lacked did q

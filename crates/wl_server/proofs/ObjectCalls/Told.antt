@@ -1,5 +1,5 @@
 -- What the post of an error makes of the link of a live client whose object is kept.
-use Rattle.std.proofs.Common.{arith, ◌≡◌, ◌∙◌, ℕ, Bool, true, false, ◌||◌, List, Option, Some, Result, Ok, Err, MatchResult, refl, sym, ap, subst, inl, inr, true≢false}
+use Rattle.std.proofs.Common.{arith, ◌≡◌, ◌∙◌, ℕ, Bool, true, false, ◌||◌, List, Option, Some, Result, MatchResult, refl, sym, ap, subst, inl, inr, true≢false}
 use Rattle.std.specs.Option.{option_map}
 use Rattle.std.specs.Prelude.{slice_set}
 use Rattle.std.proofs.lemmas.Option.{same_Some}
@@ -25,8 +25,7 @@ module _ {T U C : Type 0} where
 
   told_link : (s after : Stored T U C) (wrote : Result (Unit {0}) IoFault)
       → MatchResult wrote (λ _. after ≡ s) (λ _. Does s (λ p did q. Kills p ConnectionClosed did q) after) → after.part.link ≡ s.part.link
-  told_link s after (Ok u) same = ap (λ (x : Stored T U C). x.part.link) same
-  told_link s after (Err f) kills = kills_link s after ConnectionClosed kills
+  told_link s after h3 same = grind (arith, kills_link)
 
   -- the error was written, and what waits was flushed
   pub told_exactly : (sends : T → Queue → Result ℕ IoFault → T → Type 0) (before : LinkState T) (put flushed told after : Stored T U C) (reason : DisconnectReason)

@@ -7,7 +7,6 @@ use Rattle.std.specs.Prelude.{◌||◌, option_map}
 use Rattle.wl_wire.specs.declared.argument.Argument.{Argument}
 use Rattle.wl_wire.specs.declared.argument.Argument.TheVariants as arg
 use Rattle.wl_wire.specs.declared.argument.ArgumentType.{ArgumentType}
-use Rattle.wl_wire.specs.declared.argument.ArgumentType.TheVariants as kind
 use Rattle.wl_wire.specs.declared.argument.Token.{Token}
 use Rattle.wl_wire.specs.declared.error.IoFault.{IoFault}
 use Rattle.wl_wire.specs.declared.interface.InterfaceId.{InterfaceId}
@@ -35,17 +34,13 @@ use Rattle.wl_server.specs.Requests.{Converted, Converting, Outcome, Whole, Wron
 use Rattle.wl_server.specs.Telling.{Core}
 use Rattle.wl_server.proofs.OverRuns.Moves.MovesOfRequests.{valid_new}
 
-no_error : {A E : Type 0} {x : A} {e : E} → ◌≡◌ {A = Result A E} (Ok x) (Err e) → ⊥
-no_error is = grind (arith, true≢false)
-
 -- ---- new ids among arguments
 
 abbrev is_new : {Id Fd : Type 0} → Argument Id Fd → Bool
 is_new a = is_new_id (type_of a)
 
 new_of_kind : (k : ArgumentType) → is_new_id (kind_of k) ≡ is_new_id k
-new_of_kind kind.NewId = refl
-new_of_kind _ = refl
+new_of_kind h1 = grind (arith)
 
 new_in_both : (signature : List ArgumentType) (args : List WireArgument) (payload : List ℕ) (fds : List Token) → ReadsArguments signature args payload fds
     → list_any is_new_id signature ≡ list_any is_new args
@@ -72,7 +67,7 @@ module _ {T U G C : Type 0} (sends : T → Queue → Result ℕ IoFault → T �
       → (signature : List ArgumentType)
       × (option_map (λ (r : MessageRow). r.signature) (row_in a.table (held p.core.store m.sender) m.opcode) ≡ Some signature)
       × (list_any is_new_id signature ≡ list_any is_new m.args)
-  read_signed read = grind (arith, no_error, is_new_id, ap₂, new_in_both)
+  read_signed read = grind (arith, true≢false, is_new_id, ap₂, new_in_both)
 
   -- it makes an object by the table exactly if one of its arguments is a new number
   pub makes_new : ReadsAs sends (server a) p (Ok m) link → (row : MessageRow) → row_in a.table (held p.core.store m.sender) m.opcode ≡ Some row
@@ -86,11 +81,7 @@ module _ {U : Type 0} where
 
   -- a new object takes a number that was free
   pub grown_new : (o : Objects (Kept U)) (n : ℕ) (i : InterfaceId) (version : ℕ) → is_valid_new o n ≡ true → Grown o.store (with_made o n i version).store
-  grown_new o n i version valid k x there = held_stored o.store n (made_object o i version) k ∙ at (eqb k n) refl
-    where
-      at : (b : Bool) → eqb k n ≡ b → cond b (Some (made_object o i version)) (held o.store k) ≡ Some x
-      at false is = there
-      at true is = absurd (none-some _ (sym (valid_new o n valid).0 ∙ ap (held o.store) (sym (eqb-true k n is)) ∙ there))
+  grown_new o n i version valid k x there = grind (arith, held_stored, made_object, eqb, none-some, valid_new, held, eqb-true)
 
 module _ {U : Type 0} (client : ClientParts) (version : ℕ) where
   -- The object of this id is new, and of this version.
@@ -112,13 +103,9 @@ module _ {U : Type 0} (client : ClientParts) (version : ℕ) where
       × ((e : Converting U) (more : List (Argument IdParts Token)) → Grown next.1.objects.store e.objects.store → Making next.1 e more → Making d e (next.0 ∷ more))
   One d x (Err w) = Unit {0}
 
-  one_found : (d : Converting U) (n : ℕ) (o : Option (Object (Kept U))) → held d.objects.store n ≡ o
-      → One d (arg.Object n) (with_object_argument d (object_found client (next_interface d.asked) n o))
-  one_found d n o h1 = grind (arith, with_object_argument)
-
   one_object : (d : Converting U) (n : ℕ) (null b : Bool) → allows_null d.kinds ≡ null → eqb n 0 ≡ b
       → One d (arg.Object n) (with_object_argument d (cond b (cond null (Ok (null_id client)) (Err wrong.NullObject)) (object_found client (next_interface d.asked) n (held d.objects.store n))))
-  one_object d n null b h1 h2 = grind (arith, one_found, eqb-true)
+  one_object d n null b h1 h2 = grind (arith, with_object_argument, eqb-true)
 
   one_new : (d : Converting U) (n : ℕ) (child : Option InterfaceId) → d.child ≡ child → One d (arg.NewId n) (with_new_argument client version d n child)
   one_new d n None left = tt

@@ -9,7 +9,7 @@ use Rattle.wl_server.specs.Backend.{BackendState, Calls}
 use Rattle.wl_server.specs.Deeds.{Deed, notes_in}
 use Rattle.wl_server.specs.Ids.{ClientParts, same_client}
 use Rattle.wl_server.specs.Part.{Part}
-use Rattle.wl_server.specs.PartStep.{Asked, Call, OfClient, OnPart, PartCall, PartStep, World}
+use Rattle.wl_server.specs.PartStep.{Asked, Call, OfClient, OnPart, PartStep, World}
 use Rattle.wl_server.specs.Plain.{IsUnchanged}
 use Rattle.wl_server.specs.Server.{Seen, seen}
 use Rattle.wl_server.specs.Steps.{Entry, IsRefused, OneStep, inserted_by, lacks_growth, offer_after}
@@ -18,12 +18,10 @@ use Rattle.wl_server.proofs.CallSteps.Slots.{compare, same_parts, same_self, sam
 -- ---- a choice that is known
 
 pub when_true : {P : Type 0} (Q : Type 0) (b : Bool) → b ≡ true → MatchBool b P Q → P
-when_true Q true is h = h
-when_true Q false is h = absurd (true≢false (sym is))
+when_true h1 h2 is h = grind (arith, true≢false)
 
 pub when_false : {Q : Type 0} (P : Type 0) (b : Bool) → b ≡ false → MatchBool b P Q → Q
-when_false P true is h = absurd (true≢false is)
-when_false P false is h = h
+when_false h1 h2 is h = grind (arith, true≢false)
 
 pub split_bool : {P Q : Type 0} (b : Bool) → MatchBool b P Q → ((b ≡ true) × P) ⊎ ((b ≡ false) × Q)
 split_bool true p = inl (refl, p)
@@ -57,8 +55,7 @@ module _ {T U G C : Type 0} {w : World T G C} {before after : BackendState T U G
 
   each_in : (id : ClientParts) (e : Entry T U G C) → e.call ≡ Asked s answer → OneStep w before.server e after.server
       → PartStep w id before.server.offer s answer (seen id before.server) (e.lacks id) (e.did id) (seen id after.server)
-  each_in id e is by =
-      subst (λ (c : Call T U G C). PartCall w id before.server.offer c (seen id before.server) (e.lacks id) (e.did id) (seen id after.server)) is (by.each id)
+  each_in id e is by = grind (arith, seen)
 
   -- what all clients share after the call
   pub offer_of : after.server.offer ≡ offer_after before.server.offer (Asked s answer)
@@ -134,8 +131,7 @@ module _ {T U G C : Type 0} {w : World T G C} {before after : BackendState T U G
 
 -- of two ids that differ, and have one client, the number or the serial differs
 pub ids_differ : (b : Bool) {c : Bool} → b ≡ true → (b && c) ≡ false → c ≡ false
-ids_differ true is differ = differ
-ids_differ false is differ = absurd (true≢false (sym is))
+ids_differ h1 is differ = grind (arith, true≢false)
 
 -- ---- what is held of one client
 

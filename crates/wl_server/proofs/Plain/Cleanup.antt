@@ -19,7 +19,7 @@ use Rattle.wl_server.specs.Felt.{Cleaned}
 use Rattle.wl_server.specs.Globals.{Offer}
 use Rattle.wl_server.specs.Ids.{ClientParts}
 use Rattle.wl_server.specs.Part.{Part}
-use Rattle.wl_server.specs.PartStep.{Call, CleanedAs, NotesTaken, World, share_of}
+use Rattle.wl_server.specs.PartStep.{Call, CleanedAs, World, share_of}
 use Rattle.wl_server.specs.Plain.{CleansUpClients, HandsOut, TakesNotes}
 use Rattle.wl_server.specs.Server.{Seen, seen}
 use Rattle.wl_server.specs.Steps.{RiseBySlot, RisesBySlot}
@@ -55,11 +55,7 @@ module _ {T U G C : Type 0} {w : World T G C} {before after : BackendState T U G
   cleanup_each : (answer : Result (Vec (ClientParts × T) Global) OutOfMemory) → Calls w before step.Cleanup (reply.Cleanup answer) after → (id : ClientParts)
       → (lacked : Bool) × (did : List (Deed U)) × CleanedAs w id before.server.offer answer (seen id before.server) lacked did (seen id after.server)
   cleanup_each answer call id =
-      let (lacked, did, (r, is, h)) = of_each call id in (
-        lacked,
-        did,
-        subst (λ (a : Result (Vec (ClientParts × T) Global) OutOfMemory). CleanedAs w id before.server.offer a (seen id before.server) lacked did (seen id after.server)) (sym (inside r is)) h,
-      )
+      let (lacked, did, (r, is, h)) = of_each call id in grind (arith, seen, inside)
     where
       inside : (r : Result (Vec (ClientParts × T) Global) OutOfMemory) → ◌≡◌ {A = Reply T U} (reply.Cleanup answer) (reply.Cleanup r) → answer ≡ r
       inside r is = cc
@@ -97,24 +93,9 @@ module _ {T U G C : Type 0} {w : World T G C} {before after : BackendState T U G
     globals = offer_of call;
     memory = λ known. cleanup_memory out call known;
   }
-  cleans_up (Err e) call = (
-    unchanged call refl refl (λ id. let (lacked, did, (memory, none, same)) = cleanup_each (Err e) call id in same),
-    refused_growth call refl,
-  )
+  cleans_up (Err e) call = grind (arith, unchanged, cleanup_each, refused_growth)
 
   -- ---- notes
-
-  notes_each : (answer : Result (Vec (Note U) Global) OutOfMemory) → Calls w before step.TakeNotes (reply.TakeNotes answer) after → (id : ClientParts)
-      → (lacked : Bool) × (did : List (Deed U)) × NotesTaken w id before.server.offer answer (seen id before.server) lacked did (seen id after.server)
-  notes_each answer call id =
-      let (lacked, did, (r, is, h)) = of_each call id in (
-        lacked,
-        did,
-        subst (λ (a : Result (Vec (Note U) Global) OutOfMemory). NotesTaken w id before.server.offer a (seen id before.server) lacked did (seen id after.server)) (sym (inside r is)) h,
-      )
-    where
-      inside : (r : Result (Vec (Note U) Global) OutOfMemory) → ◌≡◌ {A = Reply T U} (reply.TakeNotes answer) (reply.TakeNotes r) → answer ≡ r
-      inside r is = cc
 
   pub takes_notes : (answer : Result (Vec (Note U) Global) OutOfMemory) → Calls w before step.TakeNotes (reply.TakeNotes answer) after → TakesNotes before answer after
   takes_notes answer h1 = grind (arith, offer_of, calm, unchanged, refused_growth)

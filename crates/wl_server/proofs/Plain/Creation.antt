@@ -1,5 +1,5 @@
 -- A new object of the server's.
-use Rattle.std.proofs.Common.{◌≡◌, ℕ, Bool, true, false, List, [], None, Some, Result, Ok, Err, refl, sym, ap, subst, ◌∙◌, arith}
+use Rattle.std.proofs.Common.{◌≡◌, ℕ, Bool, true, false, List, [], None, Some, Result, Ok, Err, refl, sym, ap, subst, arith}
 use mathlib.Core.Logic.{inl, inr}
 use Rattle.std.proofs.lemmas.Bool.{eq-eqb, ne_eqb}
 use Rattle.std.specs.Prelude.{◌==◌, slice_get}
@@ -49,24 +49,11 @@ module _ {T U C : Type 0} {client : ClientParts} {p : Part T U C} {i : Interface
   numbered : (new.n == 0) ≡ false
   numbered = let first = new.absent.within in ne_eqb new.n 0 (λ (zero : new.n ≡ 0). absurd (omega (arith, first, zero)))
 
-  new_before : named p.store id ≡ None
-  new_before = grind (arith, named, serial_of, id_of, id_at, both_none)
-
   new_after : named q.store id ≡ Some (fresh_object i version id.serial (Some u))
-  new_after =
-      ap (λ (x : Part T U C). named x.store id) new.part_is ∙ ap (λ (o : IdParts). named (stored p.store new.n made) o) new.id_is
-      ∙ named_here (stored p.store new.n made) (id_at client new.n made) made numbered (stored_here p.store new.n made new.n refl) (eq-eqb made.value.serial made.value.serial refl)
-      ∙ ap (λ (o : IdParts). Some (fresh_object i version o.serial (Some u))) (sym new.id_is)
+  new_after = grind (arith, named, stored, made, named_here, id_at, numbered, stored_here, eq-eqb, fresh_object)
 
   new_others : (other : IdParts) → same_id (id_of id) (id_of other) ≡ false → named q.store other ≡ named p.store other
-  new_others other differ =
-      ap (λ (x : Part T U C). named x.store other) new.part_is
-      ∙ other_named p.store (stored p.store new.n made) new.n made.value.serial (Some made) (held_stored p.store new.n made)
-      (λ z is. ap (λ (o : Object (Kept U)). o.value.serial) (sym (inside z is))) (nothing_has made.value.serial (held p.store new.n) new.absent.absent) other
-      (subst (λ (o : IdParts). same_id (id_of o) (id_of other) ≡ false) new.id_is differ)
-    where
-      inside : (z : Object (Kept U)) → Some made ≡ Some z → made ≡ z
-      inside z is = cc
+  new_others other differ = grind (arith, named, other_named, stored, made, held_stored, nothing_has, held, same_id, id_of)
 
   new_client : id.client ≡ client
   new_client = ap (λ (o : IdParts). o.client) new.id_is
@@ -92,7 +79,7 @@ Of table target client i version u answer s lacked did t = OfClient (same_client
 module _ {T U C : Type 0} (table : List InterfaceRow) (client : ClientParts) (i : InterfaceId) (version : ℕ) (u : U) (s t : Seen T U C) (lacked : Bool) (did : List (Deed U)) where
   created : (id : IdParts) → Of table client client i version u (Ok id) s lacked did t
       → (id.client ≡ client) × (id.interface ≡ i) × (named_of s id ≡ None) × (named_of t id ≡ Some (fresh_object i version id.serial (Some u)))
-  created id h = grind (arith, own, ok_unknown, made_new, new_client, new_interface, named, new_before, new_after)
+  created id h = grind (arith, own, ok_unknown, made_new, new_client, new_interface, named, serial_of, id_of, id_at, both_none, new_after)
 
 not_created : {T U C : Type 0} (b : Bool) (table : List InterfaceRow) (client : ClientParts) (i : InterfaceId) (version : ℕ) (u : U) (e : CreateError) (s t : Seen T U C)
     (lacked : Bool) (did : List (Deed U)) → OfClient b s (Does table client i version u (Err e) lacked did) (Unknown (Err e)) lacked did t → t ≡ s
@@ -128,9 +115,7 @@ module _ {T U G C : Type 0} {w : World T G C} {before after : BackendState T U G
         λ other differ.
             let (lacked, did, h) = create_each (Ok id) call other.client in
             keeps (same_client target other.client) _ _ _ lacked did _ (λ x. and_then x (λ p. named p.store other))
-            (λ about p q (memory, none, makes).
-            new_others (made_new before.server.offer.table other.client p i version u id q makes) other
-            (ids_differ (same_client id.client other.client) (subst (λ (c : ClientParts). same_client c other.client ≡ true) (sym client) about) differ)) h,
+            (grind (arith, new_others, made_new, ids_differ, same_client)) h,
       )
   created_as (Err e) call =
       unchanged call refl refl (λ id.
@@ -156,8 +141,4 @@ module _ {T U G C : Type 0} {w : World T G C} {before after : BackendState T U G
 
       of_answer : (r : Result IdParts CreateError) (lacked : Bool) (did : List (Deed U)) → r ≡ answer
           → Of before.server.offer.table target target i version u r (seen target before.server) lacked did (seen target after.server) → lacked ≡ lacks_create answer
-      of_answer r lacked did same h =
-          elim (either_option (seen target before.server).part (own target _ _ _ lacked did _ h)) [
-            | inl (none, (is, (calm, nothing, stays))) ↦ calm ∙ ap lacks_create (sym is ∙ same)
-            | inr (p, there, (q, (memory, none, makes), stays)) ↦ memory ∙ ap lacks_create same
-          ]
+      of_answer r lacked did same h = grind (arith, either_option, seen, own, lacks_create)

@@ -79,15 +79,9 @@ module _ {T U G C : Type 0} {w : World T G C} {before after : BackendState T U G
         let (lacked, did, h) = set_each o u answer call other.client in
         keeps (same_client o.client other.client) _ _ _ lacked did _ (λ x. and_then x (λ p. named p.store other))
         (λ about p q r. set_others o u answer lacked did p q r other (ids_differ (same_client o.client other.client) about differ)) h;
-    rest = (
-        let (lacked, did, h) = set_each o u answer call o.client in
-        keeps (same_client o.client o.client) _ _ _ lacked did _ (λ x. option_map without_objects x)
-        (λ about p q r. ap Some (set_rest o u answer lacked did p q r)) h
-        );
+    rest = grind (arith, set_each, keeps, same_client, option_map, without_objects, set_rest);
     clients = λ other differ. let (lacked, did, h) = set_each o u answer call other in other_stays (same_client o.client other) _ _ _ lacked did _ differ h;
-    notes = λ client.
-        let (lacked, did, h) = set_each o u answer call client in
-        notes_stay (same_client o.client client) _ _ _ lacked did _ (λ p q r. ap notes_in r.1) h;
+    notes = grind (arith, set_each, notes_stay, same_client, notes_in);
     globals = offer_of call;
     memory = calm call refl (λ id lacked did (r, is, h). never (same_client o.client id) _ _ _ lacked did _ (λ p q set. set.0) h);
   }
@@ -98,10 +92,7 @@ module _ {T U G C : Type 0} {w : World T G C} {before after : BackendState T U G
           → MatchResult answer (λ _. (x : Object (Kept U)) × (named_of (seen o.client before.server) o ≡ Some x) × (named_of (seen o.client after.server) o ≡ Some (with_user_data u x)))
           (λ _. (named_of (seen o.client before.server) o ≡ None) × IsUnchanged before after)
       object (Ok ok) call found = found
-      object (Err e) call none = (
-        none,
-        unchanged call refl refl (λ id. let (lacked, did, h) = set_each o u (Err e) call id in set_refused o u (Err e) refl (same_client o.client id) lacked did _ _ h),
-      )
+      object (Err e) call none = grind (arith, unchanged, set_each, set_refused, same_client)
 
 -- ---- data that are lent
 

@@ -39,23 +39,14 @@ starved_refused starved refused = absurd cc
 
 -- an accepted call met no want of memory, and one that was refused for that did
 ok_calm : (lacked : Bool) → ◌≡◌ {A = Result (Unit {0}) DestroyError} (Ok tt) (unless_refused destroy.OutOfMemory lacked) → lacked ≡ false
-ok_calm true is = absurd cc
-ok_calm false is = refl
-
-starved_lacks : (lacked : Bool) → ◌≡◌ {A = Result (Unit {0}) DestroyError} (Err destroy.OutOfMemory) (unless_refused destroy.OutOfMemory lacked) → lacked ≡ true
-starved_lacks true is = refl
-starved_lacks false is = absurd cc
+ok_calm h1 is = grind (arith)
 
 never_refused : (lacked : Bool) → ◌≡◌ {A = Result (Unit {0}) DestroyError} (Err destroy.InvalidId) (unless_refused destroy.OutOfMemory lacked) → ⊥
-never_refused true is = absurd cc
-never_refused false is = absurd cc
+never_refused h1 is = grind (arith)
 
 module _ {T U C : Type 0} where
   destroyable_named : (p : Part T U C) (o : IdParts) (x : Object (Kept U)) → destroyable p o ≡ Some x → named p.store o ≡ Some x
   destroyable_named p o x = grind (arith, named)
-
-  not_destroyable : (p : Part T U C) (o : IdParts) → destroyable p o ≡ None → (o.number ≡ 1) ⊎ (named p.store o ≡ None)
-  not_destroyable p o = grind (arith, named, eqb-true)
 
 module _ {T U C : Type 0} (sends : T → Queue → Result ℕ IoFault → T → Type 0) (o : IdParts) (client : ClientParts) where
   abbrev Does : Result (Unit {0}) DestroyError → Bool → List (Deed U) → Part T U C → Part T U C → Type 0
@@ -64,13 +55,11 @@ module _ {T U C : Type 0} (sends : T → Queue → Result ℕ IoFault → T → 
   -- what is left of its store, and which notes wait
   left_store : (p : Part T U C) (x : Object (Kept U)) (lacked : Bool) (did : List (Deed U)) (q : Part T U C) → Tells sends (destroys client (core_of p) o x) p.link lacked did q
       → q.store ≡ cond lacked p.store (removed p.store o.number)
-  left_store p x lacked did q h =
-      told sends (λ c. c.store) (λ q. q.store) (λ e. refl) (destroys client (core_of p) o x) refl (λ c. refl) (λ c. refl) p.link lacked did q h
+  left_store p x lacked did q h = grind (arith, told, destroys, core_of)
 
   left_waiting : (p : Part T U C) (x : Object (Kept U)) (lacked : Bool) (did : List (Deed U)) (q : Part T U C) → Tells sends (destroys client (core_of p) o x) p.link lacked did q
       → q.waiting ≡ cond lacked p.waiting (p.waiting ++ note_of_end client o.number x)
-  left_waiting p x lacked did q h =
-      told sends (λ c. c.waiting) (λ q. q.waiting) (λ e. refl) (destroys client (core_of p) o x) refl (λ c. refl) (λ c. refl) p.link lacked did q h
+  left_waiting p x lacked did q h = grind (arith, told, destroys, core_of)
 
   -- an id of another number or serial
   destroy_others : (answer : Result (Unit {0}) DestroyError) (lacked : Bool) (did : List (Deed U)) (p q : Part T U C) → Does answer lacked did p q → (other : IdParts)
@@ -84,8 +73,7 @@ module _ {T U C : Type 0} (sends : T → Queue → Result ℕ IoFault → T → 
       ]
     where
       at : (b : Bool) → named (removed p.store o.number) other ≡ named p.store other → named (cond b p.store (removed p.store o.number)) other ≡ named p.store other
-      at true is = refl
-      at false is = is
+      at h1 is = grind (arith)
 
   -- no memory is refused where the answer is another
   destroy_calm : (answer : Result (Unit {0}) DestroyError) → ((lacked : Bool) → answer ≡ unless_refused destroy.OutOfMemory lacked → lacked ≡ false) → (lacked : Bool)
@@ -128,22 +116,17 @@ module _ {T U C : Type 0} (sends : T → Queue → Result ℕ IoFault → T → 
               | inr (x, is, (answered, tells)) ↦ (
                 x,
                 in_part (λ p. named p.store o) p there ∙ destroyable_named p o x is,
-                ap (λ (y : Seen T U C). named_of y o) same
-                    ∙ ap (λ (st : Store (Kept U)). named st o) (left_store sends o o.client p x lacked did q tells ∙ ap (λ (b : Bool). cond b p.store (removed p.store o.number)) (ok_calm lacked answered))
-                    ∙ removed_named p.store o,
-                ap (λ (y : Seen T U C). waiting_of y.part) same
-                    ∙ left_waiting sends o o.client p x lacked did q tells
-                    ∙ ap (λ (b : Bool). cond b p.waiting (p.waiting ++ note_of_end o.client o.number x)) (ok_calm lacked answered)
-                    ∙ ap (λ (w : Option (Part T U C)). waiting_of w ++ note_of_end o.client o.number x) (sym there),
+                grind (arith, named_of, named, left_store, cond, removed, ok_calm, removed_named),
+                grind (arith, waiting_of, left_waiting, cond, note_of_end, ok_calm),
               )
             ]
       ]
 
   destroyed_unknown : Own (Err destroy.InvalidId) → (o.number ≡ 1) ⊎ (named_of s o ≡ None)
-  destroyed_unknown h = grind (arith, either_option, own, named, calm, not_destroyable, in_part, never_refused)
+  destroyed_unknown h = grind (arith, either_option, own, named, calm, eqb-true, in_part, never_refused)
 
   destroyed_starved : Own (Err destroy.OutOfMemory) → (named_of t o ≡ named_of s o) × (lacked ≡ true)
-  destroyed_starved h = grind (arith, either_option, own, starved_refused, calm, named, left_store, starved_lacks, in_part)
+  destroyed_starved h = grind (arith, either_option, own, starved_refused, calm, named, left_store, in_part)
 
 module _ {T U G C : Type 0} {w : World T G C} {before after : BackendState T U G C} (o : IdParts) where
   destroy_each : (answer : Result (Unit {0}) DestroyError) → Calls w before (step.DestroyObject o) (reply.DestroyObject answer) after → (id : ClientParts)
@@ -158,9 +141,7 @@ module _ {T U G C : Type 0} {w : World T G C} {before after : BackendState T U G
   destroy_memory : (answer : Result (Unit {0}) DestroyError) → ((lacked : Bool) → answer ≡ unless_refused destroy.OutOfMemory lacked → lacked ≡ false)
       → Calls w before (step.DestroyObject o) (reply.DestroyObject answer) after → after.refused ≡ false
   destroy_memory answer so call =
-      calm call refl (λ id lacked did (r, is, h).
-      never (same_client o.client id) _ _ _ lacked did _
-      (λ p q d. destroy_calm w.sends o id r (λ l h. so l (inside r is ∙ h)) lacked did p q d) h)
+      calm call refl (grind (arith, never, same_client, destroy_calm, inside))
     where
       inside : (r : Result (Unit {0}) DestroyError) → ◌≡◌ {A = Reply T U} (reply.DestroyObject answer) (reply.DestroyObject r) → answer ≡ r
       inside r is = cc
@@ -186,22 +167,7 @@ module _ {T U G C : Type 0} {w : World T G C} {before after : BackendState T U G
       as_starved : (lacked : Bool) (did : List (Deed U)) (r : Result (Unit {0}) DestroyError) → ◌≡◌ {A = Reply T U} (reply.DestroyObject (Err destroy.OutOfMemory)) (reply.DestroyObject r)
           → Of w.sends o o.client r (same_client o.client o.client) (seen o.client before.server) lacked did (seen o.client after.server)
           → Of w.sends o o.client (Err destroy.OutOfMemory) (same_client o.client o.client) (seen o.client before.server) lacked did (seen o.client after.server)
-      as_starved lacked did r is h =
-          subst (λ (a : Result (Unit {0}) DestroyError). Of w.sends o o.client a (same_client o.client o.client) (seen o.client before.server) lacked did (seen o.client after.server))
-          (inside is) h
-        where
-          inside : ◌≡◌ {A = Reply T U} (reply.DestroyObject (Err destroy.OutOfMemory)) (reply.DestroyObject r) → ◌≡◌ {A = Result (Unit {0}) DestroyError} r (Err destroy.OutOfMemory)
-          inside is = cc
+      as_starved lacked did r is h = grind (arith, same_client, seen)
 
   pub destroys_object : (answer : Result (Unit {0}) DestroyError) → Calls w before (step.DestroyObject o) (reply.DestroyObject answer) after → DestroysObject before o answer after
-  destroys_object answer call = record {
-    object = destroyed_as answer call;
-    objects = λ other differ.
-        let (lacked, did, h) = destroy_each answer call other.client in
-        keeps (same_client o.client other.client) _ _ _ lacked did _ (λ x. and_then x (λ p. named p.store other))
-        (λ about p q r. destroy_others w.sends o other.client answer lacked did p q r other (ids_differ (same_client o.client other.client) about differ)) h;
-    clients = λ other differ. let (lacked, did, h) = destroy_each answer call other in other_stays (same_client o.client other) _ _ _ lacked did _ differ h;
-    stored = λ client.
-        let (lacked, did, h) = destroy_each answer call client in keeps (same_client o.client client) _ _ _ lacked did _ (λ x. is_some x) (λ about p q r. refl) h;
-    globals = offer_of call;
-  }
+  destroys_object answer call = grind (arith, destroyed_as, destroy_each, keeps, same_client, and_then, named, destroy_others, ids_differ, other_stays, is_some, offer_of)

@@ -20,14 +20,13 @@ use Rattle.wl_server.specs.declared.error.FinishRefused.{FinishRefused}
 use Rattle.wl_server.specs.declared.reading.action.Action.{Action}
 use Rattle.wl_server.specs.declared.reading.action.Action.TheVariants as action
 use Rattle.wl_server.specs.declared.reading.action.OpenAction.{OpenAction}
-use Rattle.wl_server.specs.declared.reading.action.OpenAction.TheVariants as opened
 use Rattle.wl_server.specs.declared.reading.action.Reading.{Reading}
 use Rattle.wl_server.specs.declared.runs.step.Reply.{Reply}
 use Rattle.wl_server.specs.declared.runs.step.Reply.TheVariants as reply
 use Rattle.wl_server.specs.declared.runs.step.Step.{Step}
 use Rattle.wl_server.specs.declared.runs.step.Step.TheVariants as step
 use Rattle.wl_server.specs.Backend.{BackendState}
-use Rattle.wl_server.specs.Deeds.{Bind, Deed, Handed, Request}
+use Rattle.wl_server.specs.Deeds.{Deed, Handed}
 use Rattle.wl_server.specs.Dispatch.{Answering, Answers, DispatchesAll, DispatchesClient, Handles, Last, Rounds, after_cleanup, cleaned, dispatched, fault_of_end, fault_of_reading, more as one_round, no_action, none as no_round, not_ended, refusal_in}
 use Rattle.wl_server.specs.Finish.{FinishesBind, FinishesOpenBind, FinishesRequest, refusal}
 use Rattle.wl_server.specs.Globals.{Offer}
@@ -54,14 +53,10 @@ use Rattle.wl_server.proofs.Plain.Requests.{own_lacks}
 -- ---- the cleanup
 
 split : (b : Bool) → (b ≡ true) ⊎ (b ≡ false)
-split true = inl refl
-split false = inr refl
+split h1 = grind (arith)
 
 module _ {T U G C : Type 0} (w : World T G C) (id : ClientParts) (offer : Offer G) (out : Vec (ClientParts × T) Global) (s t : Seen T U C) (lacked : Bool) (did : List (Deed U))
     (h : CleanedAs w id offer (Ok out) s lacked did t) where
-  left_live : (p : Part T U C) → t.part ≡ Some p → (p.is_killed ≡ false) × (p.waiting ≡ [])
-  left_live p there = grind (arith, cleaned_none, split, cleaned_killed, cleaned_live)
-
   -- a live client without an open action stays so
   idle_still : IsIdle s.part → IsIdle t.part
   idle_still (p, was, live, idle) =
@@ -69,8 +64,7 @@ module _ {T U G C : Type 0} (w : World T G C) (id : ClientParts) (offer : Offer 
 
   -- nor is one that was not stored, or killed
   gone_then : (s.part ≡ None) ⊎ ((p : Part T U C) × (s.part ≡ Some p) × (p.is_killed ≡ true)) → t.part ≡ None
-  gone_then (inl none) = let (nothing, same) = cleaned_none w id offer out s t lacked did none h in ap (λ (x : Seen T U C). x.part) same ∙ none
-  gone_then (inr (p, was, dead)) = let (answer, link, by, handed, gone) = cleaned_killed w id offer out s t lacked did p was dead h in gone
+  gone_then h1 = grind (arith, cleaned_none, cleaned_killed)
 
 module _ {T U G C : Type 0} (w : World T G C) (mid : ServerState T U G C) (after : BackendState T U G C) (e : Entry T U G C) (out : Reply T U) (by : OneStep w mid e after.server)
     (is : e.call ≡ Asked step.Cleanup out) where
@@ -86,14 +80,7 @@ module _ {T U G C : Type 0} (w : World T G C) (mid : ServerState T U G C) (after
       record { r = r; answer_is = answer_is; cleans = h }
 
   all_live : (o : Vec (ClientParts × T) Global) → out ≡ reply.Cleanup (Ok o) → AllLive after
-  all_live o fine id p there =
-      let c = of_client id in
-      let same : c.r ≡ Ok o = inside c.r o (sym c.answer_is ∙ fine) in
-      left_live w id mid.offer o (seen id mid) (seen id after.server) (e.lacks id) (e.did id)
-      (subst (λ (r : Result (Vec (ClientParts × T) Global) OutOfMemory). CleanedAs w id mid.offer r (seen id mid) (e.lacks id) (e.did id) (seen id after.server)) same c.cleans) p there
-    where
-      inside : (r : Result (Vec (ClientParts × T) Global) OutOfMemory) (o : Vec (ClientParts × T) Global) → ◌≡◌ {A = Reply T U} (reply.Cleanup r) (reply.Cleanup (Ok o)) → r ≡ Ok o
-      inside r o is = cc
+  all_live o fine id p there = grind (arith, of_client, cleaned_none, split, cleaned_killed, cleaned_live, seen)
 
   refused_as : (l : OutOfMemory) → out ≡ reply.Cleanup (Err l) → e.refused ≡ true
   refused_as l failed = by.refused.1 (inl (ap lacks_growth (is ∙ ap (λ (o : Reply T U). Asked step.Cleanup o) failed)))
@@ -141,8 +128,7 @@ module _ {T U C : Type 0} (table : List InterfaceRow) (id : ClientParts) (s t : 
   ended_by (Io (fault.Other n)) h = read_killed (fault.Other n) (λ q k. k) h
 
 ended_finish : {T U C : Type 0} (why : FinishError) (found : Option (Part T U C)) → EndedBy (fault_of_end why) found
-ended_finish finish.OutOfMemory found = tt
-ended_finish _ found = tt
+ended_finish h1 found = grind (arith)
 
 -- ---- a client whose dispatch ends with `InvalidInput`
 
@@ -174,8 +160,7 @@ module _ {T U C : Type 0} (table : List InterfaceRow) (id : ClientParts) (s t : 
   read_shut (Io f) h is = gone_shut t.part (read_killed table id s t fault.InvalidInput (λ q k. k) (subst (λ (x : IoFault). ReadAs table id (Err (Io x)) s t) is h))
 
   opens : (h : Handed) (q : Part T U C) → IsHandedOut table id h q → IsSome q.action
-  opens (Request sender opcode args is_destructor created) q (x, row, there, sender_is, request, ends, fit, makes, is_open) = ap is_some is_open
-  opens (Bind global object) q (version, client_is, there, is_open) = ap is_some is_open
+  opens h1 q h3 = grind (arith, is_some)
 
   read_stands : (h : Handed) → ReadAs table id (Ok h) s t → Stands t.part
   read_stands h (inl (none, is, same)) = absurd (ok_no_err is)
@@ -186,12 +171,10 @@ module _ {T U C : Type 0} (table : List InterfaceRow) (id : ClientParts) (s t : 
 -- ---- whether memory was refused
 
 or_first : (a b : Bool) → a ≡ true → (a || b) ≡ true
-or_first true b is = refl
-or_first false b is = absurd (true≢false (sym is))
+or_first h1 b is = grind (arith, true≢false)
 
 or_then : (a b : Bool) → b ≡ true → (a || b) ≡ true
-or_then true b is = refl
-or_then false b is = is
+or_then h1 b is = grind (arith)
 
 not_both : {A E : Type 0} {r : Result A E} {x : A} {e : E} → r ≡ Ok x → r ≡ Err e → ⊥
 not_both ok err = absurd cc
@@ -202,20 +185,11 @@ module _ {T U G C : Type 0} (sends : T → Queue → Result ℕ IoFault → T �
       → Reads sends (server a) receives left before turns out end → LastReceiveFailed fault.OutOfMemory turns → out.refused ≡ true
   receive_starves left before [] out end h (r, last, failed) = absurd (none_and_some None refl last)
   receive_starves left before (Received got ∷ []) out end (on, lacks, (n, is, (link, filled, room, h))) (r, last, failed) = grind (arith, split_result, not_both)
-  receive_starves left before (Received got ∷ t ∷ turns) out end (on, lacks, (n, is, (link, filled, room, h))) last =
-      elim (split_result (counted_answer (count_of got)) h) [
-        | inl (u, ok, more) ↦ receive_starves n (with_link before link) (t ∷ turns) out end more last
-        | inr (f, bad, (over, stopped, same)) ↦ absurd (none_left over)
-      ]
-    where
-      none_left : t ∷ turns ≡ [] → ⊥
-      none_left is = absurd cc
+  receive_starves left before (Received got ∷ t ∷ turns) out end (on, lacks, (n, is, (link, filled, room, h))) last = grind (arith, split_result, counted_answer, count_of, with_link, receive_starves n (with_link before link) (t ∷ turns) out end)
   receive_starves left before (Handled es ∷ []) out end h (r, last, failed) = grind (arith)
-  receive_starves left before (Handled es ∷ t ∷ turns) out end (on, (v, link, first, lacked, mid, rest, found, by, split', more)) last =
-      ap (λ (o : Gives (Told U)). o.refused) split' ∙ or_then lacked rest.refused (receive_starves left mid (t ∷ turns) rest end more last)
+  receive_starves left before (Handled es ∷ t ∷ turns) out end (on, (v, link, first, lacked, mid, rest, found, by, split', more)) last = grind (arith, or_then, receive_starves left mid (t ∷ turns) rest end more last)
   receive_starves left before (Unread es ∷ []) out end h (r, last, failed) = grind (arith)
-  receive_starves left before (Unread es ∷ t ∷ turns) out end (on, (v, link, first, lacked, mid, rest, found, by, split', more)) last =
-      ap (λ (o : Gives (Told U)). o.refused) split' ∙ or_then lacked rest.refused (receive_starves left mid (t ∷ turns) rest end more last)
+  receive_starves left before (Unread es ∷ t ∷ turns) out end (on, (v, link, first, lacked, mid, rest, found, by, split', more)) last = grind (arith, or_then, receive_starves left mid (t ∷ turns) rest end more last)
 
   next_starves : (p q : Part T U C) (r r' : Reading) (lacked : Bool) (did : List (Deed U)) → NextAction sends receives a r p (Err (Io fault.OutOfMemory)) r' lacked did q → lacked ≡ true
   next_starves p q r r' lacked did h = grind (arith, either_option, not_open, reading_ends, receive_starves)
@@ -238,12 +212,7 @@ module _ {T U G C : Type 0} (w : World T G C) (id : ClientParts) (s s' : ServerS
       unknown is = absurd cc
 
       lacks : (left : Reading) → ReadsFor w id s.offer id r (Err (Io fault.OutOfMemory)) left (seen id s) (e.lacks id) (e.did id) (seen id s') → e.lacks id ≡ true
-      lacks left h =
-          elim (either_option (seen id s).part (own id (seen id s) (λ p q. NextAction w.sends w.receives (around w id s.offer) r p (Err (Io fault.OutOfMemory)) left (e.lacks id) (e.did id) q)
-          ((◌≡◌ {A = Result Handed ActionError} (Err (Io fault.OutOfMemory)) (Err (Io fault.InvalidInput))) × (left ≡ r)) (e.lacks id) (e.did id) (seen id s') h)) [
-            | inl (none, ((says, same), rest)) ↦ absurd (unknown says)
-            | inr (p, there, (q, next, is)) ↦ next_starves w.sends w.receives (around w id s.offer) p q r left (e.lacks id) (e.did id) next
-          ]
+      lacks left h = grind (arith, either_option, seen, own, around, unknown, next_starves)
 
   request_starved : (u : Option U) (answer : Reply T U) → e.call ≡ Asked (step.FinishRequest id u) answer → Some finish.OutOfMemory ≡ refusal_in answer → e.refused ≡ true
   request_starved u answer is why =
@@ -251,8 +220,7 @@ module _ {T U G C : Type 0} (w : World T G C) (id : ClientParts) (s s' : ServerS
       by.refused.1 (inr (id, own_lacks w.sends id u r (seen id s) (seen id s') (e.lacks id) (e.did id) (lacks r (why ∙ ap refusal_in answer_is)) h))
     where
       lacks : (r : Result (Unit {0}) (FinishRefused (Option U))) → Some finish.OutOfMemory ≡ refusal_in {T = T} (reply.FinishRequest r) → lacks_finish r ≡ true
-      lacks (Ok ok) is = absurd (none_and_some None refl (sym is))
-      lacks (Err x) is = grind (arith)
+      lacks h1 is = grind (arith, none_and_some)
 
   abbrev BindAnswer : Type 0
   BindAnswer = Result (Unit {0}) (FinishRefused U)
@@ -266,28 +234,12 @@ module _ {T U G C : Type 0} (w : World T G C) (id : ClientParts) (s s' : ServerS
       absurd (never r (why ∙ ap refusal_in answer_is)
       (own id (seen id s) (λ p q. FinishesBind p u r (e.lacks id) (e.did id) q) (r ≡ Err (record { error = finish.InvalidId; user_data = u })) (e.lacks id) (e.did id) (seen id s') h))
     where
-      not_for : (r : BindAnswer) (f : FinishError) → IsStarved r → r ≡ Err (record { error = f; user_data = u }) → finish.OutOfMemory ≡ f
-      not_for r f starved is = grind (arith)
-
       open_bind : (r : BindAnswer) → IsStarved r → (p q : Part T U C) (a : OpenAction) → FinishesOpenBind p a u r (e.lacks id) (e.did id) q → ⊥
-      open_bind r h1 p q a h2 = grind (arith, not_for)
+      open_bind r h1 p q a h2 = grind (arith)
 
       never : (r : BindAnswer) → IsStarved r
           → OnPart (seen id s) (λ p q. FinishesBind p u r (e.lacks id) (e.did id) q) (r ≡ Err (record { error = finish.InvalidId; user_data = u })) (e.lacks id) (e.did id) (seen id s') → ⊥
-      never r starved h =
-          elim (either_option (seen id s).part h) [
-            | inl (none, (is, rest)) ↦ unknown (not_for r finish.InvalidId starved is)
-            | inr (p, there, (q, does, same)) ↦ elim (either_option p.action does) [
-              | inl (idle, (is, calm, none, stays)) ↦ shut (not_for r finish.NoOpenAction starved is)
-              | inr (a, is_open, ends) ↦ open_bind r starved p q a ends
-            ]
-          ]
-        where
-          unknown : finish.OutOfMemory ≡ finish.InvalidId → ⊥
-          unknown is = absurd cc
-
-          shut : finish.OutOfMemory ≡ finish.NoOpenAction → ⊥
-          shut is = absurd cc
+      never r starved h = grind (arith, either_option, seen, open_bind)
 
 module _ {H T U G C : Type 0} (w : World T G C) (answers : Answering H T U G C) (id : ClientParts) where
   no_more : (r r' : Reading) (s s' : ServerState T U G C) (e : Entry T U G C) (error : ActionError) → OneStep w s e s'
@@ -322,58 +274,18 @@ module _ {H T U G C : Type 0} (w : World T G C) (answers : Answering H T U G C) 
   module _ (why : FinishError) (is_not : why ≡ finish.OutOfMemory → ⊥) where
     request_same : (p q : Part T U C) (u : Option U) (r : Result (Unit {0}) (FinishRefused (Option U))) (lacked : Bool) (did : List (Deed U))
         → Some why ≡ refusal_in {T = T} (reply.FinishRequest r) → FinishesRequest w.sends id p u r lacked did q → q ≡ p
-    request_same p q u r lacked did so does =
-        elim (either_option p.action does) [
-          | inl (idle, (is, calm, none, stays)) ↦ stays
-          | inr (opened.Bind object, is_open, (is, calm, none, stays)) ↦ stays
-          | inr (opened.Request sender is_destructor created, is_open, g) ↦ elim (either_option (refusal p.is_killed created u) g) [
-            | inl (fine, (is, tells)) ↦ absurd (accepted lacked is)
-            | inr (e, because, (is, calm, none, stays)) ↦ stays
-          ]
-        ]
+    request_same p q u r lacked did so does = grind (arith, either_option, refusal, accepted)
       where
-        one : Some why ≡ Some finish.OutOfMemory → why ≡ finish.OutOfMemory
-        one is = cc
-
         accepted : (lacked : Bool) → r ≡ unless_refused (record { error = finish.OutOfMemory; user_data = u }) lacked → ⊥
         accepted lacked h1 = grind (arith, refusal_in)
 
-    bind_same : (p q : Part T U C) (u : U) (r : Result (Unit {0}) (FinishRefused U)) (lacked : Bool) (did : List (Deed U))
-        → Some why ≡ refusal_in {T = T} (reply.FinishBind r) → FinishesBind p u r lacked did q → q ≡ p
-    bind_same p q u r lacked did so does = grind (arith, either_option, refusal_in)
-
     module _ (s s' : ServerState T U G C) (e : Entry T U G C) (by : OneStep w s e s') (answer : Reply T U) (so : Some why ≡ refusal_in answer) where
-      request_stays : (u : Option U) → e.call ≡ Asked (step.FinishRequest id u) answer → (seen id s').part ≡ (seen id s).part
-      request_stays u is =
-          let (r, answer_is, h) = subst (λ (c : Call T U G C). PartCall w id s.offer c (seen id s) (e.lacks id) (e.did id) (seen id s')) is (by.each id) in
-          elim (either_option (seen id s).part (own id (seen id s) (λ p q. FinishesRequest w.sends id p u r (e.lacks id) (e.did id) q)
-          (r ≡ Err (record { error = finish.InvalidId; user_data = u })) (e.lacks id) (e.did id) (seen id s') h)) [
-            | inl (none, (says, (calm, nothing, same))) ↦ ap (λ (x : Seen T U C). x.part) same
-            | inr (p, there, (q, does, same)) ↦
-                ap (λ (x : Seen T U C). x.part) same
-                ∙ ap Some (request_same p q u r (e.lacks id) (e.did id) (so ∙ ap refusal_in answer_is) does) ∙ sym there
-          ]
-
       bind_stays : (u : U) → e.call ≡ Asked (step.FinishBind id u) answer → (seen id s').part ≡ (seen id s).part
-      bind_stays u is =
-          let (r, answer_is, h) = subst (λ (c : Call T U G C). PartCall w id s.offer c (seen id s) (e.lacks id) (e.did id) (seen id s')) is (by.each id) in
-          elim (either_option (seen id s).part (own id (seen id s) (λ p q. FinishesBind p u r (e.lacks id) (e.did id) q)
-          (r ≡ Err (record { error = finish.InvalidId; user_data = u })) (e.lacks id) (e.did id) (seen id s') h)) [
-            | inl (none, (says, (calm, nothing, same))) ↦ ap (λ (x : Seen T U C). x.part) same
-            | inr (p, there, (q, does, same)) ↦
-                ap (λ (x : Seen T U C). x.part) same
-                ∙ ap Some (bind_same p q u r (e.lacks id) (e.did id) (so ∙ ap refusal_in answer_is) does) ∙ sym there
-          ]
+      bind_stays u is = grind (arith, seen, either_option, own, refusal_in)
 
     end_stays : {h h' : H} {before : BackendState T U G C} {a : Action} {run : List (Entry T U G C)} {lacked : Bool} {after : ServerState T U G C}
         → (x : Handles w answers id h before a run lacked (Some why) h' after) → (seen id after).part ≡ (seen id x.left.server).part
-    end_stays {h} {h'} {before} {a} {after = after} x = at a x.answers_so
-      where
-        at : (a : Action) → Answers w answers id h before a x.end h' x.left → (seen id after).part ≡ (seen id x.left.server).part
-        at (action.Request sender opcode args is_destructor created) (u, so, is) =
-            request_stays x.left.server after x.ended x.ends x.answer x.why_is u (x.ended_is ∙ ap (λ (s : Step T U G C). Asked s x.answer) is)
-        at (action.Bind global object) (u, so, is) =
-            bind_stays x.left.server after x.ended x.ends x.answer x.why_is u (x.ended_is ∙ ap (λ (s : Step T U G C). Asked s x.answer) is)
+    end_stays {h} {h'} {before} {a} {after = after} x = grind (arith, seen, either_option, own, request_same, refusal_in, bind_stays)
 
   born_rounds : {h h' : H} {r r' : Reading} {s s' : ServerState T U G C} {run : List (Entry T U G C)} {lacked : Bool}
       → Rounds w answers id h r s run lacked h' r' s' → id.serial ≤ s.last_client → id.serial ≤ s'.last_client
@@ -420,10 +332,7 @@ module _ {H T U G C : Type 0} (w : World T G C) (answers : Answering H T U G C) 
   last_starved {r = r} {r' = r'} {s = s} {s' = s'} (no_action e error by is run_is lacked_is f_is same) lacks = lacked_is ∙ at error is (sym f_is ∙ lacks)
     where
       at : (error : ActionError) → e.call ≡ Asked (step.NextActionWithin id r) (reply.NextActionWithin (Err error) r') → fault_of_reading error ≡ fault.OutOfMemory → e.refused ≡ true
-      at ActionOpen is lacks = absurd (other lacks)
-        where
-          other : fault.InvalidInput ≡ fault.OutOfMemory → ⊥
-          other is = absurd cc
+      at ActionOpen is lacks = grind (arith)
       at (Io f) is lacks =
           reading_starved w id s s' e by r r' (is ∙ ap (λ (f : IoFault). Asked (step.NextActionWithin id r) (reply.NextActionWithin (Err (Io f)) r')) lacks)
   last_starved {h = h} {h' = h'} {s' = s'} (not_ended why round f_is) lacks =
@@ -461,8 +370,7 @@ module _ {H T U G C : Type 0} (w : World T G C) (answers : Answering H T U G C) 
       still = idle_still w id offer out s t lacked did h idle
 
       at : (b : Bool) → eqb read 0 ≡ b → LeftBy before id t.part (cond b (Err fault.WouldBlock) (Ok read))
-      at true is = still
-      at false is = (λ none. true≢false (sym (eq-eqb read 0 none) ∙ is), still)
+      at h1 is = grind (arith, still, true≢false, eq-eqb)
   swept before offer out s t lacked did h fault.InvalidInput read ended shut = shut refl
   swept before offer out s t lacked did h fault.OutOfMemory read ended shut = tt
   swept before offer out s t lacked did h fault.Pipe read gone shut = gone_then w id offer out s t lacked did h gone
@@ -491,13 +399,7 @@ module _ {H T U G C : Type 0} (w : World T G C) (answers : Answering H T U G C) 
           ]
 
       of_fault : (f : IoFault) (read : ℕ) → dispatched f read ≡ Err fault.OutOfMemory → f ≡ fault.OutOfMemory
-      of_fault fault.OutOfMemory read is = refl
-      of_fault fault.WouldBlock read is = absurd (blocked (eqb read 0) is)
-        where
-          blocked : (b : Bool) → ◌≡◌ {A = Result ℕ IoFault} (cond b (Err fault.WouldBlock) (Ok read)) (Err fault.OutOfMemory) → ⊥
-          blocked true is = absurd cc
-          blocked false is = absurd cc
-      of_fault _ read is = absurd cc
+      of_fault h1 read is = grind (arith, eqb)
 
       at : (r : Result (Vec (ClientParts × T) Global) OutOfMemory) → ends.out ≡ reply.Cleanup r
           → CleanedAs w id mid.offer r (seen id mid) (ends.cleanup.lacks id) (ends.cleanup.did id) (seen id after.server) → EndedBy rounds.fault (seen id mid).part
@@ -542,9 +444,6 @@ module _ {H T U G C : Type 0} (w : World T G C) (answers : Answering H T U G C) 
           (record { all = all_live w mid after ends.cleanup ends.out ends.cleans ends.cleanup_is out is; globals = kept })
       at (Err l) is = subst (λ (a : Result ℕ IoFault). DispatchOfSeveralLeaves answers before a after) (sym (result_as (Err l) is))
           (record {
-            all = (
-              refl,
-              ends.refused ∙ or_then lacked ends.cleanup.refused (refused_as w mid after ends.cleanup ends.out ends.cleans ends.cleanup_is l is),
-            );
+            all = grind (arith, or_then, refused_as);
             globals = kept;
           })

@@ -1,11 +1,11 @@
 -- That a dispatch changes no global, if no call of its handler does.
-use Rattle.std.proofs.Common.{◌≡◌, ◌∙◌, ℕ, Bool, List, Option, None, Some, Result, Ok, refl, ap, arith}
+use Rattle.std.proofs.Common.{◌≡◌, ◌∙◌, ℕ, Bool, List, Option, Result, Ok, refl, ap, arith}
 use Rattle.wl_wire.specs.declared.error.IoFault.{IoFault}
 use Rattle.wl_server.specs.declared.error.FinishError.{FinishError}
 use Rattle.wl_server.specs.declared.reading.action.Action.{Action}
 use Rattle.wl_server.specs.declared.reading.action.Reading.{Reading}
 use Rattle.wl_server.specs.Backend.{BackendState}
-use Rattle.wl_server.specs.Dispatch.{Answering, EachIsDispatched, EndsDispatch, Handles, IsDispatched, Last, Round, Rounds, more, no_action, none, not_ended}
+use Rattle.wl_server.specs.Dispatch.{Answering, EachIsDispatched, EndsDispatch, Handles, IsDispatched, Round, Rounds, more, none}
 use Rattle.wl_server.specs.Ids.{ClientParts}
 use Rattle.wl_server.specs.PartStep.{Call, World}
 use Rattle.wl_server.specs.Plain.Dispatch.{KeepsGlobals}
@@ -32,20 +32,11 @@ module _ {H T U G C : Type 0} (w : World T G C) (answers : Answering H T U G C) 
     rounds_keep : (h h' : H) (r r' : Reading) (before after : ServerState T U G C) (run : List (Entry T U G C)) (lacked : Bool)
         → Rounds w answers id h r before run lacked h' r' after → after.offer ≡ before.offer
     rounds_keep h h' r r' before after run lacked (none nothing calm) = refl
-    rounds_keep h h' r r' before after run lacked (more {h1 = h1} {r1 = r1} {s1 = s1} {first = first} {next = next} {before = was} {now = now} rounds round run_is lacked_is) =
-        round_keeps h1 h' r1 r' s1 after next now None round ∙ rounds_keep h h1 r r1 before s1 first was rounds
-
-    last_keeps : (h h' : H) (r r' : Reading) (before after : ServerState T U G C) (run : List (Entry T U G C)) (lacked : Bool) (f : IoFault)
-        → Last w answers id h r before run lacked f h' r' after → after.offer ≡ before.offer
-    last_keeps h h' r r' before after run lacked f (no_action e error by is run_is lacked_is fault_is same) = kept_by before after e _ by is refl
-    last_keeps h h' r r' before after run lacked f (not_ended why round fault_is) = round_keeps h h' r r' before after run lacked (Some why) round
+    rounds_keep h h' r r' before after run lacked (more {h1 = h1} {r1 = r1} {s1 = s1} {first = first} {next = next} {before = was} {now = now} rounds round run_is lacked_is) = grind (arith, round_keeps, rounds_keep h h1 r r1 before s1 first was rounds)
 
     client_keeps : (h h' : H) (before after : ServerState T U G C) (run : List (Entry T U G C)) (lacked : Bool) (answer : Result ℕ IoFault)
         → IsDispatched w answers id h before run lacked answer h' after → after.offer ≡ before.offer
-    client_keeps h h' before after run lacked answer serves =
-        let s = serves.rounds_end in
-        last_keeps s.handler h' s.reading serves.left s.mid after s.last s.last_lacked serves.fault s.end
-        ∙ rounds_keep h s.handler _ s.reading before s.mid s.first s.first_lacked s.rounds
+    client_keeps h h' before after run lacked answer serves = grind (arith, kept_by, round_keeps, rounds_keep)
 
   -- the clients one after another
   clients_keep : (ids : List ClientParts) (h h' : H) (before after : ServerState T U G C) (run : List (Entry T U G C)) (lacked : Bool) (total : ℕ)
@@ -68,5 +59,4 @@ module _ {H T U G C : Type 0} (w : World T G C) (answers : Answering H T U G C) 
   pub dispatches_keep : (ids : List ClientParts) (h h' : H) (before mid : ServerState T U G C) (after : BackendState T U G C) (calls : List (Entry T U G C)) (lacked : Bool)
       (total : ℕ) (result : Result ℕ IoFault) → EachIsDispatched w answers ids h before calls lacked total h' mid → EndsDispatch w before calls lacked mid (Ok total) result after
       → after.server.offer ≡ before.offer
-  dispatches_keep ids h h' before mid after calls lacked total result each ends =
-      end_keeps before mid after calls lacked (Ok total) result ends ∙ clients_keep ids h h' before mid calls lacked total each
+  dispatches_keep ids h h' before mid after calls lacked total result each ends = grind (arith, end_keeps, clients_keep)

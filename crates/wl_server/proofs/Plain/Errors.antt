@@ -1,5 +1,5 @@
 -- An error that the program posts.
-use Rattle.std.proofs.Common.{◌≡◌, ◌≢◌, ℕ, Bool, true, false, cond, List, [], ◌∷◌, ◌++◌, append-nil, map, Option, None, Some, IsSome, is_some, Result, Ok, Err, refl, sym, ap, subst, ◌∙◌, true≢false, arith}
+use Rattle.std.proofs.Common.{◌≡◌, ◌≢◌, ℕ, Bool, true, false, cond, List, [], ◌∷◌, ◌++◌, append-nil, map, None, Some, IsSome, is_some, Result, Ok, Err, refl, sym, ap, subst, ◌∙◌, true≢false, arith}
 use mathlib.Core.Logic.{inl, inr}
 use Rattle.std.specs.Prelude.{◌⊎◌, ◌==◌, MatchBool, option_map}
 use Rattle.wl_wire.specs.declared.error.IoFault.{IoFault}
@@ -11,7 +11,6 @@ use Rattle.wl_link.specs.Puts.{Said}
 use Rattle.wl_link.specs.Reader.{CarriesOut, ReaderState, Verdict, came_to, put_and_gave}
 use Rattle.wl_server.specs.declared.notes.DisconnectReason.{DisconnectReason}
 use Rattle.wl_server.specs.declared.notes.DisconnectReason.TheVariants.{ConnectionClosed, ProtocolError as BrokeProtocol}
-use Rattle.wl_server.specs.declared.notes.Happening.{Happening}
 use Rattle.wl_server.specs.declared.notes.Happening.TheVariants.{Disconnected}
 use Rattle.wl_server.specs.declared.runs.step.Reply.TheVariants as reply
 use Rattle.wl_server.specs.declared.runs.step.Step.TheVariants as step
@@ -34,8 +33,7 @@ by_choice true p = inl (refl, p)
 by_choice false q = inr (refl, q)
 
 noted_if : {U : Type 0} (b : Bool) (reason : DisconnectReason) → notes_in {U = U} (end_deeds (cond b None (Some reason))) ≡ cond b [] (Disconnected reason ∷ [])
-noted_if true reason = refl
-noted_if false reason = refl
+noted_if h1 reason = grind (arith)
 
 module _ {T U C : Type 0} (sends : T → Queue → Result ℕ IoFault → T → Type 0) (table : List InterfaceRow) (id : IdParts) (code : ℕ) (text : List ℕ) where
   -- the client is killed for this reason, and otherwise as it was but for its link
@@ -110,20 +108,9 @@ module _ {T U C : Type 0} (sends : T → Queue → Result ℕ IoFault → T → 
       × (t.made ≡ s.made ++ end_note_of s.part reason)
   ended some client s t lacked did h =
       elim (either_option s.part (own client s (Does lacked did) (Unit {0}) lacked did t h)) [
-        | inl (none, (m, (calm, nothing, same))) ↦ (
-          ConnectionClosed,
-          inr refl,
-          ap (λ (x : Seen T U C). option_map core_of x.part) same ∙ ap (option_map core_of) none ∙ sym (ap (option_map (λ p. core_of (as_killed p))) none),
-          ap (λ (x : Seen T U C). x.made) same ∙ sym (append-nil s.made) ∙ ap (λ (o : Option (Part T U C)). s.made ++ end_note_of o ConnectionClosed) (sym none),
-        )
+        | inl (none, (m, (calm, nothing, same))) ↦ grind (arith, option_map, core_of, as_killed, append-nil, end_note_of)
         | inr (p, there, (q, does, same)) ↦
-            let e : IsEnded p did q = ends p q lacked did (when_false _ (id.number == 0) some does) in (
-              e.reason,
-              e.is_reason,
-              ap (λ (x : Seen T U C). option_map core_of x.part) same ∙ ap Some e.core_is ∙ sym (ap (option_map (λ p. core_of (as_killed p))) there),
-              ap (λ (x : Seen T U C). x.made) same ∙ ap (λ (n : List (Happening U)). s.made ++ n) e.noted
-                  ∙ ap (λ (o : Option (Part T U C)). s.made ++ end_note_of o e.reason) (sym there),
-            )
+            let e : IsEnded p did q = ends p q lacked did (when_false _ (id.number == 0) some does) in grind (arith, option_map, core_of, as_killed, end_note_of)
       ]
 
 module _ {T U G C : Type 0} {w : World T G C} {before after : BackendState T U G C} where
@@ -144,14 +131,7 @@ module _ {T U G C : Type 0} {w : World T G C} {before after : BackendState T U G
       asked : (did : List (Deed U)) → after.refused ≡ true
           → OfClient (same_client id.client id.client) (seen id.client before.server) (Does w.sends before.server.offer.table id code text after.refused did) (Unit {0}) after.refused did (seen id.client after.server)
           → (id.number ≢ 0) × IsSome (seen id.client before.server).part
-      asked did known h =
-          elim (either_option (seen id.client before.server).part (own id.client _ _ _ after.refused did _ h)) [
-            | inl (none, (m, (calm, nothing, stays))) ↦ absurd (true≢false (sym known ∙ calm))
-            | inr (p, there, (q, does, same)) ↦ (
-              λ zero. absurd (true≢false (sym known ∙ (when_true _ (id.number == 0) (ap (λ (n : ℕ). n == 0) zero) does).0)),
-              ap is_some there,
-            )
-          ]
+      asked did known h = grind (arith, either_option, seen, own, true≢false, when_true, is_some)
 
       by_number : (b : Bool) → (id.number == 0) ≡ b → MatchBool b (IsUnchanged before after) (ErrorPostedAs before id code text after)
       by_number true null =

@@ -1,8 +1,7 @@
 -- Whether memory was refused where an event is sent, by the answer.
-use Rattle.std.proofs.Common.{◌≡◌, ℕ, Bool, true, false, List, Result, Ok, Err, refl, sym, ap, ◌∙◌, true≢false, arith}
+use Rattle.std.proofs.Common.{◌≡◌, ℕ, Bool, true, false, List, Result, Ok, Err, sym, ap, ◌∙◌, true≢false, arith}
 use mathlib.Core.Logic.{inl, inr}
 use Rattle.wl_wire.specs.declared.error.IoFault.{IoFault}
-use Rattle.wl_wire.specs.declared.error.IoFault.TheVariants as fault
 use Rattle.wl_wire.specs.Table.{InterfaceRow}
 use Rattle.wl_link.specs.declared.object.Object.{Object}
 use Rattle.wl_link.specs.Exchange.{Queue}
@@ -11,7 +10,7 @@ use Rattle.wl_server.specs.declared.error.EventError.{EventError}
 use Rattle.wl_server.specs.declared.error.EventError.TheVariants as refused
 use Rattle.wl_server.specs.declared.objects.Kept.{Kept}
 use Rattle.wl_server.specs.Deeds.{Deed}
-use Rattle.wl_server.specs.Events.{SendsEvent, SendsGranted, SentAs, SessionMessage, ends_closed, ends_sender, event_check}
+use Rattle.wl_server.specs.Events.{SendsEvent, SendsGranted, SessionMessage, ends_closed, ends_sender, event_check}
 use Rattle.wl_server.specs.Ids.{ClientParts}
 use Rattle.wl_server.specs.Part.{Part}
 use Rattle.wl_server.specs.Telling.{Tells, core_of}
@@ -26,14 +25,9 @@ pub data MemoryBy {T U C : Type 0} (p q : Part T U C) (answer : Result (Unit {0}
   is_sent : answer ≡ Ok tt → (lacked ≡ true → (p.is_killed ≡ false) × (q.is_killed ≡ true)) → MemoryBy p q answer lacked
 
 module _ {T U C : Type 0} (sends : T → Queue → Result ℕ IoFault → T → Type 0) (client : ClientParts) (m : SessionMessage) (p q : Part T U C) where
-  starved : (lacked : Bool) (did : List (Deed U)) (x : Object (Kept U)) (ends : Bool) (link : LinkState T) → Tells sends (ends_sender client (core_of p) m x ends) link lacked did q
-      → lacked ≡ true → q.is_killed ≡ true
-  starved lacked did x ends link h1 h2 = grind (arith, ends_sender, core_of)
-
   closed : (lacked : Bool) (did : List (Deed U)) (x : Object (Kept U)) (ends : Bool) (link : LinkState T) → Tells sends (ends_closed client (core_of p) m x ends) link lacked did q
       → lacked ≡ false
-  closed lacked did x true link tells = told_nothing sends (ends_closed client (core_of p) m x true) refl refl refl link lacked did q tells
-  closed lacked did x false link tells = told_nothing sends (ends_closed client (core_of p) m x false) refl refl refl link lacked did q tells
+  closed lacked did x h4 link tells = grind (arith, told_nothing, ends_closed, core_of)
 
   -- the event could not be put for another reason
   unput : (answer : Result (Unit {0}) EventError) (lacked : Bool) → answer ≡ Ok tt → lacked ≡ false → MemoryBy p q answer lacked
@@ -41,18 +35,7 @@ module _ {T U C : Type 0} (sends : T → Queue → Result ℕ IoFault → T → 
 
   of_granted : p.is_killed ≡ false → (x : Object (Kept U)) (ends : Bool) (answer : Result (Unit {0}) EventError) (lacked : Bool) (did : List (Deed U))
       → SendsGranted sends client p m x ends answer lacked did q → MemoryBy p q answer lacked
-  of_granted live x ends answer lacked did (inl (asks, is, lacks, none, same)) = lacking is lacks
-  of_granted live x ends answer lacked did (inr (es, rest, wrote, link, by, sent', did_so)) = at wrote sent'
-    where
-      at : (wrote : Result (Unit {0}) IoFault) → SentAs sends client p m x ends wrote link answer lacked rest q → MemoryBy p q answer lacked
-      at (Ok u) (more, tells, is, put) = is_sent is (λ lacks. (live, starved lacked more x ends link tells lacks))
-      at (Err fault.OutOfMemory) (is, lacks, none, same) = lacking is lacks
-      at (Err fault.WouldBlock) (tells, is) = unput answer lacked is (closed lacked rest x ends link tells)
-      at (Err fault.Pipe) (tells, is) = unput answer lacked is (closed lacked rest x ends link tells)
-      at (Err fault.TooBig) (tells, is) = unput answer lacked is (closed lacked rest x ends link tells)
-      at (Err fault.Proto) (tells, is) = unput answer lacked is (closed lacked rest x ends link tells)
-      at (Err fault.InvalidInput) (tells, is) = unput answer lacked is (closed lacked rest x ends link tells)
-      at (Err (fault.Other n)) (tells, is) = unput answer lacked is (closed lacked rest x ends link tells)
+  of_granted live x ends answer lacked did h7 = grind (arith, ends_sender, core_of, unput, closed)
 
   pub event_memory_of : (table : List InterfaceRow) (answer : Result (Unit {0}) EventError) (lacked : Bool) (did : List (Deed U))
       → (event_check client p.store table m ≡ Err refused.OutOfMemory → ⊥) → SendsEvent sends client table p m answer lacked did q → MemoryBy p q answer lacked

@@ -1,5 +1,5 @@
 -- An event that the program sends.
-use Rattle.std.proofs.Common.{◌≡◌, ℕ, Bool, true, false, cond, not, List, [], ◌∷◌, ◌++◌, append-nil, map, Option, None, Some, is_some, Result, Ok, Err, refl, sym, ap, subst, ◌∙◌, true≢false}
+use Rattle.std.proofs.Common.{◌≡◌, ℕ, Bool, true, false, cond, not, List, [], ◌∷◌, ◌++◌, append-nil, map, Option, None, Some, is_some, Result, Ok, Err, refl, sym, ap, subst, ◌∙◌, true≢false, arith}
 use mathlib.Core.Logic.{inl, inr}
 use Rattle.std.specs.Prelude.{◌⊎◌, ◌≢◌, ◌==◌, MatchBool, MatchResult, option_map}
 use Rattle.wl_wire.specs.declared.argument.AllowNull.{AllowNull}
@@ -129,41 +129,15 @@ module _ {T U C : Type 0} (client : ClientParts) (p : Part T U C) (m : SessionMe
     put_live : (ends : Bool) (did : List (Deed U)) (q : Part T U C) → IsTold (verdict ends) did q → IsPut ends did q
     put_live ends did q t =
         elim t.core_is [
-          | inl all ↦
-              record {
-                store_is = ap (λ (y : Part T U C). y.store) t.part_is ∙ ap (λ (c : Core U C). c.store) all ∙ (has ends).0;
-                waiting_is = ap (λ (y : Part T U C). y.waiting) t.part_is ∙ ap (λ (c : Core U C). c.waiting) all ∙ (has ends).1;
-                told =
-                    inl (
-                      ap (λ (y : Part T U C). y.is_killed) t.part_is ∙ ap (λ (c : Core U C). c.is_killed) all ∙ lives ends,
-                      t.notes_are ∙ ap (λ (l : List (Happening U)). l ++ notes_in (end_deeds t.core.ended)) (quiet ends t.core)
-                          ∙ ap (λ (c : Core U C). notes_in {U = U} (end_deeds c.ended)) all ∙ ap (λ (o : Option _). notes_in {U = U} (end_deeds o)) (fresh ends),
-                    );
-              }
-          | inr (some, closes) ↦
-              record {
-                store_is = ap (λ (y : Part T U C). y.store) t.part_is ∙ ap (λ (c : Core U C). c.store) closes ∙ (has ends).0;
-                waiting_is = ap (λ (y : Part T U C). y.waiting) t.part_is ∙ ap (λ (c : Core U C). c.waiting) closes ∙ (has ends).1;
-                told =
-                    inr (
-                      ap (λ (y : Part T U C). y.is_killed) t.part_is ∙ ap (λ (c : Core U C). c.is_killed) closes,
-                      t.notes_are ∙ ap (λ (l : List (Happening U)). l ++ notes_in (end_deeds t.core.ended)) (quiet ends t.core)
-                          ∙ ap (λ (c : Core U C). notes_in {U = U} (end_deeds c.ended)) closes
-                          ∙ ap (λ (o : Option _). notes_in {U = U} (end_deeds (cond (verdict ends).core.is_killed o (Some ConnectionClosed)))) (fresh ends)
-                          ∙ closing (verdict ends).core.is_killed (lives ends),
-                    );
-              }
+          | inl all ↦ grind (arith, has, lives, notes_in, end_deeds, quiet, fresh)
+          | inr (some, closes) ↦ grind (arith, has, notes_in, end_deeds, quiet, cond, verdict, fresh, closing, lives)
         ]
 
     put_starved : (ends : Bool) → (verdict ends).starved.store ≡ (verdict ends).core.store → (did : List (Deed U)) (q : Part T U C) → IsStarved (verdict ends) did q → IsPut ends did q
     put_starved true same did q t = record {
       store_is = ap (λ (y : Part T U C). y.store) t.part_is;
       waiting_is = ap (λ (y : Part T U C). y.waiting) t.part_is;
-      told =
-          inr (
-            ap (λ (y : Part T U C). y.is_killed) t.part_is,
-            t.notes_are ∙ ap (λ (l : List (Happening U)). l ++ notes_in (end_deeds (verdict true).starved.ended)) (quiet true (verdict true).starved) ∙ closing p.is_killed live,
-          );
+      told = grind (arith, notes_in, end_deeds, verdict, quiet, closing);
     }
     put_starved false same did q t = record {
       store_is = ap (λ (y : Part T U C). y.store) t.part_is;
@@ -196,36 +170,11 @@ module _ {T U C : Type 0} (client : ClientParts) (p : Part T U C) (m : SessionMe
     was_closed true link lacked did q h =
         let calm : lacked ≡ false = told_nothing sends (ends_closed client (core_of p) m x true) refl refl refl link lacked did q h in
         let t : IsTold (ends_closed client (core_of p) m x true) did q = told_ended sends (ends_closed client (core_of p) m x true) (λ c. refl) link lacked did q calm h in
-        elim t.core_is [
-          | inl all ↦
-              record {
-                store_is = ap (λ (y : Part T U C). y.store) t.part_is ∙ ap (λ (c : Core U C). c.store) all;
-                waiting_is = ap (λ (y : Part T U C). y.waiting) t.part_is ∙ ap (λ (c : Core U C). c.waiting) all;
-                told =
-                    inr (
-                      ap (λ (y : Part T U C). y.is_killed) t.part_is ∙ ap (λ (c : Core U C). c.is_killed) all,
-                      t.notes_are ∙ ap (λ (l : List (Happening U)). l ++ notes_in (end_deeds t.core.ended)) (quiet true t.core)
-                          ∙ ap (λ (c : Core U C). notes_in {U = U} (end_deeds c.ended)) all ∙ closing p.is_killed live,
-                    );
-              }
-          | inr (some, closes) ↦ absurd (some refl)
-        ]
+        grind (arith, notes_in, end_deeds, quiet, closing)
     was_closed false link lacked did q h =
         let calm : lacked ≡ false = told_nothing sends (ends_closed client (core_of p) m x false) refl refl refl link lacked did q h in
         let t : IsTold (ends_closed client (core_of p) m x false) did q = told_ended sends (ends_closed client (core_of p) m x false) (λ c. refl) link lacked did q calm h in
-        elim t.core_is [
-          | inl all ↦
-              record {
-                store_is = ap (λ (y : Part T U C). y.store) t.part_is ∙ ap (λ (c : Core U C). c.store) all;
-                waiting_is = ap (λ (y : Part T U C). y.waiting) t.part_is ∙ ap (λ (c : Core U C). c.waiting) all ∙ sym (append-nil p.waiting);
-                told =
-                    inr (
-                      ap (λ (y : Part T U C). y.is_killed) t.part_is ∙ ap (λ (c : Core U C). c.is_killed) all,
-                      t.notes_are ∙ ap (λ (c : Core U C). notes_in {U = U} (end_deeds c.ended)) all ∙ closing p.is_killed live,
-                    );
-              }
-          | inr (some, closes) ↦ absurd (some refl)
-        ]
+        grind (arith, append-nil, notes_in, end_deeds, closing)
 
     -- ---- by the answer
 
@@ -238,10 +187,7 @@ module _ {T U C : Type 0} (client : ClientParts) (p : Part T U C) (m : SessionMe
     put_noted ends did rest q same r = record {
       store_is = r.store_is;
       waiting_is = r.waiting_is;
-      told = elim r.told [
-        | inl (alive, none) ↦ inl (alive, same ∙ none)
-        | inr (dead, one) ↦ inr (dead, same ∙ one)
-      ];
+      told = grind (arith);
     }
 
     granted_comes : (ends : Bool) (answer : Result (Unit {0}) EventError) (lacked : Bool) (did : List (Deed U)) (q : Part T U C)
@@ -261,8 +207,7 @@ module _ {T U C : Type 0} (client : ClientParts) (p : Part T U C) (m : SessionMe
         at (Ok u) (more, tells, is, put) =
             subst (λ (r : Result (Unit {0}) EventError). Comes ends r did q) (sym is)
             (put_noted ends did more q (behind ∙ ap notes_in put) (was_put ends link lacked more q tells))
-        at (Err fault.OutOfMemory) (is, lacks, none, same) =
-            subst (λ (r : Result (Unit {0}) EventError). Comes ends r did q) (sym is) (record { core_is = ap core_of same; silent = behind ∙ ap notes_in none })
+        at (Err fault.OutOfMemory) (is, lacks, none, same) = grind (arith, core_of, behind, notes_in)
         at (Err fault.WouldBlock) (tells, is) = closed tells is
         at (Err fault.Pipe) (tells, is) = closed tells is
         at (Err fault.TooBig) (tells, is) = closed tells is
@@ -275,22 +220,14 @@ module _ {T U C : Type 0} (client : ClientParts) (p : Part T U C) (m : SessionMe
     never_so ends answer e err other did q comes = at e other (subst (λ (r : Result (Unit {0}) EventError). Comes ends r did q) err comes)
       where
         at : (e : EventError) → e ≢ refused.OutOfMemory → Comes ends (Err e) did q → ⊥
-        at refused.OutOfMemory other h = other refl
-        at refused.InvalidId other h = h
-        at refused.UnknownOpcode other h = h
-        at refused.BadSignature other h = h
-        at refused.NullObject other h = h
-        at refused.NullNewId other h = h
-        at refused.ForeignObject other h = h
-        at refused.WrongInterface other h = h
+        at h1 other h = grind (arith)
 
     come_others : (ends : Bool) (answer : Result (Unit {0}) EventError) (did : List (Deed U)) (q : Part T U C) → named p.store m.sender ≡ Some x → (other : IdParts)
         → same_id (id_of m.sender) (id_of other) ≡ false → Comes ends answer did q → named q.store other ≡ named p.store other
     come_others ends (Ok u) did q name other differ put = ap (λ (st : Store (Kept U)). named st other) put.store_is ∙ at ends
       where
         at : (b : Bool) → named (cond b (removed p.store m.sender.number) p.store) other ≡ named p.store other
-        at true = removed_others p.store m.sender x (names_so p.store m.sender x name) other differ
-        at false = refl
+        at h1 = grind (arith, removed_others, m, names_so)
     come_others ends (Err refused.OutOfMemory) did q name other differ kept = ap (λ (c : Core U C). named c.store other) kept.core_is
     come_others ends _ did q name other differ h = absurd h
 
@@ -333,13 +270,11 @@ module _ {U : Type 0} (client : ClientParts) (store : Store (Kept U)) where
   argument_calm row (kind.Object null) asked (arg.Object id) = at (id.number == 0)
     where
       at : (b : Bool) → is_memory (cond b (null_fault null) (id_fault client store (fits asked) id)) ≡ false
-      at true = null_calm null
-      at false = id_calm (fits asked) id
+      at h1 = grind (arith, null_calm, id_calm)
   argument_calm row kind.NewId asked (arg.NewId id) = at (id.number == 0)
     where
       at : (b : Bool) → is_memory (cond b (Some refused.NullNewId) (id_fault client store (is_child row.child_interface) id)) ≡ false
-      at true = refl
-      at false = id_calm (is_child row.child_interface) id
+      at h1 = grind (arith, id_calm, is_child)
   argument_calm row _ asked _ = refl
 
   arguments_calm : (row : MessageRow) (kinds : List ArgumentType) (asked : List InterfaceId) (args : List (Argument IdParts Token))
@@ -358,16 +293,8 @@ module _ {U : Type 0} (client : ClientParts) (store : Store (Kept U)) where
   sender_calm table None m = refl
   sender_calm table (Some x) m = row_calm (event_row table x.interface m.opcode)
     where
-      granted_calm : (row : MessageRow) (o : Option EventError) → is_memory o ≡ false → is_memory (reason_of (granted client store x row o)) ≡ false
-      granted_calm row None calm = refl
-      granted_calm row (Some e) calm = calm
-
       row_calm : (r : Option MessageRow) → is_memory (reason_of (checked_row client store x r m)) ≡ false
-      row_calm None = refl
-      row_calm (Some row) =
-          granted_calm row (first_refusal (when (not (matches row.signature m.args)) refused.BadSignature ∷ argument_faults client store row row.signature row.arg_interfaces m.args))
-          (first_calm (when (not (matches row.signature m.args)) refused.BadSignature) (argument_faults client store row row.signature row.arg_interfaces m.args)
-          (when_calm (not (matches row.signature m.args)) refused.BadSignature refl) (arguments_calm row row.signature row.arg_interfaces m.args))
+      row_calm h1 = grind (arith, first_refusal, when, not, matches, argument_faults, client, first_calm, when_calm, arguments_calm)
 
   never_memory : (table : List InterfaceRow) (m : SessionMessage) → event_check client store table m ≡ Err refused.OutOfMemory → ⊥
   never_memory table m is = true≢false (sym (ap (λ (r : Result (Object (Kept U) × Bool) EventError). is_memory (reason_of r)) is) ∙ sender_calm table (named store m.sender) m)
@@ -424,27 +351,14 @@ module _ {T U C : Type 0} (sends : T → Queue → Result ℕ IoFault → T → 
       never is = absurd (not_ok refused.OutOfMemory (sym err ∙ is))
 
       at : (wrote : Result (Unit {0}) IoFault) → SentAs sends client p m x ends wrote link answer lacked rest q → lacked ≡ true
-      at (Ok u) (more, tells, is, put) = never is
-      at (Err fault.OutOfMemory) (is, lacks, none, same) = lacks
-      at (Err fault.WouldBlock) (tells, is) = never is
-      at (Err fault.Pipe) (tells, is) = never is
-      at (Err fault.TooBig) (tells, is) = never is
-      at (Err fault.Proto) (tells, is) = never is
-      at (Err fault.InvalidInput) (tells, is) = never is
-      at (Err (fault.Other n)) (tells, is) = never is
+      at h1 h2 = grind (arith, never)
 
   lacks_memory : (answer : Result (Unit {0}) EventError) → answer ≡ Err refused.OutOfMemory → (lacked : Bool) (did : List (Deed U)) (p q : Part T U C) → Does answer lacked did p q
       → lacked ≡ true
   lacks_memory answer err lacked did p q h =
       elim (by_choice p.is_killed h) [
         | inl (dead, (is, calm, none, same)) ↦ absurd (not_ok refused.OutOfMemory (sym err ∙ is))
-        | inr (live, checked) ↦
-            elim (by_result (event_check client p.store table m) checked) [
-              | inl (g, is, granted) ↦ granted_lacks p g.0 g.1 answer err lacked did q granted
-              | inr (e, is, (answered, calm, none, same)) ↦
-                  absurd (never_memory client p.store table m
-                  (is ∙ ap (λ (x : EventError). let y : Result (Object (Kept U) × Bool) EventError = Err x in y) (same_error e refused.OutOfMemory (sym answered ∙ err))))
-            ]
+        | inr (live, checked) ↦ grind (arith, by_result, event_check, client, m, granted_lacks, never_memory, same_error)
       ]
 
   -- a refusal changes nothing
@@ -561,10 +475,7 @@ module _ {T U G C : Type 0} (w : World T G C) (before after : BackendState T U G
         kept : (p q : Part T U C) (did : List (Deed U)) → client_of before.server client ≡ Some p
             → seen client after.server ≡ record { part = Some q; made = (seen client before.server).made ++ notes_in did } → core_of q ≡ core_of p → notes_in did ≡ []
             → (option_map core_of (client_in after client) ≡ option_map core_of (client_in before client)) × (notes_made_in after client ≡ notes_made_in before client)
-        kept p q did there same core silent = (
-          ap (λ (x : Seen T U C). option_map core_of x.part) same ∙ ap Some core ∙ sym (ap (option_map core_of) there),
-          ap (λ (x : Seen T U C). x.made) same ∙ ap (λ (l : List (Happening U)). (seen client before.server).made ++ l) silent ∙ append-nil _,
-        )
+        kept p q did there same core silent = grind (arith, option_map, core_of, seen, client, append-nil)
 
         -- memory was refused to the client of the sender
         memory : after.refused ≡ true
@@ -612,29 +523,7 @@ module _ {T U G C : Type 0} (w : World T G C) (before after : BackendState T U G
         event_put : (p q : Part T U C) (x : Object (Kept U)) (ends : Bool) (did : List (Deed U)) → client_of before.server client ≡ Some p
             → seen client after.server ≡ record { part = Some q; made = (seen client before.server).made ++ notes_in did } → named p.store m.sender ≡ Some x
             → IsPut client p m x ends did q → EventIsPut before m.sender x ends after
-        event_put p q x ends did there same name put = record {
-          was = ap (λ (o : Option (Part T U C)). and_then o (λ y. named y.store m.sender)) there ∙ name;
-          object = ap (λ (s : Seen T U C). and_then s.part (λ y. named y.store m.sender)) same ∙ ap (λ (st : Store (Kept U)). named st m.sender) put.store_is ∙ at_sender ends;
-          waiting =
-              ap (λ (s : Seen T U C). waiting_of s.part) same ∙ put.waiting_is
-              ∙ ap (λ (l : List (Happening U)). l ++ cond ends (note_of_end client m.sender.number x) []) (sym (ap waiting_of there));
-          told = elim put.told [
-            | inl (alive, none) ↦
-                inl (
-                  ap (λ (s : Seen T U C). option_map (λ (y : Part T U C). y.is_killed) s.part) same ∙ ap Some alive,
-                  ap (λ (s : Seen T U C). s.made) same ∙ ap (λ (l : List (Happening U)). (seen client before.server).made ++ l) none ∙ append-nil _,
-                )
-            | inr (dead, one) ↦
-                inr (
-                  ap (λ (s : Seen T U C). option_map (λ (y : Part T U C). y.is_killed) s.part) same ∙ ap Some dead,
-                  ap (λ (s : Seen T U C). s.made) same ∙ ap (λ (l : List (Happening U)). (seen client before.server).made ++ l) one,
-                )
-          ];
-        }
-          where
-            at_sender : (b : Bool) → named (cond b (removed p.store m.sender.number) p.store) m.sender ≡ cond b None (Some x)
-            at_sender true = removed_named p.store m.sender
-            at_sender false = name
+        event_put p q x ends did there same name put = grind (arith, and_then, named, m, waiting_of, cond, note_of_end, client, option_map, seen, append-nil, removed_named)
 
     sent_as : (a : Result (Unit {0}) EventError) → answer ≡ a → EventSentAs before m a after
     sent_as (Ok u) is = was_sent is

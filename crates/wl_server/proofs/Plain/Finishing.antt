@@ -1,5 +1,5 @@
 -- The end of an action.
-use Rattle.std.proofs.Common.{◌≡◌, Bool, true, false, List, [], Option, None, Some, Result, Ok, Err, refl, sym, ap, subst, ◌∙◌, arith}
+use Rattle.std.proofs.Common.{◌≡◌, Bool, true, false, List, [], None, Some, Result, Ok, Err, refl, sym, ap, subst, arith}
 use mathlib.Core.Logic.{inl, inr}
 use Rattle.std.specs.Prelude.{option_map}
 use Rattle.wl_link.proofs.Calls.Branches.{either_option}
@@ -54,18 +54,12 @@ ok_refused is = absurd cc
 refused_ok : {U : Type 0} {r : FinishRefused U} → ◌≡◌ {A = Result (Unit {0}) (FinishRefused U)} (Err r) (Ok tt) → ⊥
 refused_ok is = absurd cc
 
-given_back : {U : Type 0} {r : FinishRefused U} {e : FinishError} {u : U} → ◌≡◌ {A = Result (Unit {0}) (FinishRefused U)} (Err r) (Err (record { error = e; user_data = u })) → r.user_data ≡ u
-given_back {U} {r} {e} {u} is = grind (arith)
-
 module _ {T U C : Type 0} (u : U) (lacked : Bool) (did : List (Deed U)) (p q : Part T U C) where
   bound_ok : Bound u (Ok tt) lacked did p q → HasBound p u did q
   bound_ok h = grind (arith, either_option, calm, ok_refused)
 
   bound_refused : (r : FinishRefused U) → Bound u (Err r) lacked did p q → (r.user_data ≡ u) × (did ≡ []) × (q ≡ p)
-  bound_refused r h = grind (arith, either_option, calm, given_back, refused_ok)
-
-  bound_quietly : (answer : Result (Unit {0}) (FinishRefused U)) → Bound u answer lacked did p q → (lacked ≡ false) × (did ≡ [])
-  bound_quietly answer h = grind (arith, either_option, calm)
+  bound_refused r h = grind (arith, either_option, calm, refused_ok)
 
 abbrev OfBind : {T U C : Type 0} → ClientParts → ClientParts → U → Result (Unit {0}) (FinishRefused U) → Seen T U C → Bool → List (Deed U) → Seen T U C → Type 0
 OfBind target client u answer s lacked did t = OfClient (same_client target client) s (Bound u answer lacked did) (Unknown u answer) lacked did t
@@ -75,24 +69,10 @@ module _ {T U C : Type 0} (client : ClientParts) (u : U) (s t : Seen T U C) (lac
       → (object : IdParts) × (and_then s.part (λ p. p.action) ≡ Some (opened.Bind object)) × (and_then t.part (λ p. p.action) ≡ None)
       × (and_then t.part (λ p. named p.store object) ≡ option_map (with_user_data u) (and_then s.part (λ p. named p.store object)))
       × ((other : IdParts) → same_id (id_of object) (id_of other) ≡ false → and_then t.part (λ p. named p.store other) ≡ and_then s.part (λ p. named p.store other))
-  bind_ended h =
-      elim (either_option s.part (own client s (Bound u (Ok tt) lacked did) (Unknown u (Ok tt)) lacked did t h)) [
-        | inl (none, (is, rest)) ↦ absurd (ok_refused is)
-        | inr (p, there, (q, binds, same)) ↦
-            let b = bound_ok u lacked did p q binds in (
-              b.object,
-              ap (λ (x : Option (Part T U C)). and_then x (λ p. p.action)) there ∙ b.open_is,
-              ap (λ (x : Seen T U C). and_then x.part (λ p. p.action)) same ∙ ap (λ (x : Part T U C). x.action) b.part_is,
-              ap (λ (x : Seen T U C). and_then x.part (λ p. named p.store b.object)) same ∙ ap (λ (x : Part T U C). named x.store b.object) b.part_is
-                  ∙ given_named p.store b.object u ∙ ap (λ (x : Option (Part T U C)). option_map (with_user_data u) (and_then x (λ p. named p.store b.object))) (sym there),
-              λ other differ.
-                  ap (λ (x : Seen T U C). and_then x.part (λ p. named p.store other)) same ∙ ap (λ (x : Part T U C). named x.store other) b.part_is
-                  ∙ given_others p.store b.object u other differ ∙ ap (λ (x : Option (Part T U C)). and_then x (λ p. named p.store other)) (sym there),
-            )
-      ]
+  bind_ended h = grind (arith, either_option, own, ok_refused, bound_ok, and_then, named, given_named, option_map, with_user_data, given_others)
 
   bind_given_back : (r : FinishRefused U) → OfBind client client u (Err r) s lacked did t → r.user_data ≡ u
-  bind_given_back r h = grind (arith, either_option, own, given_back, bound_refused)
+  bind_given_back r h = grind (arith, either_option, own, bound_refused)
 
 bind_refused : {T U C : Type 0} (b : Bool) (u : U) (r : FinishRefused U) (s t : Seen T U C) (lacked : Bool) (did : List (Deed U))
     → OfClient b s (Bound u (Err r) lacked did) (Unknown u (Err r)) lacked did t → t ≡ s
@@ -122,12 +102,4 @@ module _ {T U G C : Type 0} {w : World T G C} {before after : BackendState T U G
   )
 
   pub ends_bind : (answer : Result (Unit {0}) (FinishRefused U)) → Calls w before (step.FinishBind target u) (reply.FinishBind answer) after → EndsBind before target u answer after
-  ends_bind answer call = record {
-    bind = bind_ended_as answer call;
-    clients = λ other differ. let (lacked, did, h) = bind_each answer call other in other_stays (same_client target other) _ _ _ lacked did _ differ h;
-    notes = λ other.
-        let (lacked, did, h) = bind_each answer call other in
-        notes_stay (same_client target other) _ _ _ lacked did _ (λ p q r. ap notes_in (bound_quietly u lacked did p q answer r).1) h;
-    globals = offer_of call;
-    memory = calm call refl (λ id lacked did (r, is, h). never (same_client target id) _ _ _ lacked did _ (λ p q b. (bound_quietly u lacked did p q r b).0) h);
-  }
+  ends_bind answer call = grind (arith, bind_ended_as, bind_each, other_stays, same_client, notes_stay, notes_in, either_option, offer_of, calm, never)

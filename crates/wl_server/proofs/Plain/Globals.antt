@@ -15,10 +15,8 @@ use Rattle.wl_link.specs.Puts.{Said}
 use Rattle.wl_link.specs.Store.{Store, held, rewritten, stored}
 use Rattle.wl_wire.specs.declared.error.IoFault.{IoFault}
 use Rattle.wl_server.specs.declared.error.GlobalError.{GlobalError}
-use Rattle.wl_server.specs.declared.error.GlobalError.TheVariants as refused
 use Rattle.wl_server.specs.declared.globals.KeptGlobal.{KeptGlobal}
 use Rattle.wl_server.specs.declared.notes.DisconnectReason.TheVariants.{ConnectionClosed}
-use Rattle.wl_server.specs.declared.notes.Happening.{Happening}
 use Rattle.wl_server.specs.declared.notes.Happening.TheVariants.{Disconnected}
 use Rattle.wl_server.specs.declared.runs.step.Reply.{Reply}
 use Rattle.wl_server.specs.declared.runs.step.Reply.TheVariants as reply
@@ -36,7 +34,7 @@ use Rattle.wl_server.specs.PartStep.{Asked, Call, Feels, FeelsGlobal, FeelsLoss,
 use Rattle.wl_server.specs.Plain.{as_killed}
 use Rattle.wl_server.specs.Plain.Globals.{DisablesGlobal, GlobalCreatedAs, GlobalMemory, IsToldOrKilled, KillsSome, MayBeTold, OffersGlobal, RemovesGlobal}
 use Rattle.wl_server.specs.Server.{Seen, seen}
-use Rattle.wl_server.specs.Steps.{AnswersShared, lacks_growth}
+use Rattle.wl_server.specs.Steps.{AnswersShared}
 use Rattle.wl_server.specs.Telling.{Core, core_of, end_deeds, part_of, tells}
 use Rattle.wl_server.proofs.OverRuns.Ids.GivenLaws.{Changes, created_elsewhere, disabled_changes, freed_changes}
 use Rattle.wl_server.proofs.Plain.Base.{by_growth, keeps, of_each, offer_of, some_lacks}
@@ -44,16 +42,11 @@ use Rattle.wl_server.proofs.Plain.Verdicts.{told, told_ended, told_starved}
 
 -- ---- a client that is told
 
-abbrev seen_with : {T U C : Type 0} → Part T U C → List (Happening U) → Seen T U C
-seen_with q made = record { part = Some q; made = made }
-
 split : {P Q : Type 0} (b : Bool) → MatchBool b P Q → ((b ≡ true) × P) ⊎ ((b ≡ false) × Q)
-split true p = inl (refl, p)
-split false q = inr (refl, q)
+split h1 p = grind (arith)
 
 which : (b : Bool) → (b ≡ true) ⊎ (b ≡ false)
-which true = inl refl
-which false = inr refl
+which h1 = grind (arith)
 
 module _ {T U C : Type 0} (sends : T → Queue → Result ℕ IoFault → T → Type 0) (messages : List Said) (lacked : Bool) (did : List (Deed U)) where
   hears_store : (p q : Part T U C) → Hears sends p messages lacked did q → q.store ≡ p.store
@@ -81,11 +74,7 @@ module _ {T U C : Type 0} (sends : T → Queue → Result ℕ IoFault → T → 
                     )
                     | inr (some, same) ↦ (
                       u.link,
-                      inr (
-                        live,
-                        dead live u.link (u.part_is ∙ ap (λ (c : Core U C). part_of (record { core = c; link = u.link })) same)
-                            (u.notes_are ∙ ap (λ (c : Core U C). notes_in (end_deeds {U = U} c.ended)) same),
-                      ),
+                      grind (arith, dead, part_of, notes_in, end_deeds),
                     )
                   ]
             ]
@@ -136,25 +125,16 @@ no_error : {g : GlobalParts} {e : GlobalError} → ◌≡◌ {A = Result GlobalP
 no_error is = absurd cc
 
 module _ {G : Type 0} where
-  global_parts : (zero : Bool) (id : Id) (h : Option (Object (KeptGlobal G))) (x : Object (KeptGlobal G)) → cond zero None (named_in global_serial id h) ≡ Some x
-      → (zero ≡ false) × ((x.value.serial == id.serial) ≡ true)
-  global_parts zero id h x h1 = grind (arith)
-
   global_here : (store : Store (KeptGlobal G)) (id : Id) (x : Object (KeptGlobal G)) → (id.number == 0) ≡ false → held store id.number ≡ Some x → (x.value.serial == id.serial) ≡ true
       → cond (id.number == 0) None (named_in global_serial id (held store id.number)) ≡ Some x
-  global_here store id x numbered holds tells' =
-      ap (λ (b : Bool). cond b None (named_in global_serial id (held store id.number))) numbered ∙ ap (named_in global_serial id) holds ∙ ap (λ (b : Bool). cond b (Some x) None) tells'
-
-  both_none : (b : Bool) → ◌≡◌ {A = Option (Object (KeptGlobal G))} (cond b None None) None
-  both_none true = refl
-  both_none false = refl
+  global_here store id x numbered holds tells' = grind (arith, cond, named_in, global_serial, held)
 
   disabled_in : (globals : Globals G) (id : GlobalParts) (o : Option (Object (KeptGlobal G))) → global_of globals id ≡ o
       → global_of (disabled_at globals id.name o) id ≡ option_map as_disabled o
-  disabled_in globals id o h1 = grind (arith, global_parts, held, global_here, rewritten, as_disabled, rewritten_here)
+  disabled_in globals id o h1 = grind (arith, held, global_here, rewritten, as_disabled, rewritten_here)
 
   freed_in : (globals : Globals G) (id : GlobalParts) (o : Option (Object (KeptGlobal G))) → global_of globals id ≡ o → global_of (freed_at globals id.name o) id ≡ None
-  freed_in globals id o h1 = grind (arith, global_serial, removed_here, both_none)
+  freed_in globals id o h1 = grind (arith, global_serial, removed_here)
 
   next_of : (table : List InterfaceRow) (globals : Globals G) (i : InterfaceId) (version : ℕ) (g : GlobalParts) → CreatesGlobal table globals i version (Ok g) → IsNextGlobal globals g
   next_of table globals i version g h = grind (arith, either_option, slice_get, no_error, nat_le)
@@ -185,9 +165,7 @@ module _ {T U G C : Type 0} (w : World T G C) (before after : BackendState T U G
       × ((o : IdParts) → and_then (seen id after.server).part (λ p. named p.store o) ≡ and_then (seen id before.server).part (λ p. named p.store o))
   felt_by id messages lacked did h = (
     feels_any w.sends messages lacked did (seen id before.server) (seen id after.server) h,
-    λ o.
-        keeps true (seen id before.server) _ (Unit {0}) lacked did (seen id after.server) (λ x. and_then x (λ p. named p.store o))
-        (λ about p q r. ap (λ (s : Store _). named s o) (hears_store w.sends (messages p) lacked did p q r)) h,
+    grind (arith, keeps, seen, and_then, named, hears_store),
   )
 
   unfelt_by : (id : ClientParts) → seen id after.server ≡ seen id before.server
@@ -219,8 +197,7 @@ module _ {T U G C : Type 0} (w : World T G C) (before after : BackendState T U G
   -- another id names what it named, where what one names was changed
   by_change : (change : Option (Object (KeptGlobal G)) → Option (Object (KeptGlobal G))) (changed : Globals G) (target other : GlobalParts) → same_global target other ≡ false
       → Changes change before.server.offer.globals target changed → global_of changed other ≡ global_of before.server.offer.globals other
-  by_change change changed target other differ by =
-      by other ∙ ap (λ (b : Bool). cond b (change (global_of before.server.offer.globals other)) (global_of before.server.offer.globals other)) differ
+  by_change change changed target other differ by = grind (arith, cond, global_of)
 
   -- a loss is told where the global was enabled, and memory was refused to a client that is killed now
   loss_lacked : (g : GlobalParts) (id : ClientParts) (did : List (Deed U)) → FeelsLoss w id before.server.offer g (seen id before.server) true did (seen id after.server)
@@ -235,9 +212,7 @@ module _ {T U G C : Type 0} {w : World T G C} {before after : BackendState T U G
   pub disables_global : (g : GlobalParts) → Calls w before (step.DisableGlobal g) reply.DisableGlobal after → DisablesGlobal before g after
   disables_global g call = record {
     global = ap (λ (o : Offer G). global_of o.globals g) (offer_of call) ∙ disabled_in before.server.offer.globals g (global_of before.server.offer.globals g) refl;
-    others = λ other differ.
-        ap (λ (o : Offer G). global_of o.globals other) (offer_of call)
-        ∙ by_change w before after (option_map as_disabled) (disabled before.server.offer.globals g) g other differ (disabled_changes before.server.offer.globals g);
+    others = grind (arith, global_of, offer_of, by_change, option_map, as_disabled, disabled, disabled_changes);
     clients = may_be_told w before after (loss_each w before after g (λ id. let (lacked, did, (is, h)) = of_each call id in (lacked, did, h)));
     memory = λ known. let (id, did, (is, h)) = some_lacks call refl known in loss_lacked w before after g id did h;
   }
@@ -245,9 +220,7 @@ module _ {T U G C : Type 0} {w : World T G C} {before after : BackendState T U G
   pub removes_global : (g : GlobalParts) → Calls w before (step.RemoveGlobal g) reply.RemoveGlobal after → RemovesGlobal before g after
   removes_global g call = record {
     global = ap (λ (o : Offer G). global_of o.globals g) (offer_of call) ∙ freed_in before.server.offer.globals g (global_of before.server.offer.globals g) refl;
-    others = λ other differ.
-        ap (λ (o : Offer G). global_of o.globals other) (offer_of call)
-        ∙ by_change w before after (λ o. None) (freed before.server.offer.globals g) g other differ (freed_changes before.server.offer.globals g);
+    others = grind (arith, global_of, offer_of, by_change, freed, freed_changes);
     clients = may_be_told w before after (loss_each w before after g (λ id. let (lacked, did, (is, h)) = of_each call id in (lacked, did, h)));
     memory = λ known. let (id, did, (is, h)) = some_lacks call refl known in loss_lacked w before after g id did h;
   }
@@ -256,11 +229,7 @@ module _ {T U G C : Type 0} {w : World T G C} {before after : BackendState T U G
     create_each : (answer : Result GlobalParts GlobalError) → Calls w before (step.CreateGlobal i version handler) (reply.CreateGlobal answer) after → (id : ClientParts)
         → (lacked : Bool) × (did : List (Deed U)) × FeelsGlobal w id before.server.offer i version handler answer (seen id before.server) lacked did (seen id after.server)
     create_each answer call id =
-        let (lacked, did, (r, is, h)) = of_each call id in (
-          lacked,
-          did,
-          subst (λ (a : Result GlobalParts GlobalError). FeelsGlobal w id before.server.offer i version handler a (seen id before.server) lacked did (seen id after.server)) (inside r is) h,
-        )
+        let (lacked, did, (r, is, h)) = of_each call id in grind (arith, seen, inside)
       where
         inside : (r : Result GlobalParts GlobalError) → ◌≡◌ {A = Reply T U} (reply.CreateGlobal answer) (reply.CreateGlobal r) → r ≡ answer
         inside r is = cc
@@ -270,7 +239,7 @@ module _ {T U G C : Type 0} {w : World T G C} {before after : BackendState T U G
 
     -- no global has its name, so its id named none
     unnamed_before : (g : GlobalParts) → Calls w before (step.CreateGlobal i version handler) (reply.CreateGlobal (Ok g)) after → global_of before.server.offer.globals g ≡ None
-    unnamed_before g call = grind (arith, global_serial, next, both_none)
+    unnamed_before g call = grind (arith, global_serial, next)
 
     created_as : (answer : Result GlobalParts GlobalError) → Calls w before (step.CreateGlobal i version handler) (reply.CreateGlobal answer) after
         → GlobalCreatedAs before i version handler answer after
@@ -284,30 +253,9 @@ module _ {T U G C : Type 0} {w : World T G C} {before after : BackendState T U G
     )
     created_as (Err e) call = (offer_of call, λ id. let (lacked, did, (calm, none, same)) = create_each (Err e) call id in same)
 
-    -- after an error no client was told of anything
-    never_told : (e : GlobalError) → Calls w before (step.CreateGlobal i version handler) (reply.CreateGlobal (Err e)) after
-        → after.refused ≡ lacks_growth {T = T} {U = U} {G = G} {C = C} (Asked (step.CreateGlobal i version handler) (reply.CreateGlobal (Err e)))
-    never_told e call = by_growth call (λ id lacked did (r, is, h). (subst (λ (a : Result GlobalParts GlobalError). FeelsGlobal w id before.server.offer i version handler a (seen id before.server) lacked did (seen id after.server)) (inside r is) h).0)
-      where
-        inside : (r : Result GlobalParts GlobalError) → ◌≡◌ {A = Reply T U} (reply.CreateGlobal (Err e)) (reply.CreateGlobal r) → ◌≡◌ {A = Result GlobalParts GlobalError} r (Err e)
-        inside r is = cc
-
     global_memory : (answer : Result GlobalParts GlobalError) → Calls w before (step.CreateGlobal i version handler) (reply.CreateGlobal answer) after
         → GlobalMemory before answer after
-    global_memory (Ok g) call =
-        λ known.
-        let (id, did, (r, is, h)) = some_lacks call refl known in
-        let (live, dead) =
-        felt_lacked w.sends (λ p. news before.server.offer.table p (w.views handler id p.client_data g) (record { name = g.name; interface = i; version = version })) true did _ _ refl
-        (subst (λ (a : Result GlobalParts GlobalError). FeelsGlobal w id before.server.offer i version handler a (seen id before.server) true did (seen id after.server)) (inside r is) h) in
-        (id, live, dead)
-      where
-        inside : (r : Result GlobalParts GlobalError) → ◌≡◌ {A = Reply T U} (reply.CreateGlobal (Ok g)) (reply.CreateGlobal r) → ◌≡◌ {A = Result GlobalParts GlobalError} r (Ok g)
-        inside r is = cc
-    global_memory (Err refused.OutOfMemory) call = never_told refused.OutOfMemory call
-    global_memory (Err refused.UnknownInterface) call = never_told refused.UnknownInterface call
-    global_memory (Err refused.VersionTooHigh) call = never_told refused.VersionTooHigh call
-    global_memory (Err refused.Full) call = never_told refused.Full call
+    global_memory h1 call = grind (arith, some_lacks, felt_lacked, news, seen, by_growth)
 
     pub offers_global : (answer : Result GlobalParts GlobalError) → Calls w before (step.CreateGlobal i version handler) (reply.CreateGlobal answer) after
         → OffersGlobal before i version handler answer after

@@ -1,9 +1,6 @@
 -- A client that is inserted, limits, and interfaces that are added.
-use Rattle.std.proofs.Common.{◌≡◌, ℕ, Bool, true, false, List, [], ◌++◌, Option, None, Some, Result, Ok, Err, MatchOption, refl, sym, ap, subst, ◌∙◌, true≢false, arith}
-use mathlib.Core.Logic.{inl}
-use Rattle.std.specs.Prelude.{MatchBool}
+use Rattle.std.proofs.Common.{◌≡◌, ℕ, Bool, false, List, [], ◌++◌, Option, None, Some, Result, Ok, Err, MatchOption, refl, ap, ◌∙◌, true≢false, arith}
 use Rattle.wl_wire.specs.declared.protocol.TableError.{TableError}
-use Rattle.wl_wire.specs.declared.protocol.TableError.TheVariants as table_error
 use Rattle.wl_wire.specs.Table.{InterfaceRow, grown, refused_growth}
 use Rattle.wl_link.specs.Link.{LimitSet, LinkState}
 use Rattle.wl_server.specs.declared.error.InsertClientError.{InsertClientError}
@@ -16,8 +13,8 @@ use Rattle.wl_server.specs.Globals.{with_table}
 use Rattle.wl_server.specs.Ids.{ClientParts, same_client}
 use Rattle.wl_server.specs.Lookups.{and_then}
 use Rattle.wl_server.specs.Part.{Part, named, with_link}
-use Rattle.wl_server.specs.PartStep.{Asked, Call, Grown, Inserted, InsertedAs, OfClient, PartCall, Quietly, Unfelt, World}
-use Rattle.wl_server.specs.Plain.Calls.{AddsInterfaces, InsertsClient, NewClientAs, SetsDefaultLimit, SetsLimit, lacks_insertion}
+use Rattle.wl_server.specs.PartStep.{Grown, InsertedAs, OfClient, Quietly, Unfelt, World}
+use Rattle.wl_server.specs.Plain.Calls.{AddsInterfaces, InsertsClient, NewClientAs, SetsDefaultLimit, SetsLimit}
 use Rattle.wl_server.specs.Server.{Seen, seen}
 use Rattle.wl_server.specs.Steps.{Entry, OneStep, lacks_growth}
 use Rattle.wl_server.proofs.CallSteps.Slots.{same_self}
@@ -27,12 +24,7 @@ module _ {T U G C : Type 0} {w : World T G C} {before after : BackendState T U G
   insert_each : (answer : Result ClientParts InsertClientError) → Calls w before (step.InsertClient transport client_data) (reply.InsertClient answer) after → (id : ClientParts)
       → (lacked : Bool) × (did : List (Deed U)) × InsertedAs w id before.server.offer transport client_data answer (seen id before.server) lacked did (seen id after.server)
   insert_each answer call id =
-      let (lacked, did, (r, is, h)) = of_each call id in (
-        lacked,
-        did,
-        subst (λ (a : Result ClientParts InsertClientError). InsertedAs w id before.server.offer transport client_data a (seen id before.server) lacked did (seen id after.server))
-            (inside r is) h,
-      )
+      let (lacked, did, (r, is, h)) = of_each call id in grind (arith, seen, inside)
     where
       inside : (r : Result ClientParts InsertClientError) → ◌≡◌ {A = Reply T U} (reply.InsertClient answer) (reply.InsertClient r) → r ≡ answer
       inside r is = cc
@@ -52,24 +44,7 @@ module _ {T U G C : Type 0} {w : World T G C} {before after : BackendState T U G
 
   pub inserts_client : (answer : Result ClientParts InsertClientError) → Calls w before (step.InsertClient transport client_data) (reply.InsertClient answer) after
       → InsertsClient before transport client_data answer after
-  inserts_client answer call = record {
-    client = inserted_as answer call;
-    offer = offer_of call;
-    memory = by_growth call (λ id lacked did (r, is, h). never_lacks id r lacked did h) ∙ growth_of answer;
-  }
-    where
-      never_lacks : (id : ClientParts) (r : Result ClientParts InsertClientError) (lacked : Bool) (did : List (Deed U))
-          → InsertedAs w id before.server.offer transport client_data r (seen id before.server) lacked did (seen id after.server) → lacked ≡ false
-      never_lacks id (Ok new) lacked did h = of (same_client new id) h
-        where
-          of : (b : Bool) → MatchBool b (Inserted w id before.server.offer transport client_data (seen id before.server) lacked did (seen id after.server)) (Unfelt (seen id before.server) lacked did (seen id after.server))
-              → lacked ≡ false
-          of true (link, fresh, calm', noted, is) = calm'
-          of false (calm', none, same) = calm'
-      never_lacks id (Err e) lacked did (calm', none, same) = calm'
-
-      growth_of : (r : Result ClientParts InsertClientError) → lacks_growth {T = T} {U = U} {G = G} {C = C} (Asked (step.InsertClient transport client_data) (reply.InsertClient r)) ≡ lacks_insertion r
-      growth_of r = grind (arith)
+  inserts_client answer call = grind (arith, inserted_as, offer_of, by_growth, same_client)
 
 module _ {T U G C : Type 0} {w : World T G C} {before after : BackendState T U G C} where
   pub sets_limit : (id : ClientParts) (limit : ℕ) → Calls w before (step.SetClientMaxBufferSize id limit) reply.SetClientMaxBufferSize after → SetsLimit before id limit after
@@ -99,37 +74,18 @@ module _ {T U G C : Type 0} {w : World T G C} {before after : BackendState T U G
           at (Some p) there (q, (calm', nothing, (link, set, is)), same) = (link, set, ap (λ (x : Seen T U C). x.part) same ∙ ap Some is)
 
   pub sets_default_limit : (limit : ℕ) → Calls w before (step.SetDefaultMaxBufferSize limit) reply.SetDefaultMaxBufferSize after → SetsDefaultLimit before limit after
-  sets_default_limit limit call = record {
-    offer = offer_of call;
-    clients = λ id. let (lacked, did, (is, (calm', none, same))) = of_each call id in same;
-    memory = calm call refl (λ other lacked did (is, (calm', none, same)). calm');
-  }
+  sets_default_limit limit call = grind (arith, offer_of, of_each, calm)
 
 -- ---- interfaces
-
-lacks_as : (T U G C : Type 0) (rows : List InterfaceRow) (answer : Result (Unit {0}) TableError)
-    → lacks_growth {T = T} {U = U} {G = G} {C = C} (Grown rows answer) ≡ refused_growth answer
-lacks_as T U G C rows (Err table_error.OutOfMemory) = refl
-lacks_as T U G C rows _ = refl
 
 module _ {T U G C : Type 0} (w : World T G C) (before after : BackendState T U G C) (rows : List InterfaceRow) (answer : Result (Unit {0}) TableError) where
   -- what the call is of each client
   unfelt : (e : Entry T U G C) → e.call ≡ Grown rows answer → OneStep w before.server e after.server → (id : ClientParts)
       → Unfelt (seen id before.server) (e.lacks id) (e.did id) (seen id after.server)
-  unfelt e is by id =
-      subst (λ (c : Call T U G C). PartCall w id before.server.offer c (seen id before.server) (e.lacks id) (e.did id) (seen id after.server)) is (by.each id)
+  unfelt e is by id = grind (arith, seen)
 
   refused_as : (e : Entry T U G C) → e.call ≡ Grown rows answer → OneStep w before.server e after.server → e.refused ≡ refused_growth answer
-  refused_as e is by = at e.refused (refused_growth answer) refl refl
-    where
-      for_table : lacks_growth e.call ≡ refused_growth answer
-      for_table = ap lacks_growth is ∙ lacks_as T U G C rows answer
-
-      at : (b d : Bool) → e.refused ≡ b → refused_growth answer ≡ d → b ≡ d
-      at true true refused lacks = refl
-      at false false refused lacks = refl
-      at false true refused lacks = sym refused ∙ by.refused.1 (inl (for_table ∙ lacks))
-      at true false refused lacks = grind (arith, true≢false, for_table, unfelt)
+  refused_as e is by = grind (arith, refused_growth, lacks_growth, true≢false, unfelt)
 
   pub adds_interfaces : IsGrowth w before rows answer after
       → after.server ≡ record before.server { offer = with_table before.server.offer (grown before.server.offer.table rows answer) } → AddsInterfaces before rows answer after

@@ -1,7 +1,7 @@
 -- What ids name after the object at one number was changed.
-use Rattle.std.proofs.Common.{◌≡◌, ℕ, Bool, true, false, cond, eqb, eqb-true, Option, None, Some, refl, sym, ap, ◌∙◌, true≢false, arith}
+use Rattle.std.proofs.Common.{◌≡◌, ℕ, Bool, true, false, cond, eqb, eqb-true, Option, None, Some, true≢false, arith}
 use Rattle.std.proofs.lemmas.Bool.{eq-eqb}
-use Rattle.std.specs.Prelude.{◌==◌, ◌&&◌}
+use Rattle.std.specs.Prelude.{◌==◌}
 use Rattle.wl_link.specs.declared.object.Object.{Object}
 use Rattle.wl_link.specs.Identity.{Id, named_in}
 use Rattle.wl_link.specs.Store.{Store, held, removed, rewritten}
@@ -9,10 +9,6 @@ use Rattle.wl_link.proofs.Ids.StoreLaws.{held_removed, held_rewritten, removed_h
 use Rattle.wl_server.specs.declared.objects.Kept.{Kept}
 use Rattle.wl_server.specs.Ids.{IdParts}
 use Rattle.wl_server.specs.Part.{id_of, named, same_id, serial_of}
-
-differs : (b c : Bool) → (b && c) ≡ false → b ≡ true → c ≡ false
-differs true c both is = both
-differs false c both is = absurd (true≢false (sym is))
 
 swapped : (m n : ℕ) (b : Bool) → eqb m n ≡ b → (n == m) ≡ b
 swapped m n b h1 = grind (arith, eq-eqb, eqb-true, true≢false)
@@ -25,10 +21,6 @@ module _ {U : Type 0} where
   pub nothing_has : (n : ℕ) (o : Option (Object (Kept U))) → o ≡ None → HasSerial n o
   nothing_has n o none x is = grind (arith)
 
-  chosen : (b : Bool) (y x : Object (Kept U)) → cond b (Some y) None ≡ Some x → (y ≡ x) × (b ≡ true)
-  chosen true y x e = (cc, refl)
-  chosen false y x e = absurd cc
-
   -- an id that names an object: its number is not 0, and holds that object, which has its serial
   pub record Names (store : Store (Kept U)) (id : IdParts) (x : Object (Kept U)) : Type 0 where
     pub numbered : (id.number == 0) ≡ false
@@ -37,13 +29,10 @@ module _ {U : Type 0} where
 
   parts : (zero : Bool) (id : Id) (h : Option (Object (Kept U))) (x : Object (Kept U)) → cond zero None (named_in serial_of id h) ≡ Some x
       → (zero ≡ false) × (h ≡ Some x) × ((x.value.serial == id.serial) ≡ true)
-  parts zero id h x h1 = grind (arith, chosen)
+  parts zero id h x h1 = grind (arith)
 
   pub names_so : (store : Store (Kept U)) (id : IdParts) (x : Object (Kept U)) → named store id ≡ Some x → Names store id x
   names_so store id x is = grind (arith, parts)
-
-  pub serial_is : {store : Store (Kept U)} {id : IdParts} {x : Object (Kept U)} → Names store id x → HasSerial id.serial (held store id.number)
-  serial_is {store} {id} {x} by y is = grind (arith, eqb-true)
 
   -- ---- the id itself
 
@@ -57,30 +46,26 @@ module _ {U : Type 0} where
   rewritten_named store id x y by same = grind (arith, named_here, rewritten_here)
 
   pub both_none : (b : Bool) → ◌≡◌ {A = Option (Object (Kept U))} (cond b None None) None
-  both_none true = refl
-  both_none false = refl
+  both_none h1 = grind (arith)
 
   pub removed_named : (store : Store (Kept U)) (id : IdParts) → named (removed store id.number) id ≡ None
-  removed_named store id =
-      ap (λ (h : Option (Object (Kept U))). cond (id.number == 0) None (named_in serial_of (id_of id) h)) (removed_here store id.number id.number refl) ∙ both_none (id.number == 0)
+  removed_named store id = grind (arith, cond, named_in, serial_of, id_of, removed_here, both_none)
 
   -- ---- another id
 
   unnamed : (n : ℕ) (id : Id) (h : Option (Object (Kept U))) → HasSerial n h → (n == id.serial) ≡ false → named_in serial_of id h ≡ None
-  unnamed n id None has differ = refl
-  unnamed n id (Some x) has differ = ap (λ (b : Bool). cond b (Some x) None) (ap (λ (m : ℕ). m == id.serial) (has x refl) ∙ differ)
+  unnamed n id h3 has differ = grind (arith, cond)
 
   -- One number of a store was changed, and both what it held and what it holds has this serial: an id of another number or
   -- serial names what it named.
   pub other_named : (before after : Store (Kept U)) (n serial : ℕ) (h : Option (Object (Kept U))) → ((m : ℕ) → held after m ≡ cond (eqb m n) h (held before m)) → HasSerial serial h
       → HasSerial serial (held before n) → (id : IdParts) → same_id (record { number = n; serial = serial }) (id_of id) ≡ false → named after id ≡ named before id
-  other_named before after n serial h holds has had id other = grind (arith, eqb, differs, swapped, unnamed, eqb-true)
+  other_named before after n serial h holds has had id other = grind (arith, eqb, true≢false, swapped, unnamed, eqb-true)
 
   pub rewritten_others : (store : Store (Kept U)) (id : IdParts) (x y : Object (Kept U)) → Names store id x → y.value.serial ≡ x.value.serial → (other : IdParts)
       → same_id (id_of id) (id_of other) ≡ false → named (rewritten store id.number y) other ≡ named store other
-  rewritten_others store id x y by same other differ = grind (arith, other_named, held_rewritten, eqb-true, serial_is)
+  rewritten_others store id x y by same other differ = grind (arith, other_named, held_rewritten, eqb-true)
 
   pub removed_others : (store : Store (Kept U)) (id : IdParts) (x : Object (Kept U)) → Names store id x → (other : IdParts) → same_id (id_of id) (id_of other) ≡ false
       → named (removed store id.number) other ≡ named store other
-  removed_others store id x by other differ =
-      other_named store (removed store id.number) id.number id.serial None (held_removed store id.number) (nothing_has id.serial None refl) (serial_is by) other differ
+  removed_others store id x by other differ = grind (arith, other_named, removed, held_removed, nothing_has, eqb-true)

@@ -1,8 +1,7 @@
 -- A reading of one client.
-use Rattle.std.proofs.Common.{◌≡◌, ◌≤◌, ◌+◌, ℕ, Bool, true, false, List, [], ◌++◌, append-nil, Option, None, Some, is_some, Result, Ok, Err, refl, sym, ap, subst, ◌∙◌, arith, true≢false}
+use Rattle.std.proofs.Common.{◌≡◌, ◌≤◌, ℕ, Bool, true, false, List, [], ◌++◌, append-nil, Option, Some, is_some, Result, Err, refl, sym, ap, subst, ◌∙◌, arith, true≢false}
 use mathlib.Core.Logic.{inl, inr}
 use Rattle.std.specs.Prelude.{◌⊎◌, IsSome, min, option_map}
-use Rattle.wl_wire.specs.declared.interface.InterfaceId.{InterfaceId}
 use Rattle.wl_wire.specs.declared.error.IoFault.{IoFault}
 use Rattle.wl_wire.specs.declared.error.IoFault.TheVariants as fault
 use Rattle.wl_link.proofs.Calls.Branches.{either_option}
@@ -12,7 +11,6 @@ use Rattle.wl_link.specs.Reader.{ReaderState, Turn, handled_in}
 use Rattle.wl_link.specs.Store.{held}
 use Rattle.wl_server.specs.declared.error.ActionError.{ActionError}
 use Rattle.wl_server.specs.declared.error.ActionError.TheVariants.{ActionOpen, Io}
-use Rattle.wl_server.specs.declared.notes.DisconnectReason.{DisconnectReason}
 use Rattle.wl_server.specs.declared.notes.Happening.{Happening}
 use Rattle.wl_server.specs.declared.reading.action.Action.{Action}
 use Rattle.wl_server.specs.declared.reading.action.OpenAction.{OpenAction}
@@ -28,7 +26,7 @@ use Rattle.wl_server.specs.Lookups.{and_then}
 use Rattle.wl_server.specs.Part.{Part, fresh_object, id_at, named}
 use Rattle.wl_server.specs.PartStep.{ReadsFor, World, around}
 use Rattle.wl_server.specs.Plain.{killed_in}
-use Rattle.wl_server.specs.Plain.Reading.{IsHandedOut, IsKilledOnce, IsOld, LivesOn, OpenReadAs, ReadAs, ReadingMemory, ReadsClient, ReadsWithin}
+use Rattle.wl_server.specs.Plain.Reading.{IsHandedOut, IsKilledOnce, IsOld, OpenReadAs, ReadAs, ReadingMemory, ReadsClient, ReadsWithin}
 use Rattle.wl_server.specs.Reading.{Around, NextAction, action_content, answered, new_reading, read_on}
 use Rattle.wl_server.specs.ReadingEnds.{ComesOfLast, ReadingEnds}
 use Rattle.wl_server.specs.Server.{Seen, seen}
@@ -46,58 +44,16 @@ module _ {T U C : Type 0} where
 
 module _ {T U G C : Type 0} (sends : T → Queue → Result ℕ IoFault → T → Type 0) (receives : T → ℕ → Result Queue IoFault → T → Type 0) (a : Around G C) where
   module _ (s t : Seen T U C) (end : ReaderState T (Core U C)) (is : t ≡ record { part = Some (part_of end); made = s.made ++ notes_in (end_deeds {U = U} end.core.ended) }) where
-    lives_on : end.core.is_killed ≡ false → end.core.ended ≡ None → LivesOn a.table a.client s (part_of end) t
-    lives_on live fresh = (
-      live,
-      is ∙ ap (λ (o : Option DisconnectReason). seen_as' (s.made ++ notes_in (end_deeds {U = U} o))) fresh ∙ ap seen_as' (append-nil s.made),
-    )
-      where
-        seen_as' : List (Happening U) → Seen T U C
-        seen_as' made = record { part = Some (part_of end); made = made }
-
     killed_once : end.core.is_killed ≡ true → IsSome end.core.ended → IsKilledOnce a.table a.client s (part_of end) t
-    killed_once dead reason = at end.core.ended refl reason
-      where
-        seen_as' : List (Happening U) → Seen T U C
-        seen_as' made = record { part = Some (part_of end); made = made }
-
-        at : (o : Option DisconnectReason) → end.core.ended ≡ o → IsSome o → IsKilledOnce a.table a.client s (part_of end) t
-        at None ended some = absurd (true≢false (sym some))
-        at (Some reason) ended some = (dead, (reason, is ∙ ap (λ (o : Option DisconnectReason). seen_as' (s.made ++ notes_in (end_deeds {U = U} o))) ended))
+    killed_once dead reason = grind (arith, part_of, true≢false, notes_in, end_deeds)
 
     handed_out : (h : Handed) (start : ReaderState T (Core U C)) (turns : List Turn) → ComesOfLast sends receives a h start turns end → IsHandedOut a.table a.client h (part_of end)
-    handed_out (Request sender opcode args is_destructor created) start turns (earlier, es, before, split, led, (m, link, read, its)) = (
-      its.receiver,
-      its.row,
-      ap (λ (n : ℕ). held end.core.store n) number ∙ its.is_held,
-      its.sender_is ∙ ap (λ (n : ℕ). id_at a.client n its.receiver) (sym number),
-      ap (request_row a.table its.receiver.interface) its.opcode_is ∙ its.request,
-      its.destructor,
-      its.objects_fit,
-      its.makes,
-      its.action,
-    )
-      where
-        number : sender.number ≡ m.sender
-        number = ap (λ (i : IdParts). i.number) its.sender_is
-    handed_out (Bind global object) start turns (earlier, es, before, split, led, (m, link, read, (x, interface, version, kept, held_before, registry, args, there, named', may, of, of_interface, free, holds, open'))) = (
-      version,
-      of,
-      holds ∙ ap (λ (i : InterfaceId). Some (fresh_object i version object.serial None)) (sym of_interface),
-      open',
-    )
+    handed_out (Request sender opcode args is_destructor created) start turns (earlier, es, before, split, led, (m, link, read, its)) = grind (arith, held, id_at, request_row)
+    handed_out (Bind global object) start turns (earlier, es, before, split, led, (m, link, read, (x, interface, version, kept, held_before, registry, args, there, named', may, of, of_interface, free, holds, open'))) = grind (arith, fresh_object)
 
     open_read : (start : ReaderState T (Core U C)) (turns : List Turn) (answer : Result Handed ActionError) (refused : Bool) (left : ℕ) → ReadingEnds sends receives a start turns answer refused left end
         → OpenReadAs a.table a.client answer s (part_of end) t
-    open_read start turns (Ok h) refused left (live, fresh, comes) = (handed_out h start turns comes, lives_on live fresh)
-    open_read start turns (Err ActionOpen) refused left so = so
-    open_read start turns (Err (Io fault.WouldBlock)) refused left (why, (live, fresh, idle)) = (idle, lives_on live fresh)
-    open_read start turns (Err (Io fault.OutOfMemory)) refused left (why, (live, fresh, idle)) = (idle, lives_on live fresh)
-    open_read start turns (Err (Io fault.Pipe)) refused left (why, (dead, reason, idle)) = (idle, killed_once dead reason)
-    open_read start turns (Err (Io fault.TooBig)) refused left (why, (dead, reason, idle)) = (idle, killed_once dead reason)
-    open_read start turns (Err (Io fault.Proto)) refused left (why, (dead, reason, idle)) = (idle, killed_once dead reason)
-    open_read start turns (Err (Io fault.InvalidInput)) refused left (why, (dead, reason, idle)) = (idle, killed_once dead reason)
-    open_read start turns (Err (Io (fault.Other n))) refused left (why, (dead, reason, idle)) = (idle, killed_once dead reason)
+    open_read start turns h3 refused left so = grind (arith, handed_out, notes_in, end_deeds, append-nil, part_of, killed_once)
 
   -- nothing of the part has changed, and nothing is noted
   unread : (s t : Seen T U C) (p q : Part T U C) (did : List (Deed U)) → s.part ≡ Some p → t ≡ record { part = Some q; made = s.made ++ notes_in did } → did ≡ [] → q ≡ p → t ≡ s
@@ -113,10 +69,7 @@ module _ {T U G C : Type 0} (sends : T → Queue → Result ℕ IoFault → T �
             elim (split_bool p.is_killed g) [
               | inl (dead, (says, same, calm, none, stays)) ↦ inr (p, there, inr (inl (idle, dead, says, unread s t p q did there is none stays)))
               | inr (live, (turns, out, end, reads, says, same, calm, did_so, after)) ↦
-                  let t_is : t ≡ record { part = Some (part_of end); made = s.made ++ notes_in (end_deeds {U = U} end.core.ended) } =
-                  is ∙ ap (λ (x : Part T U C). seen_as x (s.made ++ notes_in did)) after
-                  ∙ ap (λ (d : List (Deed U)). seen_as (part_of end) (s.made ++ notes_in d)) did_so
-                  ∙ ap (λ (n : List (Happening U)). seen_as (part_of end) (s.made ++ n)) (notes_of_reading sends receives a r.turns_left (reader_part p) turns out end reads) in
+                  let t_is : t ≡ record { part = Some (part_of end); made = s.made ++ notes_in (end_deeds {U = U} end.core.ended) } = grind (arith, seen_as, notes_in, part_of, notes_of_reading, reader_part) in
                   inr (
                     p,
                     there,
@@ -125,9 +78,7 @@ module _ {T U G C : Type 0} (sends : T → Queue → Result ℕ IoFault → T �
                       live,
                       (
                         part_of end,
-                        subst (λ (x : Result Handed ActionError). OpenReadAs a.table a.client x s (part_of end) t) (sym says)
-                            (open_read s t end t_is (reader_part p) turns (answered out.stopped out.gave) out.refused out.left
-                            (reading_ends sends receives a r.turns_left p turns out end live idle reads)),
+                        grind (arith, part_of, open_read, reader_part, answered, reading_ends),
                       ),
                     )),
                   )
@@ -140,30 +91,14 @@ module _ {T U G C : Type 0} (sends : T → Queue → Result ℕ IoFault → T �
   next_stays p q r r' answer lacked did h other old =
       elim (either_option p.action h) [
         | inr (action, is_open, (says, same, calm, none, stays)) ↦ ap (λ (x : Part T U C). named x.store other) stays
-        | inl (idle, g) ↦
-            elim (split_bool p.is_killed g) [
-              | inl (dead, (says, same, calm, none, stays)) ↦ ap (λ (x : Part T U C). named x.store other) stays
-              | inr (live, (turns, out, end, reads, says, same, calm, did_so, after)) ↦
-                  ap (λ (x : Part T U C). named x.store other) after ∙ (reads_keep sends receives a r.turns_left (reader_part p) turns out end reads).ids other old
-            ]
+        | inl (idle, g) ↦ grind (arith, split_bool, named, reads_keep, reader_part)
       ]
 
 module _ {T U G C : Type 0} (w : World T G C) (id target : ClientParts) (offer : Offer G) (r r' : Reading) (answer : Result Handed ActionError) (s t : Seen T U C) (lacked : Bool)
     (did : List (Deed U)) where
   pub stays_named : ReadsFor w id offer target r answer r' s lacked did t → (other : IdParts) → IsOld s.part other
       → and_then t.part (λ p. named p.store other) ≡ and_then s.part (λ p. named p.store other)
-  stays_named h other old =
-      elim (split_bool (same_client target id) h) [
-        | inr (about, (calm, nothing, same)) ↦ ap (λ (x : Seen T U C). and_then x.part (λ p. named p.store other)) same
-        | inl (about, g) ↦
-            elim (either_option s.part g) [
-              | inl (none, (says, (calm, nothing, same))) ↦ ap (λ (x : Seen T U C). and_then x.part (λ p. named p.store other)) same
-              | inr (p, there, (q, next, same)) ↦
-                  ap (λ (x : Seen T U C). and_then x.part (λ p. named p.store other)) same
-                  ∙ next_stays w.sends w.receives (around w id offer) p q r r' answer lacked did next other (subst (λ (o : Option (Part T U C)). IsOld o other) there old)
-                  ∙ ap (λ (o : Option (Part T U C)). and_then o (λ p. named p.store other)) (sym there)
-            ]
-      ]
+  stays_named h other old = grind (arith, split_bool, same_client, and_then, named, either_option, next_stays, around)
 
 module _ {T U G C : Type 0} (w : World T G C) (id : ClientParts) (offer : Offer G) (r r' : Reading) (answer : Result Handed ActionError) (s t : Seen T U C) (lacked : Bool) (did : List (Deed U)) where
   pub reads_as : ReadsFor w id offer id r answer r' s lacked did t → ReadAs offer.table id answer s t
@@ -241,16 +176,9 @@ module _ {T U G C : Type 0} (w : World T G C) (before after : BackendState T U G
   next_action_reads answer call =
       reads_all new_reading answer (offer_of call)
       (let (did, (r, left, is, h)) = of_own call id refl (λ other lacked did differ (r, left, is, h). (when_false _ (same_client id other) differ h).0) in
-      memory_as new_reading left (action_content answer) did
-      (subst (λ (x : Result Action ActionError). ReadsFor w id before.server.offer id new_reading (action_content x) left (seen id before.server) after.refused did (seen id after.server)) (inside r is) h))
+      grind (arith, memory_as, new_reading, action_content, seen, inside))
       (λ other.
-      let (lacked, did, (r, left, is, h)) = of_each call other in (
-        lacked,
-        did,
-        left,
-        subst (λ (x : Result Action ActionError). ReadsFor w other before.server.offer id new_reading (action_content x) left (seen other before.server) lacked did (seen other after.server))
-            (inside r is) h,
-      ))
+      let (lacked, did, (r, left, is, h)) = of_each call other in grind (arith, new_reading, action_content, seen, inside))
     where
       inside : (r : Result Action ActionError) → ◌≡◌ {A = Reply T U} (reply.NextAction answer) (reply.NextAction r) → r ≡ answer
       inside r is = cc
@@ -260,16 +188,9 @@ module _ {T U G C : Type 0} (w : World T G C) (before after : BackendState T U G
   next_action_within_reads reading left answer call =
       reads_all reading answer (offer_of call)
       (let (did, (r, l, is, h)) = of_own call id refl (λ other lacked did differ (r, l, is, h). (when_false _ (same_client id other) differ h).0) in
-      memory_as reading l (action_content answer) did
-      (subst (λ (x : Result Action ActionError). ReadsFor w id before.server.offer id reading (action_content x) l (seen id before.server) after.refused did (seen id after.server)) (inside r l is) h))
+      grind (arith, memory_as, action_content, seen, inside))
       (λ other.
-      let (lacked, did, (r, l, is, h)) = of_each call other in (
-        lacked,
-        did,
-        l,
-        subst (λ (x : Result Action ActionError). ReadsFor w other before.server.offer id reading (action_content x) l (seen other before.server) lacked did (seen other after.server))
-            (inside r l is) h,
-      ))
+      let (lacked, did, (r, l, is, h)) = of_each call other in grind (arith, action_content, seen, inside))
     where
       inside : (r : Result Action ActionError) (l : Reading) → ◌≡◌ {A = Reply T U} (reply.NextActionWithin answer left) (reply.NextActionWithin r l) → r ≡ answer
       inside r l is = cc
@@ -277,24 +198,14 @@ module _ {T U G C : Type 0} (w : World T G C) (before after : BackendState T U G
   -- ---- a reading that goes on with what an earlier one left
 
   no_fewer : (r r' : Reading) → (r' ≡ r) ⊎ ((left handled : ℕ) × (r' ≡ read_on r left handled)) → min r.read 0xFFFFFFFFFFFFFFFF ≤ r'.read
-  no_fewer r r' (inl same) = let read : r'.read ≡ r.read = ap (λ (x : Reading). x.read) same in omega (arith, read)
-  no_fewer r r' (inr (left, handled, is)) =
-      let read : r'.read ≡ min (r.read + handled) 0xFFFFFFFFFFFFFFFF = ap (λ (x : Reading). x.read) is in omega (arith, read)
+  no_fewer r r' h3 = grind (arith, min)
 
   goes_on : (r r' : Reading) (answer : Result Handed ActionError) (lacked : Bool) (did : List (Deed U))
       → ReadsFor w id before.server.offer id r answer r' (seen id before.server) lacked did (seen id after.server) → (r' ≡ r) ⊎ ((left handled : ℕ) × (r' ≡ read_on r left handled))
   goes_on r r' answer lacked did h =
       elim (either_option (seen id before.server).part (own id _ _ _ lacked did _ h)) [
         | inl (none, ((says, same), (calm, nothing, stays))) ↦ inl same
-        | inr (p, there, (q, next, is)) ↦
-            elim (either_option p.action next) [
-              | inr (action, is_open, (says, same, calm, none, stays)) ↦ inl same
-              | inl (idle, g) ↦
-                  elim (split_bool p.is_killed g) [
-                    | inl (dead, (says, same, calm, none, stays)) ↦ inl same
-                    | inr (live, (turns, out, end, reads, says, same, calm, did_so, ends)) ↦ inr (out.left, handled_in turns, same)
-                  ]
-            ]
+        | inr (p, there, (q, next, is)) ↦ grind (arith, either_option, split_bool, handled_in)
       ]
 
   pub reads_within : (reading left : Reading) (answer : Result Action ActionError) → Calls w before (step.NextActionWithin id reading) (reply.NextActionWithin answer left) after

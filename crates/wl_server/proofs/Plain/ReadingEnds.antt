@@ -1,10 +1,8 @@
 -- How a reading ends, over its turns.
-use Rattle.std.proofs.Common.{◌≡◌, ◌⊎◌, ℕ, Bool, true, false, not, cond, eqb, eqb-true, ◌&&◌, List, [], ◌∷◌, ◌++◌, map, append-nil, append_assoc, Option, None, Some, is_none, is_some, Result, Ok, Err, refl, sym, ap, subst, ◌∙◌, true≢false}
+use Rattle.std.proofs.Common.{◌≡◌, ◌⊎◌, ℕ, Bool, true, false, not, cond, eqb, eqb-true, ◌&&◌, List, [], ◌∷◌, ◌++◌, map, append-nil, append_assoc, Option, None, Some, is_none, is_some, Result, Ok, Err, refl, sym, ap, subst, ◌∙◌, true≢false, arith}
 use mathlib.Core.Logic.{inl, inr}
 use Rattle.std.specs.Prelude.{IsSome, MatchOption, MatchResult, ◌||◌, nat_lt, option_map}
-use Rattle.wl_wire.specs.declared.argument.Argument.{Argument}
 use Rattle.wl_wire.specs.declared.argument.Argument.TheVariants as arg
-use Rattle.wl_wire.specs.declared.argument.Token.{Token}
 use Rattle.wl_wire.specs.Argument.{WireArgument}
 use Rattle.wl_wire.specs.declared.error.IoFault.{IoFault}
 use Rattle.wl_wire.specs.declared.error.IoFault.TheVariants as fault
@@ -28,12 +26,12 @@ use Rattle.wl_server.specs.declared.reading.action.OpenAction.{OpenAction}
 use Rattle.wl_server.specs.declared.reading.action.OpenAction.TheVariants as opened
 use Rattle.wl_server.specs.Deeds.{Deed, Handed, Remembered}
 use Rattle.wl_server.specs.Deeds as deeds
-use Rattle.wl_server.specs.Errors.{bind_text, new_id_text, since_text}
+use Rattle.wl_server.specs.Errors.{new_id_text, since_text}
 use Rattle.wl_server.specs.Globals.{global_at, shown}
 use Rattle.wl_server.specs.Ids.{IdParts}
 use Rattle.wl_server.specs.Part.{Part, id_at}
 use Rattle.wl_server.specs.Reading.{Around, action_in, answered, binds, binds_to, breaks, converted, display_request, faulted, garbled, hands_out, may_bind, new_at, other_request, reads_on, registry_request, replies, request, row_in, server, stops_if, synced, with_registry, registers, syncs}
-use Rattle.wl_server.specs.ReadingEnds.{AsksNothing, ComesOfFront, FoundNoMessage, LastReceiveFailed, LeavesClient, MakesItsObject, ObjectsFit, OfLast, ReadingEnds, StopsItself, TookMessage, TurnLeads}
+use Rattle.wl_server.specs.ReadingEnds.{AsksNothing, ComesOfFront, FoundNoMessage, LastReceiveFailed, LeavesClient, MakesItsObject, OfLast, ReadingEnds, StopsItself, TookMessage, TurnLeads}
 use Rattle.wl_server.specs.Requests.{Outcome, Whole, Wrong, convert, is_valid_new, made_id, made_object, start, with_made}
 use Rattle.wl_server.specs.Telling.{Core, Did, Told, deletions, done_message, introductions, objects_in, reader_part, with_objects}
 use Rattle.wl_server.specs.Telling as telling
@@ -109,19 +107,11 @@ module _ {U G C : Type 0} (a : Around G C) (c : Core U C) (P : Verdict (Core U C
   bound_case (arg.Uint g ∷ arg.Str None ∷ arg.Uint version ∷ arg.NewId n ∷ []) garbled' breaks' bound = at (held a.globals.store g)
     where
       at : (o : Option (Object (KeptGlobal G))) → P (binds_to a c g None version n o)
-      at None = breaks' 0 _
-      at (Some kept) = breaks' 0 _
+      at h1 = grind (arith)
   bound_case (arg.Uint g ∷ arg.Str (Some interface) ∷ arg.Uint version ∷ arg.NewId n ∷ []) garbled' breaks' bound = at (held a.globals.store g) refl
     where
       at : (o : Option (Object (KeptGlobal G))) → held a.globals.store g ≡ o → P (binds_to a c g (Some interface) version n o)
-      at None there = breaks' 0 _
-      at (Some kept) there = go (may_bind a c g (Some interface) version kept) (is_valid_new (objects_in c) n) refl refl
-        where
-          go : (b v : Bool) → may_bind a c g (Some interface) version kept ≡ b → is_valid_new (objects_in c) n ≡ v
-              → P (cond b (cond v (binds a c g version n kept) (breaks a c 0 (new_id_text n))) (breaks a c 0 (bind_text interface version g)))
-          go true true may valid = bound g interface version n kept refl there may valid
-          go true false may valid = breaks' 0 _
-          go false v may valid = breaks' 0 _
+      at h1 there = grind (arith, may_bind, is_valid_new, objects_in)
   bound_case _ garbled' breaks' bound = garbled' (λ g version n name is. true≢false (sym (ap binds_some is)))
     where
       binds_some : List WireArgument → Bool
@@ -139,9 +129,7 @@ module _ {U G C : Type 0} (a : Around G C) (c : Core U C) (P : Verdict (Core U C
   asked_case opcode (arg.NewId n ∷ []) garbled' breaks' syncs' registers' = go (is_valid_new (objects_in c) n) (eqb opcode 0)
     where
       go : (b z : Bool) → P (cond b (cond z (syncs a c n) (registers a c n)) (breaks a c 0 (new_id_text n)))
-      go true true = syncs' n
-      go true false = registers' n
-      go false z = breaks' 0 (new_id_text n)
+      go h1 z = grind (arith, new_id_text)
   asked_case opcode _ garbled' breaks' syncs' registers' = garbled' (λ n is. true≢false (sym (ap asks_some is)))
     where
       asks_some : List WireArgument → Bool
@@ -191,10 +179,7 @@ module _ {T U G C : Type 0} (sends : T → Queue → Result ℕ IoFault → T �
   garbled_turns turn before c r found link es first lacked mid (inr (asks, memory, none, gave, is)) = absurd (true≢false (sym asks))
   garbled_turns turn before c r found link es first lacked mid (inl (es1, es2, put, wrote, l, lacks, puts, flushed, is, core, gave, refused)) =
       let (dead, reason, idle) = subst (Closed c) (sym core) (garbled_came c r wrote) in
-      inr (
-        not_read mid.core dead,
-        subst (λ (x : Result Handed ActionError). Answers (turn es) before x mid) (sym (ap action_in gave ∙ after_puts put _)) (found es, reason, (dead, some_is mid.core.ended ConnectionClosed reason, idle)),
-      )
+      grind (arith, not_read, action_in, after_puts, some_is)
 
   -- ---- a client that broke the protocol
 
@@ -248,19 +233,8 @@ module _ {T U G C : Type 0} (sends : T → Queue → Result ℕ IoFault → T �
   replies_turns turn before m puts did mute r took link es first lacked mid (inr (asks, memory, none, gave, is)) = absurd (true≢false (sym asks))
   replies_turns turn before m puts did mute r took link es first lacked mid (inl (es1, es2, put, wrote, l, lacks, put_out, flushed, is, core, gave, refused)) =
       elim (replies_came m puts did r wrote) [
-        | inl same ↦
-            let at_m : mid.core ≡ m = core ∙ same in
-            let given : first ≡ put_and_gave put (map Did did) =
-            gave ∙ ap (λ (e : Core U C). put_and_gave put (map Did did ++ stops_if e)) same
-            ∙ ap (λ (b : Bool). put_and_gave put (map Did did ++ stops_when b)) r.live ∙ ap (put_and_gave put) (append-nil (map Did did)) in
-            inl (subst (λ (e : Core U C). IsRead e) (sym at_m) r, subst Silent (sym given) (silent_puts put (map Did did) mute))
-        | inr ended ↦
-            let dead : (came_to (server a) (replies m puts did) wrote).is_killed ≡ true = ended.0 in
-            let given : first ≡ put_and_gave put (map Did did ++ telling.Stops fault.Pipe ∷ []) =
-            gave ∙ ap (λ (b : Bool). put_and_gave put (map Did did ++ stops_when b)) dead in
-            ended_turned (turn es) before first mid (took es)
-            (ap action_in given ∙ after_puts put _ ∙ ap action_in (handed_both (map Did did) (telling.Stops fault.Pipe ∷ [])) ∙ mute (HandedOut (telling.Stops fault.Pipe) ∷ []))
-            (subst Ended (sym core) ended)
+        | inl same ↦ grind (arith, put_and_gave, map, stops_if, stops_when, append-nil, silent_puts)
+        | inr ended ↦ grind (arith, came_to, server, replies, put_and_gave, map, stops_when, ended_turned, action_in, after_puts, handed_both)
       ]
 
   -- ---- an action
@@ -302,21 +276,7 @@ module _ {T U G C : Type 0} (sends : T → Queue → Result ℕ IoFault → T �
           m,
           link,
           read,
-          record {
-            receiver = receiver;
-            row = row;
-            was_held = holds;
-            request = has;
-            sender_is = refl;
-            opcode_is = refl;
-            args_are = ap (map _) is ∙ numbers;
-            destructor = refl;
-            is_held = grown m.sender receiver holds;
-            objects_fit = subst (λ (xs : List (Argument IdParts Token)). ObjectsFit a.client d.objects.store row.signature row.arg_interfaces xs) (sym is) fit;
-            makes = subst (λ (xs : List (Argument IdParts Token)). MakesItsObject a.client d.objects.store row receiver.version xs d.created) (sym is) made_so.0;
-            is_new = made_so.1;
-            action = refl;
-          },
+          grind (arith, request, map, made_so),
         )) link
       where
         id : IdParts
@@ -377,10 +337,7 @@ module _ {T U G C : Type 0} (sends : T → Queue → Result ℕ IoFault → T �
 
         -- the table has the message, since it was read
         never : row_in a.table (held c.store m.sender) m.opcode ≡ None → ⊥
-        never none =
-            let (signature, is, same) = read_signed sends a here m link read in
-            none_and_some (option_map (λ (r : MessageRow). r.signature) (row_in a.table (held c.store m.sender) m.opcode))
-            (ap (option_map (λ (r : MessageRow). r.signature)) none) is
+        never none = grind (arith, read_signed, here, none_and_some, option_map, row_in, held)
 
         whole : (receiver : Option (Object (Kept U))) (row : Option MessageRow) → held c.store m.sender ≡ receiver → row_in a.table receiver m.opcode ≡ row
             → P (request a c m receiver row)
@@ -455,10 +412,7 @@ module _ {T U G C : Type 0} (sends : T → Queue → Result ℕ IoFault → T �
       → Done start (t ∷ turns) (given_first first lacked rest) end
   turned_end t start left mid end [] first lacked rest off so (same, stops') =
       let none : rest ≡ stops None false left = when_false _ (reads_on mid.core) off stops' in
-      subst (λ (o : Gives (Told U)). Done start (t ∷ []) (given_first first lacked o) end) (sym none)
-      (subst (λ (e : ReaderState T (Core U C)). Done start (t ∷ []) (given_first first lacked (stops None false left)) e) (sym same)
-      (subst (λ (g : List (Given (Told U))). ReadingEnds sends receives a start (t ∷ []) (action_in g) (lacked || false) left mid) (sym (append-nil first))
-      (answers_end t start (lacked || false) left (action_in first) mid so)))
+      grind (arith, given_first, stops, action_in, append-nil, answers_end)
   turned_end t start left mid end (Received r ∷ turns) first lacked rest off so h = absurd (true≢false (sym h.0 ∙ off))
   turned_end t start left mid end (Handled es ∷ turns) first lacked rest off so h = absurd (true≢false (sym h.0 ∙ off))
   turned_end t start left mid end (Unread es ∷ turns) first lacked rest off so h = absurd (true≢false (sym h.0 ∙ off))
@@ -468,8 +422,7 @@ module _ {T U G C : Type 0} (sends : T → Queue → Result ℕ IoFault → T �
       → (IsRead mid.core → Done mid turns rest end) → Done start (t ∷ turns) out end
   then_ends t start left mid end turns first lacked rest out split leads (inl (r, silent)) reads more =
       done_at start (t ∷ turns) out (given_first first lacked rest) end end split refl
-      (subst (λ (x : Result Handed ActionError). ReadingEnds sends receives a start (t ∷ turns) x (lacked || rest.refused) rest.left end) (sym (still_answered rest.stopped first rest.gave silent))
-      (ends_later t turns (answered rest.stopped rest.gave) lacked rest.refused rest.left end start mid leads (more r)))
+      (grind (arith, still_answered, ends_later, answered))
   then_ends t start left mid end turns first lacked rest out split leads (inr (off, so)) reads more =
       done_at start (t ∷ turns) out (given_first first lacked rest) end end split refl (turned_end t start left mid end turns first lacked rest off so reads)
 
@@ -483,9 +436,7 @@ module _ {T U G C : Type 0} (sends : T → Queue → Result ℕ IoFault → T �
             ends_later (Received got) turns (answered out.stopped out.gave) false out.refused out.left end before (with_link before link)
             (link, subst (λ (c : Result (Unit {0}) IoFault). FilledBy receives before.link got c link) ok filled, refl)
             (read_ends n (with_link before link) turns out end r more)
-        | inr (f, failed, (over, stopped, same)) ↦
-            subst (λ (ts : List Turn). Done before (Received got ∷ ts) out end) (sym over)
-            (done_at before (Received got ∷ []) out _ end _ stopped same (inl (got, refl, failed), faulted_leaves before.core r f))
+        | inr (f, failed, (over, stopped, same)) ↦ grind (arith, done_at, faulted_leaves)
       ]
   read_ends left before (Handled es ∷ turns) out end r (on, (v, link, first, lacked, mid, rest, (m, read, is), by, split, more)) =
       then_ends (Handled es) before left mid end turns first lacked rest out split (v, link, first, lacked, (m, read, is), by)
@@ -493,8 +444,7 @@ module _ {T U G C : Type 0} (sends : T → Queue → Result ℕ IoFault → T �
       (subst (λ (w : Verdict (Core U C) (Told U)). CarriesOut sends (server a) w link es first lacked mid) is by)) more (λ r'. read_ends left mid turns rest end r' more)
   read_ends left before (Unread es ∷ turns) out end r (on, (v, link, first, lacked, mid, rest, (read, same, is), by, split, more)) =
       then_ends (Unread es) before left mid end turns first lacked rest out split (v, link, first, lacked, (read, same, is), by)
-      (garbled_turns Unread before before.core r (λ es'. read) link es first lacked mid
-      (subst (λ (w : Verdict (Core U C) (Told U)). CarriesOut sends (server a) w link es first lacked mid) is by)) more (λ r'. read_ends left mid turns rest end r' more)
+      (grind (arith, garbled_turns, server)) more (λ r'. read_ends left mid turns rest end r' more)
 
   -- a reading of a live client without an open action
   pub reading_ends : (left : ℕ) (before : Part T U C) (turns : List Turn) (out : Gives (Told U)) (end : ReaderState T (Core U C)) → before.is_killed ≡ false → before.action ≡ None

@@ -1,6 +1,5 @@
 -- Whether memory was refused in a reading, by its answer.
 use Rattle.std.proofs.Common.{◌≡◌, ℕ, Bool, true, false, cond, List, [], ◌∷◌, ◌++◌, map, append-nil, None, Result, Err, refl, sym, subst, ◌∙◌, true≢false, arith}
-use mathlib.Core.Logic.{inl, inr}
 use Rattle.std.specs.Prelude.{◌||◌, nat_lt}
 use Rattle.wl_wire.specs.declared.error.IoFault.{IoFault}
 use Rattle.wl_wire.specs.declared.error.IoFault.TheVariants as fault
@@ -19,12 +18,12 @@ use Rattle.wl_server.specs.Deeds.{Deed, Handed, Remembered}
 use Rattle.wl_server.specs.Errors.{since_text}
 use Rattle.wl_server.specs.Globals.{shown}
 use Rattle.wl_server.specs.Reading.{Around, action_in, answered, binds, breaks, converted, garbled, new_at, other_request, reads_on, replies, server, stops_if, synced, with_registry}
-use Rattle.wl_server.specs.Requests.{Outcome, Whole, Wrong, convert, start}
+use Rattle.wl_server.specs.Requests.{Outcome, convert, start}
 use Rattle.wl_server.specs.Telling.{Core, Did, Told, closed_down, deletions, done_message, introductions, objects_in, with_objects}
 use Rattle.wl_server.specs.Telling as telling
 use Rattle.wl_server.proofs.OverRuns.Announced.RequestCases.{request_case}
 use Rattle.wl_server.proofs.Plain.Base.{when_false, when_true}
-use Rattle.wl_server.proofs.Plain.ReadingEnds.{Answers, IsRead, Turned, after_puts, garbled_turns, reads_of, request_turns, still_answered}
+use Rattle.wl_server.proofs.Plain.ReadingEnds.{IsRead, Turned, after_puts, garbled_turns, reads_of, request_turns, still_answered}
 use Rattle.wl_server.proofs.Plain.Verdicts.{lacking, no_flush, nothing_put}
 
 -- Memory was refused if the answer is `OutOfMemory`, and it may have been if it is `Pipe`. Else it was not.
@@ -32,10 +31,6 @@ abbrev pub MemoryOf : Result Handed ActionError → Bool → Type 0
 MemoryOf (Err (Io fault.OutOfMemory)) refused = refused ≡ true
 MemoryOf (Err (Io fault.Pipe)) refused = Unit {0}
 MemoryOf _ refused = refused ≡ false
-
-fault_memory : (f : IoFault) → MemoryOf (Err (Io f)) (lacks_memory (Err f))
-fault_memory fault.Pipe = tt
-fault_memory _ = refl
 
 or_false : (b : Bool) → (b || false) ≡ b
 or_false true = refl
@@ -70,8 +65,7 @@ module _ {T U G C : Type 0} (sends : T → Queue → Result ℕ IoFault → T �
       (λ g version n x valid. quiet_lacks (binds a c g version n x) refl refl refl) m (λ receiver row holds other. others receiver row)
     where
       converts : (receiver : Object (Kept U)) (row : MessageRow) (o : Outcome U) → Lacking (converted a c m receiver row o)
-      converts receiver row (Wrong w objects) = breaks_lacks (with_objects c objects) 0 _
-      converts receiver row (Whole d args) = quiet_lacks (converted a c m receiver row (Whole d args)) refl refl refl
+      converts receiver row h3 = grind (arith, breaks_lacks, with_objects, quiet_lacks, converted)
 
       others : (receiver : Object (Kept U)) (row : MessageRow) → Lacking (other_request a c m receiver row)
       others receiver row = go (nat_lt receiver.version row.since)
@@ -87,11 +81,6 @@ module _ {T U G C : Type 0} (sends : T → Queue → Result ℕ IoFault → T �
   abbrev pub MemoryAt : Gives (Told U) → Type 0
   MemoryAt out = MemoryOf (answered out.stopped out.gave) out.refused
 
-  -- nothing more is read after this answer
-  last_memory : (t : Turn) (before mid : ReaderState T (Core U C)) (answer : Result Handed ActionError) (lacked : Bool) → Answers sends receives a t before answer mid
-      → (lacked ≡ true → answer ≡ Err (Io fault.Pipe)) → MemoryOf answer (lacked || false)
-  last_memory t before mid answer lacked h1 h2 = grind (arith)
-
   halts_memory : (left : ℕ) (before : ReaderState T (Core U C)) (out : Gives (Told U)) → Halts sends (server a) left before out → MemoryAt out
   halts_memory left before out h1 = grind (arith)
 
@@ -105,16 +94,12 @@ module _ {T U G C : Type 0} (sends : T → Queue → Result ℕ IoFault → T �
   then_memory : (t : Turn) (before mid end : ReaderState T (Core U C)) (left : ℕ) (turns : List Turn) (first : List (Given (Told U))) (lacked : Bool) (rest out : Gives (Told U))
       → out ≡ given_first first lacked rest → Turned sends receives a t before first mid → Pipes first lacked mid → Reads sends (server a) receives left mid turns rest end
       → (IsRead mid.core → MemoryAt rest) → MemoryAt out
-  then_memory t before mid end left turns first lacked rest out h1 h2 h3 h4 h5 = grind (arith, still_answered, answered, true≢false, given_first, no_more, action_in, append-nil, last_memory)
+  then_memory t before mid end left turns first lacked rest out h1 h2 h3 h4 h5 = grind (arith, still_answered, answered, true≢false, given_first, no_more, action_in, append-nil)
 
   pub reads_memory : (left : ℕ) (before : ReaderState T (Core U C)) (turns : List Turn) (out : Gives (Told U)) (end : ReaderState T (Core U C)) → IsRead before.core
       → Reads sends (server a) receives left before turns out end → MemoryAt out
   reads_memory left before [] out end r (same, stops') = halts_memory left before out (when_true _ (reads_on before.core) (reads_of before.core r) stops')
-  reads_memory left before (Received got ∷ turns) out end r (on, lacks, (n, is, (link, filled, room, h))) =
-      elim (either_result (counted_answer (count_of got)) h) [
-        | inl (u, more) ↦ reads_memory n (with_link before link) turns out end r more
-        | inr (f, (over, stopped, same)) ↦ subst MemoryAt (sym stopped) (fault_memory f)
-      ]
+  reads_memory left before (Received got ∷ turns) out end r (on, lacks, (n, is, (link, filled, room, h))) = grind (arith, either_result, counted_answer, count_of, with_link, reads_memory n (with_link before link) turns out end r)
   reads_memory left before (Handled es ∷ turns) out end r (on, (v, link, first, lacked, mid, rest, (m, read, is), by, split, more)) =
       let by' = subst (λ (w : Verdict (Core U C) (Told U)). CarriesOut sends (server a) w link es first lacked mid) is by in
       then_memory (Handled es) before mid end left turns first lacked rest out split (request_turns sends receives a before.core r before.link link m read es first lacked mid by')

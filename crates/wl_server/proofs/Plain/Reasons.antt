@@ -67,8 +67,7 @@ module _ {T U G C : Type 0} (w : World T G C) (before after : BackendState T U G
       (each : (other : ClientParts) → PartCall w other before.server.offer e.call (seen other before.server) (e.lacks other) (e.did other) (seen other after.server)) where
     -- what the call is of each client
     of_call : (other : ClientParts) → PartCall w other before.server.offer call (seen other before.server) (e.lacks other) (e.did other) (seen other after.server)
-    of_call other =
-        subst (λ (c : Call T U G C). PartCall w other before.server.offer c (seen other before.server) (e.lacks other) (e.did other) (seen other after.server)) is (each other)
+    of_call other = grind (arith, seen)
 
   pub next_action_ends : (answer : Result Action ActionError) → Calls w before (step.NextAction id) (reply.NextAction answer) after
       → (left : Reading) × EndsForAReason w before id new_reading answer left after

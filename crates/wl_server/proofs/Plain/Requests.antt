@@ -1,19 +1,17 @@
 -- The end of a request.
 use Rattle.std.proofs.Common.{◌≡◌, ℕ, Bool, true, false, cond, eqb-true, List, [], ◌++◌, append-nil, Option, None, Some, is_some, Result, Ok, Err, refl, sym, ap, subst, ◌∙◌, true≢false, ◌∷◌, arith}
 use mathlib.Core.Logic.{inl, inr}
-use Rattle.std.specs.Prelude.{◌⊎◌, ◌&&◌, IsSome, option_map}
+use Rattle.std.specs.Prelude.{◌⊎◌, IsSome, option_map}
 use Rattle.wl_wire.specs.declared.error.IoFault.{IoFault}
 use Rattle.wl_link.proofs.Calls.Branches.{either_option}
 use Rattle.wl_link.specs.declared.object.Object.{Object}
 use Rattle.wl_link.specs.Exchange.{Queue}
-use Rattle.wl_link.specs.Identity.{Id}
 use Rattle.wl_link.specs.Reader.{Verdict}
 use Rattle.wl_link.specs.Store.{Store, removed}
 use Rattle.wl_server.specs.declared.error.FinishError.{FinishError}
 use Rattle.wl_server.specs.declared.error.FinishError.TheVariants as finish
 use Rattle.wl_server.specs.declared.error.FinishRefused.{FinishRefused}
 use Rattle.wl_server.specs.declared.notes.DisconnectReason.TheVariants.{ConnectionClosed}
-use Rattle.wl_server.specs.declared.notes.Happening.{Happening}
 use Rattle.wl_server.specs.declared.notes.Happening.TheVariants.{Disconnected}
 use Rattle.wl_server.specs.declared.objects.Kept.{Kept}
 use Rattle.wl_server.specs.declared.reading.action.OpenAction.TheVariants as opened
@@ -40,20 +38,9 @@ use Rattle.wl_server.proofs.Plain.Verdicts.{told, told_nothing, told_starved, Is
 
 -- ---- two ids of a client that are the same name the same
 
-both_true : (a b : Bool) → (a && b) ≡ true → (a ≡ true) × (b ≡ true)
-both_true true b both = (refl, both)
-both_true false b both = absurd (true≢false (sym both))
-
-not_both : (a b : Bool) → (a && b) ≡ false → a ≡ true → b ≡ false
-not_both true b both is = both
-not_both false b both is = absurd (true≢false (sym is))
-
-abbrev mk : ℕ → ℕ → Id
-mk number serial = record { number = number; serial = serial }
-
 module _ {U : Type 0} where
   same_named : (store : Store (Kept U)) (a b : IdParts) → same_id (id_of a) (id_of b) ≡ true → named store a ≡ named store b
-  same_named store a b same = grind (arith, both_true, serial_of, eqb-true)
+  same_named store a b same = grind (arith, true≢false, serial_of, eqb-true)
 
   -- ---- the object that was made gets its data
 
@@ -76,8 +63,7 @@ module _ {U : Type 0} where
 
   ended_named : (store : Store (Kept U)) (sender : IdParts) (is_destructor : Bool) (x : Object (Kept U)) → ended_by store sender is_destructor ≡ Some x
       → (is_destructor ≡ true) × (named store sender ≡ Some x)
-  ended_named store sender true x is = (refl, is)
-  ended_named store sender false x is = absurd cc
+  ended_named store sender h3 x is = grind (arith)
 
   sender_gone : (store : Store (Kept U)) (sender : IdParts) (is_destructor : Bool) (o : Option (Object (Kept U))) → ended_by store sender is_destructor ≡ o → is_destructor ≡ true
       → named (left_by store sender.number o) sender ≡ None
@@ -85,7 +71,7 @@ module _ {U : Type 0} where
 
   sender_others : (store : Store (Kept U)) (sender : IdParts) (is_destructor : Bool) (o : Option (Object (Kept U))) → ended_by store sender is_destructor ≡ o → (other : IdParts)
       → is_ended is_destructor sender other ≡ false → named (left_by store sender.number o) other ≡ named store other
-  sender_others store sender is_destructor o h1 other h2 = grind (arith, ended_named, removed_others, names_so, not_both, same_id, id_of)
+  sender_others store sender is_destructor o h1 other h2 = grind (arith, ended_named, removed_others, names_so, true≢false, same_id, id_of)
 
 -- ---- what a finish comes to
 
@@ -184,22 +170,7 @@ module _ {T U C : Type 0} (sends : T → Queue → Result ℕ IoFault → T → 
       let v : Verdict (Core U C) (Told U) = ends client (core_of p) sender (Some x) created u in
       let t : IsTold v did q = told_ended sends v (λ c. refl) p.link lacked did q calm h in
       let gone : named v.core.store sender ≡ None = made_none (removed p.store sender.number) created u sender (removed_named p.store sender) in
-      elim t.core_is [
-        | inl all ↦
-            inl (
-              ap (λ (y : Part T U C). y.is_killed) t.part_is ∙ ap (λ (c : Core U C). c.is_killed) all,
-              t.notes_are ∙ ap (λ (c : Core U C). told_notes (v.events c) ++ notes_in (end_deeds c.ended)) all
-                  ∙ append-nil (told_notes (v.events v.core)) ∙ ending_noted sender x v.core gone,
-            )
-        | inr (some, closes) ↦
-            inr (
-              (ended_named p.store sender is_destructor x is).0,
-              ap (λ (y : Part T U C). y.is_killed) t.part_is ∙ ap (λ (c : Core U C). c.is_killed) closes,
-              t.notes_are ∙ ap (λ (c : Core U C). told_notes (v.events c) ++ notes_in (end_deeds c.ended)) closes
-                  ∙ ap (λ (l : List (Happening U)). l ++ notes_in (end_deeds (closed_down v.core).ended)) (ending_noted sender x (closed_down v.core) gone)
-                  ∙ ap (λ (l : List (Happening U)). note_of_end client sender.number x ++ l) (closing p.is_killed),
-            )
-      ]
+      grind (arith, told_notes, notes_in, end_deeds, append-nil, ending_noted, ended_named, closed_down, note_of_end, closing)
     where
       closing : (killed : Bool) → notes_in {U = U} (end_deeds (cond killed None (Some ConnectionClosed))) ≡ cond killed [] (Disconnected ConnectionClosed ∷ [])
       closing true = refl
@@ -214,21 +185,14 @@ module _ {T U C : Type 0} (sends : T → Queue → Result ℕ IoFault → T → 
   starved_part : (p q : Part T U C) (sender : IdParts) (is_destructor : Bool) (created : Option IdParts) (o : Option (Object (Kept U))) → ended_by p.store sender is_destructor ≡ o
       → (lacked : Bool) (did : List (Deed U)) → lacked ≡ true → Tells sends (ends client (core_of p) sender o created u) p.link lacked did q
       → IsStarvedPart p q sender is_destructor did
-  starved_part p q sender is_destructor created None is lacked did lacks h =
-      absurd (true≢false (sym lacks ∙ told_nothing sends (ends client (core_of p) sender None created u) refl refl refl p.link lacked did q h))
+  starved_part p q sender is_destructor created None is lacked did lacks h = grind (arith, true≢false, told_nothing, ends, core_of)
   starved_part p q sender is_destructor created (Some x) is lacked did lacks h =
       let (destroys, there) = ended_named p.store sender is_destructor x is in
       let starved = told_starved sends (ends client (core_of p) sender (Some x) created u) refl p.link lacked did q lacks h in
-      record {
-        destroys = destroys;
-        there = ap is_some there;
-        core_is = ap (λ (y : Part T U C). core_of y) starved.part_is;
-        notes_are = starved.notes_are ∙ silent (is_some (named p.store sender)) _ (ap is_some there);
-      }
+      grind (arith, is_some, core_of, silent, named)
     where
       silent : (b : Bool) (events : List (Told U)) → b ≡ true → told_notes (cond b [] events) ++ [] ≡ []
-      silent true events is = refl
-      silent false events is = absurd (true≢false (sym is))
+      silent h1 events is = grind (arith, true≢false)
 
 -- ---- of one client
 
@@ -266,12 +230,10 @@ module _ {U : Type 0} (u : Option U) where
 
   was_starved : (r : FinishRefused (Option U)) (lacked : Bool) → ◌≡◌ {A = Answer U} (Err r) (unless_refused (record { error = finish.OutOfMemory; user_data = u }) lacked)
       → (lacked ≡ true) × (r.error ≡ finish.OutOfMemory) × (r.user_data ≡ u)
-  was_starved r true is = let (error, back) = was_refused_for r finish.OutOfMemory is in (refl, error, back)
-  was_starved r false is = absurd (not_ok r is)
+  was_starved r h2 is = grind (arith, was_refused_for, not_ok)
 
   was_taken : (lacked : Bool) → ◌≡◌ {A = Answer U} (Ok tt) (unless_refused (record { error = finish.OutOfMemory; user_data = u }) lacked) → lacked ≡ false
-  was_taken true is = absurd (no_refusal finish.OutOfMemory is)
-  was_taken false is = refl
+  was_taken h1 is = grind (arith, no_refusal)
 
 -- ---- of a call
 
@@ -295,14 +257,11 @@ module _ {T U G C : Type 0} (w : World T G C) (before after : BackendState T U G
 
   request_memory : (answer : Answer U) → lacks_finish answer ≡ false → IsAnswered answer → after.refused ≡ false
   request_memory answer quiet call =
-      calm call refl (λ id lacked did (r, is, h).
-      never (same_client target id) _ _ _ lacked did _
-      (λ p q does. lacks_by w.sends id u r lacked did p q does ∙ ap (λ (a : Answer U). lacks_finish a) (sym (inside answer r is)) ∙ quiet) h)
+      calm call refl (grind (arith, never, same_client, lacks_by, lacks_finish, inside))
 
   request_starved : (answer : Answer U) → lacks_finish answer ≡ true → IsAnswered answer → after.refused ≡ true
   request_starved answer lacks call =
-      refused_to call target (λ lacked did (r, is, h).
-      own_lacks w.sends target u r _ _ lacked did (ap (λ (a : Answer U). lacks_finish a) (sym (inside answer r is)) ∙ lacks) h)
+      refused_to call target (grind (arith, own_lacks, lacks_finish, inside))
 
   request_same : (r : FinishRefused (Option U)) → is_out_of_memory r.error ≡ false → IsAnswered (Err r) → IsRefusedWhole before after
   request_same r quiet call = (
@@ -321,16 +280,7 @@ module _ {T U G C : Type 0} (w : World T G C) (before after : BackendState T U G
       → (seen target before.server).part ≡ Some p → seen target after.server ≡ record { part = Some q; made = (seen target before.server).made ++ notes_in did }
       → after.refused ≡ true → RequestRefusedAs before target u finish.OutOfMemory after
   starved_as p q lacked did r e lacks there same refused =
-      let starved = starved_part w.sends target u p q e.sender e.is_destructor e.created (ended_by p.store e.sender e.is_destructor) refl lacked did lacks e.tells in (
-        e.sender,
-        e.created,
-        ap (λ (x : Option (Part T U C)). and_then x (λ p. p.action)) there ∙ e.was_open
-            ∙ ap (λ (b : Bool). Some (opened.Request e.sender b e.created)) starved.destroys,
-        ap (λ (x : Option (Part T U C)). is_some (and_then x (λ p. named p.store e.sender))) there ∙ starved.there,
-        ap (λ (x : Seen T U C). option_map core_of x.part) same ∙ ap Some starved.core_is ∙ sym (ap (λ (x : Option (Part T U C)). option_map core_of x) there),
-        ap (λ (x : Seen T U C). x.made) same ∙ ap (λ (n : List (Happening U)). (seen target before.server).made ++ n) starved.notes_are ∙ append-nil (seen target before.server).made,
-        refused,
-      )
+      let starved = starved_part w.sends target u p q e.sender e.is_destructor e.created (ended_by p.store e.sender e.is_destructor) refl lacked did lacks e.tells in grind (arith, and_then, is_some, named, option_map, core_of, seen, append-nil)
 
   data_fit : (p : Part T U C) → (seen target before.server).part ≡ Some p → (created : Option IdParts) → refusal p.is_killed created u ≡ None → DataFit before target created u
   data_fit p there created none = grind (arith, refusal, option_map)
@@ -357,12 +307,8 @@ module _ {T U G C : Type 0} (w : World T G C) (before after : BackendState T U G
         is_finished = ap (λ (x : Option (Part T U C)). and_then x (λ p. p.action)) now ∙ none_open;
         fits = data_fit p there e.created e.fits;
         gone = λ ends. found e.sender ∙ made_none left e.created u e.sender (sender_gone p.store e.sender e.is_destructor o refl ends);
-        made = λ id is differ.
-            found id ∙ ap (λ (c : Option IdParts). named (store_with_data left c u) id) is ∙ made_named left id u
-            ∙ ap (λ (x : Option (Object (Kept U))). option_map (with_given u) x)
-            (sender_others p.store e.sender e.is_destructor o refl id differ ∙ sym (had id));
-        others = λ id differ other.
-            found id ∙ made_others left e.created u id other ∙ sender_others p.store e.sender e.is_destructor o refl id differ ∙ sym (had id);
+        made = grind (arith, named, store_with_data, made_named, option_map, with_given, sender_others);
+        others = grind (arith, made_others, sender_others);
         told = end_told p q did e.sender e.is_destructor there same
             (part_noted w.sends target u p q e.sender e.is_destructor e.created o refl lacked did (was_taken u lacked e.answer_is) e.tells);
       }
@@ -387,9 +333,7 @@ module _ {T U G C : Type 0} (w : World T G C) (before after : BackendState T U G
             (back, because error (none, request_same r (ap is_out_of_memory error) call))
         | inr (p, there, (q, does, same)) ↦
             elim (comes_to w.sends target u (Err r) lacked did p q does) [
-              | inl x ↦
-                  let (error, back) = was_refused_for u r x.error x.answer_is in
-                  (back, because error (refused_as p there x.error x.why (request_same r (ap is_out_of_memory error ∙ why_calm p u x.error x.why) call)))
+              | inl x ↦ grind (arith, was_refused_for, because, refused_as, request_same, is_out_of_memory, why_calm)
               | inr e ↦
                   let (lacks, error, back) = was_starved u r lacked e.answer_is in
                   (back, because error (starved_as p q lacked did r e lacks there same (request_starved (Err r) (ap is_out_of_memory error) call)))
@@ -400,10 +344,4 @@ module _ {T U G C : Type 0} (w : World T G C) (before after : BackendState T U G
       because error h = subst (λ (e : FinishError). RequestRefusedAs before target u e after) (sym error) h
 
   pub ends_open_request : (answer : Answer U) → IsAnswered answer → EndsOpenRequest before target u answer after
-  ends_open_request answer call = record {
-    request = request_ended_as answer call;
-    clients = λ other differ. let (lacked, did, h) = request_each answer call other in other_stays (same_client target other) _ _ _ lacked did _ differ h;
-    stored = λ other.
-        let (lacked, did, h) = request_each answer call other in keeps (same_client target other) _ _ _ lacked did _ (λ x. is_some x) (λ about p q r. refl) h;
-    globals = offer_of call;
-  }
+  ends_open_request answer call = grind (arith, request_ended_as, request_each, other_stays, same_client, keeps, is_some, offer_of)

@@ -1,8 +1,7 @@
 -- What becomes of the data of an action, in the words of the look-ups.
-use Rattle.std.proofs.Common.{arith, ◌≡◌, Bool, List, Option, None, Some, Result, Ok, Err, refl, sym, subst}
-use Rattle.std.specs.Prelude.{IfOk, MatchOption, option_map, slice_set}
+use Rattle.std.proofs.Common.{arith, ◌≡◌, Bool, List, Option, None, Some, Result, Ok}
+use Rattle.std.specs.Prelude.{IfOk, MatchOption, slice_set}
 use Rattle.std.specs.Result.{result_and}
-use Rattle.wl_link.specs.declared.object.Object.{Object}
 use Rattle.wl_link.specs.Store.{Store}
 use Rattle.wl_server.specs.declared.error.FinishRefused.{FinishRefused}
 use Rattle.wl_server.specs.declared.objects.Kept.{Kept}
@@ -11,7 +10,7 @@ use Rattle.wl_server.specs.Backend.{BackendState}
 use Rattle.wl_server.specs.Finish.{HoldsData, data_given}
 use Rattle.wl_server.specs.Ids.{ClientParts, IdParts}
 use Rattle.wl_server.specs.Inside.Finishing.{BindLeaves, DataHeld, RequestLeaves}
-use Rattle.wl_server.specs.Part.{Part, named, with_user_data}
+use Rattle.wl_server.specs.Part.{Part, named}
 use Rattle.wl_server.specs.Plain.{EndsBind, EndsOpenRequest, ReturnsBindData, ReturnsRequestData, client_in}
 use Rattle.wl_server.specs.Server.{Stored, client_at}
 use Rattle.wl_server.proofs.Plain.Finishing.{given_named}
@@ -23,21 +22,14 @@ module _ {U : Type 0} where
   -- the object that is kept has them, or they come back
   pub given_held : (store after : Store (Kept U)) (id : IdParts) (u : U) (back : Option U) → MatchOption (named store id) (back ≡ Some u) (λ _. back ≡ None)
       → after ≡ data_given store id.number (named store id) u → HoldsData (named after id) u back
-  given_held store after id u back returned given =
-      subst (λ (s : Store (Kept U)). HoldsData (named s id) u back) (sym given)
-      (subst (λ (o : Option (Object (Kept U))). HoldsData o u back) (sym (given_named store id u)) (at (named store id) returned))
-    where
-      at : (o : Option (Object (Kept U))) → MatchOption o (back ≡ Some u) (λ _. back ≡ None) → HoldsData (option_map (with_user_data u) o) u back
-      at None is = is
-      at (Some x) is = (refl, is)
+  given_held store after id u back returned given = grind (arith, named, given_named)
 
 -- ---- the open action
 
 module _ {T U C : Type 0} (p q : Part T U C) where
   pub request_leaves : (u : Option U) (sender : IdParts) (is_destructor : Bool) (created : Option IdParts) (answer : Result (Option U) (FinishRefused (Option U)))
       → p.action ≡ Some (opened.Request sender is_destructor created) → IfOk answer (λ back. DataHeld q.store created u back) → RequestLeaves p u answer q
-  request_leaves u sender is_destructor created (Ok back) is held = (sender, is_destructor, created, is, held)
-  request_leaves u sender is_destructor created (Err r) is held = tt
+  request_leaves u sender is_destructor created h5 is held = grind (arith)
 
 -- ---- the client that was looked up
 

@@ -33,9 +33,6 @@ module _ {T U C : Type 0} (sends : T → Queue → Result ℕ IoFault → T → 
       → FlushedTo sends p answer lacked did q → f q ≡ f p
   flushed_keeps f answer stays (es, link, by, memory, did_so, same) = ap f same ∙ stays link
 
-  live_keeps : {A : Type 0} (f : Part T U C → A) → ((link : LinkState T) → f (with_link p link) ≡ f p) → FlushesLive sends p lacked did q → f q ≡ f p
-  live_keeps f stays h = grind (arith, either_bool, flushed_keeps)
-
   flushed_silent : (answer : Result (Unit {0}) IoFault) → FlushedTo sends p answer lacked did q → notes_in did ≡ []
   flushed_silent answer (es, link, by, memory, did_so, same) = ap notes_in did_so ∙ silent es
 
@@ -50,7 +47,7 @@ module _ {T U G C : Type 0} (w : World T G C) (id : ClientParts) (offer : Offer 
   -- a part of each client that its link does not change
   pub flush_keeps : {A : Type 0} (f : Option (Part T U C) → A) → ((p : Part T U C) (link : LinkState T) → f (Some (with_link p link)) ≡ f (Some p))
       → (target : Option ClientParts) (answer : Result (Unit {0}) IoFault) → FlushedFor w id offer target answer s lacked did t → f t.part ≡ f s.part
-  flush_keeps f h1 target answer h2 = grind (arith, keeps, live_keeps, flushed_keeps)
+  flush_keeps f h1 target answer h2 = grind (arith, keeps, either_bool, flushed_keeps)
 
   flush_notes : (target : Option ClientParts) (answer : Result (Unit {0}) IoFault) → FlushedFor w id offer target answer s lacked did t → t.made ≡ s.made
   flush_notes None answer (ok, h) = notes_stay true s _ (Unit {0}) lacked did t (λ p q r. live_silent w.sends lacked did p q r) h
@@ -82,10 +79,7 @@ module _ {T U G C : Type 0} {w : World T G C} {before after : BackendState T U G
     (let (lacked, did, h) = flush_each None answer call (record { slot = 0; serial = 0 }) in h.0),
     λ id p there killed. let (lacked, did, h) = flush_each None answer call id in killed_stays w id before.server.offer _ _ lacked did answer p there killed h,
   )
-  flushed_as (Some id) answer call = (
-    at (client_of before.server id) refl,
-    λ other differ. let (lacked, did, h) = flush_each (Some id) answer call other in other_stays (same_client id other) _ _ _ lacked did _ differ h,
-  )
+  flushed_as (Some id) answer call = grind (arith, at, client_of, flush_each, other_stays, same_client)
     where
       absent : client_of before.server id ≡ None → (other : ClientParts) → same_client id other ≡ true → client_of before.server other ≡ None
       absent none other is = subst (λ (i : ClientParts). client_of before.server i ≡ None) (same_is id other is) none
@@ -93,15 +87,7 @@ module _ {T U G C : Type 0} {w : World T G C} {before after : BackendState T U G
       at : (o : Option (Part T U C)) → client_of before.server id ≡ o
           → MatchOption o ((answer ≡ Ok tt) × IsUnchanged before after)
           (λ p. (link : LinkState T) × Flushed w.sends p.link answer link × (client_of after.server id ≡ Some (with_link p link)))
-      at None none = (
-        (let (lacked, did, h) = flush_each (Some id) answer call id in
-            elim (either_option (client_of before.server id) (own id _ _ _ lacked did _ h)) [
-              | inl (none, (is, rest)) ↦ is
-              | inr (p, there, rest) ↦ absurd (none_and_some (client_of before.server id) none there)
-            ]),
-        unchanged call refl refl (λ other.
-            let (lacked, did, h) = flush_each (Some id) answer call other in missing_stays (same_client id other) _ _ _ lacked did _ (λ about. absent none other about) h),
-      )
+      at None none = grind (arith, flush_each, either_option, client_of, own, none_and_some, unchanged, missing_stays, same_client, absent)
       at (Some p) there =
           let (lacked, did, h) = flush_each (Some id) answer call id in
           elim (either_option (client_of before.server id) (own id _ _ _ lacked did _ h)) [
@@ -131,10 +117,7 @@ module _ {T U G C : Type 0} {w : World T G C} {before after : BackendState T U G
       ]
   flush_memory (Some id) answer call =
       let (did, (r, is, h)) = of_own call id refl (λ other lacked did differ (r, is, h). (when_false _ (same_client id other) differ h).0) in
-      elim (either_option (client_of before.server id) (own id _ _ _ after.refused did _ h)) [
-        | inl (none, (ok, (calm, nothing, stays))) ↦ calm ∙ ap lacks_memory (sym ok ∙ inside r is)
-        | inr (p, there, (q, (es, link, by, memory, did_so, same), stays)) ↦ memory ∙ ap lacks_memory (inside r is)
-      ]
+      grind (arith, either_option, client_of, own, lacks_memory, inside)
     where
       inside : (r : Result (Unit {0}) IoFault) → ◌≡◌ {A = Reply T U} (reply.Flush answer) (reply.Flush r) → r ≡ answer
       inside r is = cc

@@ -1,5 +1,5 @@
 -- A transport that the program changed.
-use Rattle.std.proofs.Common.{◌≡◌, ◌∙◌, ◌+◌, ℕ, zero, suc, Bool, List, [], ◌∷◌, ◌++◌, Option, None, Some, option_map, is_some, refl, sym, ap, subst, true≢false}
+use Rattle.std.proofs.Common.{◌≡◌, ◌∙◌, ◌+◌, ℕ, zero, suc, Bool, List, [], ◌∷◌, ◌++◌, Option, None, Some, option_map, is_some, refl, sym, ap, true≢false, arith}
 use mathlib.Core.Logic.{inl, inr}
 use Rattle.std.specs.FinMap as finmap
 use Rattle.std.specs.Prelude.{map, slice_set}
@@ -14,9 +14,9 @@ use Rattle.wl_server.specs.Lending.{over_transport, server_over, state_over}
 use Rattle.wl_server.specs.Lookups.{and_then, id_if, id_if_stored, live_from, name_if}
 use Rattle.wl_server.specs.Next.{NextClient}
 use Rattle.wl_server.specs.Part.{Part, id_at, named, with_link}
-use Rattle.wl_server.specs.PartStep.{Call, OfClient, PartCall, Quietly, WithTransport, World}
+use Rattle.wl_server.specs.PartStep.{OfClient, Quietly, WithTransport, World}
 use Rattle.wl_server.specs.Plain.Transport.{LeavesTransport}
-use Rattle.wl_server.specs.Server.{Seen, Stored, client_at, seen, stored_at}
+use Rattle.wl_server.specs.Server.{Stored, client_at, seen, stored_at}
 use Rattle.wl_server.proofs.Plain.Base.{keeps, none_and_some, notes_stay, one_value, other_stays, own}
 
 none_too : {A : Type 0} (o p : Option A) → is_some o ≡ is_some p → p ≡ None → o ≡ None
@@ -66,12 +66,7 @@ module _ {T U G C : Type 0} (w : World T G C) (before : BackendState T U G C) (i
       × OfClient (same_client id other) (seen other before.server) (λ p q. Quietly lacked did (WithTransport (λ _ t'. t' ≡ t) p q)) (Unit {0}) lacked did
       (seen other (server_over before.server id t))
   of_change other =
-      let (e, is, refused, by) = change.step in (
-        e.lacks other,
-        e.did other,
-        subst (λ (c : Call T U G C). PartCall w other before.server.offer c (seen other before.server) (e.lacks other) (e.did other) (seen other (server_over before.server id t)))
-            is (by.each other),
-      )
+      let (e, is, refused, by) = change.step in grind (arith, seen, server_over)
 
   -- what no transport changes is as before
   keeps_all : {A : Type 0} (f : Option (Part T U C) → A) → ((p : Part T U C) (link : LinkState T) → f (Some (with_link p link)) ≡ f (Some p)) → (other : ClientParts)
@@ -83,12 +78,7 @@ module _ {T U G C : Type 0} (w : World T G C) (before : BackendState T U G C) (i
   changed_part : (p : Part T U C) → (seen id before.server).part ≡ Some p → (seen id (server_over before.server id t)).part ≡ Some (changed_to t p)
   changed_part p there =
       let (lacked, did, h) = of_change id in
-      elim (either_option (seen id before.server).part (own id _ _ _ lacked did _ h)) [
-        | inl (none, rest) ↦ absurd (none_and_some (seen id before.server).part none there)
-        | inr (r, here, (q, (calm, nothing, (t', is_t, is)), same)) ↦
-            ap (λ (x : Seen T U C). x.part) same ∙ ap Some is ∙ ap (λ (x : T). Some (changed_to x r)) is_t
-            ∙ ap (λ (x : Part T U C). Some (changed_to t x)) (one_value (seen id before.server).part here there)
-      ]
+      grind (arith, either_option, seen, own, none_and_some, changed_to, one_value)
 
   pub leaves_transport : (s : Stored T U C) → Some s ≡ client_at id before.server.clients → LeavesTransport before id t (state_over before id t)
   leaves_transport s is = record {

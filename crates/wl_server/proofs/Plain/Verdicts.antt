@@ -1,5 +1,5 @@
 -- What a verdict over the link leaves of a client beside it.
-use Rattle.std.proofs.Common.{◌≡◌, ℕ, Bool, true, false, cond, List, [], ◌∷◌, ◌++◌, map, Result, Ok, Err, refl, sym, ap, ◌∙◌, true≢false, arith}
+use Rattle.std.proofs.Common.{◌≡◌, ℕ, Bool, true, false, cond, List, [], ◌++◌, map, Result, Ok, Err, refl, sym, ap, ◌∙◌, true≢false, arith}
 use mathlib.Core.Logic.{inl, inr}
 use Rattle.std.specs.Prelude.{◌⊎◌, ◌||◌}
 use Rattle.wl_wire.specs.declared.error.IoFault.{IoFault}
@@ -16,13 +16,11 @@ use Rattle.wl_server.proofs.Readings.Notes.{notes_told}
 
 -- an answer that lacks memory
 pub lacking : (a : Result (Unit {0}) IoFault) → lacks_memory a ≡ true → a ≡ Err fault.OutOfMemory
-lacking (Err fault.OutOfMemory) is = refl
-lacking _ is = absurd (true≢false (sym is))
+lacking h1 is = grind (arith, true≢false)
 
 pub no_flush : {T : Type 0} (sends : T → Queue → Result ℕ IoFault → T → Type 0) (flushes : Bool) (mid : LinkState T) (es : List Sending) (lacked : Bool) (after : LinkState T)
     → flushes ≡ false → FlushesOut sends flushes mid es lacked after → lacked ≡ false
-no_flush sends true mid es lacked after none h = absurd (true≢false none)
-no_flush sends false mid es lacked after none (nothing, same, calm) = calm
+no_flush sends h2 mid es lacked after none h = grind (arith, true≢false)
 
 -- A verdict that flushes nothing, and a part of the client that closing it down leaves: that part is what the verdict makes of
 -- it, or what it was where memory is refused.
@@ -30,28 +28,11 @@ pub told : {T U C A : Type 0} (sends : T → Queue → Result ℕ IoFault → T 
     → ((e : ReaderState T (Core U C)) → f (part_of e) ≡ g e.core) → (v : Verdict (Core U C) (Told U)) → v.flushes ≡ false → ((c : Core U C) → g (v.last c) ≡ g c)
     → ((c : Core U C) → g (closed_down c) ≡ g c) → (link : LinkState T) (lacked : Bool) (did : List (Deed U)) (q : Part T U C) → Tells sends v link lacked did q
     → f q ≡ cond lacked (g v.starved) (g v.core)
-told {T} {U} {C} {A} sends g f agree v none last closed link lacked did q (es, gave, end, carries, did_so, same) = ap f same ∙ agree end ∙ carried carries
-  where
-    came : (wrote : Result (Unit {0}) IoFault) (b : Bool) → b ≡ false → g (came_to speaker v wrote) ≡ cond (lacks_memory wrote || b) (g v.starved) (g v.core)
-    came (Ok u) b calm = last v.core ∙ ap (λ (b : Bool). cond b (g v.starved) (g v.core)) (sym calm)
-    came (Err fault.OutOfMemory) b calm = refl
-    came (Err fault.WouldBlock) b calm = last _ ∙ closed v.core ∙ ap (λ (b : Bool). cond b (g v.starved) (g v.core)) (sym calm)
-    came (Err fault.Pipe) b calm = last _ ∙ closed v.core ∙ ap (λ (b : Bool). cond b (g v.starved) (g v.core)) (sym calm)
-    came (Err fault.TooBig) b calm = last _ ∙ closed v.core ∙ ap (λ (b : Bool). cond b (g v.starved) (g v.core)) (sym calm)
-    came (Err fault.Proto) b calm = last _ ∙ closed v.core ∙ ap (λ (b : Bool). cond b (g v.starved) (g v.core)) (sym calm)
-    came (Err fault.InvalidInput) b calm = last _ ∙ closed v.core ∙ ap (λ (b : Bool). cond b (g v.starved) (g v.core)) (sym calm)
-    came (Err (fault.Other n)) b calm = last _ ∙ closed v.core ∙ ap (λ (b : Bool). cond b (g v.starved) (g v.core)) (sym calm)
-
-    carried : CarriesOut sends speaker v link es gave lacked end → g end.core ≡ cond lacked (g v.starved) (g v.core)
-    carried (inl (first, others, put, wrote, mid, lacks, puts, flushes, sent, is, given, memory)) =
-        ap g is ∙ came wrote lacks (no_flush sends v.flushes mid others lacks end.link none flushes) ∙ ap (λ (b : Bool). cond b (g v.starved) (g v.core)) (sym memory)
-    carried (inr (asks, refused, nothing, given, starves)) =
-        ap (λ (x : ReaderState T (Core U C)). g x.core) starves ∙ ap (λ (b : Bool). cond b (g v.starved) (g v.core)) (sym refused)
+told {T} {U} {C} {A} sends g f agree v none last closed link lacked did q h17 = grind (arith, cond, no_flush)
 
 pub nothing_put : {T : Type 0} (sends : T → Queue → Result ℕ IoFault → T → Type 0) (link : LinkState T) (ms : List Said) → ms ≡ [] → (es : List Sending) (put : List Said)
     (wrote : Result (Unit {0}) IoFault) (mid : LinkState T) → PutsOut sends link ms es put wrote mid → wrote ≡ Ok tt
-nothing_put sends link [] is es put wrote mid (sent, done, ok, stays) = ok
-nothing_put sends link (m ∷ ms) is es put wrote mid h = absurd cc
+nothing_put sends link h3 is es put wrote mid h = grind (arith)
 
 -- no memory is refused where a verdict puts nothing and asks for none
 pub told_nothing : {T U C : Type 0} (sends : T → Queue → Result ℕ IoFault → T → Type 0) (v : Verdict (Core U C) (Told U)) → v.puts ≡ [] → v.flushes ≡ false → v.asks ≡ false
@@ -86,14 +67,11 @@ told_starved {T} {U} {C} sends v none link lacked did q starved (es, gave, end, 
     carried (inl (first, others, put, wrote, mid, lacks, puts, flushes, sent, is, given, memory)) =
         let comes : came_to speaker v wrote ≡ v.starved = came wrote lacks (no_flush sends v.flushes mid others lacks end.link none flushes) (sym memory ∙ starved) in
         of_core es put (is ∙ comes)
-        (did_so ∙ ap (λ (g : List (Given (Told U))). deeds_of (map Sent es) g end.core) given
-        ∙ ap (λ (c : Core U C). deeds_of (map Sent es) (put_and_gave put (v.events c)) end.core) comes
-        ∙ ap (λ (c : Core U C). deeds_of (map Sent es) (put_and_gave put (v.events v.starved)) c) (is ∙ comes))
+        (grind (arith, deeds_of, map, put_and_gave))
     carried (inr (asks, refused, silent, given, starves)) =
         let is : end.core ≡ v.starved = ap (λ (x : ReaderState T (Core U C)). x.core) starves in
         of_core es [] is
-        (did_so ∙ ap (λ (g : List (Given (Told U))). deeds_of (map Sent es) g end.core) given
-        ∙ ap (λ (c : Core U C). deeds_of (map Sent es) (put_and_gave [] (v.events v.starved)) c) is)
+        (grind (arith, deeds_of, map, put_and_gave))
 
 -- what a verdict leaves where no memory is refused, and what was noted in that: the client is closed down where a message could
 -- not be put

@@ -1,5 +1,5 @@
 -- How the end of an action is a verdict that was carried out.
-use Rattle.std.proofs.Common.{arith, ◌||◌, append-nil, append_assoc, ◌&&◌, not, is_none, is_some, map, MatchResult, inl, inr, ◌≡◌, ◌∙◌, ℕ, Bool, true, false, eqb, cond, List, [], ◌∷◌, ◌++◌, Option, None, Some, Result, Ok, Err, MatchOption, refl, sym, ap, subst}
+use Rattle.std.proofs.Common.{arith, ◌||◌, append-nil, append_assoc, not, is_none, is_some, map, MatchResult, inl, inr, ◌≡◌, ◌∙◌, ℕ, Bool, true, false, eqb, cond, List, [], ◌∷◌, ◌++◌, Option, None, Some, Result, Ok, Err, MatchOption, refl, sym, ap, subst}
 use Rattle.std.proofs.lemmas.Option.{none-some}
 use Rattle.std.proofs.lemmas.Bool.{false≢true}
 use Rattle.wl_wire.specs.declared.error.IoFault.{IoFault}
@@ -39,21 +39,15 @@ use Rattle.wl_server.proofs.GlobalCalls.Putting.{puts_none}
 
 -- ---- the object that an id names
 
-chosen : {X : Type 0} (b : Bool) (y x : X) → cond b (Some y) None ≡ Some x → y ≡ x
-chosen true y x e = cc
-chosen false y x e = absurd cc
-
 same_some : {X : Type 0} {x y : X} → Some x ≡ Some y → x ≡ y
 same_some h = cc
 
 module _ {U : Type 0} where
   found : (id : Id) (h : Option (Object (Kept U))) (x : Object (Kept U)) → named_in serial_of id h ≡ Some x → h ≡ Some x
-  found id None x e = absurd cc
-  found id (Some y) x e = ap Some (chosen (eqb (serial_of y.value) id.serial) y x e)
+  found id h2 x e = grind (arith, eqb, serial_of)
 
   not_null : (b : Bool) (id : Id) (h : Option (Object (Kept U))) (x : Object (Kept U)) → cond b None (named_in serial_of id h) ≡ Some x → h ≡ Some x
-  not_null true id h x e = absurd cc
-  not_null false id h x e = found id h x e
+  not_null h1 id h x e = grind (arith, found)
 
   -- is the one at the id's number
   named_held : (store : Store (Kept U)) (id : IdParts) (x : Object (Kept U)) → named store id ≡ Some x → held store id.number ≡ Some x
@@ -65,18 +59,12 @@ module _ {U : Type 0} where
   -- an object that is ended is the one that the id names
   pub ended_named : (store : Store (Kept U)) (sender : IdParts) (x : Object (Kept U)) (is_destructor : Bool) → ended_by store sender is_destructor ≡ Some x
       → named store sender ≡ Some x
-  ended_named store sender x true is = is
-  ended_named store sender x false is = absurd (none-some _ is)
+  ended_named store sender x h4 is = grind (arith, none-some)
 
 module _ {T U C : Type 0} (sends : T → Queue → Result ℕ IoFault → T → Type 0) (client : ClientParts) (s : Stored T U C) (sender : IdParts) (is_destructor : Bool) where
   abbrev changed : NoteTimes → LinkState T → Store (Kept U) → List Id → List (Happening U) → Stored T U C
   changed times link store registries made =
       record { serial = s.serial; part = record s.part { link = link; store = store; registries = registries }; made = made; times = times }
-
-  -- of a sender that the request ends and that is kept
-  where_kept : (x : Object (Kept U)) (answer : Result (Result (Unit {0}) IoFault) OutOfMemory) (after : Stored T U C) → Some x ≡ ended_by s.part.store sender is_destructor
-      → EndsObject sends client s sender x answer after → EndsSender sends client s sender is_destructor answer after
-  where_kept x answer after ended-is ends = grind (arith)
 
   -- it was taken out at its number, and noted
   pub ends_taken : (x : Object (Kept U)) (n : ℕ) (wrote : Result (Unit {0}) IoFault) (link : LinkState T) (store : Store (Kept U)) (registries : List Id)
@@ -85,15 +73,11 @@ module _ {T U C : Type 0} (sends : T → Queue → Result ℕ IoFault → T → 
       → ((y : Object (Kept U)) → held s.part.store n ≡ Some y
       → (registries ≡ registries_without s.part.registries n y) × (made ≡ same_made ++ note_of_end client n y))
       → same_made ≡ s.made → EndsSender sends client s sender is_destructor (Ok wrote) (changed times link store registries made)
-  ends_taken x n wrote link store registries made same_made times ended-is n-is puts lacks store-is left same-is = grind (arith, named_held, ended_named, where_kept, deletions, no_times, registries_without, note_of_end)
+  ends_taken x n wrote link store registries made same_made times ended-is n-is puts lacks store-is left same-is = grind (arith, named_held, ended_named, deletions, no_times, registries_without, note_of_end)
 
 -- ---- what it leaves
 
 module _ {U : Type 0} where
-  -- a number that holds nothing is named by no id
-  unnamed : (store : Store (Kept U)) (id : IdParts) → held store id.number ≡ None → named store id ≡ None
-  unnamed store id none = grind (arith, eqb, serial_of, id_of)
-
   -- data that an object is given make none at a number that holds none
   still_gone : (store : Store (Kept U)) (n : ℕ) (created : Option IdParts) (u : Option U) → held store n ≡ None → held (store_with_data store created u) n ≡ None
   still_gone store n created u h1 = grind (arith, named, data_given, rewritten_other, with_user_data, named_held)
@@ -101,11 +85,10 @@ module _ {U : Type 0} where
   -- an object that left is named no more, whatever data the new one was given
   pub not_named : (store : Store (Kept U)) (sender : IdParts) (created : Option IdParts) (u : Option U)
       → named (store_with_data (removed store sender.number) created u) sender ≡ None
-  not_named store sender created u = grind (arith, unnamed, store_with_data, still_gone, removed_here)
+  not_named store sender created u = grind (arith, eqb, serial_of, id_of, store_with_data, still_gone, removed_here)
 
   told_end : (i : IdParts) (id : Id) (u : Option U) → told_notes (map Did (map Noted (end_note i u) ++ left_if id u)) ≡ end_note i u
-  told_end i id None = refl
-  told_end i id (Some u) = refl
+  told_end i id h3 = grind (arith)
 
   module _ {C : Type 0} (client : ClientParts) (sender : IdParts) (x : Object (Kept U)) (c : Core U C) where
     -- the note of an object that left, and none of one that stayed
@@ -118,8 +101,7 @@ module _ {U : Type 0} where
 -- ---- a write's answer
 
 wanted_memory : (wrote : Result (Unit {0}) IoFault) → lacks_memory wrote ≡ true → wrote ≡ Err fault.OutOfMemory
-wanted_memory (Err fault.OutOfMemory) is = refl
-wanted_memory _ is = absurd (false≢true is)
+wanted_memory h1 is = grind (arith, false≢true)
 
 module _ {U C : Type 0} where
   -- the core where all was put, and where a write failed
@@ -130,25 +112,21 @@ module _ {U C : Type 0} where
   module _ (client : ClientParts) (c : Core U C) (id : IdParts) (x : Object (Kept U)) (created : Option IdParts) (u : Option U) where
     came_closing : (wrote : Result (Unit {0}) IoFault) → lacks_memory wrote ≡ false
         → closing (core_finished (without c id.number x) created u) wrote ≡ came_to speaker (ends client c id (Some x) created u) wrote
-    came_closing (Err fault.OutOfMemory) is = absurd (false≢true (sym is))
-    came_closing _ is = refl
+    came_closing h1 is = grind (arith, false≢true)
 
     closing_store : (wrote : Result (Unit {0}) IoFault)
         → (closing (core_finished (without c id.number x) created u) wrote).store ≡ store_with_data (removed c.store id.number) created u
-    closing_store (Ok v) = refl
-    closing_store (Err f) = refl
+    closing_store h1 = grind (arith)
 
 -- a write that failed kills the client, and changes none of its objects
 pub store_unless_written : {T U C : Type 0} (s after : Stored T U C) (wrote : Result (Unit {0}) IoFault)
     → MatchResult wrote (λ _. after ≡ s) (λ _. Does s (λ p did q. Kills p ConnectionClosed did q) after) → after.part.store ≡ s.part.store
-store_unless_written {T} {U} {C} s after (Ok v) same = ap (λ (x : Stored T U C). x.part.store) same
-store_unless_written {T} {U} {C} s after (Err f) kills = ap (λ (x : Stored T U C). x.part.store) (kills_is s after ConnectionClosed kills)
+store_unless_written {T} {U} {C} s after h6 same = grind (arith, kills_is)
 
 -- ---- the end of a request
 
 pub where_none : {X : Type 0} (o : Option X) → None ≡ o → (A : Type 0) (B : X → Type 0) → A → MatchOption o A B
-where_none None is A B h = h
-where_none (Some x) is A B h = absurd (none-some _ is)
+where_none h1 is h3 h4 h = grind (arith, none-some)
 
 pub where_some : {X : Type 0} (o : Option X) (x : X) → Some x ≡ o → (A : Type 0) (B : X → Type 0) → B x → MatchOption o A B
 where_some {X} o x is A B h = subst (λ (o : Option X). MatchOption o A B) is h
@@ -224,9 +202,7 @@ module _ {T U C : Type 0} (sends : T → Queue → Result ℕ IoFault → T → 
       came_closing client (core_of s.part) sender x created u wrote lacks,
       sym (ap (λ (b : Bool). b || false) lacks),
     ),
-    at wrote tells ∙ ap (λ (notes : List (Happening U)). noting (part_of (record { core = closing core wrote; link = mid.part.link })) (notes ++ notes_in (end_deeds (closing core wrote).ended)))
-        (sym (note_where_gone client sender x (closing core wrote)
-        (ap (λ (store : Store (Kept U)). named store sender) (closing_store client (core_of s.part) sender x created u wrote) ∙ not_named s.part.store sender created u))),
+    grind (arith, at, noting, part_of, core, closing, notes_in, end_deeds, note_where_gone, named, closing_store, core_of, not_named),
   )
     where
       core : Core U C
@@ -297,5 +273,4 @@ module _ {T U C : Type 0} (sends : T → Queue → Result ℕ IoFault → T → 
   request_refused e some =
       does_quietly s (λ p did q. FinishesOpen sends client p (opened.Request sender is_destructor created) u (Err (record { error = e; user_data = u })) (is_out_of_memory e) did q)
       s.part
-      (where_some (refusal s.part.is_killed created u) e some _ (λ e'. Refuses s.part u e' (Err (record { error = e; user_data = u })) (is_out_of_memory e) [] s.part)
-      (refl, no_memory (is_some created && (is_none u && not s.part.is_killed)) (is_none created && is_some u) e (sym some), refl, refl))
+      (grind (arith, where_some, refusal, is_out_of_memory, no_memory, is_some, is_none, not))

@@ -58,8 +58,7 @@ or_false true = refl
 or_false false = refl
 
 and_false : (b : Bool) → b && false ≡ false
-and_false true = refl
-and_false false = refl
+and_false h1 = grind (arith)
 
 -- the client over another link
 abbrev pub over_link : {T U C : Type 0} → Stored T U C → LinkState T → Stored T U C
@@ -151,8 +150,7 @@ module _ {T U C : Type 0} (sends : T → Queue → Result ℕ IoFault → T → 
   -- ---- a reply
 
   came_closed : (c : Core U C) (puts : List Said) (did : List (Deed U)) (f : IoFault) → came_to speaker (replies c puts did) (Err f) ≡ closed_down c
-  came_closed c puts did fault.WouldBlock = refl
-  came_closed c puts did _ = refl
+  came_closed c puts did h4 = grind (arith)
 
   live_stops : (c : Core U C) → c.is_killed ≡ false → stops_if c ≡ []
   live_stops c live = ap (λ (b : Bool). if b then (Stops fault.Pipe ∷ []) else []) live
@@ -170,14 +168,7 @@ module _ {T U C : Type 0} (sends : T → Queue → Result ℕ IoFault → T → 
         end = record { core = core_of s.part; link = link };
         carried = inl (es, [], put, Ok tt, link, false, put_out, (refl, refl, refl), refl, refl, refl, refl);
         no_note = no_note_put put (map HandedOut events) (quiet.no_note (stops_if (core_of s.part)) ∙ ap (λ (l : List (Told U)). notes_in (deeds_in (map HandedOut l))) stops);
-        says = (
-          refl,
-          refl,
-          live.0,
-          live.1,
-          λ rest. behind_puts_and put (map HandedOut events) rest ∙ quiet.silent (stops_if (core_of s.part)) rest
-              ∙ ap (λ (l : List (Told U)). action_in (map HandedOut l ++ rest)) stops,
-        );
+        says = grind (arith, behind_puts_and, map, stops_if, core_of, action_in);
         after_is = ap untimed same ∙ made_end (over_link s link);
       }
 

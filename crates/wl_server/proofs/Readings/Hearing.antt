@@ -1,5 +1,5 @@
 -- What it comes to that a live client was told messages.
-use Rattle.std.proofs.Common.{◌≡◌, ◌∙◌, ℕ, Bool, true, false, ◌||◌, List, [], ◌++◌, Result, Ok, Err, refl, sym, ap, append-nil, subst}
+use Rattle.std.proofs.Common.{◌≡◌, ◌∙◌, ℕ, Bool, true, false, ◌||◌, List, [], ◌++◌, Result, Ok, Err, refl, sym, ap, append-nil, subst, arith}
 use Rattle.std.specs.Prelude.{MatchResult}
 use Rattle.wl_wire.specs.declared.error.IoFault.{IoFault}
 use Rattle.wl_wire.specs.declared.error.IoFault.TheVariants as fault
@@ -53,8 +53,7 @@ module _ {T U C : Type 0} (sends : T → Queue → Result ℕ IoFault → T → 
     did,
     p,
     at_false _ s.part.is_killed live (subst (λ (l : Bool). Told s messages l did p) (sym is) tells),
-    becomes ∙ ap (λ (p : Part T U C). let x : Stored T U C = record { serial = s.serial; part = p; made = s.made ++ notes; times = no_times } in x) part
-        ∙ ap (λ (n : List (Happening U)). let x : Stored T U C = record { serial = s.serial; part = p; made = s.made ++ n; times = no_times } in x) (sym noted),
+    grind (arith, no_times),
   )
 
   pub live_hears : (s after : Stored T U C) (messages : List Said) (wrote : Result (Unit {0}) IoFault) (link : LinkState T) (lacked : Bool)

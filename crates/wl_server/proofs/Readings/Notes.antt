@@ -1,5 +1,5 @@
 -- How a verdict that was carried out is told: what was put, the deeds, and the notes among them.
-use Rattle.std.proofs.Common.{◌≡◌, ◌∙◌, ℕ, Bool, true, ◌||◌, List, [], ◌∷◌, ◌++◌, map, Result, refl, sym, ap, subst, inl, inr, arith}
+use Rattle.std.proofs.Common.{◌≡◌, ℕ, Bool, true, ◌||◌, List, [], ◌∷◌, ◌++◌, map, Result, refl, sym, ap, subst, inl, inr, arith}
 use Rattle.wl_wire.specs.declared.error.IoFault.{IoFault}
 use Rattle.wl_link.specs.Exchange.{Queue, Sending}
 use Rattle.wl_link.specs.Link.{LinkState}
@@ -84,14 +84,12 @@ module _ {U C : Type 0} where
           t.0,
           part_of (record { core = came_to speaker v wrote; link = link }),
           subst (λ (b : Bool). Tells sends v s.part.link b t.0 (part_of (record { core = came_to speaker v wrote; link = link }))) (sym refused-is) t.1,
-          is ∙ ap (λ (c : Core U C). came_at c link) core-is
-              ∙ ap (noted_at (part_of (record { core = came_to speaker v wrote; link = link }))) (sym t.2),
+          grind (arith, came_at, noted_at, part_of, came_to, speaker),
         )
     tells_carried (core, link, inr (asks, refused-is, core-is, link-is), is) =
         let t = tells_starved sends v s.part.link asks in (
           t.0,
           part_of (record { core = v.starved; link = s.part.link }),
           subst (λ (b : Bool). Tells sends v s.part.link b t.0 (part_of (record { core = v.starved; link = s.part.link }))) (sym refused-is) t.1,
-          is ∙ ap (λ (c : Core U C). came_at c link) core-is ∙ ap (came_at v.starved) link-is
-              ∙ ap (noted_at (part_of (record { core = v.starved; link = s.part.link }))) (sym t.2),
+          grind (arith, came_at, noted_at, part_of),
         )

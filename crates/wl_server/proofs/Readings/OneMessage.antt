@@ -1,5 +1,5 @@
 -- How turns and receives join to a reading of a client.
-use Rattle.std.proofs.Common.{◌≡◌, nat_le, ◌≢◌, ◌∙◌, ℕ, suc, ◌+◌, ◌<◌, ◌≤◌, Bool, true, false, ◌&&◌, ◌||◌, not, List, [], ◌∷◌, ◌++◌, append-nil, append_assoc, length, map, Option, None, Some, is_some, is_none, option_map, Result, Ok, Err, is_ok, MatchBool, MatchOption, MatchResult, refl, sym, ap, ap₂, subst, arith, true≢false}
+use Rattle.std.proofs.Common.{◌≡◌, nat_le, ◌≢◌, ◌∙◌, ℕ, suc, ◌+◌, ◌<◌, ◌≤◌, Bool, true, false, ◌&&◌, ◌||◌, not, List, [], ◌∷◌, ◌++◌, append-nil, append_assoc, length, map, Option, None, Some, is_some, is_none, option_map, Result, Ok, Err, is_ok, MatchBool, MatchOption, refl, sym, ap, ap₂, subst, arith, true≢false}
 use mathlib.Core.Logic.{inl, inr}
 use Rattle.wl_wire.specs.declared.argument.Argument.{Argument}
 use Rattle.wl_wire.specs.declared.argument.Token.{Token}
@@ -73,9 +73,7 @@ module _ {U : Type 0} where
   deeds_append (Rattle.wl_link.specs.Reader.HandedOut (Rattle.wl_server.specs.Telling.Stops f) ∷ a) b = deeds_append a b
 
   no_note_append : (a b : List (Given (Told U))) → HasNoNote a → HasNoNote b → HasNoNote (a ++ b)
-  no_note_append a b one two =
-      ap notes_in (deeds_append a b) ∙ notes_append (deeds_in a) (deeds_in b)
-      ∙ ap (λ (l : List (Happening U)). l ++ notes_in (deeds_in b)) one ∙ two
+  no_note_append a b one two = grind (arith, notes_in, deeds_append, notes_append, deeds_in)
 
   made_none : (made : List (Happening U)) (o : Option DisconnectReason) → o ≡ None → made ++ notes_in (end_deeds {U = U} o) ≡ made
   made_none made o is = ap (λ (r : Option DisconnectReason). made ++ notes_in (end_deeds {U = U} r)) is ∙ append-nil made
@@ -84,26 +82,11 @@ module _ {T U C : Type 0} where
   live_reads : (p : Part T U C) → Live p → reads_on (core_of p) ≡ true
   live_reads p (live, unopened) = ap (λ (b : Bool). not b && is_none p.action) live ∙ ap (λ (o : Option OpenAction). is_none o) unopened
 
-  -- a core in which the client was not killed is that of its part
-  core_again : (end : ReaderState T (Core U C)) → end.core.ended ≡ None → reader_part (part_of end) ≡ end
-  core_again end is =
-      ap (λ (o : Option DisconnectReason). let p : ReaderState T (Core U C) = record { core = record end.core { ended = o }; link = end.link } in p) (sym is)
-
   -- a client that lives on is as it was stored, with that part
   stored_live : (s : Stored T U C) (p : Part T U C) → record { serial = s.serial; part = p; made = s.made; times = no_times } ≡ stored_as s (reader_part p)
   stored_live s p = ap (λ (m : List (Happening U)). let x : Stored T U C = record { serial = s.serial; part = p; made = m; times = no_times } in x) (sym (append-nil s.made))
 
 -- ---- a read under the signature of the request at the front
-
-other_look_up : (b : Bool) (P Q R : Option (List ArgumentType) → Type 0) (E : Type 0) → ((f : Option (List ArgumentType)) → P f → Q f)
-    → MatchBool b ((f : Option (List ArgumentType)) × P f × R f) E → MatchBool b ((f : Option (List ArgumentType)) × Q f × R f) E
-other_look_up true P Q R E q (f, p, r) = (f, q f p, r)
-other_look_up false P Q R E q e = e
-
-header_found : {T : Type 0} (f : Option (List ArgumentType)) (before : LinkState T) (m : WireMessage) (after : LinkState T) → ReadFound f before (Ok m) after
-    → (m.sender ≡ sender_of before.incoming.bytes) × (m.opcode ≡ opcode_of before.incoming.bytes)
-header_found None before m after read = absurd (true≢false (ap is_ok read.0))
-header_found (Some s) before m after read = (read.0.sender, read.0.opcode)
 
 abbrev ok_answer : WireMessage → Result WireMessage MessageParseError
 ok_answer m = Ok m
@@ -111,15 +94,14 @@ ok_answer m = Ok m
 header_at : {T : Type 0} (b : Bool) (P : Option (List ArgumentType) → Type 0) (before : LinkState T) (m : WireMessage) (after : LinkState T)
     → MatchBool b ((f : Option (List ArgumentType)) × P f × ReadFound f before (Ok m) after) ((ok_answer m ≡ Err parse.MissingData) × (after ≡ before))
     → (m.sender ≡ sender_of before.incoming.bytes) × (m.opcode ≡ opcode_of before.incoming.bytes)
-header_at true P before m after (f, p, read) = header_found f before m after read
-header_at false P before m after (answer, same) = absurd (true≢false (ap is_ok answer))
+header_at h1 h2 before m after h6 = grind (arith, true≢false, is_ok)
 
 module _ {T U : Type 0} (table : List InterfaceRow) (store : Store (Kept U)) (link : LinkState T) (r : FrontRequest) (front : IsFront table store link r) (after : LinkState T) where
   abbrev AsAsked : Option (List ArgumentType) → Type 0
   AsAsked f = f ≡ Some r.desc.now.signature.items
 
   pub read_in : (answer : Result WireMessage MessageParseError) → ReadOne (λ _ _ f. AsAsked f) link answer after → ReadsIn table store link answer after
-  read_in answer read = grind (arith, other_look_up, nat_le, option_map, row_in)
+  read_in answer read = grind (arith, nat_le, option_map, row_in)
 
   module _ (m : WireMessage) (read : ReadOne (λ _ _ f. AsAsked f) link (Ok m) after) where
     header_is : (m.sender ≡ sender_of link.incoming.bytes) × (m.opcode ≡ opcode_of link.incoming.bytes)
@@ -148,8 +130,7 @@ module _ {T U G C : Type 0} (sends : T → Queue → Result ℕ IoFault → T �
   }
 
   behind_twice : (gave more : List (Given (Told U))) (refused : Bool) (rest : Gives (Told U)) → given_first gave false (given_first more refused rest) ≡ given_first (gave ++ more) refused rest
-  behind_twice gave more refused rest =
-      ap (λ (g : List (Given (Told U))). let o : Gives (Told U) = record rest { gave = g; refused = refused || rest.refused } in o) (sym (append_assoc gave more rest.gave))
+  behind_twice gave more refused rest = grind (arith, append_assoc)
 
   pub goes_goes : (s m e : Stored T U C) (r q t : Reading) → ReadsOn sends receives a s r m q → ReadsOn sends receives a m q e t → ReadsOn sends receives a s r e t
   goes_goes s m e r q t one two = record {
@@ -232,7 +213,7 @@ module _ {T U G C : Type 0} (sends : T → Queue → Result ℕ IoFault → T �
         where
           again : (turns : List Turn) (rest : Gives (Told U)) (last : ReaderState T (Core U C)) → Reads sends (server a) receives r'.turns_left (reader_part after.part) turns rest last
               → Reads sends (server a) receives r.turns_left end turns rest last
-          again turns rest last reads = grind (arith, reader_part, core_again, server)
+          again turns rest last reads = grind (arith, reader_part, server)
 
       shorter : (gave : List (Given (Told U))) (refused : Bool) (end : ReaderState T (Core U C)) (es : List Sending) (after : Stored T U C)
           → CarriesOut sends (server a) v link es gave refused end → untimed after ≡ stored_as s end → length link.incoming.bytes < length s.part.link.incoming.bytes
@@ -310,8 +291,7 @@ module _ {T U G C : Type 0} (sends : T → Queue → Result ℕ IoFault → T �
   is_malformed s h1 = grind (arith)
 
   pub does_ask : (s : Stored T U C) → NotTaken a.table s.part.store s.part.link parse.OutOfMemory → FrontAsks sends (server a) (reader_part s.part)
-  does_ask s (inl read) = inr read
-  does_ask s (inr (same, (row, front, asks, there))) = inl (ap row_asks front ∙ asks, (row.signature, ap (option_map (λ r. r.signature)) front, there))
+  does_ask s h2 = grind (arith, row_asks, option_map)
 
   -- ---- a message was taken
 
@@ -325,8 +305,7 @@ module _ {T U G C : Type 0} (sends : T → Queue → Result ℕ IoFault → T �
   }
 
   known : (m : WireMessage) (row : MessageRow) (o : Option (Object (Kept U))) → row_in a.table o m.opcode ≡ Some row → (x : Object (Kept U)) × (o ≡ Some x)
-  known m row None is = cc
-  known m row (Some x) is = (x, refl)
+  known m row h3 is = grind (arith)
 
   pub message_taken : (s : Stored T U C) (r r' : Reading) (link : LinkState T) (objects objects' : ClientObjects U) (response : Response) (f : Found) (args : List (Argument IdParts Token))
       (to : MessageResult) (after : Stored T U C)
@@ -376,10 +355,7 @@ module _ {T U G C : Type 0} (sends : T → Queue → Result ℕ IoFault → T �
             after.part.link,
             (made.0, refl, made.2),
             room_found receives s.part.link after.part.link rc (Ok tt) made finds,
-            subst (λ (c : Result (Unit {0}) IoFault). MatchResult c (λ _. Reads sends (server a) receives q.turns_left (record { core = core_of s.part; link = after.part.link }) turns rest end)
-                (λ f. (turns ≡ []) × (given_first [] false rest ≡ stops (Some f) (lacks_memory (Err f)) q.turns_left)
-                × (end ≡ record { core = faulted (core_of s.part) f; link = after.part.link }))) made.1
-                (subst (λ (x : Stored T U C). Reads sends (server a) receives q.turns_left (record { core = core_of x.part; link = x.part.link }) turns rest end) is reads),
+            grind (arith, server, core_of, given_first, stops, lacks_memory, faulted),
           ),
         ),
       );
@@ -410,9 +386,7 @@ module _ {T U G C : Type 0} (sends : T → Queue → Result ℕ IoFault → T �
                 link,
                 (made.0, refl, made.2),
                 room_found receives s.part.link link rc (Err end.fault) made finds,
-                subst (λ (c : Result (Unit {0}) IoFault). MatchResult c (λ _. Reads sends (server a) receives q.turns_left (record { core = core_of s.part; link = link }) [] out last)
-                    (λ f. (reads_none ≡ []) × (out ≡ stops (Some f) (lacks_memory (Err f)) q.turns_left)
-                    × (last ≡ record { core = faulted (core_of s.part) f; link = link }))) made.1 (refl, refl, refl),
+                grind (arith, server, core_of, reads_none, stops, lacks_memory, faulted),
               ),
             ),
           );
@@ -436,8 +410,7 @@ module _ {T U G C : Type 0} (sends : T → Queue → Result ℕ IoFault → T �
           left = refl;
           read = is_read;
           no_note = refl;
-          after_is = is ∙ ap (λ (f : IoFault). stored_as s (record { core = faulted (core_of s.part) f; link = link })) memory
-              ∙ ap (λ (l : LinkState T). stored_as s (record { core = core_of s.part; link = l })) same;
+          after_is = grind (arith, stored_as, faulted, core_of);
         }
       where
         memory_is : (f : IoFault) → ◌≡◌ {A = Result (Unit {0}) IoFault} (Err f) (Err fault.OutOfMemory) → f ≡ fault.OutOfMemory
@@ -452,12 +425,10 @@ killed_as : {A : Type 0} (P Q : Type 0) (S : A → Type 0) (o : Option A) (b : B
 killed_as P Q S o b h1 h2 h3 = grind (arith, true≢false)
 
 open_as : {A : Type 0} (P : Type 0) (S : A → Type 0) (o : Option A) → is_some o ≡ true → ((x : A) → S x) → MatchOption o P S
-open_as P S None some s = absurd (true≢false (sym some))
-open_as P S (Some x) some s = s x
+open_as h1 h2 h3 some s = grind (arith, true≢false)
 
 pub live_is : {A : Type 0} (o : Option A) → is_some o ≡ false → o ≡ None
-live_is None none = refl
-live_is (Some x) none = absurd (true≢false none)
+live_is h1 none = grind (arith, true≢false)
 
 -- a receive is no note, nor is a send
 notes_of_exchanges : {U : Type 0} (turns : List Turn) → notes_in {U = U} (exchanges_in turns) ≡ []
@@ -494,10 +465,7 @@ module _ {T U G C : Type 0} (sends : T → Queue → Result ℕ IoFault → T �
   reading_done answer live e =
       let did : List (Deed U) = deeds_of (exchanges_in e.turns) e.out.gave e.end.core in
       let notes : notes_in did ≡ notes_in (end_deeds {U = U} e.end.core.ended)
-      = notes_append (exchanges_in e.turns) (deeds_in e.out.gave ++ end_deeds e.end.core.ended)
-      ∙ ap (λ (l : List (Happening U)). l ++ notes_in (deeds_in e.out.gave ++ end_deeds e.end.core.ended)) (notes_of_exchanges e.turns)
-      ∙ notes_append (deeds_in e.out.gave) (end_deeds e.end.core.ended)
-      ∙ ap (λ (l : List (Happening U)). l ++ notes_in (end_deeds {U = U} e.end.core.ended)) e.no_note in
+      = grind (arith, notes_append, exchanges_in, deeds_in, end_deeds, notes_in, notes_of_exchanges) in
       let reading : r' ≡ read_on r e.out.left (handled_in e.turns)
       = ap₂ (λ (n m : ℕ). let x : Reading = record { turns_left = n; read = m } in x) e.left e.read in
       let reads : ReadsTo sends receives a r s.part (answer_of answer) r' (refused_of answer) did (part_of e.end)

@@ -1,12 +1,11 @@
 -- The end of what is open, whatever that is.
-use Rattle.std.proofs.Common.{◌≡◌, ◌∙◌, ℕ, Bool, false, List, [], Option, None, Some, Result, Ok, Err, MatchOption, refl, sym, ap, append-nil}
+use Rattle.std.proofs.Common.{◌≡◌, ℕ, Bool, false, List, [], Option, None, Some, Result, Ok, Err, MatchOption, refl, sym, append-nil, arith}
 use Rattle.wl_wire.specs.declared.error.IoFault.{IoFault}
 use Rattle.wl_link.specs.Exchange.{Queue}
 use Rattle.wl_server.specs.declared.reading.action.OpenAction.{OpenAction}
 use Rattle.wl_server.specs.declared.reading.action.OpenAction.TheVariants as opened
 use Rattle.wl_server.specs.declared.error.FinishError.TheVariants as finish
 use Rattle.wl_server.specs.declared.error.FinishRefused.{FinishRefused}
-use Rattle.wl_server.specs.declared.notes.Happening.{Happening}
 use Rattle.wl_server.specs.Inside.Client.{Does}
 use Rattle.wl_server.specs.Deeds.{Deed}
 use Rattle.wl_server.specs.Finish.{FinishesBind, FinishesOpen, FinishesOpenBind, FinishesRequest, Refuses}
@@ -44,8 +43,7 @@ module _ {T U C : Type 0} (sends : T → Queue → Result ℕ IoFault → T → 
   pub not_a_request : (object : IdParts) → s.part.action ≡ Some (opened.Bind object) → FinishDoes (Err (record { error = finish.WrongKind; user_data = u })) false s
   not_a_request object is =
       does_quietly s (λ p did q. FinishesRequest sends client p u (Err (record { error = finish.WrongKind; user_data = u })) false did q) s.part
-      (is_open s u _ false (λ a did q. FinishesOpen sends client s.part a u (Err (record { error = finish.WrongKind; user_data = u })) false did q) [] s.part
-      (opened.Bind object) is (refl, refl, refl, refl))
+      (grind (arith, is_open))
 
   pub a_request : (a : OpenAction) (answer : Result (Unit {0}) (FinishRefused (Option U))) (refused : Bool) (after : Stored T U C) → s.part.action ≡ Some a
       → Does s (λ p did q. FinishesOpen sends client p a u answer refused did q) after → FinishDoes answer refused after
@@ -65,8 +63,7 @@ module _ {T U C : Type 0} (s : Stored T U C) (u : U) where
       → BindDoes (Err (record { error = finish.WrongKind; user_data = u })) s
   not_a_bind sender is_destructor created is =
       does_quietly s (λ p did q. FinishesBind p u (Err (record { error = finish.WrongKind; user_data = u })) false did q) s.part
-      (is_open s u _ false (λ a did q. FinishesOpenBind s.part a u (Err (record { error = finish.WrongKind; user_data = u })) false did q) [] s.part
-      (opened.Request sender is_destructor created) is (refl, refl, refl, refl))
+      (grind (arith, is_open))
 
   pub a_bind : (object : IdParts) (after : Stored T U C) → s.part.action ≡ Some (opened.Bind object)
       → after ≡ record s { part = part_finished s.part (Some object) (Some u) } → BindDoes (Ok tt) after
@@ -74,6 +71,5 @@ module _ {T U C : Type 0} (s : Stored T U C) (u : U) where
     [],
     part_finished s.part (Some object) (Some u),
     is_open s u (Ok tt) false (λ a did q. FinishesOpenBind s.part a u (Ok tt) false did q) [] (part_finished s.part (Some object) (Some u)) (opened.Bind object) is (refl, refl, refl, refl),
-    ap untimed part_is ∙ ap (λ (made : List (Happening U)). let x : Stored T U C = record { serial = s.serial; part = part_finished s.part (Some object) (Some u); made = made; times = no_times } in x)
-        (sym (append-nil s.made)),
+    grind (arith, untimed, part_finished, no_times, append-nil),
   )

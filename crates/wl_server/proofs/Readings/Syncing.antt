@@ -1,5 +1,5 @@
 -- A sync that is answered in place is handled as any other.
-use Rattle.std.proofs.Common.{◌≡◌, ◌∙◌, ℕ, ◌+◌, ◌<◌, false, not, List, [], ◌∷◌, ◌++◌, append-nil, drop, length, Option, None, Some, option_map, Result, Ok, refl, sym, ap, ap₂, subst, arith}
+use Rattle.std.proofs.Common.{◌≡◌, ◌∙◌, ℕ, ◌+◌, ◌<◌, false, not, List, [], ◌∷◌, ◌++◌, append-nil, drop, length, Option, Some, option_map, Result, Ok, refl, sym, ap, ap₂, subst, arith}
 use Rattle.std.proofs.lemmas.List.{length-drop, take-append-drop}
 use Rattle.std.proofs.lemmas.Bool.{and_parts, le-leb, not-true}
 use Rattle.wl_wire.specs.declared.argument.Argument.TheVariants as arg
@@ -49,11 +49,6 @@ module _ (table : List InterfaceRow) (accepted : IsAcceptedTable table) where
       → row_in table o opcode ≡ sync_row
   row_is o x opcode is display zero = rw (is, display, zero, begins) refl
 
-  receiver_of : {U : Type 0} (o : Option (Object (Kept U))) (opcode : ℕ) (row : MessageRow) → Some row ≡ row_in table o opcode
-      → (x : Object (Kept U)) × (o ≡ Some x)
-  receiver_of None opcode row is = cc
-  receiver_of (Some x) opcode row is = (x, refl)
-
 -- The message at the front is a sync of a callback with this number.
 record SyncWaits {T U : Type 0} (table : List InterfaceRow) (store : Store (Kept U)) (link : LinkState T) (n : ℕ) : Type 0 where
   accepted : IsAcceptedTable table
@@ -71,11 +66,10 @@ module _ {T : Type 0} (link : LinkState T) (r : FrontRequest) where
       → MatchOption o (¬ (IsWhole link.incoming.bytes × (length_of link.incoming.bytes ≡ 12)))
       (λ word. IsWhole link.incoming.bytes × (length_of link.incoming.bytes ≡ 12) × IsWord word (payload_of link.incoming.bytes))
       → IfSome o (λ n. IsSyncOf link r n)
-  sync_of display zero None none = tt
-  sync_of display zero (Some n) (whole, twelve, word) = record { display = display; opcode = zero; whole = whole; twelve = twelve; word = word }
+  sync_of display h2 h3 none = grind (arith)
 
   sync_waits : {U : Type 0} (table : List InterfaceRow) (store : Store (Kept U)) (n : ℕ) → IsFront table store link r → IsSyncOf link r n → SyncWaits table store link n
-  sync_waits table store n front sync = grind (arith, receiver_of, sender_of, opcode_of, message_row)
+  sync_waits table store n front sync = grind (arith, sender_of, opcode_of, message_row)
 
 -- the link without the message at its front
 abbrev pub taken : {T : Type 0} → LinkState T → LinkState T

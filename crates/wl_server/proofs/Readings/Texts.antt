@@ -1,5 +1,5 @@
 -- The texts of errors hold no zero byte, so that they can go on the wire.
-use Rattle.std.proofs.Common.{◌≡◌, ◌∙◌, ℕ, zero, suc, ◌+◌, ◌/◌, ◌%◌, Bool, true, false, ◌||◌, List, [], ◌∷◌, ◌++◌, length, take, drop, Option, None, Some, refl, sym, ap, append_assoc, arith, cond, nat_lt}
+use Rattle.std.proofs.Common.{◌≡◌, ◌∙◌, ℕ, zero, suc, ◌+◌, ◌/◌, Bool, true, false, ◌||◌, List, [], ◌∷◌, ◌++◌, length, take, drop, Option, None, Some, refl, sym, ap, append_assoc, arith, nat_lt}
 use Rattle.std.proofs.lemmas.Option.{none-some}
 use Rattle.std.specs.Prelude.{◌==◌, slice_get, codes}
 use Rattle.std.specs.Fmt.{decimal, digit_glyph, digits, digits_onto}
@@ -23,16 +23,13 @@ abbrev pub IsFree : List ℕ → Type 0
 IsFree text = holds_zero text ≡ false
 
 neither : (a b : Bool) → a ≡ false → b ≡ false → (a || b) ≡ false
-neither true b h k = h
-neither false b h k = k
+neither h1 b h k = grind (arith)
 
 not_first : (a b : Bool) → (a || b) ≡ false → a ≡ false
-not_first true b h = h
-not_first false b h = refl
+not_first h1 b h = grind (arith)
 
 not_second : (a b : Bool) → (a || b) ≡ false → b ≡ false
-not_second true b h = absurd (false≢true (sym h))
-not_second false b h = h
+not_second h1 b h = grind (arith, false≢true)
 
 -- ---- pieces of a text
 
@@ -50,20 +47,9 @@ free_drop n text h = not_second (holds_zero (take n text)) (holds_zero (drop n t
 
 -- ---- numbers
 
-glyph_is_no_zero : (d : ℕ) → (digit_glyph false d == 0) ≡ false
-glyph_is_no_zero d = grind (arith, nat_lt)
-
 free_digits : (k n : ℕ) (acc : List ℕ) → IsFree acc → IsFree (digits_onto k 10 false n acc)
 free_digits zero n acc h = h
-free_digits (suc k) n acc h = at (free_digits k (n / 10) (digit_glyph false (n % 10) ∷ acc) more) (n / 10 == 0)
-  where
-    more : IsFree (digit_glyph false (n % 10) ∷ acc)
-    more = neither _ (holds_zero acc) (glyph_is_no_zero (n % 10)) h
-
-    at : IsFree (digits_onto k 10 false (n / 10) (digit_glyph false (n % 10) ∷ acc)) → (b : Bool)
-        → IsFree (cond b (digit_glyph false (n % 10) ∷ acc) (digits_onto k 10 false (n / 10) (digit_glyph false (n % 10) ∷ acc)))
-    at deeper true = more
-    at deeper false = deeper
+free_digits (suc k) n acc h = grind (arith, digit_glyph, neither, holds_zero, nat_lt, free_digits k (n / 10))
 
 pub free_decimal : (n : ℕ) → IsFree (decimal n)
 unfolding digits
@@ -190,5 +176,4 @@ free_found table i name accepted is = ap holds_zero is ∙ free_name table accep
 -- the name of a request that was looked up for an object
 pub free_looked_up : {U : Type 0} (table : List InterfaceRow) (accepted : IsAcceptedTable table) (x : Option (Object (Kept U))) (opcode : ℕ) (row : MessageRow)
     → Some row ≡ row_in table x opcode → IsFree row.name
-free_looked_up table accepted None opcode row is = absurd (none-some _ (sym is))
-free_looked_up table accepted (Some x) opcode row is = free_request table accepted x.interface opcode row (sym is)
+free_looked_up table accepted h3 opcode row is = grind (arith, none-some, free_request)

@@ -1,10 +1,9 @@
 -- A request that is handed out where it stands is handled as any other.
-use Rattle.std.proofs.Common.{◌≡◌, ◌∙◌, ℕ, ◌*◌, ◌<◌, ◌≤◌, Bool, true, false, ◌==◌, ◌&&◌, nat_le, nat_lt, if◌then◌else◌, List, [], ◌∷◌, ◌++◌, append-nil, append_assoc, drop, length, take, Option, None, Some, option_map, Result, Ok, Err, refl, sym, ap, ap₂, subst, arith, true≢false}
+use Rattle.std.proofs.Common.{◌≡◌, ◌∙◌, ℕ, ◌*◌, ◌<◌, ◌≤◌, true, false, ◌==◌, nat_le, nat_lt, List, [], ◌∷◌, ◌++◌, append-nil, append_assoc, drop, length, take, Option, None, Some, option_map, Result, Ok, refl, sym, ap, ap₂, subst, arith, true≢false}
 use Rattle.std.proofs.lemmas.List.{length-drop, length-take-le, take-append-drop}
 use Rattle.std.proofs.lemmas.Bool.{and_parts, le-leb, le-ltb, leb-true}
 use Rattle.std.specs.Int.{w32, cast_signed}
 use Rattle.wl_wire.specs.declared.argument.AllowNull.{AllowNull}
-use Rattle.wl_wire.specs.declared.argument.AllowNull.TheVariants as allow
 use Rattle.wl_wire.specs.declared.argument.Argument.{Argument}
 use Rattle.wl_wire.specs.declared.argument.Argument.TheVariants as arg
 use Rattle.wl_wire.specs.declared.argument.ArgumentType.{ArgumentType}
@@ -30,7 +29,6 @@ use Rattle.wl_server.specs.declared.reading.action.OpenAction.TheVariants as ope
 use Rattle.wl_server.specs.declared.reading.action.Reading.{Reading}
 use Rattle.wl_server.specs.declared.reading.front_request.FrontRequest.{FrontRequest}
 use Rattle.wl_server.specs.declared.reading.front_request.Sender.{Sender}
-use Rattle.wl_server.specs.declared.reading.response.RequestFault.TheVariants as wrong
 use Rattle.wl_server.specs.Deeds.{Handed, Request}
 use Rattle.wl_server.specs.Ids.{ClientParts, IdParts}
 use Rattle.wl_server.specs.Inside.ReadingLoop.{Acts, HandlesMessage, IsFront, IsHandled, IsSenderOf, Live, counted, linked}
@@ -38,10 +36,10 @@ use Rattle.wl_wire.specs.Inside.Cursor.{◌>>=◌, argument_at, counted_at, text
 use Rattle.wl_wire.proofs.Spelling.CursorLaws.{IsRead, argument_reads}
 use Rattle.wl_server.specs.Inside.Conversion.{MakesObject}
 use Rattle.wl_server.specs.Inside.InPlace.{Front, HandsOut, IsPut, front_of, fronts, word_front}
-use Rattle.wl_server.specs.Inside.Words.{MayStand, asked_after, first_word, handed_object, handed_word, handed_words, held_fits, held_id, object_fits, word_fits, words_fit}
-use Rattle.wl_server.specs.Part.{id_at, null_id, objects_of}
+use Rattle.wl_server.specs.Inside.Words.{MayStand, asked_after, first_word, handed_object, handed_word, handed_words, object_fits, word_fits, words_fit}
+use Rattle.wl_server.specs.Part.{id_at, objects_of}
 use Rattle.wl_server.specs.Reading.{Around, hands_out, request, row_in, server}
-use Rattle.wl_server.specs.Requests.{Converting, Whole, allows_null, convert, convert_one, going_on, kinds_after, object_argument, object_found, start, with_object_argument}
+use Rattle.wl_server.specs.Requests.{Converting, Whole, allows_null, convert, convert_one, going_on, kinds_after, object_argument, start, with_object_argument}
 use Rattle.wl_server.specs.Server.{Stored}
 use Rattle.wl_server.specs.Telling.{Core, Told, core_of, reader_part, with_objects}
 use Rattle.wl_link.specs.Reader.{Verdict}
@@ -53,23 +51,13 @@ use Rattle.wl_server.proofs.Readings.Syncing.{taken}
 pub long_enough : {U : Type 0} (store : Store (Kept U)) (kinds : List ArgumentType) (asked : List InterfaceId) (bytes : List ℕ) → words_fit store kinds asked bytes ≡ true
     → 4 * length kinds ≤ length bytes
 long_enough store [] asked bytes fit = omega arith
-long_enough store (k ∷ kinds) asked bytes fit =
-    let p = and_parts (nat_le 4 (length bytes)) _ fit in
-    let q = and_parts (word_fits store k (next_interface asked) (first_word bytes)) _ p.1 in
-    let long = leb-true 4 (length bytes) p.0 in
-    let rest = long_enough store kinds (asked_after k asked) (drop 4 bytes) q.1 in
-    omega (arith, long, rest, length-drop 4 bytes)
+long_enough store (k ∷ kinds) asked bytes fit = grind (arith, and_parts, nat_le, length, word_fits, next_interface, first_word, leb-true, asked_after, drop, length-drop, long_enough store kinds (asked_after k asked) (drop 4 bytes))
 
 -- ---- the arguments are converted to what is handed out
 
 -- a step that may find nothing has found something
 found_first : {A B : Type 0} (r : Option A) (f : A → Option B) (y : B) → (r >>= f) ≡ Some y → (x : A) × (r ≡ Some x) × (f x ≡ Some y)
-found_first (Some x) f y e = (x, refl, e)
-found_first None f y e = absurd cc
-
-found_if : {A : Type 0} (b : Bool) (x y : A) → (if b then Some x else None) ≡ Some y → (b ≡ true) × (x ≡ y)
-found_if true x y e = (refl, cc)
-found_if false x y e = absurd cc
+found_first h1 f y e = grind (arith)
 
 abbrev text_found : Option (List ℕ) → List ℕ → Front
 text_found text rest = Some (arg.Str text, rest)
@@ -113,15 +101,9 @@ module _ {U : Type 0} (client : ClientParts) (version : ℕ) (objects : Objects 
     (left, ap (λ o. going_on o objects (λ b next. convert client version next (done ++ b ∷ []) args)) converts ∙ is),
   )
 
-  found_is : (null : Bool) (asked : InterfaceId) (n : ℕ) (zero : Bool) (o : Option (Object (Kept U))) → (if zero then null else held_fits asked o) ≡ true
-      → (if zero then (if null then Ok (null_id client) else Err wrong.NullObject) else object_found client asked n o)
-      ≡ Ok (if zero then null_id client else held_id client n o)
-  found_is null asked n zero o h1 = grind (arith, true≢false)
-
   object_is : (null : AllowNull) (kinds : List ArgumentType) (asked : InterfaceId) (n : ℕ) → object_fits objects.store (allows_null (kind.Object null ∷ [])) asked n ≡ true
       → object_argument client objects.store (allows_null (kind.Object null ∷ kinds)) asked n ≡ Ok (handed_object client objects.store n)
-  object_is allow.Yes kinds asked n is = found_is true asked n (n == 0) (held objects.store n) is
-  object_is allow.No kinds asked n is = found_is false asked n (n == 0) (held objects.store n) is
+  object_is h1 kinds asked n is = grind (arith, true≢false, held)
 
   a_word : (bytes : List ℕ) → 4 ≤ length bytes → IsWord (first_word bytes) (take 4 bytes)
   a_word bytes long = record { four = length-take-le 4 bytes long; value = refl }
@@ -162,12 +144,7 @@ module _ {U : Type 0} (client : ClientParts) (version : ℕ) (objects : Objects 
   by_word : (k : ArgumentType) (kinds : List ArgumentType) (asked : List InterfaceId) (bytes : List ℕ) (fds : List Token) (done handed : List (Argument IdParts Token))
       (x : Argument IdParts Token × List ℕ) → word_front client objects.store k (next_interface asked) bytes ≡ Some x
       → Converts kinds (asked_after k asked) x.1 fds (done ++ x.0 ∷ []) handed → Converts (k ∷ kinds) asked bytes fds done handed
-  by_word k kinds asked bytes fds done handed x found rest =
-      let word : Argument IdParts Token × List ℕ = (word_of k bytes, drop 4 bytes) in
-      let f = found_if (nat_le 4 (length bytes) && word_fits objects.store k (next_interface asked) (first_word bytes)) word x found in
-      let p = and_parts (nat_le 4 (length bytes)) _ f.0 in
-      one_word k kinds asked bytes fds done handed (leb-true 4 (length bytes) p.0) p.1
-      (subst (λ (y : Argument IdParts Token × List ℕ). Converts kinds (asked_after k asked) y.1 fds (done ++ y.0 ∷ []) handed) (sym f.1) rest)
+  by_word k kinds asked bytes fds done handed x found rest = grind (arith, word_of, drop, nat_le, length, word_fits, next_interface, first_word, and_parts, one_word, leb-true, asked_after)
 
   one_front : (k : ArgumentType) (kinds : List ArgumentType) (asked : List InterfaceId) (bytes : List ℕ) (fds : List Token) (done handed : List (Argument IdParts Token))
       (x : Argument IdParts Token × List ℕ) → front_of client objects.store k (next_interface asked) bytes ≡ Some x
@@ -258,11 +235,6 @@ module _ {U : Type 0} (client : ClientParts) (version : ℕ) (objects : Objects 
 
 -- ---- a request that is handed out
 
-receiver_of : {U : Type 0} (table : List InterfaceRow) (o : Option (Object (Kept U))) (opcode : ℕ) (row : MessageRow) → Some row ≡ row_in table o opcode
-    → (x : Object (Kept U)) × (o ≡ Some x)
-receiver_of table None opcode row is = cc
-receiver_of table (Some x) opcode row is = (x, refl)
-
 -- The message at the front is a request of this row, to an object of this kind, that may be handed out where it stands.
 record RequestWaits {T U : Type 0} (table : List InterfaceRow) (store : Store (Kept U)) (link : LinkState T) (row : MessageRow) (sender : Sender) : Type 0 where
   receiver : Object (Kept U)
@@ -274,7 +246,7 @@ record RequestWaits {T U : Type 0} (table : List InterfaceRow) (store : Store (K
 
 request_waits : {T U : Type 0} (table : List InterfaceRow) (store : Store (Kept U)) (link : LinkState T) (r : FrontRequest) → IsFront table store link r → IsWhole link.incoming.bytes
     → MayStand (message_row r.desc.now) r.sender → RequestWaits table store link (message_row r.desc.now) r.sender
-request_waits table store link r front whole stands = grind (arith, receiver_of, sender_of, opcode_of, message_row, row_in)
+request_waits table store link r front whole stands = grind (arith, sender_of, opcode_of, message_row, row_in)
 
 module _ {T U G C : Type 0} (sends : T → Queue → Result ℕ IoFault → T → Type 0) (receives : T → ℕ → Result Queue IoFault → T → Type 0) (a : Around G C)
     (s : Stored T U C) (live : Live s.part) (front : FrontRequest) (is_front : IsFront a.table s.part.store s.part.link front)
@@ -361,8 +333,7 @@ module _ {T U G C : Type 0} (sends : T → Queue → Result ℕ IoFault → T �
   request_handed r r' link after link_is after_is left read =
       let id : IdParts = record { number = front.number; serial = sender.serial; client = a.client; interface = sender.interface } in
       let id_is : receiver_id ≡ id
-      = ap₂ (λ (n : ℕ) (p : ℕ × InterfaceId). let x : IdParts = record { number = n; serial = p.0; client = a.client; interface = p.1 } in x) (sym is_front.number)
-      (ap₂ (λ (n : ℕ) (i : InterfaceId). let p : ℕ × InterfaceId = (n, i) in p) waits.is_sender.0 waits.is_sender.1) in
+      = grind (arith, ap₂, waits) in
       let handed_is : handed created ≡ Request id front.opcode handed_args row.is_destructor created
       = ap₂ (λ (i : IdParts) (o : ℕ). Request i o handed_args row.is_destructor created) id_is (sym is_front.opcode) in
       let same : acted (taken s.part.link) receiver_id ≡ after

@@ -1,6 +1,6 @@
 -- What is counted of the clients is the same where those that were not touched are passed over.
-use Rattle.std.proofs.Common.{◌≡◌, ◌∙◌, ℕ, ◌+◌, ◌<◌, ◌≤◌, Bool, true, false, List, [], ◌++◌, length, map, drop, Option, None, Some, refl, sym, ap, subst, arith, append-nil}
-use Rattle.std.specs.Prelude.{◌==◌, if◌then◌else◌, slice_get}
+use Rattle.std.proofs.Common.{◌≡◌, ◌∙◌, ℕ, ◌+◌, ◌<◌, ◌≤◌, Bool, true, false, List, [], ◌++◌, length, map, drop, Option, None, Some, refl, sym, ap, arith, append-nil}
+use Rattle.std.specs.Prelude.{if◌then◌else◌, slice_get}
 use Rattle.wl_server.specs.declared.notes.queues.NotePlace.{NotePlace}
 use Rattle.wl_server.specs.Inside.Gathering.{count_leaving}
 use Rattle.wl_server.specs.Inside.Leaving.{collected, ends_at, given_at}
@@ -8,15 +8,11 @@ use Rattle.wl_server.specs.Inside.NoteOrder.{count_places}
 use Rattle.wl_sets.specs.SlotSets.{IsOut}
 use Rattle.wl_server.specs.Inside.Touched.{AllQuiet, IsQuiet}
 use Rattle.wl_server.specs.NoteOrder.{all_places, places_at, places_of, times_of, to_gather}
-use Rattle.wl_server.specs.Server.{Stored, no_times}
+use Rattle.wl_server.specs.Server.{Stored}
 use Rattle.wl_server.proofs.CleanupSteps.Gathering.{count_drop}
 use Rattle.wl_server.proofs.CleanupSteps.Ordering.{Placed, placed_more, placed_so_far, places_rest}
 use Rattle.wl_server.proofs.CleanupSteps.Outgoing.{collected_drop}
 use Rattle.wl_server.proofs.Touched.Kept.{carry, out_here, there}
-
-no_places : (waits : Bool) (slot : ℕ) → places_of waits slot no_times ≡ []
-no_places true slot = refl
-no_places false slot = refl
 
 same_both : (b : Bool) (n : ℕ) → n ≡ n + (if b then 0 else 0)
 same_both true n = omega arith
@@ -29,16 +25,14 @@ module _ {T U C : Type 0} where
   quiet_notes waits x h1 = grind (arith)
 
   quiet_places : (waits : Bool) (slot : ℕ) (x : Option (Stored T U C)) → IsQuiet x → places_of waits slot (times_of x) ≡ []
-  quiet_places waits slot None quiet = no_places waits slot
-  quiet_places waits slot (Some s) calm = ap (places_of waits slot) calm.times ∙ no_places waits slot
+  quiet_places waits slot h3 quiet = grind (arith, places_of)
 
   pub quiet_given : (slot : ℕ) (x : Option (Stored T U C)) → IsQuiet x → given_at slot x ≡ []
   quiet_given slot None quiet = refl
   quiet_given slot (Some s) calm = rw calm.live refl
 
   pub quiet_ends : (slot : ℕ) (x : Option (Stored T U C)) → IsQuiet x → ends_at slot x ≡ []
-  quiet_ends slot None quiet = refl
-  quiet_ends slot (Some s) calm = rw calm.live refl
+  quiet_ends slot h2 quiet = grind (arith)
 
   module _ (words : List ℕ) (clients : List (Option (Stored T U C))) (from to : ℕ) (up : from ≤ to) (within : to ≤ length clients)
       (out : (k : ℕ) → from ≤ k → k < to → IsOut words k) (quiet : AllQuiet words clients) where
@@ -67,8 +61,7 @@ module _ {T U C : Type 0} where
     pub pass_placed : (waits : Bool) (order : List NotePlace) → Placed waits clients from order → Placed waits clients to order
     pass_placed waits order placed =
         pass (λ k. Placed waits clients k order) placed
-        (λ k x here calm before. placed_more waits clients k x order order here before
-        (λ n. subst (λ (m : ℕ). places_at n order ≡ places_at n order + (if k == n then m else 0)) (sym (ap length (quiet_notes waits x calm))) (same_both (k == n) (places_at n order))))
+        (grind (arith, placed_more, places_at, length, quiet_notes, same_both))
 
     pub pass_numbers : (waits : Bool) (order : List NotePlace) → order ++ all_places waits from (map times_of (drop from clients)) ≡ all_places waits 0 (map times_of clients)
         → order ++ all_places waits to (map times_of (drop to clients)) ≡ all_places waits 0 (map times_of clients)

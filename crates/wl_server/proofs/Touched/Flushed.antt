@@ -1,11 +1,11 @@
 -- A flush of clients, of which only those that were touched are looked at.
-use Rattle.std.proofs.Common.{◌≡◌, ◌∙◌, ℕ, ◌+◌, ◌<◌, ◌≤◌, Bool, true, false, ◌||◌, List, [], ◌∷◌, ◌++◌, length, Option, None, Some, Result, Ok, refl, ap, subst, arith}
+use Rattle.std.proofs.Common.{◌≡◌, ◌∙◌, ℕ, ◌+◌, ◌<◌, ◌≤◌, Bool, true, false, ◌||◌, List, [], ◌∷◌, length, Option, None, Some, Result, Ok, refl, ap, subst, arith}
 use Rattle.std.specs.Prelude.{slice_get}
 use Rattle.wl_wire.specs.declared.error.IoFault.{IoFault}
 use Rattle.wl_link.specs.Exchange.{Queue, Sending}
 use Rattle.wl_link.specs.Link.{Flushes}
 use Rattle.wl_link.specs.Puts.{lacks_memory}
-use Rattle.wl_server.specs.Deeds.{Deed, notes_in}
+use Rattle.wl_server.specs.Deeds.{notes_in}
 use Rattle.wl_server.specs.Felt.{FlushedTo, FlushesLive}
 use Rattle.wl_server.specs.Inside.Client.{Does}
 use Rattle.wl_server.specs.Inside.Places.{AllFeel, PlaceFeels}
@@ -30,8 +30,7 @@ module _ {T U C : Type 0} where
       (one_more_felt R refused false slot start now place place all here none))
     where
       still : (b : Bool) → (b || false) ≡ b
-      still true = refl
-      still false = refl
+      still h1 = grind (arith)
 
   module _ (sends : T → Queue → Result ℕ IoFault → T → Type 0) where
     -- where no bytes wait, a flush does nothing
@@ -60,12 +59,7 @@ module _ {T U C : Type 0} where
     -- a flush makes no note, and kills no client
     pub quiet_flushed : (s s' : Stored T U C) (answer : Result (Unit {0}) IoFault) (lacked : Bool) → Does s (λ p did q. FlushedTo sends p answer lacked did q) s'
         → s'.times ≡ s.times → IsCalm s → IsCalm s'
-    quiet_flushed s s' answer lacked (did, q, (es, link, by, refused, did_so, same), made) times calm = record {
-      live = ap (λ (x : Stored T U C). x.part.is_killed) made ∙ (ap (λ (p : Part T U C). p.is_killed) same ∙ calm.live);
-      made = ap (λ (x : Stored T U C). x.made) made ∙ (ap (λ (l : List (Deed U)). s.made ++ notes_in l) did_so ∙ (ap (λ l. s.made ++ l) (notes_of_sends es) ∙ ap (λ l. l ++ []) calm.made));
-      waiting = ap (λ (x : Stored T U C). x.part.waiting) made ∙ (ap (λ (p : Part T U C). p.waiting) same ∙ calm.waiting);
-      times = times ∙ calm.times;
-    }
+    quiet_flushed s s' answer lacked h5 times calm = grind (arith, notes_in, notes_of_sends)
 
     -- the clients that were not touched are passed over
     pub felt_on : (refused : Bool) (from to : ℕ) (start now : List (Option (Stored T U C))) (words : List ℕ) → from ≤ to → to ≤ length now

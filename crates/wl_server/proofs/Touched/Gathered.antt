@@ -1,5 +1,5 @@
 -- The clients that were not touched are still so once notes were gathered, and after a cleanup.
-use Rattle.std.proofs.Common.{◌≡◌, ◌∙◌, ℕ, zero, suc, Bool, true, false, List, [], ◌∷◌, ◌++◌, length, map, Option, None, Some, is_some, Result, Ok, Err, IfOk, OnErr, refl, sym, ap, subst, arith}
+use Rattle.std.proofs.Common.{◌≡◌, ◌∙◌, ℕ, zero, suc, Bool, true, false, List, [], ◌∷◌, ◌++◌, length, map, Option, None, Some, is_some, Result, IfOk, OnErr, refl, sym, ap, subst, arith}
 use mathlib.Core.Logic.{inl, inr}
 use Rattle.std.specs.Option.{option_map, option_map_or}
 use Rattle.std.specs.Prelude.{nat_lt, slice_get}
@@ -53,8 +53,7 @@ module _ {T U C : Type 0} where
 
   same_emptied : (waits : Bool) (clients clients' : List (Option (Stored T U C))) (k : ℕ) → all_emptied waits clients' ≡ all_emptied waits clients
       → option_map (emptied waits) (stored_at k clients') ≡ option_map (emptied waits) (stored_at k clients)
-  same_emptied waits clients clients' k same =
-      sym (emptied_at waits clients' k) ∙ (ap (λ (xs : List (Option (Stored T U C))). stored_at k xs) same ∙ emptied_at waits clients k)
+  same_emptied waits clients clients' k same = grind (arith, emptied_at, stored_at)
 
   sent_as : (waits : Bool) (o o' : Option (Stored T U C)) → option_map (emptied waits) o' ≡ option_map (emptied waits) o → HasSent o → HasSent o'
   sent_as waits o o' h1 h2 = grind (arith, is_some)
@@ -81,8 +80,7 @@ module _ {T U C : Type 0} where
   pub emptied_kept : (r : Result (Unit {0}) OutOfMemory) (clients clients' : List (Option (Stored T U C))) (notes notes' : List (Note U))
       → IfOk r (λ _. Gathers false clients notes clients' notes') → OnErr r ((clients' ≡ clients) × (notes' ≡ notes))
       → all_emptied false clients' ≡ all_emptied false clients
-  emptied_kept (Ok u) clients clients' notes notes' gathered unchanged = gathered.rest
-  emptied_kept (Err e) clients clients' notes notes' gathered unchanged = ap (all_emptied false) unchanged.0
+  emptied_kept h1 clients clients' notes notes' gathered unchanged = grind (arith, all_emptied)
 
   -- ---- a cleanup
 
@@ -107,8 +105,7 @@ module _ {T U C : Type 0} where
     sent_place : (k : ℕ) (lacked : Bool) (before after : Option (Option (Stored T U C))) → FeltAt (λ id p lacked did q. FlushesKilled sends p lacked did q) k before lacked after
         → HasSent (option_map_or (λ s. s) before None) → HasSent (option_map_or (λ s. s) after None)
     sent_place k lacked None after (none, is) sent = subst (λ (o : Option (Option (Stored T U C))). HasSent (option_map_or (λ s. s) o None)) (sym is) tt
-    sent_place k lacked (Some None) after (place, (none, gone), is) sent =
-        subst (λ (o : Option (Option (Stored T U C))). HasSent (option_map_or (λ s. s) o None)) (sym (is ∙ ap Some gone)) tt
+    sent_place k lacked (Some None) after (place, (none, gone), is) sent = grind (arith, option_map_or)
     sent_place k lacked (Some (Some s)) after (place, (s', (did, q, feels, made), there), is) sent =
         subst (λ (o : Option (Option (Stored T U C))). HasSent (option_map_or (λ s. s) o None)) (sym (is ∙ ap Some there))
         (elim (either_bool s.part.is_killed feels) [
@@ -118,10 +115,7 @@ module _ {T U C : Type 0} where
 
     sent_killed : (words : List ℕ) (refused : Bool) (clients clients' : List (Option (Stored T U C)))
         → AllFeel (λ id p lacked did q. FlushesKilled sends p lacked did q) refused (length clients) clients clients' → AllSent words clients → AllSent words clients'
-    sent_killed words refused clients clients' all = out_each HasSent words clients clients' (λ k sent. at k (nat_lt k (length clients)) refl sent)
-      where
-        at : (k : ℕ) (b : Bool) → nat_lt k (length clients) ≡ b → HasSent (stored_at k clients) → HasSent (stored_at k clients')
-        at k b h1 h2 = grind (arith, sent_place)
+    sent_killed words refused clients clients' all = grind (arith, out_each, nat_lt, length, sent_place)
 
     pub sent_cleaned : (words : List ℕ) (clients clients' : List (Option (Stored T U C))) (notes notes' : List (Note U)) (refused : Bool) (given : List (ClientParts × T))
         → CleansUp sends clients notes refused clients' notes' given → AllSent words clients → AllSent words clients'

@@ -1,7 +1,7 @@
 -- What is so of each client that is not in a set of slots, while clients and sets change.
 use Rattle.std.proofs.Common.{◌≡◌, ℕ, zero, suc, ◌+◌, ◌<◌, ◌≤◌, Bool, List, [], ◌∷◌, length, Option, None, Some, refl, ap, subst, arith}
 use Rattle.std.specs.Option.{option_map_or}
-use Rattle.std.specs.Prelude.{◌==◌, IsTrue, MatchOption, slice_get, slice_set}
+use Rattle.std.specs.Prelude.{IsTrue, MatchOption, slice_get, slice_set}
 use Rattle.std.proofs.lemmas.Bool.{eqb-true}
 use Rattle.wl_server.specs.declared.client.touched.Touched.{Touched}
 use Rattle.wl_server.specs.Inside.Inserting.{IsPut}
@@ -14,10 +14,7 @@ use Rattle.wl_sets.proofs.Lists.{get_set_other, get_set_same, other_of}
 
 pub carry : (P : ℕ → Type 0) (from to : ℕ) → from ≤ to → P from → ((k : ℕ) → from ≤ k → k < to → P k → P (k + 1)) → P to
 carry P from zero less is step = subst P (let e : from ≡ zero = omega (arith, less) in e) is
-carry P from (suc to) less is step = at (from == suc to) refl (λ below. carry P from to below is (λ k low high. step k low (omega (arith, high))))
-  where
-    at : (b : Bool) → (from == suc to) ≡ b → (from ≤ to → P to) → P (suc to)
-    at b h1 h2 = grind (arith, eqb-true, other_of)
+carry P from (suc to) less is step = grind (arith, eqb-true, other_of, carry P from to)
 
 pub there : {A : Type 0} (xs : List A) (k : ℕ) → k < length xs → (x : A) × (slice_get xs k ≡ Some x)
 there [] k within = absurd (omega (arith, within))
@@ -87,10 +84,7 @@ module _ {T U C : Type 0} where
   -- ---- both sets
 
   pub stay_touched : (touched touched' : Touched) (clients : List (Option (Stored T U C))) → StayTouched touched touched' → AreTouched touched clients → AreTouched touched' clients
-  stay_touched touched touched' clients stay are = record {
-    sent = out_more HasSent _ _ clients stay.to_send are.sent;
-    quiet = out_more IsQuiet _ _ clients stay.to_note are.quiet;
-  }
+  stay_touched touched touched' clients stay are = grind (arith, out_more)
 
   pub all_touched : (touched : Touched) (clients : List (Option (Stored T U C))) → ((k : ℕ) → IsOut touched.to_send.words.items k → ⊥)
       → ((k : ℕ) → IsOut touched.to_note.words.items k → ⊥) → AreTouched touched clients
@@ -102,10 +96,7 @@ module _ {T U C : Type 0} where
   pub one_touched : (touched touched' : Touched) (clients : List (Option (Stored T U C))) (slot : ℕ) (s : Stored T U C)
       → Adds slot touched.to_send.words.items touched'.to_send.words.items → Adds slot touched.to_note.words.items touched'.to_note.words.items
       → AreTouched touched clients → AreTouched touched' (slice_set clients slot (Some s))
-  one_touched touched touched' clients slot s send note are = record {
-    sent = out_touched HasSent _ _ clients slot (Some s) send are.sent;
-    quiet = out_touched IsQuiet _ _ clients slot (Some s) note are.quiet;
-  }
+  one_touched touched touched' clients slot s send note are = grind (arith, out_touched)
 
   pub still_touched : (touched touched' : Touched) (clients : List (Option (Stored T U C))) (slot : ℕ)
       → Adds slot touched.to_send.words.items touched'.to_send.words.items → Adds slot touched.to_note.words.items touched'.to_note.words.items
@@ -125,7 +116,4 @@ module _ {T U C : Type 0} where
   pub put_touched : (touched touched' : Touched) (clients clients' : List (Option (Stored T U C))) (slot : ℕ) (s : Stored T U C)
       → Adds slot touched.to_send.words.items touched'.to_send.words.items → Adds slot touched.to_note.words.items touched'.to_note.words.items
       → IsPut clients slot s clients' → AreTouched touched clients → AreTouched touched' clients'
-  put_touched touched touched' clients clients' slot s send note put are = record {
-    sent = out_put HasSent _ _ clients clients' slot s send put are.sent;
-    quiet = out_put IsQuiet _ _ clients clients' slot s note put are.quiet;
-  }
+  put_touched touched touched' clients clients' slot s send note put are = grind (arith, out_put)

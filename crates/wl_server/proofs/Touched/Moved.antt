@@ -1,9 +1,9 @@
 -- A client whose transport was changed by its program: nothing more waits for it.
-use Rattle.std.proofs.Common.{◌≡◌, List, Option, Some}
+use Rattle.std.proofs.Common.{◌≡◌, List, Option, Some, arith}
 use Rattle.std.specs.Prelude.{slice_set}
 use Rattle.wl_server.specs.declared.client.touched.Touched.{Touched}
 use Rattle.wl_server.specs.Ids.{ClientParts}
-use Rattle.wl_server.specs.Inside.Touched.{AreTouched, HasSent, IsCalm, IsQuiet}
+use Rattle.wl_server.specs.Inside.Touched.{AreTouched, IsCalm}
 use Rattle.wl_server.specs.Lending.{over_transport}
 use Rattle.wl_server.specs.Server.{Stored, client_at}
 use Rattle.wl_server.proofs.CallSteps.Slots.{slot_of_client}
@@ -17,7 +17,4 @@ module _ {T U C : Type 0} where
       → AreTouched touched clients → AreTouched touched (slice_set clients id.slot (Some (over_transport s t)))
   moved_touched touched clients id s t is are =
       let here = (slot_of_client clients id s is).0 in
-      record {
-        sent = out_set HasSent touched.to_send.words.items clients id.slot (Some s) (Some (over_transport s t)) here (λ sent. sent) are.sent;
-        quiet = out_set IsQuiet touched.to_note.words.items clients id.slot (Some s) (Some (over_transport s t)) here (calm_moved s t) are.quiet;
-      }
+      grind (arith, out_set, over_transport, calm_moved)

@@ -1,5 +1,5 @@
 -- What is announced by worked logs, computed from the definition.
-use Rattle.std.proofs.Common.{◌≡◌, ℕ, Bool, true, false, [], ◌∷◌, map, Some, is_some, refl, sym, ap, subst, ◌∙◌, true≢false}
+use Rattle.std.proofs.Common.{◌≡◌, ℕ, Bool, true, false, [], ◌∷◌, map, Some, is_some, refl, sym, ap, subst, ◌∙◌, true≢false, arith}
 use mathlib.Core.Logic.{inl, inr}
 use Rattle.std.specs.Prelude.{codes}
 use Rattle.std.proofs.lemmas.Bool.{cases_eq}
@@ -102,14 +102,10 @@ as_it_has_to_be g = (
 )
   where
     is_first : IsAmong (first ∷ []) g → IsShown says client true (offer_of false) g
-    is_first (inl is) = subst (λ (a : Announced). IsShown says client true (offer_of false) a) is shown_to_one
-    is_first (inr none) = absurd none
+    is_first h1 = grind (arith, says, client, offer_of, shown_to_one)
 
     whole : IsShown says client true (offer_of false) g → first ≡ g
-    whole h =
-        let (name, this) = no_other false g.name h.global h.at in
-        subst (λ (x : Object (KeptGlobal ℕ)). announced_as table (shown_as (1, x)) ≡ g) (sym this)
-        (subst (λ (n : ℕ). announced_as table (shown_as (n, h.global)) ≡ g) name h.is)
+    whole h = grind (arith, no_other, announced_as, table, shown_as)
 
 -- what is hidden or disabled may not be announced, and what is shown may not be kept back
 hidden_and_announced : AreSameGlobals (announced (tells_of (at 2 1) one ∷ []) (at 2 1)) (shown_of says (offer_of false) client false) → ⊥

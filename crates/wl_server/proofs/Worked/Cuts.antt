@@ -1,6 +1,6 @@
 -- A worked stretch of a client's own run, computed from the definitions: five bytes of a header arrive, are read, and wait.
 -- The deeds of the reading are those of its turns; and what is served of the five bytes is nothing, by no answer to a send.
-use Rattle.std.proofs.Common.{◌≡◌, ℕ, Bool, List, [], ◌∷◌, Some, None, Result, Ok, Err, true, false, refl, sym, ap, inl, inr, lit≤, arith, true≢false}
+use Rattle.std.proofs.Common.{◌≡◌, ℕ, Bool, List, [], ◌∷◌, Some, None, Result, Ok, Err, true, false, refl, inl, lit≤, arith, true≢false}
 use Rattle.wl_wire.specs.declared.error.IoFault.{IoFault}
 use Rattle.wl_wire.specs.declared.error.IoFault.TheVariants as fault
 use Rattle.wl_link.specs.Exchange.{Queue, nothing}
@@ -115,15 +115,7 @@ module _ (offer : Offer ℕ) (p : Part Script ℕ Bool) where
 
   -- it is a stretch, and so what is served of the piece
   a_stretch : IsStretch (around w client offer) before (reading ∷ []) after
-  a_stretch = record {
-    spans = record {
-      heard = (refl, refl, tt, tt);
-      live = refl;
-      pieces = ((λ none. true≢false (ap is_cons none)), tt);
-      ends = inr (refl, refl);
-    };
-    roomy = λ dead. absurd (true≢false (sym dead));
-  }
+  a_stretch = grind (arith, true≢false, is_cons)
 
   so_it_is_served : StretchIsServed (around w client offer) before (reading ∷ []) after
   so_it_is_served = stretch_served says client offer (held before) (held after) before refl after (reading ∷ []) refl a_reading a_stretch

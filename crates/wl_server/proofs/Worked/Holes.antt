@@ -1,5 +1,5 @@
 -- What no step does, whatever else it is free to do: it says what was meant.
-use Rattle.std.proofs.Common.{◌≡◌, ℕ, zero, suc, ◌⊎◌, inl, inr, Bool, List, [], None, Ok, Err, true, false, refl, ap, sym, ◌∙◌, arith, lit<, true≢false}
+use Rattle.std.proofs.Common.{◌≡◌, ℕ, ◌⊎◌, Bool, List, [], None, Ok, Err, true, false, refl, ap, sym, arith, lit<, true≢false}
 use Rattle.std.specs.Prelude.{is_some}
 use Rattle.wl_wire.specs.declared.error.OutOfMemory.{OutOfMemory}
 use Rattle.wl_server.specs.declared.error.GlobalError.TheVariants as global
@@ -14,7 +14,7 @@ use Rattle.wl_server.specs.Globals.{CreatesNext, Globals, LacksName, new_offer}
 use Rattle.wl_server.specs.Ids.{ClientParts, GlobalParts, IdParts}
 use Rattle.wl_server.specs.PartStep.{Asked, PartStep, World}
 use Rattle.wl_server.specs.Server.{ServerState, new_server, nothing_seen, seen}
-use Rattle.wl_server.specs.Steps.{Entry, IsLeastFree, LacksSlot, OneStep}
+use Rattle.wl_server.specs.Steps.{Entry, OneStep}
 use Rattle.wl_server.specs.Telling.{Core}
 use Rattle.wl_server.proofs.Worked.Messages.{table}
 
@@ -27,8 +27,7 @@ module _ (w : World ℕ ℕ Bool) (lacks : ClientParts → Bool) (did : ClientPa
   First call answer refused = OneStep w (new_server table) (entry call answer refused) after
 
   none_lacks : ((id : ClientParts) → lacks id ≡ false) → (false ≡ true) ⊎ ((id : ClientParts) × (lacks id ≡ true)) → ⊥
-  none_lacks none (inl growth) = true≢false (sym growth)
-  none_lacks none (inr (id, lacked)) = true≢false (sym lacked ∙ none id)
+  none_lacks none h2 = grind (arith, true≢false)
 
   -- ---- no memory is refused where there is nobody to refuse it to
 
@@ -41,8 +40,7 @@ module _ (w : World ℕ ℕ Bool) (lacks : ClientParts → Bool) (did : ClientPa
       nobody : (id : ClientParts)
           → PartStep w id (new_offer table) (step.CreateGlobal (record { 0 = 4 }) 3 7) (reply.CreateGlobal (Ok g)) nothing_seen (lacks id) (did id) (seen id after)
           → lacks id ≡ false
-      nobody id (Ok g, is, h) = h.1.0
-      nobody id (Err e, is, h) = h.0
+      nobody id h2 = grind (arith)
 
   -- ---- nor where there is nothing to be made room for
 
@@ -56,26 +54,16 @@ module _ (w : World ℕ ℕ Bool) (lacks : ClientParts → Bool) (did : ClientPa
 
   -- gets the first slot
   the_first_slot : (id : ClientParts) (refused : Bool) → First (step.InsertClient 5 true) (reply.InsertClient (Ok id)) refused → (id.slot ≡ 0) × (id.serial ≡ 1)
-  the_first_slot id refused by = (at id.slot by.client.0, by.client.2)
-    where
-      at : (slot : ℕ) → IsLeastFree {T = ℕ} {U = ℕ} {C = Bool} [] slot → slot ≡ 0
-      at zero free = refl
-      at (suc n) free = absurd (true≢false (sym (free.least 0 (omega arith))))
+  the_first_slot id refused by = grind (arith, true≢false)
 
   -- and is not told that none is left
   not_full_yet : (refused : Bool) → First (step.InsertClient 5 true) (reply.InsertClient (Err insert.Full)) refused → ⊥
-  not_full_yet refused by = at by.client
-    where
-      at : LacksSlot {T = ℕ} {U = ℕ} {C = Bool} 0 [] → ⊥
-      at (inl taken) = true≢false (sym (taken 0 (lit< tt)))
-      at (inr last) = omega (arith, last)
+  not_full_yet refused by = grind (arith, true≢false, lit<)
 
 -- ---- no want of memory is answered where no name is left
 
 full_comes_first : (globals : Globals ℕ) → LacksName globals → CreatesNext globals (Err global.OutOfMemory) → ⊥
-full_comes_first globals (inl full) (id, next, unused) =
-    true≢false (sym (full.each id.name next.0.within next.0.below) ∙ ap is_some next.0.absent)
-full_comes_first globals (inr last) (id, next, unused) = let below = next.1 in omega (arith, last, below)
+full_comes_first globals h2 h3 = grind (arith, true≢false, is_some)
 
 -- ---- an error for a killed client asks for no memory
 

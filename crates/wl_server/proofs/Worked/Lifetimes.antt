@@ -69,19 +69,11 @@ module _ (p : Part ℕ ℕ Bool) (open' : OpenAction) (out : Vec (ClientParts ×
 
 -- another fault is no such answer, nor is a reading that used up a receive
 no_other_fault : ReadingAnswers client (Io fault.Pipe) (read_of client (Err (Io fault.Proto))).call → ⊥
-no_other_fault says = absurd (true≢false (sym (ap is_pipe (says refl))))
-  where
-    is_pipe : Reply ℕ ℕ → Bool
-    is_pipe (reply.NextAction (Err (Io fault.Pipe))) = true
-    is_pipe _ = false
+no_other_fault says = grind (arith, true≢false)
 
 no_receive_used : ReadingAnswers client (Io fault.Pipe)
     (entry (step.NextActionWithin client new_reading) (reply.NextActionWithin (Err (Io fault.Pipe)) (record new_reading { turns_left = 63 }))).call → ⊥
-no_receive_used says = (let less : ◌≡◌ {A = ℕ} 63 64 = ap left (says refl) in omega (arith, less))
-  where
-    left : Reply ℕ ℕ → ℕ
-    left (reply.NextActionWithin r reading) = reading.turns_left
-    left _ = 0
+no_receive_used says = grind (arith)
 
 -- ---- ids
 

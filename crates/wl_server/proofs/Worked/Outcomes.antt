@@ -1,6 +1,6 @@
 -- What one outcome leaves open and what it does not: worked values.
-use Rattle.std.proofs.Common.{◌≡◌, ℕ, ◌⊎◌, inl, inr, Bool, List, [], ◌∷◌, ◌++◌, None, Result, Ok, Err, true, false, refl, sym, ap, ◌∙◌, lit<, arith, true≢false}
-use Rattle.std.specs.Prelude.{◌==◌, is_ok}
+use Rattle.std.proofs.Common.{◌≡◌, ℕ, Bool, List, [], ◌∷◌, Result, Ok, Err, true, false, sym, ap, lit<, arith, true≢false}
+use Rattle.std.specs.Prelude.{is_ok}
 use Rattle.std.proofs.lemmas.Bool.{cases_Bool, false≢true}
 use Rattle.wl_wire.specs.declared.error.IoFault.{IoFault}
 use Rattle.wl_wire.specs.declared.error.IoFault.TheVariants as fault
@@ -25,9 +25,7 @@ abbrev second : ClientParts
 second = record { slot = 1; serial = 2 }
 
 not_both : (id : ClientParts) → same_client first id ≡ true → same_client second id ≡ true → ⊥
-not_both id one two =
-    let slots : 0 ≡ 1 = ap (λ (i : ClientParts). i.slot) (same_client_is first id one ∙ sym (same_client_is second id two)) in
-    omega (arith, slots)
+not_both id one two = grind (arith, same_client_is, first, second)
 
 -- ---- the order of the notes of two clients
 
@@ -42,31 +40,13 @@ other_order = Initialized second ∷ Initialized first ∷ []
 
 -- servers that differ in it are the same only where it does not count: each client finds the same
 either_order : (id : ClientParts) → notes_of id one_order ≡ notes_of id other_order
-either_order id = at (cases_Bool (same_client first id)) (cases_Bool (same_client second id))
-  where
-    at : (same_client first id ≡ true) ⊎ (same_client first id ≡ false) → (same_client second id ≡ true) ⊎ (same_client second id ≡ false)
-        → notes_of id one_order ≡ notes_of id other_order
-    at (inl one) (inl two) = absurd (not_both id one two)
-    at (inl one) (inr two) = rw (one, two) refl
-    at (inr one) (inl two) = rw (one, two) refl
-    at (inr one) (inr two) = rw (one, two) refl
+either_order id = grind (arith, cases_Bool, same_client, first, second, not_both)
 
 orders_alike : SameServer false (noted one_order) (noted other_order)
-orders_alike = record {
-  held = record {
-    offer = refl;
-    last = refl;
-    each = λ id. ap (λ notes. let s : Seen ℕ ℕ Bool = record { part = None; made = notes ++ [] } in s) (either_order id);
-  };
-  order = λ counts. absurd (false≢true counts);
-}
+orders_alike = grind (arith, either_order, false≢true)
 
 orders_differ : SameServer true (noted one_order) (noted other_order) → ⊥
-orders_differ same = true≢false (ap tells_first (same.order refl).notes)
-  where
-    tells_first : List (Note ℕ) → Bool
-    tells_first (Initialized client ∷ _) = client.slot == first.slot
-    tells_first _ = false
+orders_differ same = grind (arith, true≢false, first)
 
 -- and the notes of one client stand as they were made
 abbrev is_first : List (Happening ℕ) → Bool

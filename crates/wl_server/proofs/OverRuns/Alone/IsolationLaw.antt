@@ -16,7 +16,7 @@ use Rattle.wl_server.specs.Deeds.{Deed}
 use Rattle.wl_server.specs.Globals.{Offer}
 use Rattle.wl_server.specs.Ids.{ClientParts, same_client}
 use Rattle.wl_server.specs.Part.{Part, fresh_part}
-use Rattle.wl_server.specs.PartStep.{Asked, Call, Inserted, InsertedAs, OfClient, PartCall, PartStep, Unfelt, World}
+use Rattle.wl_server.specs.PartStep.{Asked, Call, Inserted, InsertedAs, PartCall, PartStep, Unfelt, World}
 use Rattle.wl_server.specs.Runs.{Alone, AreOf, EachAlone, Inserts, IsIsolated, IsNeverInserted, IsNotInserted, Leads, Performs, SharedAlone, just_inserted, concerns, is_about, mine, offer_over, own_of}
 use Rattle.wl_server.specs.Server.{Seen, ServerState, new_server, nothing_seen, seen}
 use Rattle.wl_server.specs.Steps.{Entry, InsertsNext, NumbersClient, OneStep, inserted_by, offer_after}
@@ -29,9 +29,6 @@ same_self id = rw (eq-eqb id.slot id.slot refl) (eq-eqb id.serial id.serial refl
 pub same_serial : (a b : ClientParts) → same_client a b ≡ true → a.serial ≡ b.serial
 same_serial a b same = grind (arith, eqb-true, false≢true)
 
-earlier_differs : (new id : ClientParts) → new.serial < id.serial → same_client new id ≡ false
-earlier_differs new id sooner = grind (arith, same_serial)
-
 later_differs : (new id : ClientParts) → id.serial < new.serial → same_client new id ≡ false
 later_differs new id later = grind (arith, same_serial)
 
@@ -41,13 +38,7 @@ module _ {T U C : Type 0} where
   own_nothing : (b : Bool) (missing : Type 0) (lacked : Bool) (did : List (Deed U)) (after : Seen T U C)
       → MatchBool b (missing × Unfelt (nothing_seen {T = T} {U = U} {C = C}) lacked did after) (Unfelt nothing_seen lacked did after)
       → Unfelt nothing_seen lacked did after
-  own_nothing true missing lacked did after h = h.1
-  own_nothing false missing lacked did after h = h
-
-  own_other : (b : Bool) (before : Seen T U C) (R : Part T U C → Part T U C → Type 0) (missing : Type 0) (lacked : Bool) (did : List (Deed U)) (after : Seen T U C)
-      → b ≡ false → OfClient b before R missing lacked did after → Unfelt before lacked did after
-  own_other true before R missing lacked did after other h = absurd (true≢false other)
-  own_other false before R missing lacked did after other h = h
+  own_nothing h1 missing lacked did after h = grind (arith)
 
 module _ {T U G C : Type 0} (w : World T G C) (id : ClientParts) (offer : Offer G) where
   inserted_other : (transport : T) (client_data : C) (r : Result ClientParts InsertClientError) (before : Seen T U C) (lacked : Bool) (did : List (Deed U)) (after : Seen T U C)
@@ -57,26 +48,20 @@ module _ {T U G C : Type 0} (w : World T G C) (id : ClientParts) (offer : Offer 
 
   inserts_other : (transport : T) (client_data : C) (answer : Reply T U) (r : Result ClientParts InsertClientError) → answer ≡ reply.InsertClient r
       → IsNotInserted {T = T} {U = U} {G = G} {C = C} id (Asked (step.InsertClient transport client_data) answer) → (new : ClientParts) → r ≡ Ok new → same_client new id ≡ false
-  inserts_other transport client_data answer r is other new e =
-      other new (transport, client_data, ap (λ (a : Reply T U). Asked (step.InsertClient transport client_data) a) (is ∙ ap reply.InsertClient e))
-
-  -- a client of which nothing is held feels nothing of a step that does not insert it
-  nothing_step : (s : Step T U G C) (answer : Reply T U) (lacked : Bool) (did : List (Deed U)) (after : Seen T U C)
-      → IsNotInserted id (Asked s answer) → PartStep w id offer s answer nothing_seen lacked did after → Unfelt nothing_seen lacked did after
-  nothing_step s answer lacked did after h1 h2 = grind (arith, inserted_other, nothing_seen, inserts_other, own_nothing)
+  inserts_other transport client_data answer r is other new e = grind (arith)
 
   nothing_call : (call : Call T U G C) (lacked : Bool) (did : List (Deed U)) (after : Seen T U C)
       → IsNotInserted id call → PartCall w id offer call nothing_seen lacked did after → Unfelt nothing_seen lacked did after
-  nothing_call call lacked did after h1 h2 = grind (arith, nothing_step, own_nothing)
+  nothing_call call lacked did after h1 h2 = grind (arith, inserted_other, nothing_seen, inserts_other, own_nothing)
 
   -- a client feels nothing of a step that names another
   other_step : (s : Step T U G C) (answer : Reply T U) (before : Seen T U C) (lacked : Bool) (did : List (Deed U)) (after : Seen T U C)
       → IsNotInserted id (Asked s answer) → is_about id s ≡ false → PartStep w id offer s answer before lacked did after → Unfelt before lacked did after
-  other_step s answer before lacked did after h1 h2 h3 = grind (arith, inserted_other, inserts_other, true≢false, own_other)
+  other_step s answer before lacked did after h1 h2 h3 = grind (arith, inserted_other, inserts_other, true≢false)
 
   pub other_call : (call : Call T U G C) (before : Seen T U C) (lacked : Bool) (did : List (Deed U)) (after : Seen T U C)
       → IsNotInserted id call → concerns id call ≡ false → PartCall w id offer call before lacked did after → Unfelt before lacked did after
-  other_call call before lacked did after h1 h2 h3 = grind (arith, other_step, own_other)
+  other_call call before lacked did after h1 h2 h3 = grind (arith, other_step, true≢false)
 
 module _ {T U : Type 0} where
   -- what an insertion answers
@@ -85,12 +70,8 @@ module _ {T U : Type 0} where
   inserted_in _ = Err insert.Full
 
 module _ {T U G C : Type 0} where
-  -- and it leaves the offer
-  other_offer : (id : ClientParts) (offer : Offer G) (s : Step T U G C) (answer : Reply T U) → is_about id s ≡ false → offer_after offer (Asked s answer) ≡ offer
-  other_offer id offer s answer h1 = grind (arith, true≢false)
-
   pub offer_of_other : (id : ClientParts) (offer : Offer G) (call : Call T U G C) → concerns id call ≡ false → offer_after offer call ≡ offer
-  offer_of_other id offer call h1 = grind (arith, other_offer, true≢false)
+  offer_of_other id offer call h1 = grind (arith, true≢false)
 
   -- ---- clients that were not inserted yet
 
@@ -107,15 +88,7 @@ module _ {T U G C : Type 0} where
 
   unborn_step : (w : World T G C) (before : ServerState T U G C) (e : Entry T U G C) (after : ServerState T U G C)
       → Unborn before → OneStep w before e after → Unborn after
-  unborn_step w before e after born by = record {
-    each = λ id late.
-        (nothing_call w id before.offer e.call (e.lacks id) (e.did id) (seen id after) (far id late)
-        (subst (λ (x : Seen T U C). PartCall w id before.offer e.call x (e.lacks id) (e.did id) (seen id after))
-        (born.each id (let grown = by.last in omega (arith, late, grown))) (by.each id))).2;
-  }
-    where
-      far : (id : ClientParts) → after.last_client < id.serial → IsNotInserted id e.call
-      far id late new inserts = grind (arith, earlier_differs, numbered, one_more)
+  unborn_step w before e after born by = grind (arith, nothing_call, seen, same_serial, numbered, one_more)
 
   -- ---- runs
 
@@ -127,8 +100,7 @@ module _ {T U G C : Type 0} where
   pub offer_run : (w : World T G C) (before after : ServerState T U G C) (run : List (Entry T U G C)) → Leads w before run after
       → after.offer ≡ offer_over before.offer run
   offer_run w before after [] same = ap (λ (s : ServerState T U G C). s.offer) same
-  offer_run w before after (e ∷ run) (mid, by, leads) =
-      offer_run w mid after run leads ∙ ap (λ (o : Offer G). offer_over o run) by.offer
+  offer_run w before after (e ∷ run) (mid, by, leads) = grind (arith, offer_over, offer_run w mid after run leads)
 
   pub offer_over_one : (offer : Offer G) (run : List (Entry T U G C)) (e : Entry T U G C) → offer_over offer (run ++ e ∷ []) ≡ offer_after (offer_over offer run) e.call
   offer_over_one offer [] e = refl
@@ -211,10 +183,7 @@ module _ {T U G C : Type 0} where
       (subst (λ (c : Call T U G C). PartCall w id mid.offer c (seen id mid) (e.lacks id) (e.did id) (seen id next)) inserts (by.each id)) in (
         link,
         subst (λ (o : Offer G). IsFresh transport (Some o.default_limit) link) offered fresh,
-        subst (λ (o : Offer G). Alone w id o (just_inserted link client_data) (mine id later) (seen id after))
-            (by.offer ∙ ap (λ (o : Offer G). offer_after o e.call) offered ∙ sym (offer_over_one (new_server {T = T} {U = U} {C = C} table).offer earlier e))
-            (subst (λ (s : Seen T U C). Alone w id next.offer s (mine id later) (seen id after)) {y = just_inserted link client_data} begun_so
-            (alone_run w id next after later (omega (arith, number, grown, one)) rest)),
+        grind (arith, just_inserted, mine, seen, offer_after, offer_over_one, new_server, alone_run),
       )
 
   -- ---- clients that are not inserted
@@ -223,16 +192,7 @@ module _ {T U G C : Type 0} where
       → IsNeverInserted id run → Leads w before run after
       → (seen id after ≡ nothing_seen) × Alone w id before.offer (nothing_seen {T = T} {U = U} {C = C}) (mine id run) nothing_seen
   unseen_run w id before after [] nothing none same = (ap (λ (s : ServerState T U G C). seen id s) same ∙ nothing, refl)
-  unseen_run w id before after (e ∷ run) nothing (far, none) (mid, by, leads) =
-      let from_nothing : PartCall w id before.offer e.call nothing_seen (e.lacks id) (e.did id) (seen id mid) =
-      subst (λ (x : Seen T U C). PartCall w id before.offer e.call x (e.lacks id) (e.did id) (seen id mid)) nothing (by.each id) in
-      let still : seen id mid ≡ nothing_seen = (nothing_call w id before.offer e.call (e.lacks id) (e.did id) (seen id mid) far from_nothing).2 in
-      let (end, alone) = unseen_run w id mid after run still none leads in (
-        end,
-        alone_more w id nothing_seen nothing_seen nothing_seen before.offer e run (concerns id e.call) refl far
-            (subst (λ (x : Seen T U C). PartCall w id before.offer e.call nothing_seen (e.lacks id) (e.did id) x) still from_nothing)
-            (subst (λ (o : Offer G). Alone w id o nothing_seen (mine id run) nothing_seen) by.offer alone),
-      )
+  unseen_run w id before after (e ∷ run) nothing (far, none) (mid, by, leads) = grind (arith, nothing_seen, seen, nothing_call, alone_more, concerns, mine, unseen_run w id mid after run)
 
   -- ---- what all clients share, with its replies
 

@@ -45,7 +45,7 @@ use Rattle.wl_server.proofs.OverRuns.Announced.WatchedCalls.{creates_lives, data
 use Rattle.wl_server.proofs.OverRuns.Announced.WatchedGlobals.{global_watch, growth_watch, hears_all, limit_watch, loss_watch, stay_watch}
 use Rattle.wl_server.proofs.OverRuns.Announced.WatchedReadings.{next_action_lives}
 use Rattle.wl_server.proofs.OverRuns.Announced.WatchedVerdicts.{PartLives, log_both, registries_both}
-use Rattle.wl_server.proofs.OverRuns.Announced.Watching.{Scene, Watch, part_scene}
+use Rattle.wl_server.proofs.OverRuns.Announced.Watching.{Watch, part_scene}
 
 -- ---- notes put nothing
 
@@ -106,18 +106,13 @@ module _ {T U G C : Type 0} (w : World T G C) (id : ClientParts) (r : Id) where
   unfelt_follows : (offer : Offer G) (s : Seen T U C) (lacked : Bool) (did : List (Deed U)) (t : Seen T U C) → Unfelt s lacked did t → Follows offer offer s did t
   unfelt_follows offer s lacked did t (no_memory, none, same) = grind (arith, log_of, registries_in, append-nil)
 
-  -- a part that is stored, and goes on as this one
-  part_follows : (offer offer' : Offer G) (s : Seen T U C) (p q : Part T U C) (did : List (Deed U)) (made : List (Happening U)) (t : Seen T U C) → s.part ≡ Some p
-      → t ≡ record { part = Some q; made = made } → Leads' offer offer' p did q → Follows offer offer' s did t
-  part_follows offer offer' s p q did notes t there same leads = grind (arith, log_of, registries_in)
-
   out_follows : (offer offer' : Offer G) (s : Seen T U C) (did : List (Deed U)) (t : Seen T U C) → t.part ≡ None → Follows offer offer' s did t
   out_follows offer offer' s did t none = grind (arith, log_of, registries_in)
 
   -- a step that each client feels, where the offer becomes this
   feels_follows : (offer offer' : Offer G) (s : Seen T U C) (R : Part T U C → Part T U C → Type 0) (missing : Type 0) (lacked : Bool) (did : List (Deed U)) (t : Seen T U C)
       → ((p q : Part T U C) → R p q → Leads' offer offer' p did q) → OnPart s R missing lacked did t → Follows offer offer' s did t
-  feels_follows offer offer' s R missing lacked did t leads h = grind (arith, either_option, out_follows, part_follows)
+  feels_follows offer offer' s R missing lacked did t leads h = grind (arith, either_option, out_follows, log_of, registries_in)
 
   -- a step that is about this client or about another
   of_client : (offer : Offer G) (b : Bool) (s : Seen T U C) (R : Part T U C → Part T U C → Type 0) (missing : Type 0) (lacked : Bool) (did : List (Deed U)) (t : Seen T U C)
@@ -133,10 +128,7 @@ module _ {T U G C : Type 0} (w : World T G C) (id : ClientParts) (r : Id) where
       → Hears w.sends p (messages p) lacked did q → Leads' offer offer' p did q
   hears_leads offer offer' messages p q lacked did watch h log made was on =
       let heard = hears_all w.views id r w.sends p (messages p) lacked did q h on in
-      subst (λ (s : Scene U C). Watch w.views id r offer' s (log ++ log_of did) (made ++ registries_in did)) (sym heard.scene)
-      (subst (λ (l : List Said). Watch w.views id r offer' (part_scene p) (log ++ l) (made ++ registries_in did)) (sym heard.put)
-      (subst (λ (l : List Id). Watch w.views id r offer' (part_scene p) (log ++ messages p) l) (sym (ap (λ (l : List Id). made ++ l) heard.made ∙ append-nil made))
-      (watch log made (was heard.live))))
+      grind (arith, log_of, registries_in, part_scene, append-nil)
 
   global_follows : (offer : Offer G) (i : InterfaceId) (version : ℕ) (handler : G) (a : Result GlobalParts GlobalError) (s : Seen T U C) (lacked : Bool) (did : List (Deed U))
       (t : Seen T U C) → CreatesGlobal offer.table offer.globals i version a → FeelsGlobal w id offer i version handler a s lacked did t
@@ -171,13 +163,7 @@ module _ {T U G C : Type 0} (w : World T G C) (id : ClientParts) (r : Id) where
           (λ p q heard.
           hears_leads offer (with_globals offer after) (λ y. removals y g.name) p q lacked did
           (λ log made was. loss_watch w.views id r offer (part_scene p) g.name after (hides p.client_data x is) log made was) heard) felt
-      go false off (no_memory, none, same) = record {
-        watch = λ log made is.
-            subst (λ (x : Seen T U C). SeenWatched (with_globals offer after) x (log ++ log_of did) (made ++ registries_in did)) (sym same)
-            (subst (λ (ds : List (Deed U)). SeenWatched (with_globals offer after) s (log ++ log_of ds) (made ++ registries_in ds)) (sym none)
-            (subst (λ (l : List Said). SeenWatched (with_globals offer after) s l (made ++ [])) (sym (append-nil log))
-            (subst (λ (l : List Id). SeenWatched (with_globals offer after) s log l) (sym (append-nil made)) (still s.part log made is))));
-      }
+      go false off (no_memory, none, same) = grind (arith, with_globals, log_of, registries_in, append-nil, still)
         where
           still : (o : Option (Part T U C)) (log : List Said) (made : List Id) → MatchOption o (Unit {0}) (λ p. p.is_killed ≡ false → Watched offer p log made)
               → MatchOption o (Unit {0}) (λ p. p.is_killed ≡ false → Watched (with_globals offer after) p log made)
@@ -241,8 +227,7 @@ module _ {T U G C : Type 0} (w : World T G C) (id : ClientParts) (r : Id) where
       of_client offer (same_client m.sender_id.client id) s _ _ lacked did t (λ p q d. sends_lives w.views id r offer w.sends p _ a lacked did q left d) h
   step_follows offer known (step.PostError o code text) answer s lacked did t about numbered alone (is, h) =
       of_client offer (same_client o.client id) s _ _ lacked did t (λ p q d. posts_lives w.views id r offer w.sends p o _ _ lacked did q d) h
-  step_follows offer known (step.KillClient target reason) answer s lacked did t about numbered alone (is, h) =
-      of_client offer (same_client target id) s _ _ lacked did t (λ p q (no_memory, k). kills_lives w.views id r offer p reason did q k) h
+  step_follows offer known (step.KillClient target reason) answer s lacked did t about numbered alone (is, h) = grind (arith, of_client, same_client, kills_lives)
   step_follows offer known (step.CreateGlobal i version handler) answer s lacked did t about numbered alone (a, is, h) = grind (arith, offer_after, global_follows)
   step_follows offer known (step.DisableGlobal g) answer s lacked did t about numbered alone (is, h) =
       loss_follows offer g (disabled offer.globals g) s lacked did t (λ client_data x kept. disabled_one w.views id client_data offer g x kept)
@@ -286,30 +271,11 @@ module _ {T U G C : Type 0} (w : World T G C) (id : ClientParts) (r : Id) where
   run_follows : (offer : Offer G) → HasInterfaces offer → (s : Seen T U C) (run : List (Own T U G C)) (t : Seen T U C) → AreMine id run → AreNumbered offer run → IsAlwaysLeftAlone r run
       → Alone w id offer s run t → Follows offer (own_offer offer run) s (history run) t
   run_follows offer known s [] t own numbered alone same = grind (arith, append-nil)
-  run_follows offer known s (e ∷ run) t own numbered alone (mid, by, rest) =
-      let first = call_follows offer known e.call s e.lacked e.did mid own.0 numbered.0 alone.0 by in
-      let more = run_follows (offer_after offer e.call) (after_call offer e.call known numbered.0) mid run t own.1 numbered.1 alone.1 rest in
-      let end : Offer G = own_offer (offer_after offer e.call) run in record {
-        watch = λ log made is.
-            subst (λ (l : List Said). SeenWatched end t l (made ++ registries_in (e.did ++ history run)))
-            (append_assoc log (log_of e.did) (log_of (history run)) ∙ ap (λ (l : List Said). log ++ l) (sym (log_both e.did (history run))))
-            (subst (λ (l : List Id). SeenWatched end t ((log ++ log_of e.did) ++ log_of (history run)) l)
-            (append_assoc made (registries_in e.did) (registries_in (history run)) ∙ ap (λ (l : List Id). made ++ l) (sym (registries_both e.did (history run))))
-            (more.watch (log ++ log_of e.did) (made ++ registries_in e.did) (first.watch log made is)));
-      }
+  run_follows offer known s (e ∷ run) t own numbered alone (mid, by, rest) = grind (arith, call_follows, offer_after, after_call, own_offer, registries_in, history, append_assoc, log_of, log_both, registries_both, run_follows (offer_after offer e.call) (after_call offer e.call known numbered.0) mid run t own.1 numbered.1 alone.1 rest)
 
   -- a client to which nothing happened yet
   begun_watched : (offer : Offer G) (link : LinkState T) (client_data : C) → SeenWatched offer (just_inserted link client_data) [] []
-  begun_watched offer link client_data on = record {
-    bounded = λ n x holds. most n x holds;
-    listed = λ y among. absurd among;
-    open_bounded = λ sender b created is. absurd (none-some _ is);
-    open_other = λ sender b created is. absurd (none-some _ is);
-    silent = λ later. record { same = λ told. refl };
-    unborn = λ later among. absurd among;
-    known = λ among. absurd among;
-    tells = λ among. absurd among;
-  }
+  begun_watched offer link client_data on = grind (arith, most, none-some)
     where
       most : (n : ℕ) (x : Object (Kept U)) → held (stored empty_store 1 display_object) n ≡ Some x → x.value.serial ≤ 0
       most n x holds =
@@ -346,9 +312,7 @@ module _ {T U G C : Type 0} where
       let at : mid.offer ≡ offer_over (new_offer table) (earlier ++ e ∷ []) = offer_run w (new_server table) mid (earlier ++ e ∷ []) first in
       let shared = shared_run w mid after later rest in
       let offer : Offer G = offer_over (new_offer table) (earlier ++ e ∷ []) in
-      let known : HasInterfaces offer =
-      subst (λ (o : Offer G). HasInterfaces o) at (after_run (new_offer table) 0 (earlier ++ e ∷ []) mid.offer mid.last_client (at_first table)
-      (shared_run w (new_server table) mid (earlier ++ e ∷ []) first)) in
+      let known : HasInterfaces offer = grind (arith, after_run, new_offer, at_first, shared_run, new_server) in
       let (numbered, ends) = mine_numbered id offer mid.last_client later after.offer after.last_client
       (subst (λ (o : Offer G). SharedAlone o mid.last_client later after.offer after.last_client) at shared) in
       subst (λ (o : Offer G). MatchOption (seen id after).part (Unit {0})

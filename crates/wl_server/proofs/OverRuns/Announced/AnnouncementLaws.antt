@@ -74,8 +74,7 @@ module _ (table : List InterfaceRow) where
       where
         go : (b : Bool) → ((t : List Announced) → IsAmong t x → IsAmong (after_adding t rs) x)
             → IsAmong (after_adding (cond b (told ++ announced_as table g ∷ []) told) rs) x
-        go true more = more (told ++ announced_as table g ∷ []) (among_first told (announced_as table g ∷ []) x among)
-        go false more = more told among
+        go h1 more = grind (arith, announced_as, among_first)
 
     pub adding_adds : (told : List Announced) (rs : List Id) → IsAmong rs r
         → IsAmong (announced_over r told (map (λ y. making (makes y) (global_message table y g)) rs)) (announced_as table g)
@@ -111,8 +110,7 @@ module _ (name : ℕ) (r : Id) where
     where
       go : (b : Bool) → ((t : List Announced) → IsAmong t x → IsAmong (after_removing t rs) x)
           → IsAmong (after_removing (cond b (without_name name told) told) rs) x
-      go true more = more (without_name name told) (filter_among _ told x among (ap not (ne_eqb x.name name other)))
-      go false more = more told among
+      go h1 more = grind (arith, without_name, filter_among, not, ne_eqb)
 
   pub removing_only : (told : List Announced) (rs : List Id) (x : Announced) → IsAmong (announced_over r told (map (removal_message name) rs)) x
       → IsAmong told x
@@ -121,8 +119,7 @@ module _ (name : ℕ) (r : Id) where
     where
       go : (b : Bool) → ((t : List Announced) → IsAmong (after_removing t rs) x → IsAmong t x)
           → IsAmong (after_removing (cond b (without_name name told) told) rs) x → IsAmong told x
-      go true more among = (among_filter _ told x (more (without_name name told) among)).0
-      go false more among = more told among
+      go h1 more among = grind (arith, among_filter, without_name)
 
   pub removing_removes : (told : List Announced) (rs : List Id) (x : Announced) → IsAmong rs r
       → IsAmong (announced_over r told (map (removal_message name) rs)) x → x.name ≢ name

@@ -79,14 +79,7 @@ module _ {G C : Type 0} (views : G → ClientParts → C → GlobalParts → Boo
           → IsShown offer g ⊎ ((is_shown views client client_data (name, x) ≡ true) × (announced_as offer.table (shown_as (name, x)) ≡ g))
       created_only g h =
           elim (cases_eq g.name name) [
-            | inl same ↦
-                let is : x ≡ h.global = same_Some x h.global (sym (stored_here offer.globals.store name x g.name same) ∙ h.at) in
-                inr (
-                  subst (λ (y : Object (KeptGlobal G)). is_shown views client client_data (name, y) ≡ true) (sym is)
-                      (subst (λ n. is_shown views client client_data (n, h.global) ≡ true) same h.passes),
-                  subst (λ (y : Object (KeptGlobal G)). announced_as offer.table (shown_as (name, y)) ≡ g) (sym is)
-                      (subst (λ n. announced_as offer.table (shown_as (n, h.global)) ≡ g) same h.is),
-                )
+            | inl same ↦ grind (arith, same_Some, stored_here, is_shown, announced_as, shown_as)
             | inr other ↦ inl (back created g (stored_other offer.globals.store name x g.name other) h)
           ]
 
@@ -100,8 +93,7 @@ module _ {G C : Type 0} (views : G → ClientParts → C → GlobalParts → Boo
       hidden_old g h other = moved after g (hides.beside g.name other) h
 
       hidden_other : (g : Announced) → With after g → g.name ≢ name
-      hidden_other g h same =
-          hides.hidden h.global (ap (held after.store) (sym same) ∙ h.at) (subst (λ n. is_shown views client client_data (n, h.global) ≡ true) same h.passes)
+      hidden_other g h same = grind (arith, held, is_shown)
 
       pub hidden_only : (g : Announced) → IsShown (with_globals offer after) g → IsShown offer g × (g.name ≢ name)
       hidden_only g h = (back after g (hides.beside g.name (hidden_other g h)) h, hidden_other g h)
@@ -114,12 +106,10 @@ module _ {G C : Type 0} (views : G → ClientParts → C → GlobalParts → Boo
 
   module _ (offer : Offer G) (g : GlobalParts) (x : Object (KeptGlobal G)) (is : global_of offer.globals g ≡ Some x) where
     pub disabled_one : Hides offer g.name (disabled offer.globals g)
-    disabled_one =
-        subst (λ (o : Option (Object (KeptGlobal G))). Hides offer g.name (disabled_at offer.globals g.name o)) (sym is) (disabled_hides offer g.name x)
+    disabled_one = grind (arith, disabled_at, disabled_hides)
 
     pub freed_one : Hides offer g.name (freed offer.globals g)
-    freed_one =
-        subst (λ (o : Option (Object (KeptGlobal G))). Hides offer g.name (freed_at offer.globals g.name o)) (sym is) (removed_hides offer g.name)
+    freed_one = grind (arith, freed_at, removed_hides)
 
   -- a global that is not enabled is shown to nobody: nothing changes where it is disabled again, or removed
   module _ (offer : Offer G) (g : GlobalParts) (hidden : is_enabled (global_of offer.globals g) ≡ false) where

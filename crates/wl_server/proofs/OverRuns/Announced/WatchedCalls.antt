@@ -1,5 +1,5 @@
 -- A registry that is watched over what the program does with its client.
-use Rattle.std.proofs.Common.{◌≡◌, ◌≢◌, ℕ, Bool, true, false, cond, eqb, List, [], ◌∷◌, ◌++◌, map, append-nil, Option, None, Some, is_some, Result, Ok, Err, MatchResult, refl, sym, ap, subst, ◌∙◌, true≢false, arith}
+use Rattle.std.proofs.Common.{◌≡◌, ◌≢◌, ◌⊎◌, ℕ, Bool, true, false, cond, eqb, List, [], ◌∷◌, ◌++◌, map, append-nil, Option, None, Some, is_some, Result, Ok, Err, MatchResult, refl, sym, ap, ◌∙◌, true≢false, arith}
 use mathlib.Core.Logic.{inl, inr}
 use Rattle.std.specs.Prelude.{slice_get}
 use Rattle.wl_wire.specs.declared.error.IoFault.{IoFault}
@@ -22,20 +22,20 @@ use Rattle.wl_server.specs.declared.error.InvalidId.{InvalidId}
 use Rattle.wl_server.specs.declared.objects.Kept.{Kept}
 use Rattle.wl_server.specs.declared.notes.DisconnectReason.{DisconnectReason}
 use Rattle.wl_server.proofs.OverRuns.Moves.BaseMoves.{Doings}
-use Rattle.wl_server.specs.Deeds.{Deed, Noted, Sent, left_if, log_of, registries_in}
+use Rattle.wl_server.specs.Deeds.{Deed, Sent, left_if, log_of, registries_in}
 use Rattle.wl_server.proofs.OverRuns.Moves.DoingsLaws.{doings_sends, told_deeds}
 use Rattle.wl_server.specs.Errors.{PostsError}
 use Rattle.wl_server.specs.Events.{SendsEvent, SendsGranted, SentAs, SessionMessage, ends_closed, ends_sender, event_check, said}
 use Rattle.wl_server.specs.Felt.{FlushedTo, FlushesLive}
-use Rattle.wl_server.specs.Finish.{FinishesBind, FinishesRequest, Refuses, core_finished, finish_verdict, data_given, ended_by, ending, ends, refusal, store_with_data}
+use Rattle.wl_server.specs.Finish.{FinishesBind, FinishesRequest, Refuses, core_finished, finish_verdict, data_given, ended_by, ends, refusal, store_with_data}
 use Rattle.wl_server.specs.Globals.{Offer}
 use Rattle.wl_server.specs.Ids.{ClientParts, GlobalParts, IdParts}
-use Rattle.wl_server.proofs.OverRuns.Moves.MovesOfCalls.{ended_named, granted_named, named_held, named_serial}
-use Rattle.wl_server.specs.Objects.{Creates, DataSet, Destroys, destroyable, destroys, told_of_removed, new_object, unless_refused, without, without_noted}
-use Rattle.wl_server.specs.Part.{Part, end_note, id_at, id_of, last_possible_serial, named, note_of_end, with_link}
-use Rattle.wl_server.specs.Telling.{Core, Did, Kills, Tells, core_of, delete_message, deletions}
+use Rattle.wl_server.proofs.OverRuns.Moves.MovesOfCalls.{destroyable_named, ended_named, granted_named, leaving_by, left_deeds, named_held, named_serial}
+use Rattle.wl_server.specs.Objects.{Creates, DataSet, Destroys, destroyable, new_object, unless_refused, without, without_noted}
+use Rattle.wl_server.specs.Part.{Part, end_note, id_at, id_of, last_possible_serial, named, with_link}
+use Rattle.wl_server.specs.Telling.{Core, Did, Kills, Tells, core_of, delete_message, deletions, tells}
 use Rattle.wl_server.proofs.OverRuns.Announced.WatchedReadings.{deletions_other}
-use Rattle.wl_server.proofs.OverRuns.Announced.WatchedVerdicts.{Forms, IsShort, Leads, Lives, PartLives, lives_not, lives_same, lives_so, lives_then, log_both, registries_both, tells_lives}
+use Rattle.wl_server.proofs.OverRuns.Announced.WatchedVerdicts.{IsShort, Leads, Lives, PartLives, lives_not, lives_same, lives_so, lives_then, log_both, registries_both, tells_lives}
 use Rattle.wl_server.proofs.OverRuns.Announced.Watching.{Goes, Scene, Steady, born_goes, display_other, goes_then, id_at_number, others_goes, part_scene, scene_of, set_action_goes, steady_goes, steady_same, steady_then, went_goes, wrote_goes}
 
 -- ---- deeds that put nothing
@@ -45,12 +45,8 @@ module _ {U : Type 0} where
   abbrev IsSilent : List (Deed U) → Type 0
   IsSilent did = (log_of did ≡ []) × (registries_in did ≡ [])
 
-  silent_left : (id : IdParts) (u : Option U) (b : Bool) → IsSilent (told_deeds (cond b [] (map Did (left_if (id_of id) u))))
-  silent_left id u b = grind (arith)
-
-  silent_ended : (client : ClientParts) (id : IdParts) (x : Object (Kept U)) (b : Bool)
-      → IsSilent (told_deeds (cond b [] (map Did (map Noted (note_of_end client id.number x) ++ left_if (id_of id) x.value.user_data))))
-  silent_ended client id x b = grind (arith, end_note, id_at, left_if, id_of)
+  silent_left : (client : ClientParts) (waits : Bool) (id : IdParts) (x : Object (Kept U)) (b : Bool) → IsSilent (told_deeds (cond b [] (map Did (left_deeds client waits id x))))
+  silent_left client waits id x b = grind (arith, end_note, id_at, left_if, id_of)
 
   named_at : (store : Store (Kept U)) (id : IdParts) (x : Object (Kept U)) → named store id ≡ Some x → id_at_number id.number x ≡ id_of id
   named_at store id x is = ap (λ (s : ℕ). record { number = id.number; serial = s }) (named_serial store id x is)
@@ -64,9 +60,6 @@ not_refused e answer refused is fine = is ∙ ap (unless_refused e) fine
 
 silent_sends : (U : Type 0) (es : List Sending) → IsSilent {U = U} (map Sent es)
 silent_sends U es = (ap (λ (d : Doings U). d.put) (doings_sends es), ap (λ (d : Doings U). d.registries) (doings_sends es))
-
-destroyable_is : {T U C : Type 0} (p : Part T U C) (id : IdParts) (x : Object (Kept U)) → destroyable p id ≡ Some x → named p.store id ≡ Some x
-destroyable_is p id x e = grind (arith, eqb, named, true≢false, is_some)
 
 module _ {G C : Type 0} (views : G → ClientParts → C → GlobalParts → Bool) (client : ClientParts) (r : Id) {U : Type 0} (offer : Offer G) where
   abbrev Still : Scene U C → Scene U C → Type 0
@@ -85,13 +78,11 @@ module _ {G C : Type 0} (views : G → ClientParts → C → GlobalParts → Boo
   quietly p q e did silent same live still = grind (arith, lives_so, part_scene, log_of, registries_in, steady_goes)
 
   pub none_done : {T : Type 0} (p q : Part T U C) (did : List (Deed U)) → did ≡ [] → q ≡ p → Run p did q
-  none_done p q did none same =
-      quietly p q p did (ap log_of none, ap registries_in none) same refl (steady_same views client r offer (part_scene p))
+  none_done p q did none same = grind (arith, quietly, log_of, registries_in, steady_same, part_scene)
 
   -- the display tells that a number is free
   deletes_goes : (s : Scene U C) (n : ℕ) → Change s (deletions n) [] s
-  deletes_goes s n =
-      others_goes views client r offer s (deletions n) (λ log made w ours. deletions_other r n (λ k. display_other views client r offer s log made w ours k))
+  deletes_goes s n = grind (arith, others_goes, deletions, deletions_other, display_other)
 
   -- messages and then a change, of a core that is as live as before
   speaks_then : (c e : Core U C) (puts : List Said) (told : List (Deed U)) → e.is_killed ≡ c.is_killed → registries_in told ≡ [] → Change (scene_of c) puts [] (scene_of c)
@@ -133,25 +124,31 @@ module _ {G C : Type 0} (views : G → ClientParts → C → GlobalParts → Boo
   without_still c id x is other =
       went_goes views client r offer (scene_of c) id.number x (named_held c.store id x is) (λ log made w among same. other (sym (named_at c.store id x is) ∙ same))
 
+  -- an object leaves, and its number is told
+  leaves_lives : {T : Type 0} (sends : T → Queue → Result ℕ IoFault → T → Type 0) (p : Part T U C) (e starved : Core U C) (waits asks : Bool) (id : IdParts) (x : Object (Kept U))
+      (link : LinkState T) (lacked : Bool) (did : List (Deed U)) (q : Part T U C) → e.is_killed ≡ p.is_killed → (starved.is_killed ≡ true) ⊎ (starved ≡ core_of p)
+      → (lacked ≡ false → Still (part_scene p) (scene_of e))
+      → Tells sends (leaving_by client e starved waits asks id x (deletions id.number)) link lacked did q → Run p did q
+  leaves_lives sends p e starved waits asks id x link lacked did q live back still tells' =
+      tells_lives views client r offer sends p (leaving_by client e starved waits asks id x (deletions id.number)) link lacked did q
+      (record {
+        last = λ d killed'. killed';
+        starved = elim back [ inl dead ↦ inl dead | inr same ↦ inr (same, (silent_left client waits id x (is_some (named p.store id))).1, short_deletions id.number) ];
+        silent = λ d. (silent_left client waits id x (is_some (named d.store id))).0;
+      })
+      (λ fits.
+      speaks_then (core_of p) e (deletions id.number) (told_deeds (cond (is_some (named e.store id)) [] (map Did (left_deeds client waits id x)))) live
+      (silent_left client waits id x (is_some (named e.store id))).1 (deletes_goes (part_scene p) id.number) (still (fits refl)))
+      tells'
+
   pub destroys_lives : {T : Type 0} (sends : T → Queue → Result ℕ IoFault → T → Type 0) (p : Part T U C) (id : IdParts) (answer : Result (Unit {0}) DestroyError) (lacked : Bool)
       (did : List (Deed U)) (q : Part T U C) → (id_of id ≡ r → answer ≢ Ok tt) → Destroys sends client p id answer lacked did q → Run p did q
   destroys_lives sends p id answer lacked did q alone h =
       elim (either_option (destroyable p id) h) [
         | inl (none, (is, no_memory, nothing, same)) ↦ none_done p q did nothing same
         | inr (x, some, (is, tells')) ↦
-            let there = destroyable_is p id x some in
-            tells_lives views client r offer sends p (destroys client (core_of p) id x) p.link lacked did q
-            (record {
-              last = λ d killed'. killed';
-              starved = inr (refl, (silent_left id x.value.user_data (is_some (named p.store id))).1, short_deletions id.number);
-              silent = λ e. (silent_left id x.value.user_data (is_some (named e.store id))).0;
-            })
-            (λ fits.
-            speaks_then (core_of p) (without_noted client (core_of p) id.number x) (deletions id.number)
-            (told_deeds (told_of_removed id x.value.user_data (without_noted client (core_of p) id.number x))) refl
-            (silent_left id x.value.user_data (is_some (named (without_noted client (core_of p) id.number x).store id))).1 (deletes_goes (part_scene p) id.number)
-            (without_still (core_of p) id x there (λ same. alone same (not_refused _ answer lacked is (fits refl)))))
-            tells'
+            leaves_lives sends p (without_noted client (core_of p) id.number x) (core_of p) true (is_some x.value.user_data) id x p.link lacked did q refl (inr refl)
+            (λ fine. without_still (core_of p) id x (destroyable_named p id x some) (λ same. alone same (not_refused _ answer lacked is fine))) tells'
       ]
 
   -- ---- errors, and the end of a client
@@ -161,14 +158,12 @@ module _ {G C : Type 0} (views : G → ClientParts → C → GlobalParts → Boo
   posts_lives sends p id code text lacked did q h = grind (arith, either_bool, eqb, none_done, tells_lives, core_of, lives_not, part_scene)
 
   pub kills_lives : {T : Type 0} (p : Part T U C) (reason : DisconnectReason) (did : List (Deed U)) (q : Part T U C) → Kills p reason did q → Run p did q
-  kills_lives p reason did q (is, same) =
-      subst (λ (e : Part _ U C). Run p did e) (sym same) (lives_not views client r offer p.is_killed true (part_scene p) (log_of did) (registries_in did) (part_scene p) refl)
+  kills_lives p reason did q h5 = grind (arith, lives_not, part_scene, log_of, registries_in)
 
   -- ---- flushes, and what the program does to a transport
 
   pub relinked_lives : {T : Type 0} (p : Part T U C) (link : LinkState T) (did : List (Deed U)) (q : Part T U C) → did ≡ [] → q ≡ with_link p link → Run p did q
-  relinked_lives p link did q none same =
-      quietly p q (with_link p link) did (ap log_of none, ap registries_in none) same refl (steady_same views client r offer (part_scene p))
+  relinked_lives p link did q none same = grind (arith, quietly, with_link, log_of, registries_in, steady_same, part_scene)
 
   pub flushed_lives : {T : Type 0} (sends : T → Queue → Result ℕ IoFault → T → Type 0) (p : Part T U C) (answer : Result (Unit {0}) IoFault) (lacked : Bool) (did : List (Deed U))
       (q : Part T U C) → FlushedTo sends p answer lacked did q → Run p did q
@@ -190,56 +185,40 @@ module _ {G C : Type 0} (views : G → ClientParts → C → GlobalParts → Boo
       after_sends : Lives views client r offer p.is_killed q.is_killed (part_scene p) (log_of rest) (registries_in rest) (part_scene q) → Run p did q
       after_sends lives = grind (arith, lives_so, part_scene, log_of, registries_in, log_both, silent_sends, registries_both)
 
-      ends_forms : (c : Core U C) (d : Bool) → Forms c (ends_sender client c m sender d)
-      ends_forms c d = grind (arith, silent_left, is_some, named)
-
       -- the sender is not the registry: it may leave
-      ends_leads : (d : Bool) → id_of m.sender ≢ r → Leads views client r offer (core_of p) (ends_sender client (core_of p) m sender d)
-      ends_leads false other = lives_same views client r offer p.is_killed (part_scene p)
-      ends_leads true other =
-          speaks_then (core_of p) (without_noted client (core_of p) m.sender.number sender) (deletions m.sender.number)
-          (told_deeds (told_of_removed m.sender sender.value.user_data (without_noted client (core_of p) m.sender.number sender))) refl
-          (silent_left m.sender sender.value.user_data (is_some (named (without_noted client (core_of p) m.sender.number sender).store m.sender))).1
-          (deletes_goes (part_scene p) m.sender.number) (without_still (core_of p) m.sender sender is other)
-
-      closed_forms : (c : Core U C) (d : Bool) → Forms c (ends_closed client c m sender d)
-      closed_forms c d = grind (arith, silent_left, is_some, named)
+      sender_lives : (d : Bool) (more : List (Deed U)) → id_of m.sender ≢ r → Tells sends (ends_sender client (core_of p) m sender d) link lacked more q → Run p more q
+      sender_lives false more other tells' =
+          tells_lives views client r offer sends p (tells (core_of p) []) link lacked more q (record { last = λ e killed'. killed'; starved = inl refl; silent = λ e. refl })
+          (λ fits. lives_same views client r offer p.is_killed (part_scene p)) tells'
+      sender_lives true more other tells' =
+          leaves_lives sends p (without_noted client (core_of p) m.sender.number sender) _ true false m.sender sender link lacked more q refl (inl refl)
+          (λ fine. without_still (core_of p) m.sender sender is other) tells'
 
       closed_leads : (d : Bool) → Leads views client r offer (core_of p) (ends_closed client (core_of p) m sender d)
-      closed_leads false = lives_not views client r offer p.is_killed true (part_scene p) _ _ _ refl
-      closed_leads true = lives_not views client r offer p.is_killed true (part_scene p) _ _ _ refl
+      closed_leads h1 = grind (arith, lives_not, part_scene)
 
       broken_lives : Tells sends (ends_closed client (core_of p) m sender b) link lacked rest q → Run p did q
-      broken_lives tells' =
-          after_sends (tells_lives views client r offer sends p (ends_closed client (core_of p) m sender b) link lacked rest q (closed_forms (core_of p) b) (λ fits. closed_leads b) tells')
+      broken_lives tells' = grind (arith, after_sends, tells_lives, ends_closed, core_of, silent_left, is_some, named, closed_leads)
 
       sent_lives : (w : Result (Unit {0}) IoFault) → SentAs sends client p m sender b w link answer lacked rest q → Run p did q
       sent_lives (Ok u) (more, tells', is_ok, rest_so) =
           let other : id_of m.sender ≢ r = λ same. alone same is_ok in
-          let then' = tells_lives views client r offer sends p (ends_sender client (core_of p) m sender b) link lacked more q (ends_forms (core_of p) b) (λ fits. ends_leads b other) tells' in
+          let then' = sender_lives b more other tells' in
           let says = others_goes views client r offer (part_scene p) (said m ∷ []) (λ log made w ours. (other, tt)) in
           after_sends (lives_so views client r offer p.is_killed q.is_killed (part_scene p) (part_scene q) (said m ∷ log_of more) (log_of rest) (registries_in more) (registries_in rest)
           (ap log_of rest_so) (ap registries_in rest_so)
           (lives_then views client r offer p.is_killed p.is_killed q.is_killed (part_scene p) (part_scene p) (part_scene q) (said m ∷ []) (log_of more) [] (registries_in more)
           (record { live = λ on. on; goes = λ on. says }) then'))
-      sent_lives (Err fault.OutOfMemory) (is_err, no_memory, none, same) =
-          after_sends (subst (λ (e : Part T U C). Lives views client r offer p.is_killed e.is_killed (part_scene p) (log_of rest) (registries_in rest) (part_scene e)) (sym same)
-          (lives_so views client r offer p.is_killed p.is_killed (part_scene p) (part_scene p) [] (log_of rest) [] (registries_in rest) (ap log_of none) (ap registries_in none)
-          (lives_same views client r offer p.is_killed (part_scene p))))
+      sent_lives (Err fault.OutOfMemory) (is_err, no_memory, none, same) = grind (arith, after_sends, part_scene, log_of, registries_in, lives_so, lives_same)
       sent_lives _ h = broken_lives h.0
 
     granted_lives : (p : Part T U C) (b : Bool) (answer : Result (Unit {0}) EventError) (lacked : Bool) (did : List (Deed U)) (q : Part T U C)
         → named p.store m.sender ≡ Some sender → (id_of m.sender ≡ r → answer ≢ Ok tt) → SendsGranted sends client p m sender b answer lacked did q → Run p did q
-    granted_lives p b answer lacked did q is alone (inl (asks, is_err, no_memory, none, same)) = none_done p q did none same
-    granted_lives p b answer lacked did q is alone (inr (es, rest, w, link, by, sent, did_so)) = sent_lives p b es link answer lacked rest did q is alone did_so w sent
+    granted_lives p b answer lacked did q is alone h9 = grind (arith, none_done, sent_lives)
 
   pub sends_lives : {T : Type 0} (sends : T → Queue → Result ℕ IoFault → T → Type 0) (p : Part T U C) (m : SessionMessage) (answer : Result (Unit {0}) EventError) (lacked : Bool)
       (did : List (Deed U)) (q : Part T U C) → (id_of m.sender ≡ r → answer ≢ Ok tt) → SendsEvent sends client offer.table p m answer lacked did q → Run p did q
-  sends_lives sends p m answer lacked did q alone h =
-      elim (either_bool p.is_killed h) [
-        | inl (is, no_memory, none, same) ↦ none_done p q did none same
-        | inr g ↦ checked (event_check client p.store offer.table m) refl g
-      ]
+  sends_lives sends p m answer lacked did q alone h = grind (arith, either_bool, none_done, checked, event_check)
     where
       checked : (t : Result (Object (Kept U) × Bool) EventError) → event_check client p.store offer.table m ≡ t
           → MatchResult t (λ g. SendsGranted sends client p m g.0 g.1 answer lacked did q)
@@ -250,9 +229,7 @@ module _ {G C : Type 0} (views : G → ClientParts → C → GlobalParts → Boo
   -- ---- the end of an action
 
   finish_still : (c : Core U C) (created : Option IdParts) (u : Option U) → Still (scene_of c) (scene_of (core_finished c created u))
-  finish_still c created u =
-      steady_then views client r offer (scene_of c) (scene_of (record c { action = None })) (scene_of (core_finished c created u))
-      (set_action_goes views client r offer (scene_of c) None (λ sender b made is. true≢false (sym (ap is_some is)))) (given created u)
+  finish_still c created u = grind (arith, steady_then, scene_of, core_finished, set_action_goes, true≢false, is_some, given)
     where
       given : (created : Option IdParts) (u : Option U) → Still (scene_of (record c { action = None })) (scene_of (core_finished c created u))
       given None u = steady_same views client r offer (scene_of (record c { action = None }))
@@ -288,19 +265,10 @@ module _ {G C : Type 0} (views : G → ClientParts → C → GlobalParts → Boo
         })
         tells'
     ends_lives (Some x) is tells' =
-        tells_lives views client r offer sends p (ends client (core_of p) sender (Some x) created u) p.link lacked did q
-        (record {
-          last = λ d killed'. killed';
-          starved = inr (refl, (silent_ended client sender x (is_some (named p.store sender))).1, short_deletions sender.number);
-          silent = λ e. (silent_ended client sender x (is_some (named e.store sender))).0;
-        })
-        (λ fits.
-        speaks_then (core_of p) (core_finished (without (core_of p) sender.number x) created u) (deletions sender.number)
-        (told_deeds (ending client sender x (core_finished (without (core_of p) sender.number x) created u))) refl
-        (silent_ended client sender x (is_some (named (core_finished (without (core_of p) sender.number x) created u).store sender))).1 (deletes_goes (part_scene p) sender.number)
-        (steady_then views client r offer (part_scene p) (scene_of (without (core_of p) sender.number x)) (scene_of (core_finished (without (core_of p) sender.number x) created u))
-        (ends_still (core_of p) sender b created x open' (is x refl)) (finish_still (without (core_of p) sender.number x) created u)))
-        tells'
+        leaves_lives sends p (core_finished (without (core_of p) sender.number x) created u) (core_of p) false (is_some x.value.user_data) sender x p.link lacked did q refl (inr refl)
+        (λ fine.
+        steady_then views client r offer (part_scene p) (scene_of (without (core_of p) sender.number x)) (scene_of (core_finished (without (core_of p) sender.number x) created u))
+        (ends_still (core_of p) sender b created x open' (is x refl)) (finish_still (without (core_of p) sender.number x) created u)) tells'
 
   pub finishes_lives : {T : Type 0} (sends : T → Queue → Result ℕ IoFault → T → Type 0) (p : Part T U C) (u : Option U) (answer : Result (Unit {0}) (FinishRefused (Option U)))
       (lacked : Bool) (did : List (Deed U)) (q : Part T U C) → FinishesRequest sends client p u answer lacked did q → Run p did q

@@ -57,12 +57,7 @@ module _ {G C : Type 0} (views : G → ClientParts → C → GlobalParts → Boo
           let on : end.core.is_killed ≡ false = ap (λ (x : Part _ U C). x.is_killed) (sym same) ∙ live in
           let (core, put, made) = whole gave end.core lacked was on
           (carried_to sends speaker (λ d f. refl) c (tells c messages) (record { last = λ d killed. killed; starved = inl refl; silent = λ e. refl }) p.link es gave lacked end by) in
-          record {
-            live = was;
-            scene = ap part_scene same ∙ ap scene_of core;
-            put = ap log_of is ∙ so.put ∙ put;
-            made = ap registries_in is ∙ so.made ∙ made;
-          }
+          grind (arith, part_scene, scene_of, log_of, registries_in)
 
   -- ---- a global is created
 
@@ -132,9 +127,7 @@ module _ {G C : Type 0} (views : G → ClientParts → C → GlobalParts → Boo
           let in-after = subst (λ (l : List Announced). IsAmong l a) whole there in
           hidden_old views client s.client_data offer name after hides a (w.told a (removing_only name r (announced log r) s.registries a in-after))
           (removing_removes name r (announced log r) s.registries a among in-after);
-      tells = λ a shown'.
-          let (was, other) = hidden_only views client s.client_data offer name after hides a shown' in
-          subst (λ (l : List Announced). IsAmong l a) (sym whole) (removing_keeps name r (announced log r) s.registries a (w.tells a was) other);
+      tells = grind (arith, hidden_only, whole, removing_keeps, announced);
     }
       where
         whole : announced (log ++ map (removal_message name) s.registries) r ≡ announced_over r (announced log r) (map (removal_message name) s.registries)

@@ -1,20 +1,15 @@
 -- A registry that is watched over the readings of its client.
-use Rattle.std.proofs.Common.{◌≡◌, ◌≢◌, ℕ, Bool, true, false, cond, eqb, List, [], ◌∷◌, ◌++◌, map, append-nil, Option, None, Some, Result, Ok, Err, refl, sym, ap, subst, ◌∙◌, true≢false, arith}
+use Rattle.std.proofs.Common.{◌≡◌, ◌≢◌, ℕ, Bool, true, false, cond, eqb, List, [], ◌∷◌, ◌++◌, map, append-nil, Option, Some, Result, refl, sym, ap, subst, true≢false, arith}
 use mathlib.Core.Logic.{inl, inr}
 use Rattle.std.specs.Prelude.{nat_lt}
-use Rattle.wl_wire.specs.declared.argument.Argument.{Argument}
-use Rattle.wl_wire.specs.declared.argument.Argument.TheVariants as arg
-use Rattle.wl_wire.specs.declared.argument.Token.{Token}
 use Rattle.wl_wire.specs.declared.error.IoFault.{IoFault}
 use Rattle.wl_wire.specs.declared.error.IoFault.TheVariants as fault
-use Rattle.wl_wire.specs.declared.interface.InterfaceId.{InterfaceId}
-use Rattle.wl_wire.specs.Argument.{WireArgument}
 use Rattle.wl_wire.specs.Message.{WireMessage}
 use Rattle.wl_wire.specs.Table.{MessageRow, callback_id, name_of, registry_id}
 use Rattle.wl_link.specs.declared.object.Object.{Object}
 use Rattle.wl_link.proofs.Calls.Branches.{either_bool, either_option, either_result}
 use Rattle.wl_link.specs.Exchange.{Queue, Sending}
-use Rattle.wl_link.specs.Identity.{Id, Objects}
+use Rattle.wl_link.specs.Identity.{HandedId, Id, Objects}
 use Rattle.wl_link.specs.Link.{LinkState, count_of, counted_answer}
 use Rattle.wl_link.specs.Puts.{Said}
 use Rattle.wl_link.specs.Reader.{CarriesOut, Given, Gives, Handled, Reads, Received, Turn, Unread, Verdict, with_link, ReaderState}
@@ -26,7 +21,6 @@ use Rattle.wl_server.specs.declared.reading.action.Reading.{Reading}
 use Rattle.wl_server.specs.declared.error.ActionError.{ActionError}
 use Rattle.wl_server.specs.declared.objects.Kept.{Kept}
 use Rattle.wl_server.specs.declared.globals.KeptGlobal.{KeptGlobal}
-use Rattle.wl_server.specs.declared.reading.response.RequestFault.TheVariants as wrong
 use Rattle.wl_server.proofs.OverRuns.Announced.AnnouncementLaws.{AreOfOthers}
 use Rattle.wl_server.specs.Deeds.{Deed, Handed, Remembered, log_of, registries_in}
 use Rattle.wl_server.specs.Deeds as deeds
@@ -35,11 +29,11 @@ use Rattle.wl_server.specs.Errors.{fault_text, since_text}
 use Rattle.wl_server.specs.Globals.{Offer, global_at}
 use Rattle.wl_server.specs.Ids.{ClientParts, GlobalParts, IdParts}
 use Rattle.wl_server.proofs.OverRuns.Moves.MovesOfReadings.{gave_none}
-use Rattle.wl_server.proofs.OverRuns.Moves.MovesOfRequests.{valid_new}
-use Rattle.wl_server.specs.Part.{Part, id_at, null_id}
+use Rattle.wl_server.proofs.OverRuns.Moves.MovesOfRequests.{Came, converts, valid_new}
+use Rattle.wl_server.specs.Part.{Part, id_at}
 use Rattle.wl_server.specs.Reading.{Around, NextAction, binds, breaks, converted, faulted, garbled, hands_out, new_at, other_request, registers, replies, server, stops_if, synced, syncs, with_registry}
 use Rattle.wl_server.proofs.OverRuns.Announced.RequestCases.{request_case}
-use Rattle.wl_server.specs.Requests.{Converted, Converting, Outcome, Whole, Wrong, allows_null, convert, convert_one, going_on, is_valid_new, kinds_after, made_id, made_object, object_found, start, with_made, with_new_argument, with_object_argument}
+use Rattle.wl_server.specs.Requests.{Outcome, Whole, Wrong, convert, is_valid_new, made_id, made_object, start, with_made}
 use Rattle.wl_server.specs.Telling.{Core, Did, Told, deeds_in, delete_message, deletions, done_message, objects_in, reader_part, with_objects}
 use Rattle.wl_server.proofs.OverRuns.Announced.WatchedVerdicts.{CoreLives, Forms, Leads, PartLives, carried_to, lives_not, lives_same, lives_so, lives_then, log_both, registries_both, told_stops, turned, verdict_lives}
 use Rattle.wl_server.proofs.OverRuns.Announced.Watching.{Goes, Scene, Steady, born_goes, display_other, goes_then, kept_other, opens_goes, others_goes, part_scene, registers_goes, scene_of, set_action_goes, steady_goes, steady_same, steady_then, went_goes}
@@ -97,11 +91,7 @@ module _ {G C : Type 0} (views : G → ClientParts → C → GlobalParts → Boo
       (steady_goes views client r offer (scene_of c) made (born_goes views client r offer (scene_of c) n x (valid_new (objects_in c) n valid).0 refl))
       (subst (λ (l : List Said). Goes' made l [] (scene_of (synced (around_of views client offer) c n))) (append-nil (done_message (new_at (around_of views client offer) c n) ∷ deletions n))
       (goes_then views client r offer made made (scene_of (synced (around_of views client offer) c n)) (done_message (new_at (around_of views client offer) c n) ∷ deletions n) [] [] []
-      (others_goes views client r offer made (done_message (new_at (around_of views client offer) c n) ∷ deletions n)
-      (λ log regs w ours. (
-        kept_other views client r offer made log regs w ours n x (stored_here c.store n x n refl) refl,
-        deletions_other r n (λ k. display_other views client r offer made log regs w ours k),
-      )))
+      (grind (arith, others_goes, made, done_message, new_at, around_of, deletions, kept_other, x, stored_here, deletions_other, display_other))
       (steady_goes views client r offer made (scene_of (synced (around_of views client offer) c n))
       (went_goes views client r offer made n x (stored_here c.store n x n refl)
       (λ log regs w is. kept_other views client r offer made log regs w (inl is) n x (stored_here c.store n x n refl) refl))))))
@@ -140,63 +130,9 @@ module _ {G C : Type 0} (views : G → ClientParts → C → GlobalParts → Boo
 
   -- ---- other requests
 
-  module _ (c : Core U C) (version : ℕ) where
-    -- from some objects to others
-    abbrev Over : Objects (Kept U) → Objects (Kept U) → Type 0
-    Over o o' = Still (scene_of (with_objects c o)) (scene_of (with_objects c o'))
-
-    still : (o : Objects (Kept U)) → Over o o
-    still o = steady_same views client r offer (scene_of (with_objects c o))
-
-    abbrev One : Converting U → Converted U → Type 0
-    One d (Ok next) = Over d.objects next.1.objects
-    One d (Err w) = Unit {0}
-
-    converts_found : (d : Converting U) (asked : InterfaceId) (n : ℕ) (x : Option (Object (Kept U))) → One d (with_object_argument d (object_found client asked n x))
-    converts_found d asked n x = grind (arith, with_object_argument, still)
-
-    converts_object : (d : Converting U) (null : Bool) (asked : InterfaceId) (n : ℕ) (b : Bool)
-        → One d (with_object_argument d (cond b (cond null (Ok (null_id client)) (Err wrong.NullObject)) (object_found client asked n (held d.objects.store n))))
-    converts_object d null asked n b = grind (arith, converts_found, still)
-
-    converts_new : (d : Converting U) (n : ℕ) (child : Option InterfaceId) → One d (with_new_argument client version d n child)
-    converts_new d n None = tt
-    converts_new d n (Some i) = go (is_valid_new d.objects n) refl
-      where
-        go : (b : Bool) → is_valid_new d.objects n ≡ b
-            → One d (cond b
-            (Ok (
-              arg.NewId (made_id client d.objects n i),
-              record {
-                objects = with_made d.objects n i version;
-                kinds = kinds_after d.kinds;
-                asked = d.asked;
-                child = None;
-                created = Some (made_id client d.objects n i);
-              },
-            ))
-            (Err (wrong.InvalidNewId n)))
-        go true valid = born_goes views client r offer (scene_of (with_objects c d.objects)) n (made_object d.objects i version) (valid_new d.objects n valid).0 refl
-        go false valid = tt
-
-    converts_one : (d : Converting U) (x : WireArgument) → One d (convert_one client version d x)
-    converts_one d x = grind (arith, converts_object, allows_null, eqb, converts_new, still)
-
-    abbrev Came : Objects (Kept U) → Outcome U → Type 0
-    Came o (Whole d args) = Over o d.objects
-    Came o (Wrong w objects) = Unit {0}
-
-    goes_on : (o : Objects (Kept U)) (d : Converting U) (done : List (Argument IdParts Token)) (args : List WireArgument)
-        → ((next : Converting U) (more : List (Argument IdParts Token)) → Over o next.objects → Came o (convert client version next more args))
-        → (t : Converted U) → One d t → Over o d.objects
-        → Came o (going_on t d.objects (λ b next. convert client version next (done ++ b ∷ []) args))
-    goes_on o d done args h1 t h2 h3 = grind (arith, steady_then, scene_of, with_objects)
-
-    converts : (o : Objects (Kept U)) (d : Converting U) (done : List (Argument IdParts Token)) (args : List WireArgument) → Over o d.objects
-        → Came o (convert client version d done args)
-    converts o d done [] so = so
-    converts o d done (x ∷ args) so =
-        goes_on o d done args (λ next more so-far. converts o next more args so-far) (convert_one client version d x) (converts_one d x) so
+  -- from some objects to others, whatever ids came up
+  abbrev Over : Core U C → Objects (Kept U) → List (HandedId IdParts) → Objects (Kept U) → Type 0
+  Over c o ids o' = Still (scene_of (with_objects c o)) (scene_of (with_objects c o'))
 
   module _ (c : Core U C) (m : WireMessage) (receiver : Object (Kept U)) (row : MessageRow) (holds : held c.store m.sender ≡ Some receiver)
       (other : eqb receiver.interface.0 registry_id.0 ≡ false) where
@@ -204,12 +140,12 @@ module _ {G C : Type 0} (views : G → ClientParts → C → GlobalParts → Boo
     id = id_at client m.sender receiver
 
     -- the action is open, and then the arguments make their objects
-    converted_handles : (outcome : Outcome U) → ((e : Core U C) → Came e receiver.version (objects_in c) outcome) → Handles c (converted (around_of views client offer) c m receiver row outcome)
+    converted_handles : (outcome : Outcome U) → ((e : Core U C) → Came (Over e (objects_in c)) outcome) → Handles c (converted (around_of views client offer) c m receiver row outcome)
     converted_handles (Wrong w objects) came = breaks_handles c (with_objects c objects) 0 (fault_text offer.table receiver.interface row w)
     converted_handles (Whole d args) came =
         hands_out_handles c (with_objects c d.objects) (opened.Request id row.is_destructor d.created) _ refl
         (steady_then views client r offer (scene_of c) (scene_of opening) (scene_of (with_objects opening d.objects))
-        (opens_goes views client r offer (scene_of c) id row.is_destructor d.created receiver holds refl other) (came opening))
+        (opens_goes views client r offer (scene_of c) id row.is_destructor d.created receiver holds refl other) (came opening).0)
       where
         opening : Core U C
         opening = record c { action = Some (opened.Request id row.is_destructor d.created) }
@@ -221,7 +157,12 @@ module _ {G C : Type 0} (views : G → ClientParts → C → GlobalParts → Boo
             (breaks (around_of views client offer) c 1 (since_text m.opcode receiver.version row.since (name_of offer.table receiver.interface.0) m.sender))
             (converted (around_of views client offer) c m receiver row (convert client receiver.version (start (objects_in c) row) [] m.args)))
         go true = breaks_handles c c 1 _
-        go false = grind (arith, converted_handles, convert, start, objects_in, converts, still)
+        go false =
+            converted_handles (convert client receiver.version (start (objects_in c) row) [] m.args)
+            (λ e. converts client receiver.version (Over e (objects_in c))
+            (λ ids o n i valid so. steady_then views client r offer _ _ _ so (born_goes views client r offer (scene_of (with_objects e o)) n (made_object o i receiver.version) (valid_new o n valid).0 refl))
+            (λ ids o n x there so. so) (λ ids o so. so) (start (objects_in c) row) [] m.args
+            (steady_same views client r offer (scene_of (with_objects e (objects_in c))), λ id among. among))
 
   handles : (c : Core U C) (m : WireMessage) → Handles c ((server (around_of views client offer)).handles c m)
   handles c m =
@@ -238,13 +179,7 @@ module _ {G C : Type 0} (views : G → ClientParts → C → GlobalParts → Boo
     none_gave c gave none = subst (λ (g : List (Given (Told U))). Gave c g c) (sym none) (lives_same views client r offer c.is_killed (scene_of c))
 
     gave_then : (c m e : Core U C) (first rest : List (Given (Told U))) → Gave c first m → Gave m rest e → Gave c (first ++ rest) e
-    gave_then c m e first rest one more =
-        lives_so views client r offer c.is_killed e.is_killed (scene_of c) (scene_of e) (log_of (deeds_in first) ++ log_of (deeds_in rest)) (log_of (deeds_in (first ++ rest)))
-        (registries_in (deeds_in first) ++ registries_in (deeds_in rest)) (registries_in (deeds_in (first ++ rest)))
-        (ap log_of (deeds_both first rest) ∙ log_both (deeds_in first) (deeds_in rest))
-        (ap registries_in (deeds_both first rest) ∙ registries_both (deeds_in first) (deeds_in rest))
-        (lives_then views client r offer c.is_killed m.is_killed e.is_killed (scene_of c) (scene_of m) (scene_of e) (log_of (deeds_in first)) (log_of (deeds_in rest))
-        (registries_in (deeds_in first)) (registries_in (deeds_in rest)) one more)
+    gave_then c m e first rest one more = grind (arith, lives_so, scene_of, log_of, deeds_in, registries_in, deeds_both, log_both, registries_both, lives_then)
 
     turn_lives : (before : ReaderState T (Core U C)) (link : LinkState T) (v : Verdict (Core U C) (Told U)) → Handles before.core v → (es : List Sending) (first : List (Given (Told U)))
         (lacked : Bool) (mid : ReaderState T (Core U C)) → CarriesOut sends (server (around_of views client offer)) v link es first lacked mid → Gave before.core first mid.core
@@ -261,13 +196,7 @@ module _ {G C : Type 0} (views : G → ClientParts → C → GlobalParts → Boo
         → Reads sends (server (around_of views client offer)) receives left before turns out after → Gave before.core out.gave after.core
     reads_lives left before [] out after (same, ends) =
         subst (λ (e : ReaderState T (Core U C)). Gave before.core out.gave e.core) (sym same) (none_gave before.core out.gave (gave_none sends (around_of views client offer) left before out ends))
-    reads_lives left before (Received t ∷ turns) out after (on, lacks, (n, is, (link, filled, room, h))) =
-        elim (either_result (counted_answer (count_of t)) h) [
-          | inl (u, more) ↦ reads_lives n (with_link before link) turns out after more
-          | inr (f, (over, stopped, same)) ↦
-              subst (λ (e : ReaderState T (Core U C)). Gave before.core out.gave e.core) (sym same)
-              (subst (λ (o : Gives (Told U)). Gave before.core o.gave (faulted before.core f)) (sym stopped) (faulted_lives before.core f))
-        ]
+    reads_lives left before (Received t ∷ turns) out after (on, lacks, (n, is, (link, filled, room, h))) = grind (arith, either_result, counted_answer, count_of, with_link, faulted, faulted_lives, reads_lives n (with_link before link) turns out after)
     reads_lives left before (Handled es ∷ turns) out after (on, (v, link, first, lacked, mid, rest, (m, read, is), by, split, more)) =
         subst (λ (o : Gives (Told U)). Gave before.core o.gave after.core) (sym split)
         (gave_then before.core mid.core after.core first rest.gave
@@ -284,12 +213,7 @@ module _ {G C : Type 0} (views : G → ClientParts → C → GlobalParts → Boo
           | inl (not_open, g) ↦
               elim (either_bool p.is_killed g) [
                 | inl (is, same, no_memory, none, stays) ↦ stands none stays
-                | inr (turns, out, end, reads, is, same, no_memory, did_so, after) ↦
-                    let so = turned turns out.gave end.core in
-                    subst (λ (e : Part T U C). PartLives views client r offer p did e) (sym after)
-                    (lives_so views client r offer p.is_killed end.core.is_killed (part_scene p) (scene_of end.core) (log_of (deeds_in out.gave)) (log_of did)
-                    (registries_in (deeds_in out.gave)) (registries_in did) (ap log_of did_so ∙ so.put) (ap registries_in did_so ∙ so.made)
-                    (reads_lives t.turns_left (reader_part p) turns out end reads))
+                | inr (turns, out, end, reads, is, same, no_memory, did_so, after) ↦ grind (arith, turned, lives_so, part_scene, scene_of, log_of, deeds_in, registries_in, reads_lives, reader_part)
               ]
         ]
       where

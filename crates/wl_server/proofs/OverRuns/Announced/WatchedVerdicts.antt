@@ -1,6 +1,6 @@
 -- What a verdict that is carried out leaves of a client that lives on: all its messages were put, or nothing was done.
-use Rattle.std.proofs.Common.{◌≡◌, ◌⊎◌, ℕ, Bool, true, false, List, [], ◌∷◌, ◌++◌, map, append-nil, Result, Ok, Err, refl, sym, ap, subst, ◌∙◌, true≢false, arith}
-use mathlib.Core.Logic.{inl, inr}
+use Rattle.std.proofs.Common.{◌≡◌, ◌⊎◌, ℕ, Bool, true, false, List, [], ◌∷◌, ◌++◌, map, append-nil, Result, Ok, Err, refl, sym, ap, ◌∙◌, true≢false, arith}
+use mathlib.Core.Logic.{inr}
 use Rattle.std.specs.Prelude.{◌||◌, is_ok}
 use Rattle.wl_wire.specs.declared.error.IoFault.{IoFault}
 use Rattle.wl_wire.specs.declared.error.IoFault.TheVariants as fault
@@ -34,16 +34,7 @@ module _ {T : Type 0} (sends : T → Queue → Result ℕ IoFault → T → Type
   pub all_put : (before : LinkState T) (messages : List Said) (es : List Sending) (put : List Said) (after : LinkState T)
       → PutsOut sends before messages es put (Ok tt) after → put ≡ messages
   all_put before [] es put after (none, is, ok, same) = is
-  all_put before (m ∷ messages) es put after (first, one, mid, by, h) =
-      elim (either_result one h) [
-        | inl (u, (others, more, all, is, rest)) ↦ is ∙ ap (λ (l : List Said). m ∷ l) (all_put mid messages others more after rest)
-        | inr (f, (all, is, err, same)) ↦ absurd (not_err f err)
-      ]
-
-  -- of one message that could not be put nothing was
-  none_put : (before : LinkState T) (messages : List Said) → IsShort messages → (f : IoFault) (es : List Sending) (put : List Said) (after : LinkState T)
-      → PutsOut sends before messages es put (Err f) after → put ≡ []
-  none_put before messages h1 f es put after h2 = grind (arith, either_result, not_err)
+  all_put before (m ∷ messages) es put after (first, one, mid, by, h) = grind (arith, either_result, not_err, all_put mid messages)
 
 module _ {U : Type 0} where
   -- ---- deeds of exchanges, and of what is given
@@ -76,11 +67,7 @@ module _ {U : Type 0} where
     -- exchanges and the end of a client put nothing
     pub exchanged : (es : List Sending) (gave : List (Given (Told U))) (e : Core U C) → Tell (deeds_of (map Sent es) gave e) (deeds_in gave)
     exchanged es gave e =
-        let all = deeds_done (map Sent es) gave e in record {
-          put = ap (λ (d : Doings U). d.put) all ∙ ap (λ (d : Doings U). d.put ++ (log_of (deeds_in gave) ++ [])) (doings_sends es) ∙ append-nil (log_of (deeds_in gave));
-          made = ap (λ (d : Doings U). d.registries) all ∙ ap (λ (d : Doings U). d.registries ++ (registries_in (deeds_in gave) ++ [])) (doings_sends es)
-              ∙ append-nil (registries_in (deeds_in gave));
-        }
+        let all = deeds_done (map Sent es) gave e in grind (arith, log_of, deeds_in, doings_sends, append-nil, registries_in)
 
     pub turned : (turns : List Turn) (gave : List (Given (Told U))) (e : Core U C) → Tell (deeds_of (exchanges_in turns) gave e) (deeds_in gave)
     turned turns gave e =
@@ -112,16 +99,12 @@ module _ {U C : Type 0} where
 
   module _ {T : Type 0} (sends : T → Queue → Result ℕ IoFault → T → Type 0) (reader : Reader (Core U C) (Told U) (Finish U))
       (breaks : (d : Core U C) (f : IoFault) → reader.broken d f ≡ closed_down d) (c : Core U C) (v : Verdict (Core U C) (Told U)) (forms : Forms c v) where
-    starves : (gave : List (Given (Told U))) (refused : Bool) (e : Core U C) → e ≡ v.starved → deeds_in gave ≡ told_deeds (v.events v.starved) → CameTo c v gave refused e
-    starves gave refused e core deeds = grind (arith, log_of, registries_in, told_deeds)
-
     -- a write failed
     fails : (f : IoFault) (gave : List (Given (Told U))) (refused : Bool) (e : Core U C) → e ≡ v.last (reader.broken v.core f) → CameTo c v gave refused e
     fails f gave refused e core = grind (arith)
 
     no_want : (b : Bool) (before after : LinkState T) (es : List Sending) (lacked : Bool) → FlushesOut sends b before es lacked after → b ≡ false → lacked ≡ false
-    no_want true before after es lacked h off = absurd (true≢false off)
-    no_want false before after es lacked (none, same, is) off = is
+    no_want h1 before after es lacked h off = grind (arith, true≢false)
 
     came : (link mid after : LinkState T) (first others : List Sending) (put : List Said) (wrote : Result (Unit {0}) IoFault) (lacked : Bool) (gave : List (Given (Told U)))
         (refused : Bool) (e : Core U C) → PutsOut sends link v.puts first put wrote mid → FlushesOut sends v.flushes mid others lacked after
@@ -134,7 +117,7 @@ module _ {U C : Type 0} where
           given_put put (v.events (v.last v.core)) gave deeds (forms.silent (v.last v.core)) ∙ all_put sends link v.puts first put mid puts,
           given_made put (v.events (v.last v.core)) gave deeds,
         ))
-    came link mid after first others put (Err fault.OutOfMemory) lacked gave refused e puts flushed core deeds is = grind (arith, none_put, given_put, given_made, registries_in, told_deeds)
+    came link mid after first others put (Err fault.OutOfMemory) lacked gave refused e puts flushed core deeds is = grind (arith, either_result, not_err, given_put, given_made, registries_in, told_deeds)
     came link mid after first others put (Err fault.WouldBlock) lacked gave refused e puts flushed core deeds is = fails fault.WouldBlock gave refused e core
     came link mid after first others put (Err fault.Pipe) lacked gave refused e puts flushed core deeds is = fails fault.Pipe gave refused e core
     came link mid after first others put (Err fault.TooBig) lacked gave refused e puts flushed core deeds is = fails fault.TooBig gave refused e core
@@ -144,11 +127,7 @@ module _ {U C : Type 0} where
 
     pub carried_to : (link : LinkState T) (es : List Sending) (gave : List (Given (Told U))) (refused : Bool) (after : ReaderState T (Core U C))
         → CarriesOut sends reader v link es gave refused after → CameTo c v gave refused after.core
-    carried_to link es gave refused after (inl (first, others, put, wrote, mid, lacked, puts, flushed, sent, core, given, is)) =
-        came link mid after.link first others put wrote lacked gave refused after.core puts flushed core
-        (ap deeds_in given ∙ deeds_given put (v.events (came_to reader v wrote))) is
-    carried_to link es gave refused after (inr (asks, is, none, given, same)) =
-        starves gave refused after.core (ap (λ (p : ReaderState T (Core U C)). p.core) same) (ap deeds_in given)
+    carried_to link es gave refused after h6 = grind (arith, came, deeds_in, deeds_given, came_to, log_of, registries_in, told_deeds)
 
 -- ---- clients that live on
 
@@ -173,8 +152,7 @@ module _ {G C : Type 0} (views : G → ClientParts → C → GlobalParts → Boo
   -- with these messages and registries
   pub lives_so : (was is : Bool) (s t : Scene U C) (put put' : List Said) (regs regs' : List Id) → put' ≡ put → regs' ≡ regs → Lives was is s put regs t
       → Lives was is s put' regs' t
-  lives_so was is s t put put' regs regs' same same' lives =
-      subst (λ (l : List Said). Lives was is s l regs' t) (sym same) (subst (λ (l : List Id). Lives was is s put l t) (sym same') lives)
+  lives_so was is s t put put' regs regs' same same' lives = grind (arith)
 
   abbrev pub CoreLives : Core U C → List Said → List Id → Core U C → Type 0
   CoreLives c put regs e = Lives c.is_killed e.is_killed (scene_of c) put regs (scene_of e)
@@ -185,9 +163,7 @@ module _ {G C : Type 0} (views : G → ClientParts → C → GlobalParts → Boo
 
   pub verdict_lives : (c : Core U C) (v : Verdict (Core U C) (Told U)) (gave : List (Given (Told U))) (refused : Bool) (e : Core U C)
       → ((v.flushes ≡ false → refused ≡ false) → Leads c v) → CameTo c v gave refused e → CoreLives c (log_of (deeds_in gave)) (registries_in (deeds_in gave)) e
-  verdict_lives c v gave refused e leads (inl killed) = lives_not c.is_killed e.is_killed (scene_of c) _ _ (scene_of e) killed
-  verdict_lives c v gave refused e leads (inr (inl (starved, same, none, nothing))) = grind (arith, log_of, deeds_in, registries_in, lives_so, scene_of, lives_same)
-  verdict_lives c v gave refused e leads (inr (inr (same, told, put, made))) = grind (arith, log_of, deeds_in, registries_in, lives_so, scene_of, told_deeds)
+  verdict_lives c v gave refused e leads h7 = grind (arith, lives_not, scene_of, log_of, deeds_in, registries_in, lives_so, lives_same, told_deeds)
 
   -- ---- a part
 
@@ -201,6 +177,4 @@ module _ {G C : Type 0} (views : G → ClientParts → C → GlobalParts → Boo
   tells_lives sends p v link refused did after forms leads (es, gave, end, by, is, same) =
       let so = exchanged es gave end.core in
       let lives = verdict_lives (core_of p) v gave refused end.core leads (carried_to sends speaker (λ d f. refl) (core_of p) v forms link es gave refused end by) in
-      subst (λ (q : Part _ U C). PartLives p did q) (sym same)
-      (lives_so p.is_killed end.core.is_killed (part_scene p) (scene_of end.core) (log_of (deeds_in gave)) (log_of did) (registries_in (deeds_in gave)) (registries_in did)
-      (ap log_of is ∙ so.put) (ap registries_in is ∙ so.made) lives)
+      grind (arith, lives_so, part_scene, scene_of, log_of, deeds_in, registries_in)

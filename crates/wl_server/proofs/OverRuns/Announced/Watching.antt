@@ -133,41 +133,12 @@ module _ {G C : Type 0} (views : G → ClientParts → C → GlobalParts → Boo
     -- a new object takes a free number and the next serial
     pub born_goes : (s : Scene U C) (n : ℕ) (x : Object (Kept U)) → held s.store n ≡ None → x.value.serial ≡ s.last_serial + 1
         → Steady s (record s { store = stored s.store n x; last_serial = s.last_serial + 1 })
-    born_goes s n x free serial = record {
-      watch = λ log made w. record {
-        bounded = λ m y holds. most w.bounded m y holds;
-        listed = λ y among. (let old = w.listed y among in omega (arith, old));
-        open_bounded = λ sender b created is. (let old = w.open_bounded sender b created is in omega (arith, old));
-        open_other = w.open_other;
-        silent = λ later. w.silent (omega (arith, later));
-        unborn = λ later. w.unborn (omega (arith, later));
-        known = λ is. keeps (w.known is);
-        tells = w.tells;
-      };
-    }
-      where
-        most : ((m : ℕ) (y : Object (Kept U)) → held s.store m ≡ Some y → y.value.serial ≤ s.last_serial) → (m : ℕ) (y : Object (Kept U))
-            → held (stored s.store n x) m ≡ Some y → y.value.serial ≤ s.last_serial + 1
-        most old m y holds = grind (arith, stored_here, stored_other)
-
-        keeps : IsKnown s → IsKnown (record s { store = stored s.store n x; last_serial = s.last_serial + 1 })
-        keeps known = grind (arith, stored_other, held)
+    born_goes s n x free serial = grind (arith, stored_here, stored_other, held)
 
     -- an object gets user data
     pub wrote_goes : (s : Scene U C) (n : ℕ) (x : Object (Kept U)) (u : U) → held s.store n ≡ Some x
         → Steady s (record s { store = rewritten s.store n (with_user_data u x) })
-    wrote_goes s n x u there = record {
-      watch = λ log made w. record {
-        bounded = λ m y holds. most w.bounded m y holds;
-        listed = w.listed;
-        open_bounded = w.open_bounded;
-        open_other = w.open_other;
-        silent = w.silent;
-        unborn = w.unborn;
-        known = λ is. keeps (w.known is);
-        tells = w.tells;
-      };
-    }
+    wrote_goes s n x u there = grind (arith, most, keeps)
       where
         most : ((m : ℕ) (y : Object (Kept U)) → held s.store m ≡ Some y → y.value.serial ≤ s.last_serial) → (m : ℕ) (y : Object (Kept U))
             → held (rewritten s.store n (with_user_data u x)) m ≡ Some y → y.value.serial ≤ s.last_serial
@@ -186,15 +157,7 @@ module _ {G C : Type 0} (views : G → ClientParts → C → GlobalParts → Boo
                     interface = ap (λ (z : Object (Kept U)). eqb z.interface.0 registry_id.0) this ∙ known.interface;
                     positive = known.positive;
                   }
-              | inr other ↦
-                  record {
-                    listed = known.listed;
-                    object = known.object;
-                    holds = rewritten_other s.store n (with_user_data u x) r.number other ∙ known.holds;
-                    serial = known.serial;
-                    interface = known.interface;
-                    positive = known.positive;
-                  }
+              | inr other ↦ grind (arith, rewritten_other, with_user_data)
             ]
 
     -- another object leaves
@@ -244,14 +207,7 @@ module _ {G C : Type 0} (views : G → ClientParts → C → GlobalParts → Boo
               open_other = λ sender b created is among. w.open_other sender b created is (old among);
               silent = λ later. say_then r log greeting (born.silent later) (others_say r greeting others);
               unborn = λ later among. born.unborn later (old among);
-              known = λ among. (let known = born.known (old among) in record {
-                listed = among_first s.registries (new_id ∷ []) r known.listed;
-                object = known.object;
-                holds = known.holds;
-                serial = known.serial;
-                interface = known.interface;
-                positive = known.positive;
-              });
+              known = grind (arith, among_first, new_id);
               tells = λ among. (
                   let tells = w.tells (old among) in
                   let still : announced (log ++ greeting) r ≡ announced log r = announced-append r [] log greeting ∙ (others_say r greeting others).same (announced log r) in
@@ -276,28 +232,15 @@ module _ {G C : Type 0} (views : G → ClientParts → C → GlobalParts → Boo
             let born = (born_goes s n x free serial).watch log made w in
             let number : s.last_serial + 1 ≡ r.serial = ap (λ (i : Id). i.serial) this in
             let later : s.last_serial < r.serial = omega (arith, number) in
-            let fresh : announced (log ++ greeting) r ≡ shown_as_announced =
-            announced-append r [] log greeting
-            ∙ ap (λ (t : List Announced). announced_over r t greeting) ((w.silent later).same [])
-            ∙ subst (λ (i : Id). announced_over i [] greeting ≡ shown_as_announced) this (greeted offer.table new_id [] 0 (shown views offer.globals client s.client_data)) in
+            let fresh : announced (log ++ greeting) r ≡ shown_as_announced = grind (arith, announced-append, greeting, announced_over, shown_as_announced, greeted, new_id, shown) in
             record {
               bounded = born.bounded;
               listed = λ y among. most w.listed y (among_both s.registries (new_id ∷ []) y among);
               open_bounded = born.open_bounded;
-              open_other = λ sender b created is among same. (
-                  let old = w.open_bounded sender b created is in let so : sender.serial ≡ r.serial = ap (λ (i : Id). i.serial) same in
-                  omega (arith, old, so, number)
-                  );
+              open_other = grind (arith);
               silent = λ yet. absurd (omega (arith, yet, number));
               unborn = λ yet. absurd (omega (arith, yet, number));
-              known = λ among. record {
-                listed = among_later s.registries (new_id ∷ []) r (inl this);
-                object = x;
-                holds = stored_here s.store n x r.number (ap (λ (i : Id). i.number) (sym this));
-                serial = serial ∙ number;
-                interface = registry;
-                positive = omega (arith, number);
-              };
+              known = grind (arith, among_later, new_id, stored_here);
               tells = λ among. record {
                 told = λ g in-log. among_shown views client s.client_data offer g (subst (λ (l : List Announced). IsAmong l g) fresh in-log);
                 tells = λ g shown'. subst (λ (l : List Announced). IsAmong l g) (sym fresh) (shown_among views client s.client_data offer g shown');
@@ -327,19 +270,7 @@ module _ {G C : Type 0} (views : G → ClientParts → C → GlobalParts → Boo
     pub told_all : (message : Id → Said) → ((y : Id) → sender_of (message y) ≡ y) → (log : List Said) (made : List Id)
         → (IsAmong s.registries r → TellsShown offer s.client_data log → TellsShown offer' s.client_data (log ++ map message s.registries))
         → Watch offer s log made → Watch offer' s (log ++ map message s.registries) made
-    told_all message by log made tells w = record {
-      bounded = w.bounded;
-      listed = w.listed;
-      open_bounded = w.open_bounded;
-      open_other = w.open_other;
-      silent = λ later.
-          say_then r log (map message s.registries) (w.silent later)
-          (others_say r (map message s.registries)
-          (told_others r message by s.registries (λ among. let old = w.listed r among in absurd (omega (arith, old, later)))));
-      unborn = w.unborn;
-      known = w.known;
-      tells = λ is. tells (w.known is).listed (w.tells is);
-    }
+    told_all message by log made tells w = grind (arith, say_then, map, others_say, told_others)
 
     -- none is told
     pub told_none : (log : List Said) (made : List Id) → (TellsShown offer s.client_data log → TellsShown offer' s.client_data log) → Watch offer s log made → Watch offer' s log made

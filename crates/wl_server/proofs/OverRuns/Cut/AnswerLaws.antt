@@ -10,7 +10,7 @@ use Rattle.wl_wire.specs.declared.error.IoFault.{IoFault}
 use Rattle.wl_wire.specs.declared.error.IoFault.TheVariants as fault
 use Rattle.wl_wire.specs.Argument.{WireArgument}
 use Rattle.wl_wire.specs.Message.{WireMessage}
-use Rattle.wl_wire.specs.Table.{MessageRow, display_id, name_of, registry_id}
+use Rattle.wl_wire.specs.Table.{MessageRow, display_id, registry_id}
 use Rattle.wl_link.specs.declared.object.Object.{Object}
 use Rattle.wl_link.specs.Exchange.{Queue, Sending}
 use Rattle.wl_link.specs.Identity.{Objects}
@@ -20,24 +20,21 @@ use Rattle.wl_link.specs.Reader.{CarriesOut, Ends, Given, Gives, HandedOut, Hand
 use Rattle.wl_link.proofs.Readings.ServedLaws.{both_false}
 use Rattle.wl_link.specs.Store.{held}
 use Rattle.wl_server.specs.declared.reading.action.OpenAction.{OpenAction}
-use Rattle.wl_server.specs.declared.reading.action.OpenAction.TheVariants as opened
 use Rattle.wl_server.specs.declared.error.ActionError.{ActionError}
 use Rattle.wl_server.specs.declared.error.ActionError.TheVariants.{Io}
-use Rattle.wl_server.specs.declared.error.FinishError.{FinishError}
 use Rattle.wl_server.specs.declared.objects.Kept.{Kept}
 use Rattle.wl_server.specs.declared.globals.KeptGlobal.{KeptGlobal}
 use Rattle.wl_server.specs.declared.notes.DisconnectReason.{DisconnectReason}
 use Rattle.wl_server.specs.declared.notes.Happening.TheVariants.{Disconnected}
-use Rattle.wl_server.specs.Deeds.{Acted, Came, Deed, Handed, Noted, Put, Remembered, Sent, left_if}
+use Rattle.wl_server.specs.Deeds.{Acted, Came, Deed, Handed, Noted, Put, Sent}
 use Rattle.wl_server.proofs.OverRuns.Moves.DoingsLaws.{deeds_both, deeds_given}
-use Rattle.wl_server.specs.Errors.{bind_text, new_id_text, since_text}
-use Rattle.wl_server.specs.Finish.{finish_verdict, ended_by, ends, ends_request, finishing, refusal, unless_some}
+use Rattle.wl_server.specs.Errors.{bind_text, new_id_text}
+use Rattle.wl_server.specs.Finish.{finish_verdict, ended_by, ends, ends_request, refusal}
 use Rattle.wl_server.specs.Ids.{IdParts}
-use Rattle.wl_server.specs.Part.{end_note, id_at, id_of}
-use Rattle.wl_server.specs.Reading.{Around, action_in, binds, binds_to, breaks, converted, display_request, exchanges_in, faulted, garbled, hands_out, made_at, may_bind, other_request, reads_on, registers, registry_request, replies, request, row_in, server, synced, syncs, takes, with_registry}
-use Rattle.wl_server.specs.Requests.{Outcome, Whole, Wrong, convert, is_valid_new, start}
+use Rattle.wl_server.specs.Reading.{Around, action_in, binds, binds_to, breaks, display_request, exchanges_in, faulted, garbled, hands_out, made_at, may_bind, other_request, reads_on, registers, registry_request, request, row_in, server, synced, syncs, takes, with_registry}
+use Rattle.wl_server.specs.Requests.{convert, is_valid_new, start}
 use Rattle.wl_server.specs.Stretches.{answers_in, beside_exchanges, was_killed}
-use Rattle.wl_server.specs.Telling.{Core, Did, Finish, OfBind, OfRequest, Stops, Told, closed_down, deeds_in, deeds_of, end_deeds, killed, objects_in, with_objects}
+use Rattle.wl_server.specs.Telling.{Core, Did, Finish, Stops, Told, closed_down, deeds_in, deeds_of, end_deeds, killed, objects_in, with_objects}
 
 -- ---- lists of what was given
 
@@ -88,18 +85,12 @@ module _ {U : Type 0} where
   pub beside_turns : (turns : List Turn) → beside_exchanges {U = U} (exchanges_in turns) ≡ []
   beside_turns [] = refl
   beside_turns (Received r ∷ turns) = beside_turns turns
-  beside_turns (Handled es ∷ turns) =
-      beside_both (map Sent es) (exchanges_in turns) ∙ ap (λ (l : List (Deed U)). l ++ beside_exchanges (exchanges_in turns)) (beside_sends es) ∙ beside_turns turns
-  beside_turns (Unread es ∷ turns) =
-      beside_both (map Sent es) (exchanges_in turns) ∙ ap (λ (l : List (Deed U)). l ++ beside_exchanges (exchanges_in turns)) (beside_sends es) ∙ beside_turns turns
+  beside_turns (Handled es ∷ turns) = grind (arith, beside_both, map, exchanges_in, beside_exchanges, beside_sends, beside_turns turns)
+  beside_turns (Unread es ∷ turns) = grind (arith, beside_both, map, exchanges_in, beside_exchanges, beside_sends, beside_turns turns)
 
   beside_puts : (put : List Said) (others : List (Deed U)) → beside_exchanges (map Put put ++ others) ≡ map Put put ++ beside_exchanges others
   beside_puts [] others = refl
   beside_puts (m ∷ put) others = ap (λ (l : List (Deed U)). Put m ∷ l) (beside_puts put others)
-
-  beside_end : (o : Option DisconnectReason) → beside_exchanges {U = U} (end_deeds o) ≡ end_deeds o
-  beside_end None = refl
-  beside_end (Some reason) = refl
 
   killed_later : (did others : List (Deed U)) → was_killed others ≡ true → was_killed (did ++ others) ≡ true
   killed_later [] others is = is
@@ -120,12 +111,11 @@ module _ {U C : Type 0} where
   -- of a call's deeds these are what was given, and the end of the client
   pub beside_deeds : (exchanges : List (Deed U)) (gave : List (Given (Told U))) (c : Core U C) → beside_exchanges exchanges ≡ [] → IsBeside gave
       → beside_exchanges (deeds_of exchanges gave c) ≡ deeds_in gave ++ end_deeds c.ended
-  beside_deeds exchanges gave c none quiet = grind (arith, beside_both, deeds_in, end_deeds, ap₂, beside_end)
+  beside_deeds exchanges gave c none quiet = grind (arith, beside_both, deeds_in, end_deeds, ap₂)
 
   pub killed_deeds : (exchanges : List (Deed U)) (gave : List (Given (Told U))) (c : Core U C) (reason : DisconnectReason) → c.ended ≡ Some reason
       → was_killed (deeds_of exchanges gave c) ≡ true
-  killed_deeds exchanges gave c reason is =
-      killed_later exchanges (deeds_in gave ++ end_deeds c.ended) (killed_later (deeds_in gave) (end_deeds c.ended) (ap (λ (o : Option DisconnectReason). was_killed (end_deeds {U = U} o)) is))
+  killed_deeds exchanges gave c reason is = grind (arith, killed_later, deeds_in, end_deeds, was_killed)
 
   -- ---- how a client stands
 
@@ -171,11 +161,6 @@ module _ {U C : Type 0} where
   says_stops : (f : IoFault) (d : Core U C) → f ≢ fault.WouldBlock → IsSound d → d.is_killed ≡ true → Says (HandedOut (Stops f) ∷ []) d
   says_stops f d not sound dead = record { sound = sound; quiet = refl; so = inr (off_of d dead, inr (f, refl, not, dead)) }
 
-module _ {T : Type 0} (sends : T → Queue → Result ℕ IoFault → T → Type 0) where
-  none_broken : (ms : List Said) (before after : LinkState T) (es : List Sending) (put : List Said) (f : IoFault) → PutsOut sends before ms es put (Err f) after → ms ≢ []
-  none_broken ms before after es put f puts none =
-      let nothing_put = subst (λ (l : List Said). PutsOut sends before l es put (Err f) after) none puts in not_ok f nothing_put.2
-
 module _ {U G C : Type 0} (a : Around G C) where
   -- what a verdict says where its messages were put, and where one could not be
   record Speaks (v : Verdict (Core U C) (Told U)) : Type 0 where
@@ -197,9 +182,6 @@ module _ {U G C : Type 0} (a : Around G C) where
     none : answers_in (map HandedOut (map Did did ++ [])) ≡ []
     quiet_end : IsBeside (map HandedOut (map Did did ++ Stops fault.Pipe ∷ []))
     end : answers_in (map HandedOut (map Did did ++ Stops fault.Pipe ∷ [])) ≡ Err fault.Pipe ∷ []
-
-  reply_speaks : (c : Core U C) (puts : List Said) (did : List (Deed U)) → IsReady c → IsPlain did → Speaks (replies c puts did)
-  reply_speaks c puts did r plain = grind (arith, on_of, sound_killed, pipe_not)
 
   made_speaks : (c : Core U C) (n : ℕ) (v : Verdict (Core U C) (Told U)) → IsReady c → Speaks v → Speaks (made_at a c n v)
   made_speaks c n v r speaks = go (is_valid_new (objects_in c) n)
@@ -223,8 +205,7 @@ module _ {U G C : Type 0} (a : Around G C) where
   display_speaks c opcode (arg.NewId n ∷ []) r = made_speaks c n _ r (go (eqb opcode 0))
     where
       go : (b : Bool) → Speaks (cond b (syncs a c n) (registers a c n))
-      go true = reply_speaks (synced a c n) _ [] (synced_ready c n r) (record { quiet = refl; none = refl; quiet_end = refl; end = refl })
-      go false = reply_speaks (with_registry a c n) _ (Remembered _ ∷ []) (registry_ready c n r) (record { quiet = refl; none = refl; quiet_end = refl; end = refl })
+      go h1 = grind (arith, on_of, sound_killed, pipe_not, synced, synced_ready, with_registry, registry_ready)
   display_speaks c opcode _ r = garbled_speaks c r
 
   -- ---- requests to a registry
@@ -243,18 +224,8 @@ module _ {U G C : Type 0} (a : Around G C) where
 
   -- ---- other requests
 
-  converted_speaks : (c : Core U C) (m : WireMessage) (receiver : Object (Kept U)) (row : MessageRow) (outcome : Outcome U) → IsReady c → Speaks (converted a c m receiver row outcome)
-  converted_speaks c m receiver row (Wrong w objects) r = stops_speaks (with_objects c objects) 0 _ (objects_ready c objects r)
-  converted_speaks c m receiver row (Whole d args) r = action_speaks (with_objects c d.objects) _ _ (objects_ready c d.objects r)
-
   other_speaks : (c : Core U C) (m : WireMessage) (receiver : Object (Kept U)) (row : MessageRow) → IsReady c → Speaks (other_request a c m receiver row)
-  other_speaks c m receiver row r = go (nat_lt receiver.version row.since)
-    where
-      go : (b : Bool) → Speaks (cond b
-          (breaks a c 1 (since_text m.opcode receiver.version row.since (name_of a.table receiver.interface.0) m.sender))
-          (converted a c m receiver row (convert a.client receiver.version (start (objects_in c) row) [] m.args)))
-      go true = stops_speaks c 1 _ r
-      go false = converted_speaks c m receiver row (convert a.client receiver.version (start (objects_in c) row) [] m.args) r
+  other_speaks c m receiver row r = grind (arith, nat_lt, stops_speaks, with_objects, objects_ready, action_speaks, convert, start, objects_in)
 
   -- ---- a message
 
@@ -274,28 +245,19 @@ module _ {U G C : Type 0} (a : Around G C) where
   -- ---- a verdict that was carried out
 
   came_broken : (v : Verdict (Core U C) (Told U)) (f : IoFault) → lacks_memory (Err f) ≡ false → came_to (server a) v (Err f) ≡ v.last (closed_down v.core)
-  came_broken v fault.OutOfMemory ample = absurd (true≢false ample)
-  came_broken v _ ample = refl
+  came_broken v h2 ample = grind (arith, true≢false)
 
   module _ {T : Type 0} (sends : T → Queue → Result ℕ IoFault → T → Type 0) where
     came_says : (v : Verdict (Core U C) (Told U)) → Speaks v → (before mid : LinkState T) (es : List Sending) (put : List Said) (wrote : Result (Unit {0}) IoFault)
         → PutsOut sends before v.puts es put wrote mid → lacks_memory wrote ≡ false → Says (map HandedOut (v.events (came_to (server a) v wrote))) (came_to (server a) v wrote)
     came_says v speaks before mid es put (Ok u) puts ample = speaks.whole
-    came_says v speaks before mid es put (Err f) puts ample =
-        subst (λ (d : Core U C). Says (map HandedOut (v.events d)) d) (sym (came_broken v f ample)) (speaks.broken (none_broken sends v.puts before mid es put f puts))
+    came_says v speaks before mid es put (Err f) puts ample = grind (arith, map, came_broken, not_ok)
 
     carried_says : (v : Verdict (Core U C) (Told U)) → Speaks v → (before : LinkState T) (es : List Sending) (gave : List (Given (Told U))) (refused : Bool)
         (after : ReaderState T (Core U C)) → refused ≡ false → CarriesOut sends (server a) v before es gave refused after → Says gave after.core
     carried_says v h1 before es gave refused after h2 h3 = grind (arith, true≢false, both_false, came_says, came_to, server, beside_given, reads_on, answers_given)
 
 -- ---- a reading
-
-module _ {U : Type 0} where
-  abbrev given_of : Gives (Told U) → List (Given (Told U))
-  given_of o = o.gave
-
-  abbrev stopped_of : Gives (Told U) → Option IoFault
-  stopped_of o = o.stopped
 
 module _ {U C : Type 0} where
   -- it stopped, and answered nothing; or it is over: the client was not read on before, or there is one answer
@@ -308,12 +270,6 @@ module _ {U C : Type 0} where
     pub sound : IsSound e
     pub quiet : IsBeside out.gave
     pub answered : IsAnswered c out e
-
-  -- nothing was given
-  stops_so : (c e : Core U C) (out : Gives (Told U)) (o : Option IoFault) (refused : Bool) (left : ℕ) → IsSound e → out ≡ stops o refused left
-      → IsAnswered c (stops o refused left) e → ReadsSo c out e
-  stops_so c e out o refused left sound is answered =
-      subst (λ (g : Gives (Told U)). ReadsSo c g e) (sym is) (record { sound = sound; quiet = refl; answered = answered })
 
   faulted_sound : (c : Core U C) (f : IoFault) → IsReady c → IsSound (faulted c f)
   faulted_sound c f h1 = grind (arith, sound_killed)
@@ -346,7 +302,7 @@ module _ {T U G C : Type 0} (sends : T → Queue → Result ℕ IoFault → T �
 
   pub reads_so : (left : ℕ) (p after : ReaderState T (Core U C)) (turns : List Turn) (out : Gives (Told U)) → Reads sends (server a) receives left p turns out after
       → out.refused ≡ false → IsSound p.core → ReadsSo p.core out after.core
-  reads_so left p after [] out (same, ends) ample sound = grind (arith, reads_on, server, stops, stops_so)
+  reads_so left p after [] out (same, ends) ample sound = grind (arith, reads_on, server, stops)
   reads_so left p after (Received r ∷ turns) out (on, lacks, (n, is, (link, filled, finds, h))) ample sound =
       go (counted_answer (count_of r)) h (λ more. reads_so n (with_link p link) after turns out more ample sound)
     where
@@ -354,18 +310,13 @@ module _ {T U G C : Type 0} (sends : T → Queue → Result ℕ IoFault → T �
           → MatchResult c (λ _. Reads sends (server a) receives n (with_link p link) turns out after)
           (λ f. (turns ≡ []) × (out ≡ stops (Some f) (lacks_memory (Err f)) n) × (after ≡ record { core = faulted p.core f; link = link }))
           → (Reads sends (server a) receives n (with_link p link) turns out after → ReadsSo p.core out after.core) → ReadsSo p.core out after.core
-      go (Ok u) more goes = goes more
-      go (Err f) (none, ends, same) goes = grind (arith, stops_so, faulted_sound, ready)
+      go h1 more goes = grind (arith, faulted_sound, ready)
   reads_so left p after (Handled es ∷ turns) out (on, (v, link, first, lacked, mid, rest, (m, read, is), carried, split, more)) ample sound =
       let calm = both_false lacked rest.refused (sym ample ∙ ap (λ (o : Gives (Told U)). o.refused) split) in
       let speaks = subst (λ (w : Verdict (Core U C) (Told U)). Speaks a w) (sym is) (handles_speaks a p.core m (ready p.core on sound)) in
       let says = carried_says a sends v speaks link es first lacked mid calm.0 carried in
       joins_so p.core mid.core after.core first lacked rest out split says (reads_so left mid after turns rest more calm.1 says.sound) (λ off. reads_off left mid after turns rest off more)
-  reads_so left p after (Unread es ∷ turns) out (on, (v, link, first, lacked, mid, rest, (read, same, is), carried, split, more)) ample sound =
-      let calm = both_false lacked rest.refused (sym ample ∙ ap (λ (o : Gives (Told U)). o.refused) split) in
-      let speaks = subst (λ (w : Verdict (Core U C) (Told U)). Speaks a w) (sym is) (garbled_speaks a p.core (ready p.core on sound)) in
-      let says = carried_says a sends v speaks link es first lacked mid calm.0 carried in
-      joins_so p.core mid.core after.core first lacked rest out split says (reads_so left mid after turns rest more calm.1 says.sound) (λ off. reads_off left mid after turns rest off more)
+  reads_so left p after (Unread es ∷ turns) out (on, (v, link, first, lacked, mid, rest, (read, same, is), carried, split, more)) ample sound = grind (arith, both_false, garbled_speaks, ready, carried_says, joins_so, reads_off, reads_so left mid after turns rest more)
 
 -- ---- the end of an action
 
@@ -389,32 +340,12 @@ module _ {U G C : Type 0} (a : Around G C) where
   finished_end : (v : Verdict (Core U C) (Told U)) → IsFinishVerdict v → (wrote : Result (Unit {0}) IoFault) → lacks_memory wrote ≡ false → IsSound (came_to (server a) v wrote)
   finished_end v h1 wrote h2 = grind (arith, came_broken, closed_down, sound_killed)
 
-  -- what is told of an object that is gone
-  abbrev told_end : IdParts → Object (Kept U) → Bool → Option U → List (Told U)
-  told_end id x b o = if b then [] else map Did (map Noted (end_note (id_at a.client id.number x) o) ++ left_if (id_of id) o)
-
   ending_is_finish : (c : Core U C) (id : IdParts) (x : Option (Object (Kept U))) (created : Option IdParts) (u : Option U) → c.is_killed ≡ false → c.ended ≡ None
       → IsFinishVerdict (ends a.client c id x created u)
   ending_is_finish c id x created u h1 h2 = grind (arith, is_some)
 
-  bound_is_finish : (c : Core U C) (created : Option IdParts) (u : Option U) → c.is_killed ≡ false → c.ended ≡ None → IsFinishVerdict (finish_verdict c created u)
-  bound_is_finish c created u live unended = grind (arith)
-
   taken_is_finish : (c : Core U C) (u : Finish U) (v : Verdict (Core U C) (Told U)) → c.ended ≡ None → takes a.client c u ≡ Some v → IsFinishVerdict v
-  taken_is_finish c u v unended is = at c.is_killed refl c.action u is
-    where
-      finish_by : (w : Verdict (Core U C) (Told U)) → IsFinishVerdict w → Some w ≡ Some v → IsFinishVerdict v
-      finish_by w finish' same = subst IsFinishVerdict (same_Some w v same) finish'
-
-      request : (live : c.is_killed ≡ false) (sender : IdParts) (b : Bool) (created : Option IdParts) (o : Option U) (e : Option FinishError)
-          → unless_some e (ends_request a.client c sender b created o) ≡ Some v → IsFinishVerdict v
-      request live sender b created o e h1 = grind (arith, finish_by, ends_request, ending_is_finish, ended_by, none-some)
-
-      at : (b : Bool) → c.is_killed ≡ b → (action : Option OpenAction) (u : Finish U) → (if b then None else finishing a.client c action u) ≡ Some v → IsFinishVerdict v
-      at true dead action u same = absurd (none-some _ same)
-      at false live (Some (opened.Request sender d created)) (OfRequest o) same = request live sender d created o (refusal c.is_killed created o) same
-      at false live (Some (opened.Bind object)) (OfBind d) same = finish_by (finish_verdict c (Some object) (Some d)) (bound_is_finish c (Some object) (Some d) live unended) same
-      at false live action u same = absurd (none-some _ same)
+  taken_is_finish c u v unended is = grind (arith, same_Some, ends_request, ending_is_finish, ended_by, none-some, refusal, finish_verdict)
 
   module _ {T : Type 0} (sends : T → Queue → Result ℕ IoFault → T → Type 0) where
     pub ends_so : (p after : ReaderState T (Core U C)) (u : Finish U) (es : List Sending) (gave : List (Given (Told U))) → p.core.ended ≡ None

@@ -1,13 +1,13 @@
 -- That the storage for what is sent of each stored client holds a byte, an induction over base moves; and so something is
 -- served of each.
-use Rattle.std.proofs.Common.{◌≡◌, ℕ, ◌<◌, List, [], ◌∷◌, ◌++◌, Option, Some, Result, sym, ap, subst, arith, true, refl}
+use Rattle.std.proofs.Common.{◌≡◌, ℕ, ◌<◌, List, [], ◌∷◌, Option, Some, Result, sym, subst, arith, true, refl}
 use Rattle.std.specs.Prelude.{MatchOption}
 use Rattle.wl_wire.specs.declared.error.IoFault.{IoFault}
 use Rattle.wl_wire.specs.Table.{InterfaceRow}
 use Rattle.wl_link.specs.Exchange.{Queue}
 use Rattle.wl_link.proofs.Readings.HoldingLaws.{puts_hold}
 use Rattle.wl_link.specs.Link.{IsFresh, LinkState}
-use Rattle.wl_server.proofs.OverRuns.Moves.BaseMoves.{Doings, Goes, Moves, any, born, cleaned, finished, doings_of, ended, flushed, followed, found, found_none, handed_by, handed_out, notes_taken, opens, received, relinked, remembered, stayed, taken_out, told, unfelt, went, within, wrote}
+use Rattle.wl_server.proofs.OverRuns.Moves.BaseMoves.{Doings, Goes, Moves, any, doings_of, followed, handed_by, handed_out, notes_taken, moved, stayed, taken_out, unfelt, within}
 use Rattle.wl_server.proofs.OverRuns.Moves.BaseMovesLaw.{call_goes}
 use Rattle.wl_server.specs.Cutting.{EachIsServed}
 use Rattle.wl_server.proofs.OverRuns.Cut.CuttingLaws.{some_served}
@@ -48,20 +48,7 @@ module _ {T U C : Type 0} (sends : T → Queue → Result ℕ IoFault → T → 
   moves_hold p q d (stayed is same) holds = as_before p q same holds
   moves_hold p q d (followed {m = m} {a = a} {b = b} first second is) holds = moves_hold m q b second (moves_hold p m a first holds)
   moves_hold p q d (handed_out {a = a} ids moves among is) holds = moves_hold p q a moves holds
-  moves_hold p q d (relinked link waits stays unread is same) holds = over_link p q link same (alike p.link link stays holds)
-  moves_hold p q d (received r answer link reads filled is same) holds = over_link p q link same (alike p.link link (ap (λ (l : LinkState T). l.outgoing_capacity) filled.2) holds)
-  moves_hold p q d (told messages es put answer link puts is same) holds = over_link p q link same (puts_hold sends messages p.link link es put answer puts holds)
-  moves_hold p q d (flushed es answer link by is same) holds = over_link p q link same (alike p.link link (ap (λ (l : LinkState T). l.outgoing_capacity) by.2) holds)
-  moves_hold p q d (ended reason may is same) holds = subst Holds (sym same) holds
-  moves_hold p q d (born n x free ne serial is same) holds = subst Holds (sym same) holds
-  moves_hold p q d (found n x kept is same) holds = as_before p q same holds
-  moves_hold p q d (found_none is same) holds = as_before p q same holds
-  moves_hold p q d (wrote n x u kept is same) holds = subst Holds (sym same) holds
-  moves_hold p q d (went n x waits kept is same) holds = subst Holds (sym same) holds
-  moves_hold p q d (remembered n x kept registry is same) holds = subst Holds (sym same) holds
-  moves_hold p q d (opens action h acts so is same) holds = subst Holds (sym same) holds
-  moves_hold p q d (finished may is same) holds = subst Holds (sym same) holds
-  moves_hold p q d (cleaned on is same) holds = subst Holds (sym same) holds
+  moves_hold p q d (moved move) holds = grind (arith, puts_hold)
 
   goes_hold : (s t : Seen T U C) (d : Doings U) → Goes (any true) sends receives client s d t → SeenHolds s → SeenHolds t
   goes_hold s t d h1 h2 = grind (arith, unfelt, notes_taken, within, moves_hold, holds_at, taken_out)
@@ -74,8 +61,7 @@ module _ {T U G C : Type 0} (w : World T G C) (id : ClientParts) where
       (goes_hold w.sends w.receives id s mid (doings_of (handed_by id e.call e.did) e.did) (call_goes true w id offer e.call s e.lacked e.did mid own.0 by (λ cleans. refl)) holds)
 
 fresh_holds : {T : Type 0} (transport : T) (limit : Option ℕ) (link : LinkState T) → IsFresh transport limit link → 0 < link.outgoing_capacity
-fresh_holds {T = T} transport limit link (l, limits, fresh) =
-    let is = ap (λ (x : LinkState T). x.outgoing_capacity) fresh in omega (arith, is)
+fresh_holds {T = T} transport limit link h5 = grind (arith)
 
 module _ {T U G C : Type 0} where
   pub each_served : (w : World T G C) (table : List InterfaceRow) (run : List (Entry T U G C)) (after : ServerState T U G C) → Leads w (new_server table) run after
@@ -83,6 +69,4 @@ module _ {T U G C : Type 0} where
   each_served w table run after leads id transport client_data earlier later e split inserts p there more finishes =
       let (link, fresh, alone) = (is_isolated w table run after leads).each id transport client_data earlier later e split inserts in
       some_served (around w id after.offer) (reader_part p) more finishes
-      (holds_at (seen id after) p there
-      (run_holds w id (offer_over (new_offer table) (earlier ++ e ∷ [])) (just_inserted link client_data) (mine id later) (seen id after) (are_mine id later) alone
-      (fresh_holds transport (Some (offer_over (new_offer table) earlier).default_limit) link fresh)))
+      (grind (arith, holds_at, seen, run_holds, offer_over, new_offer, just_inserted, mine, are_mine, fresh_holds))

@@ -22,14 +22,10 @@ use Rattle.wl_server.specs.Telling.{Core, Finish, OfBind, OfRequest, Told, core_
 answered_not : {D : Type 0} (e : FinishRefused D) → ◌≡◌ {A = Result (Unit {0}) (FinishRefused D)} (Ok tt) (Err e) → ⊥
 answered_not e is = true≢false (ap is_ok is)
 
-module _ {U G C : Type 0} (a : Around G C) where
-  came_alike : (v : Verdict (Core U C) (Told U)) (wrote : Result (Unit {0}) IoFault) → came_to speaker v wrote ≡ came_to (server a) v wrote
-  came_alike v wrote = grind (arith)
-
 module _ {T U G C : Type 0} (sends : T → Queue → Result ℕ IoFault → T → Type 0) (a : Around G C) where
   pub carried_alike : (v : Verdict (Core U C) (Told U)) (link : LinkState T) (es : List Sending) (gave : List (Given (Told U))) (refused : Bool)
       (after : ReaderState T (Core U C)) → CarriesOut sends speaker v link es gave refused after → CarriesOut sends (server a) v link es gave refused after
-  carried_alike v link es gave refused after h1 = grind (arith, came_to, speaker, came_alike, put_and_gave)
+  carried_alike v link es gave refused after h1 = grind (arith, came_to, speaker, put_and_gave)
 
   -- an accepted end of a live client's request is what the reader makes of these data, with the same deeds
   abbrev pub EndsAlike : Part T U C → Finish U → Bool → List (Deed U) → Part T U C → Type 0
@@ -59,9 +55,7 @@ module _ {T U G C : Type 0} (sends : T → Queue → Result ℕ IoFault → T �
       at : (action : Option OpenAction) → before.action ≡ action
           → MatchOption action (Refuses before u finish.NoOpenAction (Ok tt) refused did after) (λ a'. FinishesOpen sends a.client before a' u (Ok tt) refused did after)
           → EndsAlike before (OfRequest u) refused did after
-      at None is_open h = absurd (answered_not _ h.0)
-      at (Some (opened.Bind object)) is_open h = absurd (answered_not _ h.0)
-      at (Some (opened.Request sender d created)) is_open h = ended sender d created (refusal before.is_killed created u) is_open refl h
+      at h1 is_open h = grind (arith, answered_not, ended, refusal)
 
   -- so is the end of a bind
   pub bind_ends_alike : (before : Part T U C) (u : U) (refused : Bool) (did : List (Deed U)) (after : Part T U C) → before.is_killed ≡ false

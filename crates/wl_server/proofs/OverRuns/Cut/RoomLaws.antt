@@ -1,29 +1,27 @@
 -- That a reading has room for each message of a client that may come.
-use Rattle.std.proofs.Common.{◌≡◌, ◌≢◌, ◌⊎◌, ℕ, Bool, List, [], ◌∷◌, ◌++◌, append-nil, map, Option, None, Some, Result, Ok, Err, is_ok, MatchResult, refl, sym, ap, subst, ◌∙◌, true≢false, true, arith}
+use Rattle.std.proofs.Common.{◌≡◌, ◌≢◌, ◌⊎◌, ℕ, Bool, List, [], ◌∷◌, ◌++◌, append-nil, map, Option, Some, Result, Ok, Err, is_ok, MatchResult, refl, sym, ap, subst, ◌∙◌, true≢false, arith}
 use mathlib.Core.Logic.{inl, inr}
 use Rattle.std.proofs.lemmas.Option.{same_Some}
 use Rattle.wl_wire.specs.declared.error.IoFault.{IoFault}
-use Rattle.wl_link.proofs.Calls.Branches.{either_bool, either_option, either_result}
+use Rattle.wl_link.proofs.Calls.Branches.{either_bool, either_option}
 use Rattle.wl_link.specs.Exchange.{Queue, Sending}
 use Rattle.wl_link.proofs.Streams.LengthLaws.{failed_finds}
 use Rattle.wl_link.specs.Link.{FindsRoom, LinkState, count_of, counted_answer}
-use Rattle.wl_link.specs.Puts.{Said, lacks_memory}
-use Rattle.wl_link.specs.Reader.{CarriesOut, Given, Gives, Handled, Reads, Received, Turn, Unread, Verdict, given_first, stops, with_link, ReaderState}
+use Rattle.wl_link.specs.Puts.{lacks_memory}
+use Rattle.wl_link.specs.Reader.{Gives, Handled, Reads, Received, Turn, Unread, stops, with_link, ReaderState}
 use Rattle.wl_server.specs.declared.reading.action.Reading.{Reading}
 use Rattle.wl_server.specs.declared.error.ActionError.{ActionError}
 use Rattle.wl_server.specs.declared.notes.DisconnectReason.{DisconnectReason}
 use Rattle.wl_server.specs.declared.runs.step.Reply.{Reply}
 use Rattle.wl_server.specs.declared.runs.step.Step.TheVariants as step
-use Rattle.wl_server.specs.Deeds.{IsAmong, came_in, Deed, Handed, Put, Sent}
-use Rattle.wl_server.proofs.OverRuns.Moves.BaseMoves.{Doings, any}
-use Rattle.wl_server.proofs.OverRuns.Moves.DoingsLaws.{deeds_both, doings_in_both}
+use Rattle.wl_server.specs.Deeds.{IsAmong, came_in, Deed, Handed, Sent}
+use Rattle.wl_server.proofs.OverRuns.Moves.BaseMoves.{Doings}
+use Rattle.wl_server.proofs.OverRuns.Moves.DoingsLaws.{doings_in_both}
 use Rattle.wl_server.specs.Globals.{Offer}
 use Rattle.wl_server.specs.Ids.{ClientParts, same_client}
-use Rattle.wl_server.proofs.OverRuns.Moves.MovesOfReadings.{gave_none}
-use Rattle.wl_server.proofs.OverRuns.Moves.MovesOfRequests.{handles_comes, malformed_comes}
-use Rattle.wl_server.proofs.OverRuns.Moves.MovesOfVerdicts.{Comes, IsCalm, carried}
+use Rattle.wl_server.proofs.Plain.ReadingNotes.{reads_bare}
 use Rattle.wl_server.specs.Part.{Part}
-use Rattle.wl_server.specs.PartStep.{Asked, Call, PartCall, ReadsFor, World, around}
+use Rattle.wl_server.specs.PartStep.{Asked, ReadsFor, World, around}
 use Rattle.wl_server.specs.Reading.{Around, NextAction, action_content, exchanges_in, faulted, new_reading, server}
 use Rattle.wl_server.specs.Room.{BringsNone, HasRoom, LeavesRoom}
 use Rattle.wl_server.specs.Server.{Seen, ServerState, seen}
@@ -51,13 +49,8 @@ module _ {U : Type 0} where
   none_sent [] did = refl
   none_sent (e ∷ es) did = none_sent es did
 
-  none_put : (put : List Said) (did : List (Deed U)) → came_in (map Put put ++ did) ≡ came_in did
-  none_put [] did = refl
-  none_put (m ∷ put) did = none_put put did
-
 none_at_end : (U : Type 0) (o : Option DisconnectReason) → came_in (end_deeds {U = U} o) ≡ []
-none_at_end U None = refl
-none_at_end U (Some reason) = refl
+none_at_end h1 h2 = grind (arith)
 
 pub no_more : (rs others : List (Result Queue IoFault)) → rs ≡ [] → others ≡ [] → rs ++ others ≡ []
 no_more rs others none nor = ap (λ (l : List (Result Queue IoFault)). l ++ others) none ∙ nor
@@ -73,44 +66,10 @@ Leaves link = FindsRoom link link.incoming_capacity
 
 module _ {T U G C : Type 0} (sends : T → Queue → Result ℕ IoFault → T → Type 0) (receives : T → ℕ → Result Queue IoFault → T → Type 0)
     (a : Around G C) where
-  abbrev Calm : Core U C → Type 0
-  Calm c = IsCalm (any true) sends receives a.client c
-
-  abbrev Came : Core U C → Verdict (Core U C) (Told U) → Type 0
-  Came c v = Comes (any true) sends receives a.client c v
-
-  -- a verdict receives nothing
-  none_heard : (p mid : ReaderState T (Core U C)) (v : Verdict (Core U C) (Told U)) (link : LinkState T) (es : List Sending) (first : List (Given (Told U))) (lacked : Bool)
-      → Came p.core v → Calm p.core → CarriesOut sends (server a) v link es first lacked mid → (came_in (deeds_in first) ≡ []) × Calm mid.core
-  none_heard p mid v link es first lacked comes calm by =
-      let c = carried (any true) sends receives a.client (server a) (λ d f. refl) p.core v comes calm link es first lacked mid by in
-      (ap came_in c.deeds ∙ none_put c.put c.made ∙ c.quiet.1, c.calm)
-
-  none_told : (first : List (Given (Told U))) (lacked : Bool) (rest out : Gives (Told U)) → out ≡ given_first first lacked rest → came_in (deeds_in first) ≡ []
-      → came_in (deeds_in rest.gave) ≡ [] → came_in (deeds_in out.gave) ≡ []
-  none_told first lacked rest out split none nor = grind (arith, came_in, deeds_in, deeds_both, came_both, no_more)
-
-  none_given : (left : ℕ) (p after : ReaderState T (Core U C)) (turns : List Turn) (out : Gives (Told U)) → Calm p.core → Reads sends (server a) receives left p turns out after
-      → came_in (deeds_in out.gave) ≡ []
-  none_given left p after [] out calm (same, ends) = ap (λ (gave : List (Given (Told U))). came_in (deeds_in gave)) (gave_none sends a left p out ends)
-  none_given left p after (Received r ∷ turns) out calm (on, lacks, (n, is, (link, filled, finds, h))) =
-      elim (either_result (counted_answer (count_of r)) h) [
-        | inl (u, more) ↦ none_given n (with_link p link) after turns out calm more
-        | inr (f, (over, ends, same)) ↦ ap (λ (o : Gives (Told U)). came_in (deeds_in o.gave)) ends
-      ]
-  none_given left p after (Handled es ∷ turns) out calm (on, (v, link, first, lacked, mid, rest, (m, read, is), by, split, more)) =
-      let comes = subst (Came p.core) (sym is) (handles_comes (any true) sends receives a (record { displays = λ code text. tt; reads = refl }) p.core m calm) in
-      let heard = none_heard p mid v link es first lacked comes calm by in
-      none_told first lacked rest out split heard.0 (none_given left mid after turns rest heard.1 more)
-  none_given left p after (Unread es ∷ turns) out calm (on, (v, link, first, lacked, mid, rest, (read, same, is), by, split, more)) =
-      let comes = subst (Came p.core) (sym is) (malformed_comes (any true) sends receives a p.core calm) in
-      let heard = none_heard p mid v link es first lacked comes calm by in
-      none_told first lacked rest out split heard.0 (none_given left mid after turns rest heard.1 more)
-
-  -- so the receives among the deeds of a reading are those of its turns
+  -- the receives among the deeds of a reading are those of its turns
   pub received_deeds : (left : ℕ) (p : Part T U C) (after : ReaderState T (Core U C)) (turns : List Turn) (out : Gives (Told U))
       → Reads sends (server a) receives left (reader_part p) turns out after → came_in (deeds_of (exchanges_in turns) out.gave after.core) ≡ received U turns
-  received_deeds left p after turns out reads = grind (arith, came_both, exchanges_in, deeds_in, end_deeds, no_more, came_in, none_given, reader_part, none_at_end, append-nil)
+  received_deeds left p after turns out reads = grind (arith, came_both, exchanges_in, deeds_in, end_deeds, no_more, came_in, (reads_bare sends receives a left (reader_part p) turns out after reads).1, reader_part, none_at_end, append-nil)
 
   -- behind a receive that brought no byte, one is free
   leaves_room : (left : ℕ) (p after : ReaderState T (Core U C)) (turns : List Turn) (out : Gives (Told U)) → Reads sends (server a) receives left p turns out after
@@ -130,27 +89,13 @@ module _ {T U G C : Type 0} (sends : T → Queue → Result ℕ IoFault → T �
           subst (λ (x : ReaderState T (Core U C)). Leaves x.link) (sym same)
           (failed_finds receives p.link link s f was filled finds)
       go (Err f) was (over, ends, same) (inr later) goes = absurd (subst (λ (ts : List Turn). IsAmong (received U ts) r) over later)
-  leaves_room left p after (Handled es ∷ turns) out (on, (v, link, first, lacked, mid, rest, found, by, split, more)) r among none =
-      leaves_room left mid after turns rest more r (subst (λ (rs : List (Result Queue IoFault)). IsAmong rs r) (none_sent {U = U} es (exchanges_in turns)) among) none
-  leaves_room left p after (Unread es ∷ turns) out (on, (v, link, first, lacked, mid, rest, found, by, split, more)) r among none =
-      leaves_room left mid after turns rest more r (subst (λ (rs : List (Result Queue IoFault)). IsAmong rs r) (none_sent {U = U} es (exchanges_in turns)) among) none
+  leaves_room left p after (Handled es ∷ turns) out (on, (v, link, first, lacked, mid, rest, found, by, split, more)) r among none = grind (arith, none_sent, exchanges_in, leaves_room left mid after turns rest more r)
+  leaves_room left p after (Unread es ∷ turns) out (on, (v, link, first, lacked, mid, rest, found, by, split, more)) r among none = grind (arith, none_sent, exchanges_in, leaves_room left mid after turns rest more r)
 
   -- so it is of each reading of a client
   pub next_action_room : (reading : Reading) (p : Part T U C) (answer : Result Handed ActionError) (left : Reading) (refused : Bool) (did : List (Deed U)) (q : Part T U C)
       → NextAction sends receives a reading p answer left refused did q → LeavesRoom did q.link
-  next_action_room reading p answer left refused did q h =
-      elim (either_option p.action h) [
-        | inr (action, is_open, (is, same, calm, none, stays)) ↦ nothing_came did q.link none
-        | inl (none_open, g) ↦
-            elim (either_bool p.is_killed g) [
-              | inl (is, same, calm, none, stays) ↦ nothing_came did q.link none
-              | inr (turns, out, end, reads, is, same, calm, did_so, after) ↦
-                  λ r among none.
-                  let came : came_in did ≡ received U turns = ap came_in did_so ∙ received_deeds reading.turns_left p end turns out reads in
-                  subst (λ (x : Part T U C). Leaves x.link) (sym after)
-                  (leaves_room reading.turns_left (reader_part p) end turns out reads r (subst (λ (rs : List (Result Queue IoFault)). IsAmong rs r) came among) none)
-            ]
-      ]
+  next_action_room reading p answer left refused did q h = grind (arith, either_option, nothing_came, either_bool, came_in, received, received_deeds, leaves_room, reader_part)
 
 -- ---- a call
 
@@ -173,12 +118,8 @@ module _ {T U G C : Type 0} (w : World T G C) where
 
   pub next_has_room : (before after : ServerState T U G C) (target : ClientParts) (answer : Reply T U)
       → HasRoom w before (Asked (step.NextAction target) answer) after
-  next_has_room before after target answer e id p call by there =
-      let (r, left, is, h) = subst (λ (c : Call T U G C). PartCall w id before.offer c (seen id before) (e.lacks id) (e.did id) (seen id after)) call (by.each id) in
-      reads_for_room id target before.offer new_reading (action_content r) left (seen id before) (seen id after) (e.lacks id) (e.did id) p h there
+  next_has_room before after target answer e id p call by there = grind (arith, seen, reads_for_room, new_reading, action_content)
 
   pub within_has_room : (before after : ServerState T U G C) (target : ClientParts) (reading : Reading) (answer : Reply T U)
       → HasRoom w before (Asked (step.NextActionWithin target reading) answer) after
-  within_has_room before after target reading answer e id p call by there =
-      let (r, left, is, h) = subst (λ (c : Call T U G C). PartCall w id before.offer c (seen id before) (e.lacks id) (e.did id) (seen id after)) call (by.each id) in
-      reads_for_room id target before.offer reading (action_content r) left (seen id before) (seen id after) (e.lacks id) (e.did id) p h there
+  within_has_room before after target reading answer e id p call by there = grind (arith, seen, reads_for_room, action_content)

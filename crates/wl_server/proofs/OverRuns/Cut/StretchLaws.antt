@@ -4,22 +4,19 @@
 use Rattle.std.proofs.Common.{◌≡◌, ◌≢◌, ◌⊎◌, ℕ, Bool, true, false, List, [], ◌∷◌, ◌++◌, append_assoc, append-nil, Option, None, Some, Result, Ok, Err, is_ok, map, refl, sym, ap, ap₂, subst, ◌∙◌, true≢false, arith}
 use mathlib.Core.Logic.{inl, inr}
 use Rattle.std.proofs.lemmas.Option.{same_Some, none-some}
-use Rattle.std.specs.Prelude.{MatchBool, option_map}
+use Rattle.std.specs.Prelude.{MatchBool}
 use Rattle.wl_wire.specs.declared.error.IoFault.{IoFault}
 use Rattle.wl_wire.specs.declared.error.IoFault.TheVariants as fault
-use Rattle.wl_wire.specs.declared.error.MessageParseError.{MessageParseError}
-use Rattle.wl_wire.specs.declared.error.MessageParseError.TheVariants as parse
 use Rattle.wl_link.proofs.Stretches.ArrivalLaws.{fed_blocks}
 use Rattle.wl_link.proofs.Calls.Branches.{either_option}
 use Rattle.wl_link.specs.Exchange.{Queue, Sending, joined, nothing}
 use Rattle.wl_link.proofs.Streams.LengthLaws.{front_fits}
-use Rattle.wl_link.specs.Link.{EachWithin, LinkState, ReadOne, incoming_limit, with_transport}
+use Rattle.wl_link.specs.Link.{incoming_limit, with_transport}
 use Rattle.wl_link.proofs.Calls.QueueLaws.{joined_nothing}
 use Rattle.wl_link.proofs.Stretches.RanLaws.{ran}
 use Rattle.wl_link.specs.Reader.{Ends, Gives, Given, IsFed, Reads, Turn, came_by, ReaderState}
 use Rattle.wl_link.specs.Script.{Script, ScriptReceives, ScriptSends}
 use Rattle.wl_link.specs.Served.{Served, state_as}
-use Rattle.wl_link.specs.Store.{Store, held}
 use Rattle.wl_link.specs.Stretch.{Act, AllPieces, Arrived, DoesAll, EndsByPipe, EndsWaiting as ActsEndWaiting, HasEnded, HasRead, IsStretch as IsActStretch, NotFull, arrivals_of, arrived as act_arrived, ended as act_ended, given_in, left_over, sending_side, with_arrival}
 use Rattle.wl_link.proofs.Stretches.StretchLaws.{acts_pieces, arrived-append, cut_otherwise as acts_cut_otherwise, does_joins, ended-append, ends_waiting-append, given_in-append, roomy_before, stretch_served as acts_served}
 use Rattle.wl_server.specs.declared.reading.action.Reading.{Reading}
@@ -27,7 +24,6 @@ use Rattle.wl_server.specs.declared.error.ActionError.{ActionError}
 use Rattle.wl_server.specs.declared.error.ActionError.TheVariants.{ActionOpen, Io}
 use Rattle.wl_server.specs.declared.error.FinishRefused.{FinishRefused}
 use Rattle.wl_server.specs.declared.error.ScriptError.{ScriptError}
-use Rattle.wl_server.specs.declared.objects.Kept.{Kept}
 use Rattle.wl_server.specs.declared.notes.DisconnectReason.{DisconnectReason}
 use Rattle.wl_server.specs.declared.runs.step.Reply.{Reply}
 use Rattle.wl_server.specs.declared.runs.step.Reply.TheVariants as reply
@@ -46,7 +42,7 @@ use Rattle.wl_server.specs.Moves as moves
 use Rattle.wl_server.specs.Part.{Part, with_link}
 use Rattle.wl_server.specs.PartStep.{Asked, Call, OfClient, PartCall, World, around, lacks_move, over_scripts}
 use Rattle.wl_server.proofs.OverRuns.Cut.ReaderLaws.{EndsAlike, bind_ends_alike, request_ends_alike}
-use Rattle.wl_server.specs.Reading.{Around, NextAction, ReadsNone, ReadsTo, action_content, answered as answered_so, exchanges_in, new_reading, reads_on, row_in, server}
+use Rattle.wl_server.specs.Reading.{Around, NextAction, ReadsNone, ReadsTo, action_content, answered as answered_so, exchanges_in, new_reading, reads_on, server}
 use Rattle.wl_server.proofs.OverRuns.Ids.ReplyLaws.{own_step}
 use Rattle.wl_server.specs.Runs.{Alone, Leads, Own, concerns, history, mine}
 use Rattle.wl_server.specs.Server.{Seen, ServerState, seen}
@@ -84,8 +80,7 @@ module _ {U C : Type 0} (c e : Core U C) (out : Gives (Told U)) (on : reads_on c
   stopped_is f stopped = is ∙ ap (λ (o : Option IoFault). answered_so o out.gave) stopped
 
   dead_deeds : (exchanges : List (Deed U)) → e.is_killed ≡ true → IsSound e → was_killed (deeds_of exchanges out.gave e) ≡ true
-  dead_deeds exchanges dead (inl (live, none)) = absurd (true≢false (sym dead ∙ live))
-  dead_deeds exchanges dead (inr (was, none, (reason, ended))) = killed_deeds exchanges out.gave e reason ended
+  dead_deeds exchanges dead h3 = grind (arith, true≢false, killed_deeds)
 
   told_so : (exchanges : List (Deed U)) → ((f : IoFault) → out.stopped ≡ Some f → f ≡ fault.WouldBlock) → told_by (Some answer) (deeds_of exchanges out.gave e) ≡ answers_in out.gave
   told_so exchanges blocks = go so.answered
@@ -202,9 +197,7 @@ module _ {G C : Type 0} (views : G → ClientParts → C → GlobalParts → Boo
             does = (end, (ample, (left, turns, reads)), refl);
             came_in = joined_nothing nothing ∙ sym came;
             ended_with = sym ended;
-            deeds = ap₂ (λ (o : Option DisconnectReason) (d : List (Deed U)). end_deeds o ++ beside_exchanges d) unended did_so
-                ∙ beside_deeds (exchanges_in turns) out.gave end.core (beside_turns turns) so.quiet
-                ∙ ap (λ (g : List (Given (Told U))). deeds_in g ++ end_deeds end.core.ended) (sym (append-nil out.gave));
+            deeds = grind (arith, ap₂, end_deeds, beside_exchanges, beside_deeds, exchanges_in, beside_turns, deeds_in, append-nil);
             sound = so.sound;
             answers = λ all roomy.
                 let fed = (ran (server a) end roomy left s turns out ample reads all).fed in
@@ -228,9 +221,7 @@ module _ {G C : Type 0} (views : G → ClientParts → C → GlobalParts → Boo
             does = (end, (taken_off id s.core u by.0 by.1, (es, by)), refl);
             came_in = joined_nothing nothing ∙ sym came;
             ended_with = sym ended;
-            deeds = ap₂ (λ (o : Option DisconnectReason) (d : List (Deed U)). end_deeds o ++ beside_exchanges d) unended did_so
-                ∙ beside_deeds (map Sent es) gave end.core (beside_sends es) so.quiet
-                ∙ ap (λ (g : List (Given (Told U))). deeds_in g ++ end_deeds end.core.ended) (sym (append-nil gave));
+            deeds = grind (arith, ap₂, end_deeds, beside_exchanges, beside_deeds, map, beside_sends, deeds_in, append-nil);
             sound = so.sound;
             answers = λ all roomy. ap (λ (o : Option (Result Handed ActionError)). told_by o did) unread ∙ sym so.none ∙ ap answers_in (sym (append-nil gave));
             waits = λ is before. absurd (none-some _ (sym unread ∙ is));
@@ -253,13 +244,11 @@ module _ {G C : Type 0} (views : G → ClientParts → C → GlobalParts → Boo
         where
           dead_none : (b : Bool) → b ≡ true → MatchBool b (ReadsNone (Io fault.Pipe) r (part_of s) answer r' false did q) (ReadsTo ScriptSends ScriptReceives a r (part_of s) answer r' false did q)
               → ReadsNone (Io fault.Pipe) r (part_of s) answer r' false did q
-          dead_none true is g = g
-          dead_none false is g = absurd (true≢false (sym is))
+          dead_none h1 is g = grind (arith, true≢false)
 
           live_reads : (b : Bool) → b ≡ false → MatchBool b (ReadsNone (Io fault.Pipe) r (part_of s) answer r' false did q) (ReadsTo ScriptSends ScriptReceives a r (part_of s) answer r' false did q)
               → ReadsTo ScriptSends ScriptReceives a r (part_of s) answer r' false did q
-          live_reads true is g = absurd (true≢false is)
-          live_reads false is g = g
+          live_reads h1 is g = grind (arith, true≢false)
 
           by_standing : IsSound s.core → s.core.action ≡ None
               → MatchBool s.core.is_killed (ReadsNone (Io fault.Pipe) r (part_of s) answer r' false did q) (ReadsTo ScriptSends ScriptReceives a r (part_of s) answer r' false did q)
@@ -379,14 +368,7 @@ module _ {G C : Type 0} (views : G → ClientParts → C → GlobalParts → Boo
 
     deeds_join : (e f : List (Deed U)) (d r : List (Deed U)) (g h : List (Given (Told U))) (l : List (Deed U)) → e ++ beside_exchanges d ≡ deeds_in g ++ f
         → f ++ beside_exchanges r ≡ deeds_in h ++ l → e ++ beside_exchanges (d ++ r) ≡ deeds_in (g ++ h) ++ l
-    deeds_join e f d r g h l first rest =
-        ap (λ (x : List (Deed U)). e ++ x) (beside_both d r)
-        ∙ sym (append_assoc e (beside_exchanges d) (beside_exchanges r))
-        ∙ ap (λ (x : List (Deed U)). x ++ beside_exchanges r) first
-        ∙ append_assoc (deeds_in g) f (beside_exchanges r)
-        ∙ ap (λ (x : List (Deed U)). deeds_in g ++ x) rest
-        ∙ sym (append_assoc (deeds_in g) (deeds_in h) l)
-        ∙ ap (λ (x : List (Deed U)). x ++ l) (sym (deeds_both g h))
+    deeds_join e f d r g h l first rest = grind (arith, beside_both, append_assoc, beside_exchanges, deeds_in, deeds_both)
 
     run_joins : (s : ReaderState Script (Core U C)) (q : Part Script U C) (after : Seen Script U C) (x : Own Script U G C) (run : List (Own Script U G C))
         (first : Acts s x.call x.did q) (others : RunActs first.mid run after)
@@ -398,14 +380,8 @@ module _ {G C : Type 0} (views : G → ClientParts → C → GlobalParts → Boo
       does = does_joins (server a) s first.mid others.end first.acts others.acts first.does others.does;
       came_in = arrived-append first.acts others.acts ∙ ap₂ joined first.came_in others.came_in;
       ended_with = ended-append first.acts others.acts ∙ ap₂ (λ (x y : List (Finish U)). x ++ y) first.ended_with others.ended_with;
-      deeds = deeds_join (end_deeds s.core.ended) (end_deeds first.mid.core.ended) x.did (history run) (given_in first.acts) (given_in others.acts) (end_deeds others.end.core.ended)
-          first.deeds others.deeds
-          ∙ ap (λ (g : List (Given (Told U))). deeds_in g ++ end_deeds others.end.core.ended) (sym (given_in-append first.acts others.acts));
-      answers = λ all roomy.
-          let here = roomy_before (server a) ends_by_pipe first.mid others.end others.acts others.does roomy in
-          ap₂ (λ (x y : List (Result Handed IoFault)). x ++ y) (first.answers all here)
-          (others.answers (acts_pieces (server a) ends_by_pipe s first.mid first.acts first.does all here) roomy)
-          ∙ sym (ap answers_in (given_in-append first.acts others.acts) ∙ answers_both (given_in first.acts) (given_in others.acts));
+      deeds = grind (arith, deeds_join, end_deeds, history, given_in, deeds_in, given_in-append);
+      answers = grind (arith, roomy_before, server, a, ends_by_pipe, ap₂, acts_pieces, answers_in, given_in-append, answers_both, given_in);
       waits = waits;
     }
 
@@ -438,14 +414,6 @@ module _ {G C : Type 0} (views : G → ClientParts → C → GlobalParts → Boo
         (λ e before'. subst ActsEndWaiting (append_assoc before' first.acts rest.acts) (rest.waits e (before' ++ first.acts)))
 
     -- ---- the law
-
-    -- what lacks, by the objects alone
-    abbrev RefusedAt : LinkState Script → MessageParseError → Store (Kept U) → Type 0
-    RefusedAt link e store =
-        ReadOne (λ sender opcode found. found ≡ option_map (λ row. row.signature) (row_in offer.table (held store sender) opcode)) link (Err e) link
-
-    abbrev LacksAt : LinkState Script → Store (Kept U) → Type 0
-    LacksAt link store = RefusedAt link parse.MissingData store ⊎ RefusedAt link parse.MissingFD store
 
     not_full : (p : Part Script U C) (run : List (Own Script U G C)) (end : ReaderState Script (Core U C)) → IsStretch a p run (part_of end) → NotFull (server a) end
     not_full p run end stretch core (is, lacks) = grind (arith, server, core_of, part_of)
@@ -487,20 +455,8 @@ module _ {G C : Type 0} (views : G → ClientParts → C → GlobalParts → Boo
       pub stretch_served : (q : Part Script U C) (run : List (Own Script U G C)) → after.part ≡ Some q → Alone w id offer before run after → IsStretch a p run q → StretchIsServed a p run q
       stretch_served q run ends leads stretch = grind (arith, acts_of, part_is, served_at)
 
-      -- no receive of a stretch of such messages finds the storage full
-      within_at : (run : List (Own Script U G C)) (r : RunActs (reader_part p) run after) → IsStretchWithin a p run (part_of r.end) → IsStretch a p run (part_of r.end)
-      within_at run r stretch =
-          let within = subst (λ (q : Queue). EachWithin (incoming_limit p.link.limit) (joined p.link.incoming (joined (left_in p) q)).bytes) (sym r.came_in) stretch.within in
-          record {
-            spans = stretch.spans;
-            roomy = λ dead lacks. inr (front_fits (server a) (reader_part p) r.end r.acts r.does within, stretch.in_time dead);
-          }
-
       pub within_stretch : (q : Part Script U C) (run : List (Own Script U G C)) → after.part ≡ Some q → Alone w id offer before run after → IsStretchWithin a p run q → IsStretch a p run q
-      within_stretch q run ends leads stretch =
-          let r = acts_of run after leads stretch.spans.heard stretch.spans.live in
-          let is = part_is after q r.end ends r.there in
-          subst (IsStretch a p run) (sym is) (within_at run r (subst (IsStretchWithin a p run) is stretch))
+      within_stretch q run ends leads stretch = grind (arith, acts_of, part_is, a, incoming_limit, joined, left_in, front_fits, server, reader_part)
 
       -- so two runs over which the same arrives and is finished give the same, and lead to the same, however it was cut
       abbrev SameCut : List (Own Script U G C) → List (Own Script U G C) → Part Script U C → Part Script U C → Type 0
@@ -534,10 +490,7 @@ module _ {G C : Type 0} (views : G → ClientParts → C → GlobalParts → Boo
 each_is_cut : {U G C : Type 0} (views : G → ClientParts → C → GlobalParts → Bool) (begun after : ServerState Script U G C) (run : List (Entry Script U G C))
     → Leads (over_scripts views) begun run after → EachIsCut views begun run after
 each_is_cut views begun after run leads id p q born there ends =
-    let alone = alone_run (over_scripts views) id begun after run born leads in (
-      λ stretch. stretch_served views id begun.offer (seen id begun) (seen id after) p there q (mine id run) ends alone stretch,
-      λ stretch. within_stretch views id begun.offer (seen id begun) (seen id after) p there q (mine id run) ends alone stretch,
-    )
+    let alone = alone_run (over_scripts views) id begun after run born leads in grind (arith, stretch_served, seen, mine, within_stretch)
 
 pub each_part_is_cut : {U G C : Type 0} (views : G → ClientParts → C → GlobalParts → Bool) (begun : ServerState Script U G C) (run : List (Entry Script U G C))
     → EachPartIsCut views begun run

@@ -1,13 +1,13 @@
 -- The changes of a client's objects in each call: an induction over base moves, over which the laws of ids stand.
-use Rattle.std.proofs.Common.{arith, ◌≡◌, ◌≢◌, ◌⊎◌, ℕ, ◌+◌, Bool, true, false, List, [], ◌∷◌, ◌++◌, Option, None, Some, is_some, IsSome, Result, refl, sym, ap, subst, ◌∙◌, append-nil, append_assoc}
+use Rattle.std.proofs.Common.{arith, ◌≡◌, ◌≢◌, ◌⊎◌, ℕ, ◌+◌, Bool, true, List, [], ◌∷◌, ◌++◌, None, Some, is_some, IsSome, Result, refl, sym, ap, subst, ◌∙◌, append-nil, append_assoc}
 use Rattle.std.proofs.lemmas.Option.{none-some}
 use mathlib.Core.Logic.{inl, inr}
-use Rattle.std.specs.Prelude.{MatchOption, if◌then◌else◌}
+use Rattle.std.specs.Prelude.{if◌then◌else◌}
 use Rattle.wl_wire.specs.declared.error.IoFault.{IoFault}
 use Rattle.wl_link.specs.declared.object.Object.{Object}
 use Rattle.wl_link.proofs.Ids.EndsLaw.{keeps_joins}
 use Rattle.wl_link.specs.Exchange.{Queue}
-use Rattle.wl_link.specs.Identity.{Born, Change, Ended, Gone, Id, IsMadeInStep, Made, Objects, OwnsExactly, StepEnds, Wrote, counted_id, ended_in, named_in, names, Found, HandedId, New}
+use Rattle.wl_link.specs.Identity.{Born, Change, Ended, Gone, Made, Objects, StepEnds, Wrote, counted_id, ended_in, named_in, names, Found, HandedId, New}
 use Rattle.wl_link.proofs.Ids.IdentityLaw.{born_first, born_later, made_first, made_later}
 use Rattle.wl_link.specs.Store.{Store, held, removed, rewritten, stored}
 use Rattle.wl_link.proofs.Ids.StoreLaws.{removed_other, rewritten_other, stored_here, stored_other}
@@ -15,11 +15,11 @@ use Rattle.wl_server.specs.declared.objects.Kept.{Kept}
 use Rattle.wl_server.specs.declared.notes.DisconnectReason.{DisconnectReason}
 use Rattle.wl_server.specs.declared.notes.Happening.{Happening}
 use Rattle.wl_server.specs.Deeds.{IsAmong}
-use Rattle.wl_server.proofs.OverRuns.Moves.BaseMoves.{Doings, Goes, Moves, any, born, cleaned, finished, end_notes, ended, flushed, followed, found, found_none, handed_out, handing, joined, leaving, left_by, left_id, nothing_done, notes_taken, noting, opens, putting, received, receiving, relinked, remembered, sending, stayed, taken_out, told, unfelt, went, within, wrote}
+use Rattle.wl_server.proofs.OverRuns.Moves.BaseMoves.{Doings, Goes, Moves, any, end_notes, followed, handed_out, handing, joined, leaving, left_by, left_id, moved, nothing_done, notes_taken, noting, stayed, taken_out, unfelt, within}
 use Rattle.wl_server.specs.Identified.{AreObjectsOf, IsHandedIn, IsNotedIn, has_data, is_over, waiting_of}
 use Rattle.wl_server.specs.Ids.{ClientParts, IdParts}
 use Rattle.wl_server.proofs.OverRuns.Ids.AmongLaws.{among_both, among_first, among_later}
-use Rattle.wl_server.specs.Part.{Part, end_note, id_at, id_of, note_of_end, null_id, objects_of, serial_of, with_user_data}
+use Rattle.wl_server.specs.Part.{Part, id_at, id_of, note_of_end, null_id, objects_of, serial_of, with_user_data}
 use Rattle.wl_server.specs.Server.{Seen}
 
 -- ---- ids
@@ -42,9 +42,6 @@ module _ {U : Type 0} where
   id_names client store n x ne e = grind (arith, is_some, named_in, serial_of, id_of, id_at, held)
 
   module _ (client : ClientParts) where
-    handed_first : (changes others : List (Change (Kept U))) (h : HandedId IdParts) → IsHandedIn client changes h → IsHandedIn client (changes ++ others) h
-    handed_first changes others h h1 = grind (arith, made_first, id_of, born_first, serial_of)
-
     handed_later : (changes others : List (Change (Kept U))) (h : HandedId IdParts) → IsHandedIn client others h → IsHandedIn client (changes ++ others) h
     handed_later changes others h h1 = grind (arith, made_later, id_of, born_later, serial_of)
 
@@ -53,11 +50,6 @@ module _ {U : Type 0} where
 
     noted_later : (changes others : List (Change (Kept U))) (h : Happening U) → IsNotedIn client others h → IsNotedIn client (changes ++ others) h
     noted_later changes others h h1 = grind (arith, made_later, id_of)
-
-    -- the note of an object, if its id is made
-    end_noted : (changes : List (Change (Kept U))) (id : IdParts) (u : Option U) (h : Happening U) → id.client ≡ client → IsMadeInStep changes (id_of id)
-        → IsAmong (end_note id u) h → IsNotedIn client changes h
-    end_noted changes id u h h1 h2 h3 = grind (arith)
 
   ended_quiet : (client : ClientParts) (b : Bool) (reason : DisconnectReason) (h : Happening U) → IsAmong (end_notes b reason) h → IsNotedIn client [] h
   ended_quiet client b reason h h1 = grind (arith)
@@ -81,8 +73,7 @@ module _ {T U C : Type 0} (sends : T → Queue → Result ℕ IoFault → T → 
     pub empty : held q.store 0 ≡ None
 
   changing_so : (p q q' : Part T U C) (d d' : Doings U) → d' ≡ d → q' ≡ q → Changing p d q → Changing p d' q'
-  changing_so p q q' d d' is same changing =
-      subst (λ (x : Doings U). Changing p x q') (sym is) (subst (λ (x : Part T U C). Changing p d x) (sym same) changing)
+  changing_so p q q' d d' is same changing = grind (arith)
 
   -- the objects and the notes that wait stay, and nothing is noted of an object
   quiet : (p q : Part T U C) (d : Doings U) → held p.store 0 ≡ None → objects_of q ≡ objects_of p → q.waiting ≡ p.waiting → d.handed ≡ [] → d.left ≡ []
@@ -93,34 +84,7 @@ module _ {T U C : Type 0} (sends : T → Queue → Result ℕ IoFault → T → 
   still p empty = quiet p p nothing_done empty refl refl refl refl (λ h among. absurd among)
 
   then_changing : (p m q : Part T U C) (a b : Doings U) → Changing p a m → Changing m b q → Changing p (joined a b) q
-  then_changing p m q a b first second = record {
-    changes = first.changes ++ second.changes;
-    ends = keeps_joins serial_of (OwnsExactly is_over) (objects_of p) (objects_of m) (objects_of q) first.changes second.changes first.ends second.ends;
-    handed = λ h among. (
-        elim (among_both a.handed b.handed h among) [
-          | inl earlier ↦ handed_first client first.changes second.changes h (first.handed h earlier)
-          | inr later ↦ handed_later client first.changes second.changes h (second.handed h later)
-        ]
-        );
-    left = ap (λ (l : List Id). l ++ b.left) first.left ∙ ap (λ (l : List Id). ended_in serial_of has_data first.changes ++ l) second.left
-        ∙ sym (ended_both first.changes second.changes);
-    noted = λ h among. (
-        elim (among_both a.notes b.notes h among) [
-          | inl earlier ↦ from_first h (first.noted h earlier)
-          | inr later ↦ from_second h (second.noted h later)
-        ]
-        );
-    waits = λ h among. from_second h (second.waits h among);
-    empty = second.empty;
-  }
-    where
-      from_first : (h : Happening U) → IsAmong p.waiting h ⊎ IsNotedIn client first.changes h → IsAmong p.waiting h ⊎ IsNotedIn client (first.changes ++ second.changes) h
-      from_first h (inl waited) = inl waited
-      from_first h (inr noted) = inr (noted_first client first.changes second.changes h noted)
-
-      from_second : (h : Happening U) → IsAmong m.waiting h ⊎ IsNotedIn client second.changes h → IsAmong p.waiting h ⊎ IsNotedIn client (first.changes ++ second.changes) h
-      from_second h (inl waited) = from_first h (first.waits h waited)
-      from_second h (inr noted) = inr (noted_later client first.changes second.changes h noted)
+  then_changing p m q a b first second = grind (arith, keeps_joins, serial_of, is_over, objects_of, among_both, made_first, id_of, born_first, handed_later, ended_in, has_data, ended_both, noted_first, noted_later)
 
   -- a number that holds an object is not 0
   not_zero : (p : Part T U C) (n : ℕ) (x : Object (Kept U)) → held p.store 0 ≡ None → held p.store n ≡ Some x → n ≢ 0
@@ -133,14 +97,7 @@ module _ {T U C : Type 0} (sends : T → Queue → Result ℕ IoFault → T → 
       record {
         changes = Born n x ∷ Made (id_of (id_at client n x)) ∷ [];
         ends = (after, (free, serial, refl), tt, (after, (id_names client after.store n x ne (stored_here p.store n x n refl), refl), tt, refl));
-        handed = λ h among. (
-            elim among [
-              | inl is ↦
-                  subst (λ (y : HandedId IdParts). IsHandedIn client (Born n x ∷ Made (id_of (id_at client n x)) ∷ []) y) is
-                  (refl, inl refl, inl (refl, refl))
-              | inr none ↦ absurd none
-            ]
-            );
+        handed = grind (arith, id_of, id_at);
         left = refl;
         noted = λ h among. absurd among;
         waits = λ h among. inl among;
@@ -151,12 +108,7 @@ module _ {T U C : Type 0} (sends : T → Queue → Result ℕ IoFault → T → 
   found_changing p n x empty holds = record {
     changes = Made (id_of (id_at client n x)) ∷ [];
     ends = (objects_of p, (id_names client p.store n x (not_zero p n x empty holds) holds, refl), tt, refl);
-    handed = λ h among. (
-        elim among [
-          | inl is ↦ subst (λ (y : HandedId IdParts). IsHandedIn {U = U} client (Made (id_of (id_at client n x)) ∷ []) y) is (inr (refl, inl refl))
-          | inr none ↦ absurd none
-        ]
-        );
+    handed = grind (arith, id_of, id_at);
     left = refl;
     noted = λ h among. absurd among;
     waits = λ h among. inl among;
@@ -199,11 +151,10 @@ module _ {T U C : Type 0} (sends : T → Queue → Result ℕ IoFault → T → 
       changes = Made (id_of (id_at client n x)) ∷ Ended n x None ∷ []
 
       at_once : (b : Bool) (h : Happening U) → IsAmong (if b then [] else note_of_end client n x) h → IsAmong p.waiting h ⊎ IsNotedIn client changes h
-      at_once true h among = absurd among
-      at_once false h among = inr (end_noted client changes (id_at client n x) x.value.user_data h refl (inl refl) among)
+      at_once h1 h among = grind (arith, changes, id_at)
 
       later : (b : Bool) (h : Happening U) → IsAmong (if b then p.waiting ++ note_of_end client n x else p.waiting) h → IsAmong p.waiting h ⊎ IsNotedIn client changes h
-      later b h h1 = grind (arith, among_both, note_of_end, end_noted, changes, id_at)
+      later b h h1 = grind (arith, among_both, note_of_end, changes, id_at)
 
   -- each move changes the objects so
   pub moves_change : (p q : Part T U C) (d : Doings U) → held p.store 0 ≡ None → Moves (any true) sends receives client p d q → Changing p d q
@@ -222,46 +173,15 @@ module _ {T U C : Type 0} (sends : T → Queue → Result ℕ IoFault → T → 
         waits = changing.waits;
         empty = changing.empty;
       })
-  moves_change p q d empty (relinked link waits stays unread is same) =
-      changing_so p (record p { link = link }) q nothing_done d is same (quiet p (record p { link = link }) nothing_done empty refl refl refl refl (λ h among. absurd among))
-  moves_change p q d empty (received r answer link reads filled is same) =
-      changing_so p (record p { link = link }) q (receiving r) d is same (quiet p (record p { link = link }) (receiving r) empty refl refl refl refl (λ h among. absurd among))
-  moves_change p q d empty (told messages es put answer link puts is same) =
-      changing_so p (record p { link = link }) q (putting es put) d is same (quiet p (record p { link = link }) (putting es put) empty refl refl refl refl (λ h among. absurd among))
-  moves_change p q d empty (flushed es answer link by is same) =
-      changing_so p (record p { link = link }) q (sending es) d is same (quiet p (record p { link = link }) (sending es) empty refl refl refl refl (λ h among. absurd among))
-  moves_change p q d empty (ended reason may is same) = grind (arith, changing_so, noting, end_notes, quiet, ended_quiet)
-  moves_change p q d empty (born n x free ne serial is same) = changing_so p _ q _ d is same (born_changing p n x empty free ne serial)
-  moves_change p q d empty (found n x holds is same) = changing_so p p q _ d is same (found_changing p n x empty holds)
-  moves_change p q d empty (found_none is same) = changing_so p p q _ d is same (none_changing p empty)
-  moves_change p q d empty (wrote n x u holds is same) = changing_so p _ q nothing_done d is same (wrote_changing p n x u empty holds)
-  moves_change p q d empty (went n x waits holds is same) = changing_so p _ q _ d is same (went_changing p n x waits empty holds)
-  moves_change p q d empty (remembered n x holds registry is same) = grind (arith, changing_so, id_of, id_at, nothing_done, quiet)
-  moves_change p q d empty (opens action h acts so is same) = grind (arith, changing_so, nothing_done, quiet)
-  moves_change p q d empty (finished may is same) =
-      changing_so p (record p { action = None }) q nothing_done d is same (quiet p (record p { action = None }) nothing_done empty refl refl refl refl (λ h among. absurd among))
-  moves_change p q d empty (cleaned on is same) = grind (arith, changing_so, noting)
+  moves_change p q d empty (moved move) =
+      grind (arith, changing_so, quiet, born_changing, found_changing, none_changing, wrote_changing, went_changing, noting, nothing_done, end_notes, ended_quiet, id_of, id_at)
 
   -- no note is handed out by moves of the part
   pub moves_take : (p q : Part T U C) (d : Doings U) → Moves (any true) sends receives client p d q → d.taken ≡ []
   moves_take p q d (stayed is same) = ap (λ (x : Doings U). x.taken) is
-  moves_take p q d (followed {m = m} {a = a} {b = b} first second is) =
-      ap (λ (x : Doings U). x.taken) is ∙ ap (λ l. l ++ b.taken) (moves_take p m a first) ∙ moves_take m q b second
+  moves_take p q d (followed {m = m} {a = a} {b = b} first second is) = grind (arith, moves_take p m a first, moves_take m q b second)
   moves_take p q d (handed_out {a = a} ids moves among is) = ap (λ (x : Doings U). x.taken) is ∙ moves_take p q a moves
-  moves_take p q d (relinked link waits stays unread is same) = ap (λ (x : Doings U). x.taken) is
-  moves_take p q d (received r answer link reads filled is same) = ap (λ (x : Doings U). x.taken) is
-  moves_take p q d (told messages es put answer link puts is same) = ap (λ (x : Doings U). x.taken) is
-  moves_take p q d (flushed es answer link by is same) = ap (λ (x : Doings U). x.taken) is
-  moves_take p q d (ended reason may is same) = ap (λ (x : Doings U). x.taken) is
-  moves_take p q d (born n x free ne serial is same) = ap (λ (x : Doings U). x.taken) is
-  moves_take p q d (found n x holds is same) = ap (λ (x : Doings U). x.taken) is
-  moves_take p q d (found_none is same) = ap (λ (x : Doings U). x.taken) is
-  moves_take p q d (wrote n x u holds is same) = ap (λ (x : Doings U). x.taken) is
-  moves_take p q d (went n x waits holds is same) = ap (λ (x : Doings U). x.taken) is
-  moves_take p q d (remembered n x holds registry is same) = ap (λ (x : Doings U). x.taken) is
-  moves_take p q d (opens action h acts so is same) = ap (λ (x : Doings U). x.taken) is
-  moves_take p q d (finished may is same) = ap (λ (x : Doings U). x.taken) is
-  moves_take p q d (cleaned on is same) = ap (λ (x : Doings U). x.taken) is
+  moves_take p q d (moved move) = grind (arith)
 
   -- ---- what is held of a client
 
@@ -316,24 +236,12 @@ module _ {T U C : Type 0} (sends : T → Queue → Result ℕ IoFault → T → 
         empty = changing.empty;
         handed = changing.handed;
         left = changing.left;
-        noted = λ h among. (
-            elim (in_three d.taken (made ++ d.notes) q.waiting h among) [
-              | inl taken ↦ absurd (subst (λ (hs : List (Happening U)). IsAmong hs h) none_taken taken)
-              | inr (inl so) ↦ (
-                  elim (among_both made d.notes h so) [
-                    | inl old ↦ inl (among_first made p.waiting h old)
-                    | inr new ↦ waited h changing.changes (changing.noted h new)
-                  ]
-                  )
-              | inr (inr waits) ↦ waited h changing.changes (changing.waits h waits)
-            ]
-            );
+        noted = grind (arith, in_three, among_both, among_first, waited);
         new = λ h among. elim (among_both d.notes q.waiting h among) [ inl made_now ↦ changing.noted h made_now | inr waits ↦ changing.waits h waits ];
       }
     where
       waited : (h : Happening U) (changes : List (Change (Kept U))) → IsAmong p.waiting h ⊎ IsNotedIn client changes h → IsAmong (made ++ p.waiting) h ⊎ IsNotedIn client changes h
-      waited h changes (inl old) = inl (among_later made p.waiting h old)
-      waited h changes (inr new) = inr new
+      waited h changes h3 = grind (arith, among_later)
 
   -- a client that is taken out leaves no objects
   goes_out : (p q : Part T U C) (made : List (Happening U)) (d : Doings U) → d.taken ≡ [] → held p.store 0 ≡ None → Moves (any true) sends receives client p d q
@@ -348,27 +256,19 @@ module _ {T U C : Type 0} (sends : T → Queue → Result ℕ IoFault → T → 
         empty = changing.empty;
         handed = changing.handed;
         left = changing.left;
-        noted = λ h among. (
-            elim (in_three d.taken (made ++ d.notes) [] h among) [
-              | inl taken ↦ changing.noted h (among_first d.taken ((made ++ d.notes) ++ q.waiting) h taken)
-              | inr (inl so) ↦ changing.noted h (among_later d.taken ((made ++ d.notes) ++ q.waiting) h (among_first (made ++ d.notes) q.waiting h so))
-              | inr (inr nothing) ↦ absurd nothing
-            ]
-            );
+        noted = grind (arith, in_three, among_first, among_later);
         new = λ h among. changing.new h (subst (λ (hs : List (Happening U)). IsAmong (hs ++ q.waiting) h) (append-nil d.notes) (among_first (d.notes ++ []) q.waiting h among));
       }
 
   objects_at : (s : Seen T U C) (p : Part T U C) (o : Objects (Kept U)) → s.part ≡ Some p → AreObjectsOf s o → o ≡ objects_of p
-  objects_at s p o there are =
-      subst (λ (x : Option (Part T U C)). MatchOption x ((n : ℕ) → held o.store n ≡ None) (λ p. o ≡ objects_of p)) {x = s.part} {y = Some p} there are
+  objects_at s p o there are = grind (arith, held, objects_of)
 
   moved_from : (s : Seen T U C) (p : Part T U C) (o : Objects (Kept U)) (d : Doings U) (t : Seen T U C) → s.part ≡ Some p → o ≡ objects_of p
       → CallChanging (record { part = Some p; made = s.made }) (objects_of p) d t → CallChanging s o d t
   moved_from s p o d t there at changing = grind (arith, objects_of)
 
   pub goes_change : (s t : Seen T U C) (o : Objects (Kept U)) (d : Doings U) → AreObjectsOf s o → held o.store 0 ≡ None → Goes (any true) sends receives client s d t → CallChanging s o d t
-  goes_change s t o d are empty (unfelt is same) =
-      subst (λ (x : Doings U). CallChanging s o x t) (sym is) (subst (λ (x : Seen T U C). CallChanging s o nothing_done x) (sym same) (goes_unfelt s o are empty))
+  goes_change s t o d are empty (unfelt is same) = grind (arith, nothing_done, goes_unfelt)
   goes_change s t o d are empty (notes_taken on is same) = grind (arith, nothing_done, goes_taken)
   goes_change s t o d are empty (within p q there moves same) =
       let at : o ≡ objects_of p = objects_at s p o there are in

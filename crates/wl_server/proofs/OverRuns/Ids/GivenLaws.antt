@@ -1,5 +1,5 @@
 -- That no id of a client or of a global is given twice, and that one which names none any longer never names one again.
-use Rattle.std.proofs.Common.{◌≡◌, ◌≢◌, ◌⊎◌, ℕ, ◌+◌, ◌<◌, ◌≤◌, Bool, true, false, cond, eqb, List, [], ◌∷◌, Option, None, Some, is_some, Ok, refl, sym, ap, subst, ◌∙◌, true≢false, arith}
+use Rattle.std.proofs.Common.{◌≡◌, ◌≢◌, ◌⊎◌, ℕ, ◌+◌, ◌<◌, ◌≤◌, Bool, false, cond, eqb, List, [], ◌∷◌, Option, None, Some, is_some, Ok, refl, sym, ap, subst, ◌∙◌, true≢false, arith}
 use mathlib.Core.Logic.{inl, inr}
 use Rattle.std.specs.Prelude.{◌&&◌, IsSome, is_ok, nat_le, option_map, slice_get}
 use Rattle.std.proofs.lemmas.Bool.{cases_eq, eqb-true, eq-eqb, ne_eqb}
@@ -39,9 +39,6 @@ module _ {G : Type 0} where
   none_at : (g : GlobalParts) → named_at g None ≡ None
   none_at g = grind (arith, eqb, global_serial)
 
-  foreign_at : (g : GlobalParts) (x : Object (KeptGlobal G)) → eqb x.value.serial g.serial ≡ false → named_at g (Some x) ≡ None
-  foreign_at g x other = grind (arith, eqb, true≢false)
-
   -- the serial of what the id names is its own
   serial_at : (globals : Globals G) (g : GlobalParts) (x : Object (KeptGlobal G)) → global_of globals g ≡ Some x → x.value.serial ≡ g.serial
   serial_at globals g x is = grind (arith, eqb, same_Some, eqb-true, none-some, global_serial)
@@ -55,12 +52,6 @@ same_named target g same = ap (λ (b : Bool). b && eqb target.serial g.serial) (
 other_named : (target g : GlobalParts) → g.name ≢ target.name → same_global target g ≡ false
 other_named target g other = ap (λ (b : Bool). b && eqb target.serial g.serial) (ne_eqb target.name g.name (λ same. other (sym same)))
 
-same_ids : (target g : GlobalParts) → same_global target g ≡ true → target ≡ g
-same_ids target g same = grind (arith, eqb, global_is, eqb-true, true≢false)
-
-same_clients : (a b : ClientParts) → same_client a b ≡ true → a ≡ b
-same_clients a b same = grind (arith, eqb, client_is, eqb-true, true≢false)
-
 -- ---- what a call does to what an id names
 
 module _ {G : Type 0} where
@@ -71,7 +62,7 @@ module _ {G : Type 0} where
   -- nothing has changed, where the target names none
   none_changes : (change : Option (Object (KeptGlobal G)) → Option (Object (KeptGlobal G))) → change None ≡ None → (globals : Globals G) (target : GlobalParts)
       → global_of globals target ≡ None → Changes change globals target globals
-  none_changes change nothing globals target none g = grind (arith, same_global, global_of, same_ids)
+  none_changes change nothing globals target none g = grind (arith, same_global, global_of, eqb, global_is, eqb-true, true≢false)
 
   -- the value at the name is another, or there is none
   one_changes : (change : Option (Object (KeptGlobal G)) → Option (Object (KeptGlobal G))) → change None ≡ None → (globals after : Globals G) (target : GlobalParts) (x : Object (KeptGlobal G))
@@ -82,44 +73,18 @@ module _ {G : Type 0} where
       → Changes change globals target after
   one_changes change nothing globals after target x is elsewhere here g =
       elim (cases_eq g.name target.name) [
-        | inl same ↦
-            here g same (eqb g.name 0) refl
-            ∙ both (eqb g.name 0) (eqb x.value.serial g.serial)
-            ∙ ap (λ (o : Option (Object (KeptGlobal G))). cond (eqb x.value.serial g.serial) (change o) o)
-            (sym (ap (named_at g) (ap (held globals.store) same ∙ global_held globals target x is)))
-            ∙ ap (λ (b : Bool). cond b (change (global_of globals g)) (global_of globals g))
-            (ap (λ (n : ℕ). eqb n g.serial) (serial_at globals target x is) ∙ sym (same_named target g same))
-        | inr other ↦
-            ap (named_at g) (elsewhere g other)
-            ∙ ap (λ (b : Bool). cond b (change (global_of globals g)) (global_of globals g)) (sym (other_named target g other))
+        | inl same ↦ grind (arith, eqb, both, cond, named_at, held, global_held, global_of, serial_at, same_named)
+        | inr other ↦ grind (arith, named_at, cond, global_of, other_named)
       ]
     where
       both : (z b : Bool) → cond z None (cond b (change (Some x)) None) ≡ cond b (change (cond z None (cond b (Some x) None))) (cond z None (cond b (Some x) None))
       both z b = grind (arith)
 
   pub disabled_changes : (globals : Globals G) (target : GlobalParts) → Changes (option_map as_disabled) globals target (disabled globals target)
-  disabled_changes globals target = go (global_of globals target) refl
-    where
-      go : (o : Option (Object (KeptGlobal G))) → global_of globals target ≡ o → Changes (option_map as_disabled) globals target (disabled_at globals target.name o)
-      go None none = none_changes (option_map as_disabled) refl globals target none
-      go (Some x) is =
-          one_changes (option_map as_disabled) refl globals (disabled_at globals target.name (Some x)) target x is
-          (λ g other. rewritten_other globals.store target.name (as_disabled x) g.name other)
-          (λ g same z zero. ap (named_at g) (rewritten_here globals.store target.name (as_disabled x) g.name same)
-          ∙ ap (λ (b : Bool). cond b None (cond (eqb x.value.serial g.serial) (Some (as_disabled x)) None)) zero)
+  disabled_changes globals target = grind (arith, global_of, none_changes, option_map, as_disabled, one_changes, disabled_at, rewritten_other, named_at, rewritten_here, cond, eqb)
 
   pub freed_changes : (globals : Globals G) (target : GlobalParts) → Changes (λ o. None) globals target (freed globals target)
-  freed_changes globals target = go (global_of globals target) refl
-    where
-      nothing : (z b : Bool) → None ≡ cond z None (cond b (let o : Option (Object (KeptGlobal G)) = None in o) None)
-      nothing z b = grind (arith)
-
-      go : (o : Option (Object (KeptGlobal G))) → global_of globals target ≡ o → Changes (λ o. None) globals target (freed_at globals target.name o)
-      go None none = none_changes (λ o. None) refl globals target none
-      go (Some x) is =
-          one_changes (λ o. None) refl globals (freed_at globals target.name (Some x)) target x is
-          (λ g other. removed_other globals.store target.name g.name other)
-          (λ g same z zero. ap (named_at g) (removed_here globals.store target.name g.name same) ∙ none_at g ∙ nothing z (eqb x.value.serial g.serial))
+  freed_changes globals target = grind (arith, global_of, none_changes, one_changes, freed_at, removed_other, named_at, removed_here, none_at, eqb)
 
   -- a new global is named by its own id, and no id of an earlier serial names another than before
   created_named : (globals : Globals G) (i : InterfaceId) (version : ℕ) (handler : G) (new : GlobalParts) → IsNextGlobal globals new
@@ -129,7 +94,7 @@ module _ {G : Type 0} where
 
   created_other : (globals : Globals G) (i : InterfaceId) (version : ℕ) (handler : G) (new : GlobalParts) → IsNextGlobal globals new → (last : ℕ) (g : GlobalParts)
       → (g.serial ≢ new.serial) → global_of (record { store = stored globals.store new.name (new_global i version new.serial handler); last_serial = last }) g ≡ global_of globals g
-  created_other globals i version handler new (least, left, next) last g older = grind (arith, new_global, cases_eq, stored_here, foreign_at, ne_eqb, none_at, stored_other)
+  created_other globals i version handler new (least, left, next) last g older = grind (arith, new_global, cases_eq, stored_here, eqb, true≢false, ne_eqb, none_at, stored_other)
 
   -- nor does any other id
   pub created_elsewhere : (globals : Globals G) (i : InterfaceId) (version : ℕ) (handler : G) (new : GlobalParts) → IsNextGlobal globals new → (last : ℕ) (g : GlobalParts)
@@ -147,18 +112,8 @@ module _ {G : Type 0} where
   next_in : (offer : Offer G) (i : InterfaceId) (version : ℕ) (g : GlobalParts) → CreatesGlobal offer.table offer.globals i version (Ok g) → IsNextGlobal offer.globals g
   next_in offer i version g by = grind (arith, either_option, slice_get, true≢false, is_ok, either_bool, nat_le)
 
-  disabled_last : (globals : Globals G) (n : ℕ) (o : Option (Object (KeptGlobal G))) → (disabled_at globals n o).last_serial ≡ globals.last_serial
-  disabled_last globals n None = refl
-  disabled_last globals n (Some x) = refl
-
   freed_last : (globals : Globals G) (n : ℕ) (o : Option (Object (KeptGlobal G))) → (freed_at globals n o).last_serial ≡ globals.last_serial
-  freed_last globals n None = refl
-  freed_last globals n (Some x) = refl
-
-  -- a change makes no id name a global that named none
-  some_left : (change : Option (Object (KeptGlobal G)) → Option (Object (KeptGlobal G))) → change None ≡ None → (b : Bool) (o : Option (Object (KeptGlobal G)))
-      → IsSome (cond b (change o) o) → IsSome o
-  some_left change h1 b o h2 = grind (arith, some_none)
+  freed_last globals n h3 = grind (arith)
 
 module _ {T U G C : Type 0} where
   offered_next : (offer : Offer G) (call : Call T U G C) (g : GlobalParts) → AnswersShared offer call → Offers g call → IsNextGlobal offer.globals g
@@ -169,7 +124,7 @@ module _ {T U G C : Type 0} where
 
   -- the last serial of a global never falls
   last_grows : (offer : Offer G) (call : Call T U G C) → AnswersShared offer call → offer.globals.last_serial ≤ (offer_after offer call).globals.last_serial
-  last_grows offer call h1 = grind (arith, next_in, disabled_last, global_of, freed_last)
+  last_grows offer call h1 = grind (arith, next_in, global_of, freed_last)
 
   -- what the id of a global that was given before names after a call
   named_by : (offer : Offer G) (call : Call T U G C) (g : GlobalParts) → AnswersShared offer call → g.serial ≤ offer.globals.last_serial
@@ -194,10 +149,8 @@ module _ {T U G C : Type 0} where
               | inr other ↦ inl (subst IsSome (ap (named_at g) (stored_other offer.globals.store new.name (new_global i version new.serial handler) g.name other)) some)
             ]
       ]
-  named_before offer (Asked (step.DisableGlobal target) answer) g by some =
-      inl (some_left (option_map as_disabled) refl (same_global target g) (global_of offer.globals g) (subst IsSome (disabled_changes offer.globals target g) some))
-  named_before offer (Asked (step.RemoveGlobal target) answer) g by some =
-      inl (some_left (λ o. None) refl (same_global target g) (global_of offer.globals g) (subst IsSome (freed_changes offer.globals target g) some))
+  named_before offer (Asked (step.DisableGlobal target) answer) g by some = grind (arith, some_none, option_map, as_disabled, same_global, global_of, disabled_changes)
+  named_before offer (Asked (step.RemoveGlobal target) answer) g by some = grind (arith, some_none, same_global, global_of, freed_changes)
   named_before offer _ g by some = inl some
 
   -- ---- a run of the shared calls
@@ -206,8 +159,7 @@ module _ {T U G C : Type 0} where
       → last < new.serial
   clients_above offer offer' last last' [] shared new some = absurd some
   clients_above offer offer' last last' (e ∷ run) (by, next, rest) new (inl is) = (let number = (next new is).1 in omega (arith, number))
-  clients_above offer offer' last last' (e ∷ run) (by, next, rest) new (inr later) =
-      (let more = clients_above (offer_after offer e.call) offer' (last + inserted_by e.call) last' run rest new later in omega (arith, more))
+  clients_above offer offer' last last' (e ∷ run) (by, next, rest) new (inr later) = grind (arith, offer_after, inserted_by, clients_above (offer_after offer e.call) offer' (last + inserted_by e.call) last' run rest new later)
 
   clients_rise : (offer offer' : Offer G) (last last' : ℕ) (run : List (Entry T U G C)) → SharedAlone offer last run offer' last' → ClientsRise run
   clients_rise offer offer' last last' [] shared = tt
@@ -232,17 +184,13 @@ module _ {T U G C : Type 0} where
       let one = one_more e.call id is in
       let more = last_over (offer_after offer e.call) offer' (last + inserted_by e.call) last' run rest in
       omega (arith, number, one, more))
-  client_given offer offer' last last' (e ∷ run) (by, next, rest) id (inr later) =
-      client_given (offer_after offer e.call) offer' (last + inserted_by e.call) last' run rest id later
+  client_given offer offer' last last' (e ∷ run) (by, next, rest) id (inr later) = grind (arith, offer_after, inserted_by, client_given (offer_after offer e.call) offer' (last + inserted_by e.call) last' run rest id later)
 
   globals_above : (offer offer' : Offer G) (last last' : ℕ) (run : List (Entry T U G C)) → SharedAlone offer last run offer' last' → (new : GlobalParts) → SomeCall (Offers new) run
       → offer.globals.last_serial < new.serial
   globals_above offer offer' last last' [] shared new some = absurd some
   globals_above offer offer' last last' (e ∷ run) (by, next, rest) new (inl is) = (let number = (offered_next offer e.call new by is).2 in omega (arith, number))
-  globals_above offer offer' last last' (e ∷ run) (by, next, rest) new (inr later) =
-      (let grown = last_grows offer e.call by in
-      let more = globals_above (offer_after offer e.call) offer' (last + inserted_by e.call) last' run rest new later in
-      omega (arith, grown, more))
+  globals_above offer offer' last last' (e ∷ run) (by, next, rest) new (inr later) = grind (arith, last_grows, offer_after, inserted_by, globals_above (offer_after offer e.call) offer' (last + inserted_by e.call) last' run rest new later)
 
   globals_rise : (offer offer' : Offer G) (last last' : ℕ) (run : List (Entry T U G C)) → SharedAlone offer last run offer' last' → GlobalsRise run
   globals_rise offer offer' last last' [] shared = tt
@@ -250,25 +198,19 @@ module _ {T U G C : Type 0} where
 
   globals_grow : (offer offer' : Offer G) (last last' : ℕ) (run : List (Entry T U G C)) → SharedAlone offer last run offer' last' → offer.globals.last_serial ≤ offer'.globals.last_serial
   globals_grow offer offer' last last' [] (same, is) = (let e = ap (λ (o : Offer G). o.globals.last_serial) same in omega (arith, e))
-  globals_grow offer offer' last last' (e ∷ run) (by, next, rest) =
-      (let grown = last_grows offer e.call by in
-      let more = globals_grow (offer_after offer e.call) offer' (last + inserted_by e.call) last' run rest in
-      omega (arith, grown, more))
+  globals_grow offer offer' last last' (e ∷ run) (by, next, rest) = grind (arith, last_grows, offer_after, inserted_by, globals_grow (offer_after offer e.call) offer' (last + inserted_by e.call) last' run rest)
 
   global_given : (offer offer' : Offer G) (last last' : ℕ) (run : List (Entry T U G C)) → SharedAlone offer last run offer' last' → (g : GlobalParts) → SomeCall (Offers g) run
       → g.serial ≤ offer'.globals.last_serial
   global_given offer offer' last last' [] shared g some = absurd some
   global_given offer offer' last last' (e ∷ run) (by, next, rest) g (inl is) = grind (arith, offered_last, globals_grow, offer_after, inserted_by)
-  global_given offer offer' last last' (e ∷ run) (by, next, rest) g (inr later) =
-      global_given (offer_after offer e.call) offer' (last + inserted_by e.call) last' run rest g later
+  global_given offer offer' last last' (e ∷ run) (by, next, rest) g (inr later) = grind (arith, offer_after, inserted_by, global_given (offer_after offer e.call) offer' (last + inserted_by e.call) last' run rest g later)
 
   -- what the id of a global that was given before names after a run
   named_over : (offer offer' : Offer G) (last last' : ℕ) (run : List (Entry T U G C)) → SharedAlone offer last run offer' last' → (g : GlobalParts) → g.serial ≤ offer.globals.last_serial
       → global_of offer'.globals g ≡ global_over g run (global_of offer.globals g)
   named_over offer offer' last last' [] (same, is) g given = ap (λ (o : Offer G). global_of o.globals g) same
-  named_over offer offer' last last' (e ∷ run) (by, next, rest) g given =
-      named_over (offer_after offer e.call) offer' (last + inserted_by e.call) last' run rest g (let grown = last_grows offer e.call by in omega (arith, given, grown))
-      ∙ ap (global_over g run) (named_by offer e.call g by given)
+  named_over offer offer' last last' (e ∷ run) (by, next, rest) g given = grind (arith, offer_after, inserted_by, last_grows, global_over, named_by, named_over (offer_after offer e.call) offer' (last + inserted_by e.call) last' run rest g)
 
   made_over : (offer offer' : Offer G) (last last' : ℕ) (run : List (Entry T U G C)) → SharedAlone offer last run offer' last' → (g : GlobalParts) → IsSome (global_of offer'.globals g)
       → IsSome (global_of offer.globals g) ⊎ SomeCall (Offers g) run
@@ -301,8 +243,7 @@ module _ {T U G C : Type 0} where
       go (Some k) one = at (same_client k id) refl
         where
           at : (b : Bool) → same_client k id ≡ b → Inserts id call ⊎ IsNotInserted id call
-          at true same = inl (inserts_in call id (one ∙ ap Some (same_clients k id same)))
-          at false other = inr (λ new (transport, client_data, is). ap (λ (x : ClientParts). same_client x id) (same_Some new k (sym (ap inserted_in is) ∙ one)) ∙ other)
+          at h1 same = grind (arith, inserts_in, eqb, client_is, eqb-true, true≢false, same_client, same_Some, inserted_in)
 
   client_made_over : (w : World T G C) (before after : ServerState T U G C) (run : List (Entry T U G C)) (id : ClientParts) → Leads w before run after → IsSome (seen id after).part
       → IsSome (seen id before).part ⊎ SomeCall (Inserts id) run

@@ -81,46 +81,31 @@ module _ {T U G C : Type 0} (w : World T G C) (id : ClientParts) where
       first.are,
       all_among (IsHandedIn id first.changes) (ids_in e.call) (λ i among. first.handed i (covers w id offer e.call s e.lacked e.did mid own by i among)),
       first.left,
-      (λ h there. made_now h
-          (first.new h (among_contains (notes_in e.did ++ waiting_of mid.part) h there))),
+      grind (arith, made_now, among_contains, notes_in, waiting_of),
       rest.follows,
     );
     ends = (first.after, first.ends, rest.ends);
     are = rest.are;
     empty = rest.empty;
-    left = left_both e.did (history run) ∙ ap (λ (l : List Id). l ++ left_in (history run)) first.left
-        ∙ ap (λ (l : List Id). ended_in serial_of has_data first.changes ++ l) rest.left;
-    noted = λ h among. (
-        elim (in_three (taken_in e.did) (taken_in (history run)) (t.made ++ waiting_of t.part) h
-        (subst (λ (l : List (Happening U)). IsAmong l h)
-        (ap (λ (l : List (Happening U)). l ++ (t.made ++ waiting_of t.part)) (taken_both e.did (history run))
-        ∙ append_assoc (taken_in e.did) (taken_in (history run)) (t.made ++ waiting_of t.part)) among)) [
-          | inl now ↦ sooner first.changes rest.changes h (first.noted h (among_first (taken_in e.did) (mid.made ++ waiting_of mid.part) h now))
-          | inr (inl later) ↦ behind h (rest.noted h (among_first (taken_in (history run)) (t.made ++ waiting_of t.part) h later))
-          | inr (inr left) ↦ behind h (rest.noted h (among_later (taken_in (history run)) (t.made ++ waiting_of t.part) h left))
-        ]
-        );
+    left = grind (arith, left_both, history, left_in, ended_in, serial_of, has_data);
+    noted = grind (arith, in_three, taken_in, history, waiting_of, taken_both, append_assoc, sooner, among_first, behind, among_later);
   }
     where
       made_now : (h : Happening U) → IsAmong (waiting_of s.part) h ⊎ IsNotedIn id first.changes h → Contains (waiting_of s.part) h ⊎ IsNotedIn id first.changes h
-      made_now h (inl old) = inl (contains_among (waiting_of s.part) h old)
-      made_now h (inr new) = inr new
+      made_now h h2 = grind (arith, contains_among, waiting_of)
 
       sooner : (changes : List (Change (Kept U))) (others : List (List (Change (Kept U)))) (h : Happening U) → IsAmong (s.made ++ waiting_of s.part) h ⊎ IsNotedIn id changes h
           → IsAmong (s.made ++ waiting_of s.part) h ⊎ IsNotedOver id (changes ∷ others) h
-      sooner changes others h (inl old) = inl old
-      sooner changes others h (inr new) = inr (inl new)
+      sooner changes others h h4 = grind (arith)
 
       behind : (h : Happening U) → IsAmong (mid.made ++ waiting_of mid.part) h ⊎ IsNotedOver id rest.changes h
           → IsAmong (s.made ++ waiting_of s.part) h ⊎ IsNotedOver id (first.changes ∷ rest.changes) h
-      behind h (inl old) = sooner first.changes rest.changes h (first.noted h (among_later (taken_in e.did) (mid.made ++ waiting_of mid.part) h old))
-      behind h (inr new) = inr (inr new)
+      behind h h2 = grind (arith, sooner, among_later, taken_in, waiting_of)
 
   pub one_change : (offer : Offer G) (s : Seen T U C) (o : Objects (Kept U)) (e : Own T U G C) (mid : Seen T U C) → concerns id e.call ≡ true → AreObjectsOf s o
       → held o.store 0 ≡ None → PartCall w id offer e.call s e.lacked e.did mid
       → CallChanging w.sends w.receives id s o (doings_of (handed_by id e.call e.did) e.did) mid
-  one_change offer s o e mid own are empty by =
-      goes_change w.sends w.receives id s mid o (doings_of (handed_by id e.call e.did) e.did) are empty (call_goes true w id offer e.call s e.lacked e.did mid own by (λ cleans. refl))
+  one_change offer s o e mid own are empty by = grind (arith, goes_change, doings_of, handed_by, call_goes)
 
   pub run_change : (offer : Offer G) (s : Seen T U C) (o : Objects (Kept U)) (run : List (Own T U G C)) (t : Seen T U C) → AreMine id run → AreObjectsOf s o
       → held o.store 0 ≡ None → Alone w id offer s run t → RunChanging offer s o run t

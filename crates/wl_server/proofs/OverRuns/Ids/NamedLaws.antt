@@ -1,5 +1,5 @@
 -- What holds of any id that names an object at some point of a run.
-use Rattle.std.proofs.Common.{◌≡◌, ℕ, ◌≤◌, Bool, true, false, List, [], ◌∷◌, ◌++◌, Option, Some, Ok, refl, sym, ap, subst, ◌∙◌, arith}
+use Rattle.std.proofs.Common.{◌≡◌, ℕ, ◌≤◌, Bool, List, [], ◌∷◌, ◌++◌, Option, Some, Ok, refl, ap, subst, ◌∙◌, arith}
 use Rattle.std.specs.Prelude.{if◌then◌else◌}
 use Rattle.wl_wire.specs.Table.{InterfaceRow}
 use Rattle.wl_link.specs.Identity.{OwnsExactly}
@@ -81,20 +81,17 @@ module _ {T U G C : Type 0} (w : World T G C) (id : ClientParts) where
 module _ {T U G C : Type 0} where
   later_last : (w : World T G C) (before after : ServerState T U G C) (run : List (Entry T U G C)) → Leads w before run after → before.last_client ≤ after.last_client
   later_last w before after [] same = (let last = ap (λ (s : ServerState T U G C). s.last_client) same in omega (arith, last))
-  later_last w before after (e ∷ run) (mid, by, leads) =
-      (let grown = by.last in let more = later_last w mid after run leads in omega (arith, grown, more))
+  later_last w before after (e ∷ run) (mid, by, leads) = grind (arith, later_last w mid after run leads)
 
   through_more : (w : World T G C) (id : ClientParts) (e : Entry T U G C) (run : List (Entry T U G C)) (offer : Offer G) (b : Bool) → concerns id e.call ≡ b
       → offer_over (offer_after offer e.call) run ≡ offer_through (offer_after offer e.call) (mine id run) → offer_over offer run ≡ offer_through offer (mine id run)
       → offer_over (offer_after offer e.call) run ≡ offer_through offer (if b then (own_of id e ∷ mine id run) else mine id run)
-  through_more w id e run offer true is about other = about
-  through_more w id e run offer false is about other = ap (λ (o : Offer G). offer_over o run) (offer_of_other id offer e.call is) ∙ other
+  through_more w id e run offer h6 is about other = grind (arith, offer_over, offer_of_other)
 
   -- the offer after a run is that after the calls of it that concern a client
   through : (w : World T G C) (id : ClientParts) (run : List (Entry T U G C)) (offer : Offer G) → offer_over offer run ≡ offer_through offer (mine id run)
   through w id [] offer = refl
-  through w id (e ∷ run) offer =
-      through_more w id e run offer (concerns id e.call) refl (through w id run (offer_after offer e.call)) (through w id run offer)
+  through w id (e ∷ run) offer = grind (arith, through_more, concerns, offer_after, through w id run (offer_after offer e.call), through w id run offer)
 
   -- a client that was inserted is known from then on, and its own run leads on from each later point
   record IsInserted (w : World T G C) (id : ClientParts) (offer : Offer G) (transport : T) (limit : Option ℕ) (client_data : C) (between : List (Entry T U G C)) (point : ServerState T U G C) : Type 0 where
@@ -121,8 +118,7 @@ module _ {T U G C : Type 0} where
         fresh = fresh;
         alone = alone;
         given = omega (arith, number, grown, one, more);
-        offered = offer_run w next point between rest ∙ ap (λ (o : Offer G). offer_over o between) (by.offer ∙ ap (λ (o : Offer G). offer_after o e.call) (offer_run w (new_server table) mid earlier first)
-            ∙ sym (offer_over_one (new_offer table) earlier e))
+        offered = offer_run w next point between rest ∙ ap (λ (o : Offer G). offer_over o between) (grind (arith, offer_after, offer_run, new_server, offer_over_one, new_offer))
             ∙ through w id between (offer_over (new_offer table) (earlier ++ e ∷ []));
       }
 
@@ -132,9 +128,7 @@ module _ {T U G C : Type 0} where
       let is = inserted w table done point leads id transport client_data earlier between e split inserts in (
         is.link,
         is.fresh,
-        own_named w id (offer_over (new_offer table) (earlier ++ e ∷ [])) is.link client_data (mine id between) (seen id point) (mine id later) (seen id after)
-            (are_mine id between) (are_mine id later) is.alone
-            (subst (λ (o : Offer G). Alone w id o (seen id point) (mine id later) (seen id after)) is.offered (alone_run w id point after later is.given others)),
+        grind (arith, own_named, offer_over, new_offer, mine, seen, are_mine, alone_run),
       )
 
   pub each_names_none_again : (w : World T G C) (table : List InterfaceRow) (done between later : List (Entry T U G C)) (point mid after : ServerState T U G C)
@@ -149,6 +143,4 @@ module _ {T U G C : Type 0} where
       none_again w id (offer_over (new_offer table) (earlier ++ e ∷ [])) is.link client_data (mine id since) (seen id point) (mine id between) (seen id mid) (mine id later) (seen id after)
       (are_mine id since) (are_mine id between) (are_mine id later) is.alone
       (subst (λ (o : Offer G). Alone w id o (seen id point) (mine id between) (seen id mid)) is.offered (alone_run w id point mid between given onward))
-      (subst (λ (o : Offer G). Alone w id o (seen id mid) (mine id later) (seen id after))
-      (offered ∙ ap (λ (o : Offer G). offer_through o (mine id between)) is.offered)
-      (alone_run w id mid after later (omega (arith, given, last)) others))
+      (grind (arith, seen, mine, offer_through, alone_run))

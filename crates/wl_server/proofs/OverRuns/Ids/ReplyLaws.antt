@@ -1,8 +1,6 @@
 -- That the ids of a reply are those that its call hands out.
-use Rattle.std.proofs.Common.{◌≡◌, Bool, true, false, List, [], ◌∷◌, ◌++◌, Option, Result, Ok, sym, ap, subst, true≢false, arith}
-use mathlib.Core.Logic.{inl, inr}
+use Rattle.std.proofs.Common.{◌≡◌, Bool, true, List, [], ◌∷◌, Result, Ok, sym, ap, true≢false, arith}
 use Rattle.std.specs.Prelude.{is_ok}
-use Rattle.wl_wire.specs.declared.error.IoFault.{IoFault}
 use Rattle.wl_link.proofs.Calls.Branches.{either_bool, either_option}
 use Rattle.wl_link.specs.Reader.{Given, HandedOut, Queued}
 use Rattle.wl_server.specs.declared.reading.action.Reading.{Reading}
@@ -11,15 +9,15 @@ use Rattle.wl_server.specs.declared.runs.step.Reply.{Reply}
 use Rattle.wl_server.specs.declared.runs.step.Step.{Step}
 use Rattle.wl_server.specs.HandedIds.{action_ids}
 use Rattle.wl_server.specs.Deeds.{IsAmong, Acted, Came, Deed, Handed, Left, Noted, NoteTaken, Put, Remembered, Sent}
-use Rattle.wl_server.proofs.OverRuns.Moves.BaseMoves.{Doings, acted_in, all_action_ids, handed_by}
+use Rattle.wl_server.proofs.OverRuns.Moves.BaseMoves.{acted_in, all_action_ids, handed_by}
 use Rattle.wl_server.proofs.OverRuns.Moves.DoingsLaws.{deeds_done}
 use Rattle.wl_server.specs.Globals.{Offer}
 use Rattle.wl_server.specs.Identified.{answer_ids, ids_in}
-use Rattle.wl_server.specs.Ids.{ClientParts, same_client, IdParts}
+use Rattle.wl_server.specs.Ids.{ClientParts, IdParts}
 use Rattle.wl_server.proofs.OverRuns.Ids.AmongLaws.{among_first, among_later}
 use Rattle.wl_server.specs.Part.{Part}
-use Rattle.wl_server.specs.PartStep.{Asked, Call, OfClient, OnPart, PartCall, PartStep, ReadsFor, World, around}
-use Rattle.wl_server.specs.Reading.{NextAction, action_content, action_in, answered, exchanges_in, new_reading}
+use Rattle.wl_server.specs.PartStep.{Asked, Call, OfClient, OnPart, PartCall, PartStep, World, around}
+use Rattle.wl_server.specs.Reading.{NextAction, action_content, action_in, exchanges_in, new_reading}
 use Rattle.wl_server.specs.Telling.{Core, Did, Stops, Told, deeds_in, deeds_of}
 use Rattle.wl_server.specs.Runs.{concerns, is_about}
 use Rattle.wl_server.specs.Server.{Seen}
@@ -32,11 +30,7 @@ module _ {U : Type 0} where
   given_ids [] h is i among = absurd (true≢false (sym (ap is_ok is)))
   given_ids (Queued m ∷ gave) h is i among = given_ids gave h is i among
   given_ids (HandedOut (Stops f) ∷ gave) h is i among = absurd (true≢false (sym (ap is_ok is)))
-  given_ids (HandedOut (Did (Acted other)) ∷ gave) h is i among =
-      among_first (action_ids other) (all_action_ids (acted_in (deeds_in gave))) i (subst (λ (x : Handed). IsAmong (action_ids x) i) (sym (same_handed is)) among)
-    where
-      same_handed : ◌≡◌ {A = Result Handed ActionError} (Ok other) (Ok h) → other ≡ h
-      same_handed is = grind (arith)
+  given_ids (HandedOut (Did (Acted other)) ∷ gave) h is i among = grind (arith, among_first, action_ids, all_action_ids, acted_in, deeds_in)
   given_ids (HandedOut (Did (Sent e)) ∷ gave) h is i among = given_ids gave h is i among
   given_ids (HandedOut (Did (Came r)) ∷ gave) h is i among = given_ids gave h is i among
   given_ids (HandedOut (Did (Put m)) ∷ gave) h is i among = given_ids gave h is i among
@@ -45,45 +39,22 @@ module _ {U : Type 0} where
   given_ids (HandedOut (Did (Noted n)) ∷ gave) h is i among = given_ids gave h is i among
   given_ids (HandedOut (Did (NoteTaken n)) ∷ gave) h is i among = given_ids gave h is i among
 
-  answered_ids : (stopped : Option IoFault) (gave : List (Given (Told U))) (answer : Result Handed ActionError) → answer ≡ answered stopped gave → (i : HandedId IdParts)
-      → IsAmong (answer_ids answer) i → IsAmong (all_action_ids (acted_in (deeds_in gave))) i
-  answered_ids stopped gave answer h1 i h2 = grind (arith, given_ids, true≢false, is_ok)
-
   module _ {C : Type 0} where
     -- and so among all deeds
     deeds_ids : (exchanges : List (Deed U)) (gave : List (Given (Told U))) (c : Core U C) (i : HandedId IdParts) → IsAmong (all_action_ids (acted_in (deeds_in gave))) i
         → IsAmong (all_action_ids (acted_in (deeds_of exchanges gave c))) i
-    deeds_ids exchanges gave c i among =
-        subst (λ (ids : List (HandedId IdParts)). IsAmong ids i) (sym (ap (λ (d : Doings U). d.handed) (deeds_done exchanges gave c)))
-        (among_later (all_action_ids (acted_in exchanges)) (all_action_ids (acted_in (deeds_in gave)) ++ []) i
-        (among_first (all_action_ids (acted_in (deeds_in gave))) [] i among))
+    deeds_ids exchanges gave c i among = grind (arith, deeds_done, among_later, all_action_ids, acted_in, deeds_in, among_first)
 
 -- a step that is about a client is one of its part
 pub own_step : {T U C : Type 0} (b : Bool) (s : Seen T U C) (R : Part T U C → Part T U C → Type 0) (missing : Type 0) (lacked : Bool) (did : List (Deed U)) (t : Seen T U C)
     → b ≡ true → OfClient b s R missing lacked did t → OnPart s R missing lacked did t
-own_step true s R missing lacked did t is h = h
-own_step false s R missing lacked did t is h = absurd (true≢false (sym is))
+own_step h1 s h3 missing lacked did t is h = grind (arith, true≢false)
 
 module _ {T U G C : Type 0} (w : World T G C) (id : ClientParts) (offer : Offer G) where
   read_ids : (r : Reading) (p : Part T U C) (answer : Result Handed ActionError) (r' : Reading) (lacked : Bool) (did : List (Deed U)) (q : Part T U C)
       → NextAction w.sends w.receives (around w id offer) r p answer r' lacked did q → (i : HandedId IdParts) → IsAmong (answer_ids answer) i
       → IsAmong (all_action_ids (acted_in did)) i
-  read_ids r p answer r' lacked did q h i among =
-      elim (either_option p.action h) [
-        | inr (action, is_open, (is, same, no_memory, none, stays)) ↦ absurd (subst (λ (a : Result Handed ActionError). IsAmong (answer_ids a) i) is among)
-        | inl (not_open, g) ↦
-            elim (either_bool p.is_killed g) [
-              | inl (is, same, no_memory, none, stays) ↦ absurd (subst (λ (a : Result Handed ActionError). IsAmong (answer_ids a) i) is among)
-              | inr (turns, out, end, reads, is, left, no_memory, did_so, after) ↦
-                  subst (λ (ds : List (Deed U)). IsAmong (all_action_ids (acted_in ds)) i) (sym did_so)
-                  (deeds_ids (exchanges_in turns) out.gave end.core i (answered_ids out.stopped out.gave answer is i among))
-            ]
-      ]
-
-  reads_ids : (target : ClientParts) (r : Reading) (answer : Result Handed ActionError) (r' : Reading) (s : Seen T U C) (lacked : Bool) (did : List (Deed U)) (t : Seen T U C)
-      → same_client target id ≡ true → ReadsFor w id offer target r answer r' s lacked did t → (i : HandedId IdParts) → IsAmong (answer_ids answer) i
-      → IsAmong (all_action_ids (acted_in did)) i
-  reads_ids target r answer r' s lacked did t about h i among = grind (arith, either_option, own_step, around, read_ids)
+  read_ids r p answer r' lacked did q h i among = grind (arith, either_option, answer_ids, either_bool, all_action_ids, acted_in, deeds_ids, exchanges_in, given_ids, true≢false, is_ok)
 
   abbrev pub Covers : Call T U G C → List (Deed U) → Type 0
   Covers call did = (i : HandedId IdParts) → IsAmong (ids_in call) i → IsAmong (handed_by id call did) i
@@ -91,7 +62,7 @@ module _ {T U G C : Type 0} (w : World T G C) (id : ClientParts) (offer : Offer 
   -- the ids of a reply are those that the call hands out
   covers_step : (call : Step T U G C) (answer : Reply T U) (s : Seen T U C) (lacked : Bool) (did : List (Deed U)) (t : Seen T U C) → is_about id call ≡ true
       → PartStep w id offer call answer s lacked did t → Covers (Asked call answer) did
-  covers_step call answer s lacked did t h1 h2 = grind (arith, reads_ids, new_reading, action_content)
+  covers_step call answer s lacked did t h1 h2 = grind (arith, either_option, own_step, around, read_ids, new_reading, action_content)
 
   pub covers : (call : Call T U G C) (s : Seen T U C) (lacked : Bool) (did : List (Deed U)) (t : Seen T U C) → concerns id call ≡ true
       → PartCall w id offer call s lacked did t → Covers call did

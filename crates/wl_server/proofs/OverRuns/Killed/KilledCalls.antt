@@ -22,13 +22,13 @@ use Rattle.wl_server.specs.Globals.{Offer}
 use Rattle.wl_server.specs.Ids.{ClientParts, same_client}
 use Rattle.wl_server.specs.Killed.{ReadingAnswers, TakesOut}
 use Rattle.wl_server.specs.Part.{Part}
-use Rattle.wl_server.specs.PartStep.{Asked, Call, Changed, CleanedAs, Grown, PartCall, ReadsFor, Unfelt, World, around, share_of}
+use Rattle.wl_server.specs.PartStep.{Asked, Call, CleanedAs, PartCall, ReadsFor, Unfelt, World, around, share_of}
 use Rattle.wl_server.specs.Reading.{NextAction, action_content, new_reading}
 use Rattle.wl_server.specs.Runs.{IsNotInserted, concerns}
 use Rattle.wl_server.specs.Server.{Seen}
 use Rattle.wl_server.proofs.Dispatches.Receiving.{call_quiet}
 use Rattle.wl_server.proofs.OverRuns.Alone.IsolationLaw.{other_call}
-use Rattle.wl_server.proofs.OverRuns.Moves.BaseMoves.{Doings, Goes, any, notes_taken, taken_out, unfelt, within}
+use Rattle.wl_server.proofs.OverRuns.Moves.BaseMoves.{Doings, Goes, notes_taken, taken_out, unfelt, within}
 use Rattle.wl_server.proofs.OverRuns.Moves.BaseMovesLaw.{call_goes, call_moves}
 use Rattle.wl_server.proofs.OverRuns.Killed.KilledParts.{Remains, fading, moves_remain, remains, when_killed}
 
@@ -52,10 +52,6 @@ module _ {T U : Type 0} (id target : ClientParts) (e : ActionError) (r : Result 
   says_next : answer ≡ reply.NextAction r → (same_client target id ≡ true → action_content r ≡ Err e) → same_client target id ≡ true → answer ≡ reply.NextAction (Err e)
   says_next is says mine = is ∙ ap reply.NextAction (content_is r e (says mine))
 
-  says_within : (reading left : Reading) → answer ≡ reply.NextActionWithin r left → (same_client target id ≡ true → (action_content r ≡ Err e) × (left ≡ reading))
-      → same_client target id ≡ true → answer ≡ reply.NextActionWithin (Err e) reading
-  says_within reading left is says mine = grind (arith, content_is)
-
 -- ---- a killed client
 
 module _ {T U G C : Type 0} (w : World T G C) (id : ClientParts) (offer : Offer G) (before : Seen T U C) (p : Part T U C) (there : before.part ≡ Some p) (killed : p.is_killed ≡ true)
@@ -64,25 +60,17 @@ module _ {T U G C : Type 0} (w : World T G C) (id : ClientParts) (offer : Offer 
   found_part : (p' : Part T U C) → before.part ≡ Some p' → p' ≡ p
   found_part p' there' = same_Some p' p (sym there' ∙ there)
 
-  dead_unread : (r r' : Reading) (answer : Result Handed ActionError) (q : Part T U C) → NextAction w.sends w.receives (around w id offer) r p answer r' lacked did q
-      → Unread (refusal_with p.action) r r' answer did
-  dead_unread r r' answer q h = grind (arith, either_option, when_killed)
-
   dead_reads : (target : ClientParts) (r r' : Reading) (answer : Result Handed ActionError) → ReadsFor w id offer target r answer r' before lacked did after
       → (did ≡ []) × (same_client target id ≡ true → (answer ≡ Err (refusal_with p.action)) × (r' ≡ r))
-  dead_reads target r r' answer h = grind (arith, around, either_option, dead_unread, found_part, true≢false)
+  dead_reads target r r' answer h = grind (arith, around, either_option, when_killed, found_part, true≢false)
 
   -- what a reading of it answers
   pub dead_says : (call : Call T U G C) → PartCall w id offer call before lacked did after → ReadingAnswers id (refusal_with p.action) call
-  dead_says call h1 = grind (arith, says_next, dead_reads, says_within)
+  dead_says call h1 = grind (arith, says_next, dead_reads, content_is)
 
   -- nothing is received from it
   pub dead_silent : (call : Call T U G C) → PartCall w id offer call before lacked did after → came_in did ≡ []
-  dead_silent (Asked (step.NextAction target) answer) (r, left, is, h) = ap came_in (dead_reads target new_reading left (action_content r) h).0
-  dead_silent (Asked (step.NextActionWithin target reading) answer) (r, left, is, h) = ap came_in (dead_reads target reading left (action_content r) h).0
-  dead_silent (Asked call answer) h = call_quiet w id offer before after lacked did (Asked call answer) refl h
-  dead_silent (Changed target t) h = call_quiet w id offer before after lacked did (Changed target t) refl h
-  dead_silent (Grown rows answer) h = call_quiet w id offer before after lacked did (Grown rows answer) refl h
+  dead_silent h1 h = grind (arith, came_in, dead_reads, new_reading, action_content, call_quiet)
 
   -- ---- what becomes of it
 
@@ -160,23 +148,12 @@ module _ {T U G C : Type 0} (w : World T G C) (id : ClientParts) (offer : Offer 
 
   -- what a reading of it answers
   pub out_says : (call : Call T U G C) → PartCall w id offer call before lacked did after → ReadingAnswers id (Io fault.InvalidInput) call
-  out_says call h1 = grind (arith, says_next, out_reads, says_within)
+  out_says call h1 = grind (arith, says_next, out_reads, content_is)
 
   -- nothing is received from it
   pub out_silent : (call : Call T U G C) → PartCall w id offer call before lacked did after → came_in did ≡ []
-  out_silent (Asked (step.NextAction target) answer) (r, left, is, h) = ap came_in (out_reads target new_reading left (action_content r) h).0
-  out_silent (Asked (step.NextActionWithin target reading) answer) (r, left, is, h) = ap came_in (out_reads target reading left (action_content r) h).0
-  out_silent (Asked call answer) h = call_quiet w id offer before after lacked did (Asked call answer) refl h
-  out_silent (Changed target t) h = call_quiet w id offer before after lacked did (Changed target t) refl h
-  out_silent (Grown rows answer) h = call_quiet w id offer before after lacked did (Grown rows answer) refl h
-
-  goes_out : (d : _) → Goes (any true) w.sends w.receives id before d after → after.part ≡ None
-  goes_out d h1 = grind (arith, unfelt, within, taken_out, notes_taken)
+  out_silent h1 h = grind (arith, came_in, out_reads, new_reading, action_content, call_quiet)
 
   -- it is not stored again, if it is not inserted again
   pub out_stays : (call : Call T U G C) → IsNotInserted id call → PartCall w id offer call before lacked did after → after.part ≡ None
-  out_stays call other h = go (concerns id call) refl
-    where
-      go : (b : Bool) → concerns id call ≡ b → after.part ≡ None
-      go true about = goes_out _ (call_goes true w id offer call before lacked did after about h (λ cleans. refl))
-      go false far = ap (λ (s : Seen T U C). s.part) (other_call w id offer call before lacked did after other far h).2 ∙ gone
+  out_stays call other h = grind (arith, concerns, unfelt, within, taken_out, notes_taken, call_goes, other_call)

@@ -29,8 +29,7 @@ module _ {T U G C : Type 0} (w : World T G C) (id : ClientParts) where
   -- it is not stored again, if the call does not insert it
   pub out_next : (before mid : ServerState T U G C) (e : Entry T U G C) → (seen id before).part ≡ None → IsNotInserted id e.call → OneStep w before e mid
       → (seen id mid).part ≡ None
-  out_next before mid e none other by =
-      out_stays w id before.offer (seen id before) none (e.lacks id) (e.did id) (seen id mid) e.call other (by.each id)
+  out_next before mid e none other by = grind (arith, out_stays, seen)
 
   pub out_run : (before after : ServerState T U G C) (run : List (Entry T U G C)) → id.serial ≤ before.last_client → (seen id before).part ≡ None → Leads w before run after
       → OutOver run (seen id after)
@@ -40,11 +39,7 @@ module _ {T U G C : Type 0} (w : World T G C) (id : ClientParts) where
       let rest = out_run mid after run (let grown = by.last in omega (arith, born, grown))
       (out_next before mid e none other by) leads in
       let silent : receives_in (e.did id) ≡ 0 = ap length (out_silent w id before.offer (seen id before) none (e.lacks id) (e.did id) (seen id mid) e.call (by.each id)) in
-      record {
-        says = (out_says w id before.offer (seen id before) none (e.lacks id) (e.did id) (seen id mid) e.call (by.each id), rest.says);
-        none = rest.none;
-        receives = (let more = rest.receives in omega (arith, silent, more));
-      }
+      grind (arith, out_says, seen)
 
   -- ---- a killed client
 
@@ -119,8 +114,7 @@ module _ {T U G C : Type 0} (w : World T G C) (id : ClientParts) where
 
   dead_run : (before after : ServerState T U G C) (run : List (Entry T U G C)) → id.serial ≤ before.last_client → (p : Part T U C) → (seen id before).part ≡ Some p
       → p.is_killed ≡ true → Leads w before run after → DeadOver p.action run (seen id after)
-  dead_run before after [] born p there killed same =
-      dead_end p.action (seen id after) (is_killed (seen id after) p (ap (λ (s : ServerState T U G C). (seen id s).part) same ∙ there) killed)
+  dead_run before after [] born p there killed same = grind (arith, dead_end, seen, is_killed)
   dead_run before after (e ∷ run) born p there killed (mid, by, leads) =
       go (dead_or_out w id before.offer (seen id before) p there killed (e.lacks id) (e.did id) (seen id mid) e.call (not_again w id before mid e born by) (by.each id))
       (λ none. out_run mid after run still none leads)
@@ -153,15 +147,5 @@ module _ {T U G C : Type 0} where
         | inl (none, nothing) ↦ absurd nothing
         | inr (p, there, dead) ↦
             let over = dead_run w id point after later (known_before w table done point first id p there) p there dead others in
-            record {
-              with_action = over.with_action;
-              without_action = over.without_action;
-              from_cleanup = over.from_cleanup;
-              split = over.split;
-              opened = λ none. over.opened (has_none w id (seen id point) p there none);
-              says_open = over.says_open;
-              says_killed = over.says_killed;
-              ends = over.ends;
-              receives = over.receives;
-            }
+            grind (arith, has_none, seen)
       ]

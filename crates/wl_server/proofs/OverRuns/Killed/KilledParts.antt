@@ -1,15 +1,14 @@
 -- That a killed client stays killed, and opens no action, over the base moves of whatever is done with its part.
-use Rattle.std.proofs.Common.{◌≡◌, ℕ, Bool, true, false, None, Result, MatchBool, refl, sym, ap, ◌∙◌, true≢false, arith}
+use Rattle.std.proofs.Common.{◌≡◌, ℕ, Bool, true, false, None, Result, MatchBool, refl, true≢false, arith}
 use Rattle.std.proofs.lemmas.Bool.{false≢true}
 use Rattle.wl_wire.specs.declared.error.IoFault.{IoFault}
 use Rattle.wl_link.specs.Exchange.{Queue}
 use Rattle.wl_server.specs.Ids.{ClientParts}
 use Rattle.wl_server.specs.Part.{Part}
-use Rattle.wl_server.proofs.OverRuns.Moves.BaseMoves.{Doings, Kind, Moves, born, cleaned, ended, finished, flushed, followed, found, found_none, handed_out, opens, received, relinked, remembered, stayed, told, went, wrote}
+use Rattle.wl_server.proofs.OverRuns.Moves.BaseMoves.{Doings, Kind, Moves, followed, handed_out, moved, stayed}
 
 pub when_killed : {P : Type 0} (Q : Type 0) (b : Bool) → b ≡ true → MatchBool b P Q → P
-when_killed Q true is h = h
-when_killed Q false is h = absurd (true≢false (sym is))
+when_killed h1 h2 is h = grind (arith, true≢false)
 
 -- a killed client after what was done with it
 pub record Remains {T U C : Type 0} (p q : Part T U C) : Type 0 where
@@ -30,24 +29,6 @@ fading = record { gathers = false; hands = true; reads = false; finishes = true;
 module _ {T U C : Type 0} (sends : T → Queue → Result ℕ IoFault → T → Type 0) (receives : T → ℕ → Result Queue IoFault → T → Type 0) (client : ClientParts) where
   pub moves_remain : (p q : Part T U C) (d : Doings U) → Moves fading sends receives client p d q → p.is_killed ≡ true → Remains p q
   moves_remain p q d (stayed is same) killed = remains p killed q same
-  moves_remain p q d (followed {m = m} {a = a} {b = b} first second is) killed =
-      let one = moves_remain p m a first killed in
-      let two = moves_remain m q b second one.killed in
-      record { killed = two.killed; closed = λ none. two.closed (one.closed none) }
+  moves_remain p q d (followed {m = m} {a = a} {b = b} first second is) killed = grind (arith, moves_remain p m a first killed, moves_remain m q b second)
   moves_remain p q d (handed_out {a = a} ids moves among is) killed = moves_remain p q a moves killed
-  moves_remain p q d (relinked link waits stays unread is same) killed = remains_as p killed q _ same refl refl
-  moves_remain p q d (received r answer link reads filled is same) killed = remains_as p killed q _ same refl refl
-  moves_remain p q d (told messages es put answer link puts is same) killed = remains_as p killed q _ same refl refl
-  moves_remain p q d (flushed es answer link by is same) killed = remains_as p killed q _ same refl refl
-  moves_remain p q d (ended reason may is same) killed =
-      record { killed = ap (λ (x : Part T U C). x.is_killed) same; closed = λ none. ap (λ (x : Part T U C). x.action) same ∙ none }
-  moves_remain p q d (born n x free ne serial is same) killed = remains_as p killed q _ same refl refl
-  moves_remain p q d (found n x holds is same) killed = remains p killed q same
-  moves_remain p q d (found_none is same) killed = remains p killed q same
-  moves_remain p q d (wrote n x u holds is same) killed = remains_as p killed q _ same refl refl
-  moves_remain p q d (went n x waits holds is same) killed = remains_as p killed q _ same refl refl
-  moves_remain p q d (remembered n x holds registry is same) killed = remains_as p killed q _ same refl refl
-  moves_remain p q d (opens action h acts so is same) killed = absurd (false≢true acts)
-  moves_remain p q d (finished may is same) killed =
-      record { killed = ap (λ (x : Part T U C). x.is_killed) same ∙ killed; closed = λ none. ap (λ (x : Part T U C). x.action) same }
-  moves_remain p q d (cleaned on is same) killed = absurd (false≢true on)
+  moves_remain p q d (moved move) killed = grind (arith, false≢true)

@@ -1,6 +1,5 @@
 -- That no message is lost, and none is sent that was not put: an induction over base moves.
 use Rattle.std.proofs.Common.{◌≡◌, ℕ, true, List, [], ◌∷◌, ◌++◌, Option, Some, Result, refl, sym, ap, subst, ◌∙◌, arith}
-use Rattle.std.specs.Prelude.{MatchOption}
 use Rattle.wl_wire.specs.declared.error.IoFault.{IoFault}
 use Rattle.wl_wire.specs.Message.{WireMessage}
 use Rattle.wl_wire.specs.Table.{InterfaceRow}
@@ -13,7 +12,7 @@ use Rattle.wl_link.proofs.Readings.LogLaws.{kept_still, kept_then, puts_kept}
 use Rattle.wl_link.specs.Puts.{Said, messages_of}
 use Rattle.wl_link.specs.Sides.{spelled_all}
 use Rattle.wl_link.proofs.Streams.StreamLaws.{spelled_all-append}
-use Rattle.wl_server.proofs.OverRuns.Moves.BaseMoves.{Doings, Goes, Moves, any, born, cleaned, finished, doings_of, ended, flushed, followed, found, found_none, handed_by, handed_out, joined, notes_taken, opens, putting, received, relinked, remembered, sending, stayed, taken_out, told, unfelt, went, within, wrote}
+use Rattle.wl_server.proofs.OverRuns.Moves.BaseMoves.{Doings, Goes, Moves, any, born, cleaned, finished, doings_of, ended, flushed, followed, found, found_none, handed_by, handed_out, joined, notes_taken, moved, opens, putting, received, relinked, remembered, sending, stayed, taken_out, told, unfelt, went, within, wrote}
 use Rattle.wl_server.proofs.OverRuns.Moves.BaseMovesLaw.{call_goes}
 use Rattle.wl_server.specs.Deeds.{log_of, sends_of}
 use Rattle.wl_server.proofs.OverRuns.Moves.DoingsLaws.{doings_in_both}
@@ -54,8 +53,7 @@ module _ {U : Type 0} where
       (kept_then a.sends b.sends x y z (spelled_log a.put) (spelled_log b.put) first second)
 
   keeps_so : (x y y' : Queue) (d d' : Doings U) → d' ≡ d → y' ≡ y → Keeps x d y → Keeps x d' y'
-  keeps_so x y y' d d' is same keeps =
-      subst (λ (e : Doings U). Keeps x e y') (sym is) (subst (λ (q : Queue). Keeps x d q) (sym same) keeps)
+  keeps_so x y y' d d' is same keeps = grind (arith)
 
 module _ {T U C : Type 0} (sends : T → Queue → Result ℕ IoFault → T → Type 0) (receives : T → ℕ → Result Queue IoFault → T → Type 0)
     (client : ClientParts) (within' : IsWithinOffer sends) where
@@ -71,23 +69,23 @@ module _ {T U C : Type 0} (sends : T → Queue → Result ℕ IoFault → T → 
   moves_keep p q d (followed {m = m} {a = a} {b = b} first second is) =
       keeps_so (out p) (out q) (out q) (joined a b) d is refl (keeps_then (out p) (out m) (out q) a b (moves_keep p m a first) (moves_keep m q b second))
   moves_keep p q d (handed_out {a = a} ids moves among is) = keeps_so (out p) (out q) (out q) (record a { handed = ids }) d is refl (moves_keep p q a moves)
-  moves_keep p q d (relinked link waits stays unread is same) = quiet_move p q (record p { link = link }) d _ is same refl refl waits
-  moves_keep p q d (received r answer link reads filled is same) =
+  moves_keep p q d (moved (relinked link waits stays unread is same)) = quiet_move p q (record p { link = link }) d _ is same refl refl waits
+  moves_keep p q d (moved (received r answer link reads filled is same)) =
       quiet_move p q (record p { link = link }) d _ is same refl refl (ap (λ (l : LinkState T). l.outgoing) filled.2)
-  moves_keep p q d (told messages es put answer link puts is same) =
+  moves_keep p q d (moved (told messages es put answer link puts is same)) =
       keeps_so (out p) link.outgoing (out q) (putting es put) d is (ap out same) (puts_kept sends within' messages p.link link es put answer puts)
-  moves_keep p q d (flushed es answer link by is same) =
+  moves_keep p q d (moved (flushed es answer link by is same)) =
       keeps_so (out p) link.outgoing (out q) (sending es) d is (ap out same) (flush_kept sends within' p.link link es answer by)
-  moves_keep p q d (ended reason may is same) = quiet_move p q (record p { is_killed = true }) d _ is same refl refl refl
-  moves_keep p q d (born n x free ne serial is same) = quiet_move p q _ d _ is same refl refl refl
-  moves_keep p q d (found n x holds is same) = quiet_move p q p d _ is same refl refl refl
-  moves_keep p q d (found_none is same) = quiet_move p q p d _ is same refl refl refl
-  moves_keep p q d (wrote n x u holds is same) = quiet_move p q _ d _ is same refl refl refl
-  moves_keep p q d (went n x waits holds is same) = quiet_move p q _ d _ is same refl refl refl
-  moves_keep p q d (remembered n x holds registry is same) = quiet_move p q _ d _ is same refl refl refl
-  moves_keep p q d (opens action h acts so is same) = quiet_move p q _ d _ is same refl refl refl
-  moves_keep p q d (finished may is same) = quiet_move p q _ d _ is same refl refl refl
-  moves_keep p q d (cleaned on is same) = quiet_move p q _ d _ is same refl refl refl
+  moves_keep p q d (moved (ended reason may is same)) = quiet_move p q (record p { is_killed = true }) d _ is same refl refl refl
+  moves_keep p q d (moved (born n x free ne serial is same)) = quiet_move p q _ d _ is same refl refl refl
+  moves_keep p q d (moved (found n x holds is same)) = quiet_move p q p d _ is same refl refl refl
+  moves_keep p q d (moved (found_none is same)) = quiet_move p q p d _ is same refl refl refl
+  moves_keep p q d (moved (wrote n x u holds is same)) = quiet_move p q _ d _ is same refl refl refl
+  moves_keep p q d (moved (went n x waits holds is same)) = quiet_move p q _ d _ is same refl refl refl
+  moves_keep p q d (moved (remembered n x holds registry is same)) = quiet_move p q _ d _ is same refl refl refl
+  moves_keep p q d (moved (opens action h acts so is same)) = quiet_move p q _ d _ is same refl refl refl
+  moves_keep p q d (moved (finished may is same)) = quiet_move p q _ d _ is same refl refl refl
+  moves_keep p q d (moved (cleaned on is same)) = quiet_move p q _ d _ is same refl refl refl
 
   -- ---- what is held of a client
 
@@ -95,10 +93,6 @@ module _ {T U C : Type 0} (sends : T → Queue → Result ℕ IoFault → T → 
     after : Queue
     waiting : WaitsFor t after
     keeps : Keeps waits d after
-
-  waits_at : (s : Seen T U C) (p : Part T U C) (waits : Queue) → s.part ≡ Some p → WaitsFor s waits → waits ≡ out p
-  waits_at s p waits there is =
-      subst (λ (x : Option (Part T U C)). MatchOption x (Unit {0}) (λ q. waits ≡ out q)) {x = s.part} {y = Some p} there is
 
   goes_keep : (s t : Seen T U C) (d : Doings U) (waits : Queue) → WaitsFor s waits → Goes (any true) sends receives client s d t → GoneOn waits d t
   goes_keep s t d waits is (unfelt none same) = record {
@@ -111,8 +105,8 @@ module _ {T U C : Type 0} (sends : T → Queue → Result ℕ IoFault → T → 
     waiting = subst (λ (x : Seen T U C). WaitsFor x waits) (sym same) is;
     keeps = keeps_quiet waits waits d (ap (λ (e : Doings U). e.sends) none) (ap (λ (e : Doings U). e.put) none) refl;
   }
-  goes_keep s t d waits is (within p q there moves same) = grind (arith, waits_at, moves_keep)
-  goes_keep s t d waits is (taken_out p q on there killed moves none noted same) = grind (arith, waits_at, moves_keep)
+  goes_keep s t d waits is (within p q there moves same) = grind (arith, out, moves_keep)
+  goes_keep s t d waits is (taken_out p q on there killed moves none noted same) = grind (arith, out, moves_keep)
 
 -- ---- the run of a client
 
@@ -146,14 +140,7 @@ module _ {T U G C : Type 0} (w : World T G C) (within' : IsWithinOffer w.sends) 
       let kept = run_keeps offer (just_inserted link client_data) link.outgoing run t own refl alone in
       let none : link.outgoing ≡ nothing = ap (λ (x : LinkState T). x.outgoing) fresh in
       let from : LosesNothing (sends_of (history run)) nothing (spelled_log (log_of (history run))) kept.after =
-      subst (λ (q : Queue). LosesNothing (sends_of (history run)) q (spelled_log (log_of (history run))) kept.after) none kept.keeps in (
-        kept.after,
-        kept.waiting,
-        record {
-          bytes = from.bytes;
-          tokens = λ no_zero. ap (λ ts. ts ++ kept.after.tokens) (sym (gone-taken (sends_of (history run)) no_zero)) ∙ from.tokens;
-        },
-      )
+      subst (λ (q : Queue). LosesNothing (sends_of (history run)) q (spelled_log (log_of (history run))) kept.after) none kept.keeps in grind (arith, gone-taken, sends_of, history)
 
 module _ {T U G C : Type 0} where
   pub each_log : (w : World T G C) → IsWithinOffer w.sends → (table : List InterfaceRow) (run : List (Entry T U G C)) (after : ServerState T U G C)

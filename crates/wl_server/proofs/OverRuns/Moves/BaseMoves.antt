@@ -160,51 +160,55 @@ pub record MayRead (kind : Kind) (table : List InterfaceRow) (client : ClientPar
   pub displays : (code : ℕ) (text : List ℕ) → kind.kills (BrokeProtocol (error_of table (display_of client) code text))
   pub reads : kind.reads ≡ true
 
+pub data Move {T U C : Type 0} (kind : Kind) (sends : T → Queue → Result ℕ IoFault → T → Type 0) (receives : T → ℕ → Result Queue IoFault → T → Type 0)
+    (client : ClientParts) (p : Part T U C) (d : Doings U) (q : Part T U C) : Type 0 where
+  -- the link: a message was read, or the program changed the transport or a limit; a receive; messages are put, up to the
+  -- first that fails; a flush
+  relinked : (link : LinkState T) → link.outgoing ≡ p.link.outgoing → link.outgoing_capacity ≡ p.link.outgoing_capacity
+      → (kind.reads ≡ false → link.incoming ≡ p.link.incoming) → d ≡ nothing_done
+      → q ≡ with_link p link → Move kind sends receives client p d q
+  received : (r : Result Queue IoFault) (answer : Result (Unit {0}) IoFault) (link : LinkState T)
+      → kind.reads ≡ true → FilledBy receives p.link r answer link → d ≡ receiving r → q ≡ with_link p link → Move kind sends receives client p d q
+  told : (messages : List Said) (es : List Sending) (put : List Said) (answer : Result (Unit {0}) IoFault)
+      (link : LinkState T) → PutsOut sends p.link messages es put answer link → d ≡ putting es put → q ≡ with_link p link
+      → Move kind sends receives client p d q
+  flushed : (es : List Sending) (answer : Result (Unit {0}) IoFault) (link : LinkState T)
+      → FlushedBy sends p.link es answer link → d ≡ sending es → q ≡ with_link p link → Move kind sends receives client p d q
+  -- the client is killed, which is noted if it was not
+  ended : (reason : DisconnectReason) → kind.kills reason → d ≡ noting (end_notes p.is_killed reason)
+      → q ≡ record p { is_killed = true } → Move kind sends receives client p d q
+  -- an object takes a free number and the next serial, and its id is made; an id is made of an object, or of none; an
+  -- object gets user data; an object leaves
+  born : (n : ℕ) (x : Object (Kept U)) → held p.store n ≡ None → n ≢ 0 → x.value.serial ≡ p.last_serial + 1
+      → d ≡ handing (New (id_at client n x) ∷ []) → q ≡ record p { store = stored p.store n x; last_serial = p.last_serial + 1 }
+      → Move kind sends receives client p d q
+  found : (n : ℕ) (x : Object (Kept U)) → held p.store n ≡ Some x → d ≡ handing (Found (id_at client n x) ∷ [])
+      → q ≡ p → Move kind sends receives client p d q
+  found_none : d ≡ handing (Found (null_id client) ∷ []) → q ≡ p → Move kind sends receives client p d q
+  wrote : (n : ℕ) (x : Object (Kept U)) (u : U) → held p.store n ≡ Some x → d ≡ nothing_done
+      → q ≡ record p { store = rewritten p.store n (with_user_data u x) } → Move kind sends receives client p d q
+  went : (n : ℕ) (x : Object (Kept U)) (waits : Bool) → held p.store n ≡ Some x
+      → d ≡ leaving client waits n x → q ≡ left_by client waits p n x → Move kind sends receives client p d q
+  -- a kept registry is told of globals from now on; an action is handed out, and open; none is open; the notes that waited
+  -- are made
+  remembered : (n : ℕ) (x : Object (Kept U)) → held p.store n ≡ Some x → (x.interface.0 == registry_id.0) ≡ true
+      → d ≡ record nothing_done { registries = id_of (id_at client n x) ∷ [] }
+      → q ≡ record p { registries = p.registries ++ id_of (id_at client n x) ∷ [] } → Move kind sends receives client p d q
+  opens : (action : OpenAction) (h : Handed) → kind.reads ≡ true → Opens client p action h
+      → d ≡ record nothing_done { acted = h ∷ [] } → q ≡ record p { action = Some action } → Move kind sends receives client p d q
+  finished : kind.finishes ≡ true → d ≡ nothing_done → q ≡ record p { action = None } → Move kind sends receives client p d q
+  cleaned : kind.gathers ≡ true → d ≡ noting p.waiting → q ≡ record p { waiting = [] } → Move kind sends receives client p d q
+
 pub data Moves {T U C : Type 0} (kind : Kind) (sends : T → Queue → Result ℕ IoFault → T → Type 0) (receives : T → ℕ → Result Queue IoFault → T → Type 0)
     (client : ClientParts) : Part T U C → Doings U → Part T U C → Type 0 where
-  -- nothing, or one move behind others
+  -- nothing, one move, or moves behind others
   stayed : {p q : Part T U C} {d : Doings U} → d ≡ nothing_done → q ≡ p → Moves kind sends receives client p d q
+  moved : {p q : Part T U C} {d : Doings U} → Move kind sends receives client p d q → Moves kind sends receives client p d q
   followed : {p m q : Part T U C} {a b d : Doings U} → Moves kind sends receives client p a m → Moves kind sends receives client m b q → d ≡ joined a b
       → Moves kind sends receives client p d q
   -- of the ids that came up on the way these are handed out
   handed_out : {p q : Part T U C} {a d : Doings U} (ids : List (HandedId IdParts)) → Moves kind sends receives client p a q
       → ((id : HandedId IdParts) → IsAmong ids id → IsAmong a.handed id) → d ≡ record a { handed = ids } → Moves kind sends receives client p d q
-  -- the link: a message was read, or the program changed the transport or a limit; a receive; messages are put, up to the
-  -- first that fails; a flush
-  relinked : {p q : Part T U C} {d : Doings U} (link : LinkState T) → link.outgoing ≡ p.link.outgoing → link.outgoing_capacity ≡ p.link.outgoing_capacity
-      → (kind.reads ≡ false → link.incoming ≡ p.link.incoming) → d ≡ nothing_done
-      → q ≡ with_link p link → Moves kind sends receives client p d q
-  received : {p q : Part T U C} {d : Doings U} (r : Result Queue IoFault) (answer : Result (Unit {0}) IoFault) (link : LinkState T)
-      → kind.reads ≡ true → FilledBy receives p.link r answer link → d ≡ receiving r → q ≡ with_link p link → Moves kind sends receives client p d q
-  told : {p q : Part T U C} {d : Doings U} (messages : List Said) (es : List Sending) (put : List Said) (answer : Result (Unit {0}) IoFault)
-      (link : LinkState T) → PutsOut sends p.link messages es put answer link → d ≡ putting es put → q ≡ with_link p link
-      → Moves kind sends receives client p d q
-  flushed : {p q : Part T U C} {d : Doings U} (es : List Sending) (answer : Result (Unit {0}) IoFault) (link : LinkState T)
-      → FlushedBy sends p.link es answer link → d ≡ sending es → q ≡ with_link p link → Moves kind sends receives client p d q
-  -- the client is killed, which is noted if it was not
-  ended : {p q : Part T U C} {d : Doings U} (reason : DisconnectReason) → kind.kills reason → d ≡ noting (end_notes p.is_killed reason)
-      → q ≡ record p { is_killed = true } → Moves kind sends receives client p d q
-  -- an object takes a free number and the next serial, and its id is made; an id is made of an object, or of none; an
-  -- object gets user data; an object leaves
-  born : {p q : Part T U C} {d : Doings U} (n : ℕ) (x : Object (Kept U)) → held p.store n ≡ None → n ≢ 0 → x.value.serial ≡ p.last_serial + 1
-      → d ≡ handing (New (id_at client n x) ∷ []) → q ≡ record p { store = stored p.store n x; last_serial = p.last_serial + 1 }
-      → Moves kind sends receives client p d q
-  found : {p q : Part T U C} {d : Doings U} (n : ℕ) (x : Object (Kept U)) → held p.store n ≡ Some x → d ≡ handing (Found (id_at client n x) ∷ [])
-      → q ≡ p → Moves kind sends receives client p d q
-  found_none : {p q : Part T U C} {d : Doings U} → d ≡ handing (Found (null_id client) ∷ []) → q ≡ p → Moves kind sends receives client p d q
-  wrote : {p q : Part T U C} {d : Doings U} (n : ℕ) (x : Object (Kept U)) (u : U) → held p.store n ≡ Some x → d ≡ nothing_done
-      → q ≡ record p { store = rewritten p.store n (with_user_data u x) } → Moves kind sends receives client p d q
-  went : {p q : Part T U C} {d : Doings U} (n : ℕ) (x : Object (Kept U)) (waits : Bool) → held p.store n ≡ Some x
-      → d ≡ leaving client waits n x → q ≡ left_by client waits p n x → Moves kind sends receives client p d q
-  -- a kept registry is told of globals from now on; an action is handed out, and open; none is open; the notes that waited
-  -- are made
-  remembered : {p q : Part T U C} {d : Doings U} (n : ℕ) (x : Object (Kept U)) → held p.store n ≡ Some x → (x.interface.0 == registry_id.0) ≡ true
-      → d ≡ record nothing_done { registries = id_of (id_at client n x) ∷ [] }
-      → q ≡ record p { registries = p.registries ++ id_of (id_at client n x) ∷ [] } → Moves kind sends receives client p d q
-  opens : {p q : Part T U C} {d : Doings U} (action : OpenAction) (h : Handed) → kind.reads ≡ true → Opens client p action h
-      → d ≡ record nothing_done { acted = h ∷ [] } → q ≡ record p { action = Some action } → Moves kind sends receives client p d q
-  finished : {p q : Part T U C} {d : Doings U} → kind.finishes ≡ true → d ≡ nothing_done → q ≡ record p { action = None } → Moves kind sends receives client p d q
-  cleaned : {p q : Part T U C} {d : Doings U} → kind.gathers ≡ true → d ≡ noting p.waiting → q ≡ record p { waiting = [] } → Moves kind sends receives client p d q
 
 -- ---- what is held of a client id
 

@@ -28,14 +28,14 @@ use Rattle.wl_server.specs.declared.runs.step.Reply.TheVariants as reply
 use Rattle.wl_server.specs.declared.runs.step.Step.{Step}
 use Rattle.wl_server.specs.declared.runs.step.Step.TheVariants as step
 use Rattle.wl_server.specs.HandedIds.{made_ids}
-use Rattle.wl_server.proofs.OverRuns.Moves.BaseMoves.{Doings, Goes, Kind, MayRead, cleaned, doings_of, flushed, followed, handed_by, joined, leaving, left_by, left_id, nothing_done, notes_taken, noting, relinked, stayed, taken_out, unfelt, went, within, any}
+use Rattle.wl_server.proofs.OverRuns.Moves.BaseMoves.{Doings, Goes, Kind, MayRead, cleaned, doings_of, flushed, followed, handed_by, joined, leaving, left_by, left_id, moved, nothing_done, notes_taken, noting, relinked, stayed, taken_out, unfelt, went, within, any}
 use Rattle.wl_server.specs.Deeds.{Deed, Noted, NoteTaken, left_if, notes_in}
 use Rattle.wl_server.proofs.OverRuns.Alone.IsolationLaw.{other_call}
 use Rattle.wl_server.proofs.OverRuns.Moves.DoingsLaws.{doings_in, doings_in_both, doings_sends}
 use Rattle.wl_server.specs.Felt.{Cleaned, FlushedTo, FlushesLive, Hears, Stays, objects_leave}
 use Rattle.wl_wire.specs.declared.error.ProtocolError.{ProtocolError}
 use Rattle.wl_server.specs.declared.notes.DisconnectReason.{DisconnectReason}
-use Rattle.wl_server.specs.declared.notes.DisconnectReason.TheVariants.{ConnectionClosed, ProtocolError as BrokeProtocol}
+use Rattle.wl_server.specs.declared.notes.DisconnectReason.TheVariants.{ProtocolError as BrokeProtocol}
 use Rattle.wl_server.specs.Globals.{Offer}
 use Rattle.wl_server.specs.Ids.{ClientParts, GlobalParts, IdParts, same_client}
 use Rattle.wl_server.specs.Moves.{Move, Moved}
@@ -58,8 +58,7 @@ module _ {A : Type 0} where
   contains_there e es x (k, lt, is) = (suc k, omega (arith, lt), is)
 
   contains_or : (e : ℕ × A) (es : List (ℕ × A)) (x : ℕ × A) → Contains (e ∷ es) x → (e ≡ x) ⊎ Contains es x
-  contains_or e es x (zero, lt, is) = inl is
-  contains_or e es x (suc k, lt, is) = inr (k, omega (arith, lt), is)
+  contains_or e es x h4 = grind (arith)
 
   pairs_rest : (e : ℕ × A) (es : List (ℕ × A)) → AllPairs (λ a b. a.0 < b.0) (e ∷ es) → AllPairs (λ a b. a.0 < b.0) es
   pairs_rest e es pairs i j d less lt = pairs (suc i) (suc j) d (omega (arith, less)) (omega (arith, lt))
@@ -102,16 +101,7 @@ module _ {T U C : Type 0} (kind : Kind) (sends : T → Queue → Result ℕ IoFa
   is_all_rest p e entries is = record {
     ascending = pairs_rest e entries is.ascending;
     there = λ n x among. removed_other p.store e.0 n (λ same. later n x among same) ∙ is.there n x (contains_there e entries (n, x) among);
-    all = λ n x holds. (
-        elim (cases_eq n e.0) [
-          | inl same ↦ absurd (none-some _ (sym (removed_here p.store e.0 n same) ∙ holds))
-          | inr other ↦
-              elim (contains_or e entries (n, x) (is.all n x (sym (removed_other p.store e.0 n other) ∙ holds))) [
-                | inl first ↦ absurd (other (ap (λ (y : ℕ × Object (Kept U)). y.0) (sym first)))
-                | inr rest ↦ rest
-              ]
-        ]
-        );
+    all = grind (arith, cases_eq, none-some, removed_here, contains_or, removed_other);
   }
     where
       later : (n : ℕ) (x : Object (Kept U)) → Contains entries (n, x) → n ≡ e.0 → ⊥
@@ -121,14 +111,13 @@ module _ {T U C : Type 0} (kind : Kind) (sends : T → Queue → Result ℕ IoFa
   empties p [] is = record { after = p; moves = stayed refl refl; none = λ n. nothing n (held p.store n) refl; waiting = refl; link = refl }
     where
       nothing : (n : ℕ) (o : Option (Object (Kept U))) → held p.store n ≡ o → o ≡ None
-      nothing n None holds = refl
-      nothing n (Some x) holds = let (k, lt, at) = is.all n x holds in absurd (omega (arith, lt))
+      nothing n h2 holds = grind (arith)
   empties p (e ∷ entries) is =
       let mid : Part T U C = left_by client false p e.0 e.1 in
       let rest = empties mid entries (is_all_rest p e entries is) in
       record {
         after = rest.after;
-        moves = followed (went {q = mid} e.0 e.1 false (is.there e.0 e.1 (zero, omega arith, refl)) refl refl) rest.moves
+        moves = followed (moved {q = mid} (went e.0 e.1 false (is.there e.0 e.1 (zero, omega arith, refl)) refl refl)) rest.moves
             (doings_leaving client e.0 e.1 (objects_leave client entries));
         none = rest.none;
         waiting = rest.waiting;
@@ -150,7 +139,7 @@ module _ {T U C : Type 0} (kind : Kind) (sends : T → Queue → Result ℕ IoFa
 
   flushed_moves : (p : Part T U C) (answer : Result (Unit {0}) IoFault) (lacked : Bool) (did : List (Deed U)) (q : Part T U C) → FlushedTo sends p answer lacked did q
       → Leads p (doings_in did) q
-  flushed_moves p answer lacked did q (es, link, by, no_memory, did_so, same) = flushed es answer link by (ap doings_in did_so ∙ doings_sends es) same
+  flushed_moves p answer lacked did q (es, link, by, no_memory, did_so, same) = moved (flushed es answer link by (ap doings_in did_so ∙ doings_sends es) same)
 
   flushes_moves : (p : Part T U C) (lacked : Bool) (did : List (Deed U)) (q : Part T U C) → FlushesLive sends p lacked did q → Leads p (doings_in did) q
   flushes_moves p lacked did q h =
@@ -160,7 +149,7 @@ module _ {T U C : Type 0} (kind : Kind) (sends : T → Queue → Result ℕ IoFa
       ]
 
   transport_moves : (becomes : T → T → Type 0) (p : Part T U C) (did : List (Deed U)) (q : Part T U C) → did ≡ [] → WithTransport becomes p q → Leads p (doings_in did) q
-  transport_moves becomes p did q none (t, b, same) = relinked (with_transport p.link t) refl refl (λ unread. refl) (ap doings_in none) same
+  transport_moves becomes p did q none (t, b, same) = moved (relinked (with_transport p.link t) refl refl (λ unread. refl) (ap doings_in none) same)
 
   -- ---- what is held of a client
 
@@ -181,8 +170,7 @@ module _ {T U C : Type 0} (kind : Kind) (sends : T → Queue → Result ℕ IoFa
   of_client false s R missing lacked did t moves h = unfelt_goes s lacked did t h
 
 for_reason : (kind : Kind) (reason : DisconnectReason) → ((e : ProtocolError) → reason ≡ BrokeProtocol e → kind.kills (BrokeProtocol e)) → kind.kills reason
-for_reason kind ConnectionClosed may = kind.closes
-for_reason kind (BrokeProtocol e) may = may e refl
+for_reason kind h2 may = grind (arith)
 
 -- the call is a cleanup that succeeds, so notes that wait are made
 abbrev pub gathers_in : {T U G C : Type 0} → Call T U G C → Bool
@@ -221,13 +209,7 @@ module _ {T U G C : Type 0} (kind : Kind) (w : World T G C) (id : ClientParts) (
   global_goes i version handler r s lacked did t h1 = grind (arith, on_part, doings_in, hears_moves, unfelt_goes)
 
   loss_goes : (g : GlobalParts) (s : Seen T U C) (lacked : Bool) (did : List (Deed U)) (t : Seen T U C) → FeelsLoss w id offer g s lacked did t → To s did t
-  loss_goes g s lacked did t h =
-      elim (either_bool _ h) [
-        | inl felt ↦
-            on_part kind w.sends w.receives id s _ (Unit {0}) lacked did t (doings_in did) refl (λ none m. ap doings_in none)
-            (λ p q heard. hears_moves kind w.sends w.receives id p _ lacked did q heard) felt
-        | inr other ↦ unfelt_goes kind w.sends w.receives id s lacked did t other
-      ]
+  loss_goes g s lacked did t h = grind (arith, either_bool, on_part, doings_in, hears_moves, unfelt_goes)
 
   flushed_goes : (target : Option ClientParts) (answer : Result (Unit {0}) IoFault) (s : Seen T U C) (lacked : Bool) (did : List (Deed U)) (t : Seen T U C)
       → FlushedFor w id offer target answer s lacked did t → To s did t
@@ -247,7 +229,7 @@ module _ {T U G C : Type 0} (kind : Kind) (w : World T G C) (id : ClientParts) (
           × (out ≡ end.link.transport ∷ []) × (q ≡ None))
           ((lacked ≡ false) × (did ≡ map Noted p.waiting) × (out ≡ []) × (q ≡ Some (record p { waiting = [] }))) → To s did t
       go false live (no_memory, did_so, nobody, is) =
-          within p (record p { waiting = [] }) there (cleaned on (ap doings_in did_so ∙ doings_noted p.waiting) refl)
+          within p (record p { waiting = [] }) there (moved (cleaned on (ap doings_in did_so ∙ doings_noted p.waiting) refl))
           (same ∙ ap (λ (o : Option (Part T U C)). record { part = o; made = s.made ++ notes_in did }) is)
       go true killed (sent, answer, end, (es, link, by, no_memory, sent_so, end_so), did_so, handed, is) =
           let told : Part T U C = record p { waiting = [] } in
@@ -258,8 +240,8 @@ module _ {T U G C : Type 0} (kind : Kind) (w : World T G C) (id : ClientParts) (
             all = λ n x holds. (walk.each n x).1 holds;
           }) in
           taken_out p (with_link gone.after link) on there killed
-          (followed (cleaned {q = told} on refl refl)
-          (followed gone.moves (flushed {q = with_link gone.after link} es answer link (subst (λ (l : LinkState T). FlushedBy w.sends l es answer link) (sym gone.link) by) refl refl) refl)
+          (followed (moved {q = told} (cleaned on refl refl))
+          (followed gone.moves (moved {q = with_link gone.after link} (flushed es answer link (subst (λ (l : LinkState T). FlushedBy w.sends l es answer link) (sym gone.link) by) refl refl)) refl)
           (ap doings_in did_so
           ∙ doings_in_both (map Noted p.waiting) (objects_leave id (finmap.entries p.store.objects) ++ sent)
           ∙ ap (λ (d : Doings U). joined d (doings_in (objects_leave id (finmap.entries p.store.objects) ++ sent))) (doings_noted p.waiting)
@@ -274,8 +256,7 @@ module _ {T U G C : Type 0} (kind : Kind) (w : World T G C) (id : ClientParts) (
 
   taken_goes : (answer : Result (Vec (Note U) Global) OutOfMemory) (s : Seen T U C) (lacked : Bool) (did : List (Deed U)) (t : Seen T U C)
       → (hands_in {T = T} {U = U} {G = G} {C = C} (Asked step.TakeNotes (reply.TakeNotes answer)) ≡ true → kind.hands ≡ true) → NotesTaken w id offer answer s lacked did t → To s did t
-  taken_goes (Err e) s lacked did t on h = unfelt_goes kind w.sends w.receives id s lacked did t h
-  taken_goes (Ok out) s lacked did t on (all, no_memory, did_so, same) = notes_taken (on refl) (ap doings_in did_so ∙ doings_taken s.made) same
+  taken_goes h1 s lacked did t on h = grind (arith, unfelt_goes, notes_taken, doings_in, doings_taken)
 
   moved_goes : (target : ClientParts) (m : Move) (answer : Moved) (s : Seen T U C) (lacked : Bool) (did : List (Deed U)) (t : Seen T U C)
       → MovedFor w id offer target m answer s lacked did t → To s did t
@@ -308,8 +289,7 @@ module _ {T U G C : Type 0} (kind : Kind) (w : World T G C) (id : ClientParts) (
   step_goes (step.CreateObject target i version u) answer s lacked did t about may (r, is, h) =
       subst (λ (a : Reply T U). Handed (Asked (step.CreateObject target i version u) a) s did t) (sym is)
       (creates_goes target i version u r _ s lacked _ did t (λ unknown. ap made_ids unknown) h)
-  step_goes (step.DestroyObject o) answer s lacked did t about may (r, is, h) =
-      of_client kind w.sends w.receives id (same_client o.client id) s _ _ lacked did t (λ mine p q d. destroys_moves kind w.sends w.receives id p o r lacked did q d) h
+  step_goes (step.DestroyObject o) answer s lacked did t about may (r, is, h) = grind (arith, of_client, same_client, destroys_moves)
   step_goes (step.SendEvent m) answer s lacked did t about may (r, is, h) =
       of_client kind w.sends w.receives id (same_client m.sender_id.client id) s _ _ lacked did t (λ mine p q d. sends_moves kind w.sends w.receives id offer.table p _ r lacked did q d) h
   step_goes (step.PostError o code text) answer s lacked did t about may (is, h) =
@@ -323,18 +303,14 @@ module _ {T U G C : Type 0} (kind : Kind) (w : World T G C) (id : ClientParts) (
   step_goes (step.SetDefaultMaxBufferSize limit) answer s lacked did t about may (is, h) = unfelt_goes kind w.sends w.receives id s lacked did t h
   step_goes (step.SetClientMaxBufferSize target limit) answer s lacked did t about may (is, h) =
       of_client kind w.sends w.receives id (same_client target id) s _ _ lacked did t
-      (λ mine p q (no_memory, none, (link, (l, limits, set), same)). relinked link (ap (λ (k : LinkState T). k.outgoing) set) (ap (λ (k : LinkState T). k.outgoing_capacity) set)
-      (λ unread. ap (λ (k : LinkState T). k.incoming) set) (ap doings_in none) same) h
+      (λ mine p q (no_memory, none, (link, (l, limits, set), same)). moved (relinked link (ap (λ (k : LinkState T). k.outgoing) set) (ap (λ (k : LinkState T). k.outgoing_capacity) set)
+      (λ unread. ap (λ (k : LinkState T). k.incoming) set) (ap doings_in none) same)) h
   step_goes (step.NextAction target) answer s lacked did t about may (r, left, is, h) = reads_goes target (λ mine. record { displays = λ code text. may.kills _ (mine, (code, text, refl)); reads = may.reads mine }) _ _ left s lacked did t h
   step_goes (step.NextActionWithin target reading) answer s lacked did t about may (r, left, is, h) = reads_goes target (λ mine. record { displays = λ code text. may.kills _ (mine, (code, text, refl)); reads = may.reads mine }) reading _ left s lacked did t h
-  step_goes (step.FinishRequest target u) answer s lacked did t about may (r, is, h) =
-      of_client kind w.sends w.receives id (same_client target id) s _ _ lacked did t (λ mine p q f. finishes_moves kind w.sends w.receives id (may.finishes mine) p u r lacked did q f) h
-  step_goes (step.FinishBind target u) answer s lacked did t about may (r, is, h) =
-      of_client kind w.sends w.receives id (same_client target id) s _ _ lacked did t (λ mine p q f. finishes_bind_moves kind w.sends w.receives id (may.finishes mine) p u r lacked did q f) h
-  step_goes step.Cleanup answer s lacked did t about may (r, is, h) =
-      cleanup_goes r s lacked did t (subst (λ (a : Reply T U). gathers_in {T = T} {U = U} {G = G} {C = C} (Asked step.Cleanup a) ≡ true → kind.gathers ≡ true) is may.gathers) h
-  step_goes step.TakeNotes answer s lacked did t about may (r, is, h) =
-      taken_goes r s lacked did t (subst (λ (a : Reply T U). hands_in {T = T} {U = U} {G = G} {C = C} (Asked step.TakeNotes a) ≡ true → kind.hands ≡ true) is may.hands) h
+  step_goes (step.FinishRequest target u) answer s lacked did t about may (r, is, h) = grind (arith, of_client, same_client, finishes_moves)
+  step_goes (step.FinishBind target u) answer s lacked did t about may (r, is, h) = grind (arith, of_client, same_client, finishes_bind_moves)
+  step_goes step.Cleanup answer s lacked did t about may (r, is, h) = grind (arith, cleanup_goes, gathers_in)
+  step_goes step.TakeNotes answer s lacked did t about may (r, is, h) = grind (arith, taken_goes, hands_in)
   step_goes _ answer s lacked did t about may h = moved_goes _ _ _ s lacked did t h.2
 
   -- Over a call that is about a client, or about none, what is held of the client goes over base moves, which make the

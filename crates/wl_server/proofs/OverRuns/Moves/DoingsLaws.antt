@@ -1,5 +1,5 @@
 -- How what is done adds up: over moves one behind another, and over deeds.
-use Rattle.std.proofs.Common.{◌≡◌, List, [], ◌∷◌, ◌++◌, Option, None, Some, Result, map, refl, sym, ap, ◌∙◌, append-nil, append_assoc, arith}
+use Rattle.std.proofs.Common.{◌≡◌, List, [], ◌∷◌, ◌++◌, Option, Result, map, refl, sym, ap, ◌∙◌, append-nil, append_assoc, arith}
 use Rattle.wl_wire.specs.declared.error.IoFault.{IoFault}
 use Rattle.wl_link.specs.Exchange.{Queue, Sending}
 use Rattle.wl_link.specs.Puts.{Said}
@@ -73,8 +73,7 @@ module _ {U : Type 0} where
   doings_puts (m ∷ put) = ap (λ (d : Doings U). record d { put = m ∷ d.put }) (doings_puts put)
 
   pub doings_end : (o : Option DisconnectReason) → doings_in (end_deeds o) ≡ noting (notes_in (end_deeds o))
-  doings_end None = refl
-  doings_end (Some reason) = refl
+  doings_end h1 = grind (arith)
 
   -- the exchanges of a reading
   pub doings_turns : (turns : List Turn) → (es : List Sending) × (rs : List (Result Queue IoFault)) × (doings_in (exchanges_in turns) ≡ exchanging es rs)
@@ -85,15 +84,13 @@ module _ {U : Type 0} where
       let (fs, rs, is) = doings_turns turns in (
         es ++ fs,
         rs,
-        doings_in_both (map Sent es) (exchanges_in turns) ∙ ap (λ (d : Doings U). joined d (doings_in (exchanges_in turns))) (doings_sends es)
-            ∙ ap (λ (d : Doings U). joined (sending es) d) is,
+        grind (arith, doings_in_both, map, exchanges_in, joined, doings_in, doings_sends, sending),
       )
   doings_turns (Unread es ∷ turns) =
       let (fs, rs, is) = doings_turns turns in (
         es ++ fs,
         rs,
-        doings_in_both (map Sent es) (exchanges_in turns) ∙ ap (λ (d : Doings U). joined d (doings_in (exchanges_in turns))) (doings_sends es)
-            ∙ ap (λ (d : Doings U). joined (sending es) d) is,
+        grind (arith, doings_in_both, map, exchanges_in, joined, doings_in, doings_sends, sending),
       )
 
   -- ---- what is given
@@ -113,8 +110,7 @@ module _ {U : Type 0} where
   deeds_queued (m ∷ put) = ap (λ (did : List (Deed U)). Put m ∷ did) (deeds_queued put)
 
   pub deeds_given : (put : List Said) (events : List (Told U)) → deeds_in (put_and_gave put events) ≡ map Put put ++ told_deeds events
-  deeds_given put events =
-      deeds_both (map Queued put) (map HandedOut events) ∙ ap (λ (did : List (Deed U)). did ++ told_deeds events) (deeds_queued put)
+  deeds_given put events = grind (arith, deeds_both, map, told_deeds, deeds_queued)
 
   -- ---- the deeds of a verdict, and of a reading
 

@@ -9,13 +9,13 @@ use Rattle.wl_wire.specs.Message.{WireMessage}
 use Rattle.wl_link.proofs.Calls.Branches.{either_result}
 use Rattle.wl_link.specs.Exchange.{Queue, Sending}
 use Rattle.wl_link.proofs.Readings.HoldingLaws.{read_stays}
-use Rattle.wl_link.specs.Link.{LinkState, ReadFound, ReadOne, count_of, counted_answer}
+use Rattle.wl_link.specs.Link.{LinkState, ReadOne, count_of, counted_answer}
 use Rattle.wl_link.specs.Puts.{Said}
 use Rattle.wl_link.specs.Reader.{CarriesOut, Given, Gives, Handled, Reads, Received, Stops, Turn, Unread, Verdict, given_first, with_link, ReaderState}
 use Rattle.wl_server.specs.declared.reading.action.Reading.{Reading}
 use Rattle.wl_server.specs.declared.error.ActionError.{ActionError}
 use Rattle.wl_server.specs.declared.notes.Happening.{Happening}
-use Rattle.wl_server.proofs.OverRuns.Moves.BaseMoves.{Doings, Kind, MayRead, followed, joined, noting, putting, received, receiving, relinked, sending, stayed}
+use Rattle.wl_server.proofs.OverRuns.Moves.BaseMoves.{Doings, Kind, MayRead, followed, joined, moved, noting, putting, received, receiving, relinked, sending, stayed}
 use Rattle.wl_server.specs.Deeds.{Came, Deed, Handed, Put, Sent, notes_in}
 use Rattle.wl_server.proofs.OverRuns.Moves.DoingsLaws.{IsQuiet, deeds_done, doings_in, doings_in_both, doings_puts, doings_sends, end_of, joined_none, turns_done, verdict_done}
 use Rattle.wl_server.proofs.OverRuns.Moves.MovesOfRequests.{handles_comes, malformed_comes}
@@ -25,29 +25,19 @@ use Rattle.wl_server.specs.Reading.{Around, NextAction, exchanges_in, faulted, r
 use Rattle.wl_server.specs.Telling.{Core, Told, deeds_in, deeds_of, end_deeds, part_of, reader_part}
 
 module _ {T : Type 0} where
-  -- a message that is read leaves what waits to be sent
-  found_waits : (found : Option (List ArgumentType)) (before after : LinkState T) (answer : Result WireMessage MessageParseError) → ReadFound found before answer after
-      → after.outgoing ≡ before.outgoing
-  found_waits found before after answer h1 = grind (arith)
-
   read_waits : (looks_up : ℕ → ℕ → Option (List ArgumentType) → Type 0) (before after : LinkState T) (answer : Result WireMessage MessageParseError)
       → ReadOne looks_up before answer after → after.outgoing ≡ before.outgoing
-  read_waits looks_up before after answer h = grind (arith, nat_le, found_waits)
+  read_waits looks_up before after answer h = grind (arith, nat_le)
 
 both : (a b : Bool) → (a && b) ≡ true → (a ≡ true) × (b ≡ true)
-both true b e = (refl, e)
-both false b e = absurd (true≢false (sym e))
+both h1 b e = grind (arith, true≢false)
 
 not_true : (b : Bool) → not b ≡ true → b ≡ false
-not_true false e = refl
-not_true true e = absurd (true≢false (sym e))
+not_true h1 e = grind (arith, true≢false)
 
 module _ {U : Type 0} where
   quiet_given : (put : List Said) (made : List (Deed U)) (gave : List (Given (Told U))) → deeds_in gave ≡ map Put put ++ made → IsQuiet made → IsQuiet (deeds_in gave)
-  quiet_given put made gave is quiet = (
-    ap (λ (d : Doings U). d.sends) all ∙ quiet.0,
-    ap (λ (d : Doings U). d.came) all ∙ quiet.1,
-  )
+  quiet_given put made gave is quiet = grind (arith, all)
     where
       all : doings_in (deeds_in gave) ≡ joined (putting [] put) (doings_in made)
       all = ap doings_in is ∙ doings_in_both (map Put put) made ∙ ap (λ (d : Doings U). joined d (doings_in made)) (doings_puts put)
@@ -79,7 +69,7 @@ module _ {T U G C : Type 0} (kind : Kind) (sends : T → Queue → Result ℕ Io
       let c = carried kind sends receives a.client (server a) (λ d f. refl) before.core v comes calm link es first lacked mid by in
       let so : notes_at_end kind sends receives a.client mid.core ≡ c.notes =
       c.so ∙ ap (λ (o : Option _). notes_in (end_deeds {U = U} o) ++ c.notes) none in (
-        followed (relinked link waits stays (λ unread. absurd (true≢false (sym may.reads ∙ unread))) refl refl) c.moves
+        followed (moved (relinked link waits stays (λ unread. absurd (true≢false (sym may.reads ∙ unread))) refl refl)) c.moves
             (verdict_done es c.put c.made first mid.core c.deeds
             ∙ ap (λ (n : List (Happening U)). joined (putting es c.put) (joined (doings_in c.made) (noting n))) so),
         c.calm,
@@ -108,27 +98,7 @@ module _ {T U G C : Type 0} (kind : Kind) (sends : T → Queue → Result ℕ Io
       → Reads sends (server a) receives left mid turns rest after
       → (mid.core.ended ≡ None → Calm mid.core → Read mid turns rest after)
       → Step (part_of before) (doings_in (deeds_of (map Sent es ++ exchanges_in turns) out.gave after.core)) (part_of after)
-  then_moves left before mid after es turns first lacked rest out split (turn, calm, quiet) reads more =
-      subst (λ (o : Gives (Told U)). Step (part_of before) (doings_in (deeds_of (map Sent es ++ exchanges_in turns) o.gave after.core)) (part_of after)) (sym split)
-      (elim (over_or_on left mid after turns rest reads) [
-        | inl (none, same, nothing) ↦
-            subst (λ (e : ReaderState T (Core U C)). Step (part_of before) (doings_in (deeds_of (map Sent es ++ exchanges_in turns) (first ++ rest.gave) e.core)) (part_of e)) (sym same)
-            (subst (λ (ts : List Turn). Step (part_of before) (doings_in (deeds_of (map Sent es ++ exchanges_in ts) (first ++ rest.gave) mid.core)) (part_of mid)) (sym none)
-            (subst (λ (g : List (Given (Told U))). Step (part_of before) (doings_in (deeds_of (map Sent es ++ []) (first ++ g) mid.core)) (part_of mid)) (sym nothing)
-            (subst (λ (g : List (Given (Told U))). Step (part_of before) (doings_in (deeds_of (map Sent es ++ []) g mid.core)) (part_of mid)) (sym (append-nil first))
-            (subst (λ (xs : List (Deed U)). Step (part_of before) (doings_in (deeds_of xs first mid.core)) (part_of mid)) (sym (append-nil (map Sent es))) turn))))
-        | inr on ↦
-            let none : mid.core.ended ≡ None = calm (live_of mid.core on) in
-            followed
-            (same_doings kind sends receives a.client (part_of before) (part_of mid) (doings_in (deeds_of (map Sent es) first mid.core)) (joined (sending es) (doings_in (deeds_in first)))
-            (sym (deeds_done (map Sent es) first mid.core
-            ∙ ap (λ (d : Doings U). joined d (joined (doings_in (deeds_in first)) (end_of mid.core))) (doings_sends es)
-            ∙ ap (λ (o : Option _). joined (sending es) (joined (doings_in (deeds_in first)) (noting (notes_in (end_deeds {U = U} o))))) none
-            ∙ ap (joined (sending es)) (joined_none (doings_in (deeds_in first)))))
-            turn)
-            (more none calm)
-            (sym (turns_done es turns first rest.gave after.core quiet))
-      ])
+  then_moves left before mid after es turns first lacked rest out split h12 reads more = grind (arith, part_of, doings_in, deeds_of, map, exchanges_in, over_or_on, append-nil, live_of, followed, same_doings, joined, sending, deeds_in, deeds_done, end_of, doings_sends, noting, notes_in, end_deeds, joined_none, turns_done)
 
   pub reads_moves : MayRead kind a.table a.client → (left : ℕ) (before : ReaderState T (Core U C)) (turns : List Turn) (out : Gives (Told U)) (after : ReaderState T (Core U C))
       → before.core.ended ≡ None → Calm before.core → Reads sends (server a) receives left before turns out after → Read before turns out after
@@ -136,7 +106,7 @@ module _ {T U G C : Type 0} (kind : Kind) (sends : T → Queue → Result ℕ Io
   reads_moves may left before (Received r ∷ turns) out after none calm (on, lacks, (n, is, (link, filled, room, h))) =
       elim (either_result (counted_answer (count_of r)) h) [
         | inl (u, more) ↦
-            followed (received r (counted_answer (count_of r)) link may.reads filled refl refl)
+            followed (moved (received r (counted_answer (count_of r)) link may.reads filled refl refl))
             (reads_moves may n (with_link before link) turns out after none calm more) refl
         | inr (f, (over, stopped, same)) ↦
             let ends = faulted_ends before.core f calm in
@@ -146,7 +116,7 @@ module _ {T U G C : Type 0} (kind : Kind) (sends : T → Queue → Result ℕ Io
             subst (λ (e : ReaderState T (Core U C)). Step (part_of before) (doings_in (deeds_of (Came r ∷ exchanges_in turns) out.gave e.core)) (part_of e)) (sym same)
             (subst (λ (ts : List Turn). Step (part_of before) (doings_in (deeds_of (Came r ∷ exchanges_in ts) out.gave end.core)) (part_of end)) (sym over)
             (subst (λ (o : Gives (Told U)). Step (part_of before) (doings_in (deeds_of (Came r ∷ []) o.gave end.core)) (part_of end)) (sym stopped)
-            (followed (received r (counted_answer (count_of r)) link may.reads filled refl refl) (ends.moves link)
+            (followed (moved (received r (counted_answer (count_of r)) link may.reads filled refl refl)) (ends.moves link)
             (deeds_done (Came r ∷ []) [] end.core ∙ ap (λ (n : List (Happening U)). joined (receiving r) (noting n)) so))))
       ]
   reads_moves may left before (Handled es ∷ turns) out after none calm (on, (v, link, first, lacked, mid, rest, (m, read, is), by, split, more)) =

@@ -1,5 +1,5 @@
 -- That what a request comes to is a chain of base moves.
-use Rattle.std.proofs.Common.{◌≡◌, ◌≢◌, ◌⊎◌, ℕ, Bool, true, false, not, ◌&&◌, cond, eqb, List, [], ◌∷◌, ◌++◌, map, Option, None, Some, is_some, Result, Ok, Err, refl, sym, ap, subst, append-nil, true≢false, arith}
+use Rattle.std.proofs.Common.{◌≡◌, ◌≢◌, ◌⊎◌, ℕ, Bool, true, false, ◌&&◌, cond, eqb, List, [], ◌∷◌, ◌++◌, map, Option, None, Some, is_some, Result, Ok, Err, refl, sym, ap, subst, append-nil, true≢false, arith}
 use mathlib.Core.Logic.{inl, inr}
 use Rattle.std.specs.Prelude.{nat_lt}
 use Rattle.wl_wire.specs.declared.argument.Argument.{Argument}
@@ -28,12 +28,12 @@ use Rattle.wl_server.specs.declared.reading.response.RequestFault.TheVariants as
 use Rattle.wl_server.proofs.OverRuns.Ids.AmongLaws.{among_both, among_first, among_later}
 use Rattle.wl_server.specs.HandedIds.{created_ids}
 use Rattle.wl_server.specs.Deeds.{IsAmong, Acted, Deed, Handed, Remembered}
-use Rattle.wl_server.proofs.OverRuns.Moves.BaseMoves.{Doings, Kind, MayRead, all_action_ids, born, followed, found, found_none, handed_out, handing, nothing_done, opens, remembered, stayed, went}
+use Rattle.wl_server.proofs.OverRuns.Moves.BaseMoves.{Doings, Kind, MayRead, all_action_ids, born, followed, found, found_none, handed_out, handing, moved, nothing_done, opens, remembered, stayed, went}
 use Rattle.wl_server.specs.Deeds as deeds
 use Rattle.wl_server.proofs.OverRuns.Moves.DoingsLaws.{IsQuiet, doings_in, told_deeds}
 use Rattle.wl_server.specs.Errors.{error_of, fault_text, since_text}
 use Rattle.wl_server.specs.Globals.{global_at}
-use Rattle.wl_server.specs.Ids.{IdParts}
+use Rattle.wl_server.specs.Ids.{ClientParts, IdParts}
 use Rattle.wl_server.proofs.OverRuns.Moves.MovesOfVerdicts.{Comes, Go, IsCalm, Lands, at, ends_killed, lands_at, lands_not, lands_then}
 use Rattle.wl_server.specs.Part.{Part, display_of, id_at, last_possible_serial, null_id}
 use Rattle.wl_server.specs.Reading.{Around, binds, breaks, converted, garbled, hands_out, new_at, other_request, registers, replies, server, stops_if, synced, syncs, with_registry}
@@ -42,17 +42,72 @@ use Rattle.wl_server.specs.Requests.{Converted, Converting, Outcome, Whole, Wron
 use Rattle.wl_server.specs.Telling.{Core, Did, Told, closed_down, objects_in, with_objects}
 use Rattle.wl_link.proofs.Ids.HandedIds.{argument_ids_both}
 
-not_some : {A : Type 0} (o : Option A) (b : Bool) → (not (is_some o) && b) ≡ true → o ≡ None
-not_some None b e = refl
-not_some (Some x) b e = absurd (true≢false (sym e))
-
 both : (a b : Bool) → (a && b) ≡ true → (a ≡ true) × (b ≡ true)
-both true b e = (refl, e)
-both false b e = absurd (true≢false (sym e))
+both h1 b e = grind (arith, true≢false)
 
 -- a number that a client may use holds none, and is not 0
 pub valid_new : {U : Type 0} (o : Objects (Kept U)) (n : ℕ) → is_valid_new o n ≡ true → (held o.store n ≡ None) × (n ≢ 0)
-valid_new o n valid = grind (arith, both, is_free, eqb, last_possible_serial, is_server_number, not_some, held, true≢false, nat_lt, is_some)
+valid_new o n valid = grind (arith, both, is_free, eqb, last_possible_serial, is_server_number, held, true≢false, nat_lt, is_some)
+
+-- ---- the arguments of a request
+
+-- what holds of the ids that came up in the arguments and of the objects as they then are: so far, and in the end
+module _ {U : Type 0} (P : List (HandedId IdParts) → Objects (Kept U) → Type 0) where
+  -- what an argument became
+  abbrev One : List (HandedId IdParts) → Converting U → Converted U → Type 0
+  One ids d (Ok next) =
+      P (ids ++ argument_ids (next.0 ∷ [])) next.1.objects
+      × ((id : HandedId IdParts) → IsAmong (created_ids next.1.created) id → IsAmong (created_ids d.created) id ⊎ IsAmong (argument_ids (next.0 ∷ [])) id)
+  One ids d (Err wrong) = Unit {0}
+
+  abbrev pub SoFar : Converting U → List (Argument IdParts Token) → Type 0
+  SoFar d args = P (argument_ids args) d.objects × ((id : HandedId IdParts) → IsAmong (created_ids d.created) id → IsAmong (argument_ids args) id)
+
+  abbrev pub Came : Outcome U → Type 0
+  Came (Whole d args) = SoFar d args
+  Came (Wrong w objects) = (ids : List (HandedId IdParts)) × P ids objects
+
+-- It holds on over an object that is made, and over an id that is made of an object or of none.
+module _ {U : Type 0} (client : ClientParts) (version : ℕ) (P : List (HandedId IdParts) → Objects (Kept U) → Type 0)
+    (makes : (ids : List (HandedId IdParts)) (o : Objects (Kept U)) (n : ℕ) (i : InterfaceId) → is_valid_new o n ≡ true → P ids o
+    → P (ids ++ New (made_id client o n i) ∷ []) (with_made o n i version))
+    (finds : (ids : List (HandedId IdParts)) (o : Objects (Kept U)) (n : ℕ) (x : Object (Kept U)) → held o.store n ≡ Some x → P ids o
+    → P (ids ++ Found (id_at client n x) ∷ []) o)
+    (finds_none : (ids : List (HandedId IdParts)) (o : Objects (Kept U)) → P ids o → P (ids ++ Found (null_id client) ∷ []) o) where
+  converts_found : (ids : List (HandedId IdParts)) (d : Converting U) (asked : InterfaceId) (n : ℕ) (x : Option (Object (Kept U))) → held d.objects.store n ≡ x → P ids d.objects
+      → One P ids d (with_object_argument d (object_found client asked n x))
+  converts_found ids d asked n x e so = grind (arith, with_object_argument, finds, fits)
+
+  converts_object : (ids : List (HandedId IdParts)) (d : Converting U) (null : Bool) (asked : InterfaceId) (n : ℕ) (b : Bool) → P ids d.objects
+      → One P ids d (with_object_argument d (cond b (cond null (Ok (null_id client)) (Err wrong.NullObject)) (object_found client asked n (held d.objects.store n))))
+  converts_object ids d null asked n b so = grind (arith, converts_found, held, finds_none)
+
+  converts_new : (ids : List (HandedId IdParts)) (d : Converting U) (n : ℕ) (child : Option InterfaceId) → P ids d.objects → One P ids d (with_new_argument client version d n child)
+  converts_new ids d n None so = tt
+  converts_new ids d n (Some i) so = grind (arith, is_valid_new, made_id, with_made, kinds_after, makes)
+
+  converts_one : (ids : List (HandedId IdParts)) (d : Converting U) (x : WireArgument) → P ids d.objects → One P ids d (convert_one client version d x)
+  converts_one ids d x so = grind (arith, converts_object, allows_null, eqb, converts_new, append-nil)
+
+  goes_on : (d : Converting U) (done : List (Argument IdParts Token)) (args : List WireArgument)
+      → ((next : Converting U) (more : List (Argument IdParts Token)) → SoFar P next more → Came P (convert client version next more args))
+      → (r : Converted U) → One P (argument_ids done) d r → SoFar P d done
+      → Came P (going_on r d.objects (λ b next. convert client version next (done ++ b ∷ []) args))
+  goes_on d done args rest (Ok next) (one, more) (so, among) =
+      rest next.1 (done ++ next.0 ∷ []) (
+        subst (λ (ids : List (HandedId IdParts)). P ids next.1.objects) (sym (argument_ids_both done (next.0 ∷ []))) one,
+        λ id is. subst (λ (ids : List (HandedId IdParts)). IsAmong ids id) (sym (argument_ids_both done (next.0 ∷ [])))
+            (elim (more id is) [
+              | inl old ↦ among_first (argument_ids done) (argument_ids (next.0 ∷ [])) id (among id old)
+              | inr new ↦ among_later (argument_ids done) (argument_ids (next.0 ∷ [])) id new
+            ]),
+      )
+  goes_on d done args rest (Err w) one (so, among) = (argument_ids done, so)
+
+  pub converts : (d : Converting U) (done : List (Argument IdParts Token)) (args : List WireArgument) → SoFar P d done → Came P (convert client version d done args)
+  converts d done [] so = so
+  converts d done (x ∷ args) so =
+      goes_on d done args (λ next more so-far. converts next more args so-far) (convert_one client version d x) (converts_one (argument_ids done) d x so.0) so
 
 module _ {T U G C : Type 0} (kind : Kind) (sends : T → Queue → Result ℕ IoFault → T → Type 0) (receives : T → ℕ → Result Queue IoFault → T → Type 0)
     (a : Around G C) where
@@ -75,75 +130,15 @@ module _ {T U G C : Type 0} (kind : Kind) (sends : T → Queue → Result ℕ Io
   dropped : (p q : Part T U C) (ids : List (HandedId IdParts)) → Move p (handing ids) q → Move p nothing_done q
   dropped p q ids go = handed_out [] go (λ id among. absurd among) refl
 
-  -- ---- the arguments of a request
+  -- ---- objects that are made
 
-  module _ (c : Core U C) (version : ℕ) where
-    -- from some objects to others, over any link
-    abbrev Over : Objects (Kept U) → List (HandedId IdParts) → Objects (Kept U) → Type 0
-    Over o ids o' = (l : LinkState T) → Move (place (with_objects c o) l) (handing ids) (place (with_objects c o') l)
+  -- from some objects to others, over any link
+  abbrev Over : Core U C → Objects (Kept U) → List (HandedId IdParts) → Objects (Kept U) → Type 0
+  Over c o ids o' = (l : LinkState T) → Move (place (with_objects c o) l) (handing ids) (place (with_objects c o') l)
 
-    -- what an argument became
-    abbrev One : Converting U → Converted U → Type 0
-    One d (Ok next) =
-        Over d.objects (argument_ids (next.0 ∷ [])) next.1.objects
-        × ((id : HandedId IdParts) → IsAmong (created_ids next.1.created) id → IsAmong (created_ids d.created) id ⊎ IsAmong (argument_ids (next.0 ∷ [])) id)
-    One d (Err wrong) = Unit {0}
-
-    makes_object : (o : Objects (Kept U)) (n : ℕ) (i : InterfaceId) → is_valid_new o n ≡ true → Over o (New (made_id a.client o n i) ∷ []) (with_made o n i version)
-    makes_object o n i valid l = born n (made_object o i version) (valid_new o n valid).0 (valid_new o n valid).1 refl refl refl
-
-    still : (o : Objects (Kept U)) → Over o [] o
-    still o l = stayed refl refl
-
-    converts_found : (d : Converting U) (asked : InterfaceId) (n : ℕ) (x : Option (Object (Kept U))) → held d.objects.store n ≡ x
-        → One d (with_object_argument d (object_found a.client asked n x))
-    converts_found d asked n None e = tt
-    converts_found d asked n (Some x) e = go (fits asked x.interface)
-      where
-        go : (b : Bool) → One d (with_object_argument d (cond b (Ok (id_at a.client n x)) (Err (wrong.WrongInterface n asked x.interface))))
-        go true = (λ l. found n x e refl refl, λ id among. inl among)
-        go false = tt
-
-    converts_object : (d : Converting U) (null : Bool) (asked : InterfaceId) (n : ℕ) (b : Bool)
-        → One d (with_object_argument d (cond b (cond null (Ok (null_id a.client)) (Err wrong.NullObject)) (object_found a.client asked n (held d.objects.store n))))
-    converts_object d null asked n b = grind (arith, converts_found, held, found_none)
-
-    converts_new : (d : Converting U) (n : ℕ) (child : Option InterfaceId) → One d (with_new_argument a.client version d n child)
-    converts_new d n None = tt
-    converts_new d n (Some i) = grind (arith, is_valid_new, made_id, with_made, kinds_after, makes_object)
-
-    converts_one : (d : Converting U) (x : WireArgument) → One d (convert_one a.client version d x)
-    converts_one d x = grind (arith, converts_object, allows_null, eqb, converts_new, still)
-
-    -- what the arguments came to so far, and what they came to
-    abbrev SoFar : Objects (Kept U) → Converting U → List (Argument IdParts Token) → Type 0
-    SoFar o d args = Over o (argument_ids args) d.objects × ((id : HandedId IdParts) → IsAmong (created_ids d.created) id → IsAmong (argument_ids args) id)
-
-    abbrev Came : Objects (Kept U) → Outcome U → Type 0
-    Came o (Whole d args) = SoFar o d args
-    Came o (Wrong w objects) = Over o [] objects
-
-    goes_on : (o : Objects (Kept U)) (d : Converting U) (done : List (Argument IdParts Token)) (args : List WireArgument)
-        → ((next : Converting U) (more : List (Argument IdParts Token)) → SoFar o next more → Came o (convert a.client version next more args))
-        → (r : Converted U) → One d r → SoFar o d done
-        → Came o (going_on r d.objects (λ b next. convert a.client version next (done ++ b ∷ []) args))
-    goes_on o d done args rest (Ok next) (one, more) (moved, among) =
-        rest next.1 (done ++ next.0 ∷ []) (
-          λ l. subst (λ (ids : List (HandedId IdParts)). Move (place (with_objects c o) l) (handing ids) (place (with_objects c next.1.objects) l)) (sym (argument_ids_both done (next.0 ∷ [])))
-              (followed (moved l) (one l) refl),
-          λ id is. subst (λ (ids : List (HandedId IdParts)). IsAmong ids id) (sym (argument_ids_both done (next.0 ∷ [])))
-              (elim (more id is) [
-                | inl old ↦ among_first (argument_ids done) (argument_ids (next.0 ∷ [])) id (among id old)
-                | inr new ↦ among_later (argument_ids done) (argument_ids (next.0 ∷ [])) id new
-              ]),
-        )
-    goes_on o d done args rest (Err w) one (moved, among) = λ l. dropped (place (with_objects c o) l) (place (with_objects c d.objects) l) (argument_ids done) (moved l)
-
-    converts : (o : Objects (Kept U)) (d : Converting U) (done : List (Argument IdParts Token)) (args : List WireArgument) → SoFar o d done
-        → Came o (convert a.client version d done args)
-    converts o d done [] so = so
-    converts o d done (x ∷ args) so =
-        goes_on o d done args (λ next more so-far. converts o next more args so-far) (convert_one a.client version d x) (converts_one d x) so
+  makes_object : (c : Core U C) (version : ℕ) (o : Objects (Kept U)) (n : ℕ) (i : InterfaceId) → is_valid_new o n ≡ true
+      → Over c o (New (made_id a.client o n i) ∷ []) (with_made o n i version)
+  makes_object c version o n i valid l = moved (born n (made_object o i version) (valid_new o n valid).0 (valid_new o n valid).1 refl refl refl)
 
   -- ---- forms of a verdict
 
@@ -199,7 +194,7 @@ module _ {T U G C : Type 0} (kind : Kind) (sends : T → Queue → Result ℕ Io
       moves l =
           followed
           (dropped (place c l) (place made l) (New (made_id a.client (objects_in c) n callback_id) ∷ []) (makes_object c 1 (objects_in c) n callback_id valid l))
-          (went n x true (stored_here c.store n x n refl) refl (went_so l)) refl
+          (moved (went n x true (stored_here c.store n x n refl) refl (went_so l))) refl
         where
           went_so : (l : LinkState T) → place (synced a c n) l ≡ record (place made l) { store = (synced a c n).store; waiting = c.waiting ++ [] }
           went_so l = ap (λ (w : List (Happening U)). record (place (synced a c n) l) { waiting = w }) (sym (append-nil c.waiting))
@@ -219,13 +214,13 @@ module _ {T U G C : Type 0} (kind : Kind) (sends : T → Queue → Result ℕ Io
       moves l =
           followed
           (dropped (place c l) (place made l) (New (made_id a.client (objects_in c) n registry_id) ∷ []) (makes_object c 1 (objects_in c) n registry_id valid l))
-          (remembered n x (stored_here c.store n x n refl) refl refl refl) refl
+          (moved (remembered n x (stored_here c.store n x n refl) refl refl refl)) refl
 
   binds_comes : MayRead kind a.table a.client → (c : Core U C) (g version n : ℕ) (x : Object (KeptGlobal G)) → IsQuietCore c → is_valid_new (objects_in c) n ≡ true → Come c (binds a c g version n x)
   binds_comes may c g version n x calm valid =
       hands_out_comes c made (opened.Bind id) h
       (lands_at kind sends receives a.client c (Acted h ∷ []) (record made { action = Some (opened.Bind id) }) calm refl
-      (λ l. followed (makes_object c version (objects_in c) n x.interface valid l) (opens (opened.Bind id) h may.reads refl refl refl) refl))
+      (λ l. followed (makes_object c version (objects_in c) n x.interface valid l) (moved (opens (opened.Bind id) h may.reads refl refl refl)) refl))
     where
       id : IdParts
       id = made_id a.client (objects_in c) n x.interface
@@ -242,14 +237,14 @@ module _ {T U G C : Type 0} (kind : Kind) (sends : T → Queue → Result ℕ Io
       (other : eqb receiver.interface.0 registry_id.0 ≡ false) (may : MayRead kind a.table a.client) where
     -- the action is opened, its sender's id is made, and then those of its arguments
     hands_out_converted : (d : Converting U) (args : List (Argument IdParts Token))
-        → ((e : Core U C) → SoFar e receiver.version (objects_in c) d args)
+        → ((e : Core U C) → SoFar (Over e (objects_in c)) d args)
         → Come c (converted a c m receiver row (Whole d args))
     hands_out_converted d args so =
         hands_out_comes c (with_objects c d.objects) action h
         (lands_at kind sends receives a.client c (Acted h ∷ []) (record (with_objects c d.objects) { action = Some action }) calm refl
         (λ l. handed_out (all_action_ids (h ∷ []))
-        (followed (opens {p = place c l} {q = place opening l} action h may.reads ((receiver, holds, refl, other), refl, refl, refl) refl refl)
-        (followed (found {p = place opening l} {q = place opening l} m.sender receiver holds refl refl) ((so opening).0 l) refl) refl)
+        (followed (moved {p = place c l} {q = place opening l} (opens action h may.reads ((receiver, holds, refl, other), refl, refl, refl) refl refl))
+        (followed (moved {p = place opening l} {q = place opening l} (found m.sender receiver holds refl refl)) ((so opening).0 l) refl) refl)
         all_among refl))
       where
         id : IdParts
@@ -272,11 +267,12 @@ module _ {T U G C : Type 0} (kind : Kind) (sends : T → Queue → Result ℕ Io
               | inl (inr more) ↦ inr (elim (among_both (argument_ids args) (created_ids d.created) i more) [ inl old ↦ old | inr new ↦ (so c).1 i new ])
             ]
 
-    converted_comes : (outcome : Outcome U) → ((e : Core U C) → Came e receiver.version (objects_in c) outcome)
+    converted_comes : (outcome : Outcome U) → ((e : Core U C) → Came (Over e (objects_in c)) outcome)
         → Come c (converted a c m receiver row outcome)
     converted_comes (Wrong w objects) came =
         breaks_comes may c (with_objects c objects) 0 (fault_text a.table receiver.interface row w)
-        (lands_at kind sends receives a.client c [] (with_objects c objects) calm refl (came c))
+        (lands_at kind sends receives a.client c [] (with_objects c objects) calm refl
+        (λ l. dropped (place c l) (place (with_objects c objects) l) (came c).0 ((came c).1 l)))
     converted_comes (Whole d args) came = hands_out_converted d args came
 
     other_comes : Come c (other_request a c m receiver row)
@@ -288,7 +284,9 @@ module _ {T U G C : Type 0} (kind : Kind) (sends : T → Queue → Result ℕ Io
         go true = breaks_here may c 1 _ calm
         go false =
             converted_comes (convert a.client receiver.version (start (objects_in c) row) [] m.args)
-            (λ e. converts e receiver.version (objects_in c) (start (objects_in c) row) [] m.args (still e receiver.version (objects_in c), λ id among. among))
+            (λ e. converts a.client receiver.version (Over e (objects_in c)) (λ ids o n i valid so l. followed (so l) (makes_object e receiver.version o n i valid l) refl)
+            (λ ids o n x there so l. followed (so l) (moved (found n x there refl refl)) refl) (λ ids o so l. followed (so l) (moved (found_none refl refl)) refl)
+            (start (objects_in c) row) [] m.args (λ l. stayed refl refl, λ id among. among))
 
   -- ---- a message
 

@@ -1,5 +1,5 @@
 -- That a verdict that is carried out is a chain of base moves.
-use Rattle.std.proofs.Common.{◌≡◌, ◌⊎◌, ℕ, Bool, true, false, List, [], ◌∷◌, ◌++◌, map, Option, None, Some, Result, Ok, Err, refl, sym, ap, subst, ◌∙◌, append-nil, append_assoc, true≢false, arith}
+use Rattle.std.proofs.Common.{◌≡◌, ◌⊎◌, ℕ, Bool, true, false, List, [], ◌++◌, map, None, Some, Result, Ok, Err, refl, sym, ap, subst, ◌∙◌, append-nil, append_assoc, true≢false, arith}
 use mathlib.Core.Logic.{inl, inr}
 use Rattle.std.specs.Prelude.{if◌then◌else◌}
 use Rattle.wl_wire.specs.declared.error.IoFault.{IoFault}
@@ -7,13 +7,10 @@ use Rattle.wl_wire.specs.declared.error.IoFault.TheVariants as fault
 use Rattle.wl_link.specs.Exchange.{Queue, Sending}
 use Rattle.wl_link.specs.Link.{LinkState}
 use Rattle.wl_link.specs.Puts.{FlushesOut, Said}
-use Rattle.wl_link.specs.Reader.{CarriesOut, Given, Reader, Verdict, came_to}
-use Rattle.wl_link.specs.Reader.{ReaderState}
+use Rattle.wl_link.specs.Reader.{ReaderState, CarriesOut, Given, Reader, Verdict, came_to}
 use Rattle.wl_server.specs.declared.notes.DisconnectReason.{DisconnectReason}
-use Rattle.wl_server.specs.declared.notes.DisconnectReason.TheVariants.{ConnectionClosed}
 use Rattle.wl_server.specs.declared.notes.Happening.{Happening}
-use Rattle.wl_server.specs.declared.notes.Happening.TheVariants.{Disconnected}
-use Rattle.wl_server.proofs.OverRuns.Moves.BaseMoves.{Doings, Kind, Moves, ended, end_notes, flushed, followed, joined, nothing_done, noting, putting, sending, stayed, told}
+use Rattle.wl_server.proofs.OverRuns.Moves.BaseMoves.{Doings, Kind, Moves, ended, end_notes, flushed, followed, joined, moved, nothing_done, noting, putting, sending, stayed, told}
 use Rattle.wl_server.specs.Deeds.{Deed, Put, notes_in}
 use Rattle.wl_server.proofs.OverRuns.Moves.DoingsLaws.{IsQuiet, deeds_given, doings_in, joined_assoc, joined_none, told_deeds, verdict_done}
 use Rattle.wl_server.specs.Ids.{ClientParts}
@@ -55,7 +52,7 @@ module _ {T U C : Type 0} (kind : Kind) (sends : T → Queue → Result ℕ IoFa
   pub ends_killed : (c : Core U C) (reason : DisconnectReason) → kind.kills reason → IsCalm c → Ends c (killed c reason)
   ends_killed c reason may calm = record {
     notes = end_notes c.is_killed reason;
-    moves = λ l. ended reason may refl refl;
+    moves = λ l. moved (ended reason may refl refl);
     so = go c.is_killed refl;
     calm = λ live. absurd (true≢false live);
     store = refl;
@@ -63,8 +60,7 @@ module _ {T U C : Type 0} (kind : Kind) (sends : T → Queue → Result ℕ IoFa
     where
       go : (b : Bool) → c.is_killed ≡ b
           → notes_in (end_deeds {U = U} (if b then c.ended else Some reason)) ≡ notes_at_end c ++ end_notes b reason
-      go true is = sym (append-nil (notes_at_end c))
-      go false is = ap (λ (o : Option DisconnectReason). notes_in (end_deeds {U = U} o) ++ Disconnected reason ∷ []) (sym (calm is))
+      go h1 is = grind (arith, append-nil, notes_at_end, notes_in, end_deeds)
 
   ends_then : (a b c : Core U C) → Ends a b → Ends b c → Ends a c
   ends_then a b c first second = record {
@@ -122,27 +118,14 @@ module _ {T U C : Type 0} (kind : Kind) (sends : T → Queue → Result ℕ IoFa
     landed_by e ends = grind (arith, lands_then)
 
     last_of : (e : Core U C) → Ends v.core e → Ends v.core (v.last e)
-    last_of e ends =
-        elim comes.last [
-          | inl is ↦ subst (λ (f : Core U C → Core U C). Ends v.core (f e)) (sym is) ends
-          | inr (reason, may, is) ↦
-              subst (λ (f : Core U C → Core U C). Ends v.core (f e)) (sym is) (ends_then v.core e (killed e reason) ends (ends_killed e reason may ends.calm))
-        ]
+    last_of e ends = grind (arith, ends_then, killed, ends_killed)
 
     starved_at : Landed c v v.starved
-    starved_at =
-        elim comes.starved [
-          | inl is ↦ subst (λ (e : Core U C). Landed c v e) (sym is) (landed_by (closed_down v.core) (ends_killed v.core ConnectionClosed kind.closes comes.lands.calm))
-          | inr (is, none) ↦
-              subst (λ (e : Core U C). Landed c v e) (sym is) (record { made = []; lands = lands_not c calm; events = none; quiet = (refl, refl) })
-        ]
+    starved_at = grind (arith, landed_by, closed_down, ends_killed, lands_not)
 
     module _ (reader : Reader (Core U C) (Told U) (Finish U)) (breaks : (d : Core U C) (f : IoFault) → reader.broken d f ≡ closed_down d) where
       broken_at : (f : IoFault) → Landed c v (v.last (reader.broken v.core f))
-      broken_at f =
-          landed_by (v.last (reader.broken v.core f))
-          (last_of (reader.broken v.core f)
-          (subst (λ (e : Core U C). Ends v.core e) (sym (breaks v.core f)) (ends_killed v.core ConnectionClosed kind.closes comes.lands.calm)))
+      broken_at f = grind (arith, landed_by, last_of, ends_killed)
 
       landed : (wrote : Result (Unit {0}) IoFault) → Landed c v (came_to reader v wrote)
       landed (Ok u) = landed_by (v.last v.core) (last_of v.core (ends_not v.core comes.lands.calm))
@@ -167,7 +150,7 @@ module _ {T U C : Type 0} (kind : Kind) (sends : T → Queue → Result ℕ IoFa
 
   flushes : (c : Core U C) (b : Bool) (before after : LinkState T) (es : List Sending) (lacked : Bool) → FlushesOut sends b before es lacked after
       → Go (at c before) (sending es) (at c after)
-  flushes c true before after es lacked (answer, by, is) = flushed es answer after by refl refl
+  flushes c true before after es lacked (answer, by, is) = moved (flushed es answer after by refl refl)
   flushes c false before after es lacked (none, same, is) = stayed (ap (λ (l : List Sending). sending {U = U} l) none) (ap (at c) same)
 
   module _ (reader : Reader (Core U C) (Told U) (Finish U)) (breaks : (d : Core U C) (f : IoFault) → reader.broken d f ≡ closed_down d) where
@@ -177,7 +160,7 @@ module _ {T U C : Type 0} (kind : Kind) (sends : T → Queue → Result ℕ IoFa
         let land = landed c v comes calm reader breaks wrote in
         let end : Part T U C = at (came_to reader v wrote) after.link in
         let spoken : Go (at c link) (putting es put) (at c after.link) =
-        followed (told v.puts first put wrote mid puts refl refl) (flushes c v.flushes mid after.link others lacked flushed_so)
+        followed (moved (told v.puts first put wrote mid puts refl refl)) (flushes c v.flushes mid after.link others lacked flushed_so)
         (ap (λ (l : List Sending). putting {U = U} l put) sent ∙ ap (λ (l : List Said). putting {U = U} (first ++ others) l) (sym (append-nil put))) in
         record {
           put = put;
@@ -196,9 +179,7 @@ module _ {T U C : Type 0} (kind : Kind) (sends : T → Queue → Result ℕ IoFa
           put = [];
           made = land.made;
           notes = land.lands.notes;
-          moves = subst (λ (e : ReaderState T (Core U C)). Go (at c link) (joined (putting es []) (joined (doings_in land.made) (noting land.lands.notes))) (part_of e)) (sym same)
-              (subst (λ (l : List Sending). Go (at c link) (joined (putting l []) (joined (doings_in land.made) (noting land.lands.notes))) (at v.starved link)) (sym none)
-              (land.lands.moves link));
+          moves = grind (arith, at, joined, putting, doings_in, noting, part_of);
           deeds = ap deeds_in given ∙ land.events;
           so = ap (λ (e : ReaderState T (Core U C)). notes_at_end e.core) same ∙ land.lands.so;
           calm = subst (λ (e : ReaderState T (Core U C)). IsCalm e.core) (sym same) land.lands.calm;
@@ -215,8 +196,4 @@ module _ {T U C : Type 0} (kind : Kind) (sends : T → Queue → Result ℕ IoFa
       → Tells sends v p.link refused did after → Go p (doings_in did) after
   tells_moves p v refused did after comes (es, gave, end, by, is, same) =
       let c = carried speaker (λ d f. refl) (core_of p) v comes (calm_core p) p.link es gave refused end by in
-      subst (λ (q : Part T U C). Go p (doings_in did) q) (sym same)
-      (same_doings p (part_of end) (joined (putting es c.put) (joined (doings_in c.made) (noting c.notes))) (doings_in did)
-      (ap doings_in is ∙ verdict_done es c.put c.made gave end.core c.deeds
-      ∙ ap (λ (n : List (Happening U)). joined (putting es c.put) (joined (doings_in c.made) (noting n))) c.so)
-      c.moves)
+      grind (arith, doings_in, same_doings, part_of, joined, putting, noting, verdict_done)

@@ -8,10 +8,9 @@ use Rattle.wl_wire.specs.declared.error.ProtocolError.{ProtocolError}
 use Rattle.wl_wire.specs.Table.{InterfaceRow}
 use Rattle.wl_link.specs.declared.object.Object.{Object}
 use Rattle.wl_link.specs.Exchange.{Queue}
-use Rattle.wl_server.specs.declared.notes.DisconnectReason.{DisconnectReason}
 use Rattle.wl_server.specs.declared.notes.DisconnectReason.TheVariants.{ConnectionClosed, ProtocolError as BrokeProtocol}
 use Rattle.wl_server.specs.declared.notes.Happening.{Happening}
-use Rattle.wl_server.specs.declared.notes.Happening.TheVariants.{Destroyed, Disconnected, Initialized}
+use Rattle.wl_server.specs.declared.notes.Happening.TheVariants.{Disconnected, Initialized}
 use Rattle.wl_server.specs.declared.objects.Kept.{Kept}
 use Rattle.wl_server.specs.Deeds.{Deed}
 use Rattle.wl_server.specs.Globals.{Offer}
@@ -23,7 +22,7 @@ use Rattle.wl_server.specs.PartStep.{Call, PartCall, World}
 use Rattle.wl_server.specs.Runs.{Leads}
 use Rattle.wl_server.specs.Server.{Seen, ServerState, new_server, seen}
 use Rattle.wl_server.specs.Steps.{Entry, OneStep}
-use Rattle.wl_server.proofs.OverRuns.Moves.BaseMoves.{Doings, Goes, Kind, Moves, born, cleaned, end_notes, ended, finished, flushed, followed, found, found_none, handed_out, left_by, notes_taken, opens, received, relinked, remembered, stayed, taken_out, told, unfelt, went, within, wrote}
+use Rattle.wl_server.proofs.OverRuns.Moves.BaseMoves.{Doings, Goes, Kind, Moves, born, cleaned, ended, finished, flushed, followed, found, found_none, handed_out, left_by, notes_taken, moved, opens, received, relinked, remembered, stayed, taken_out, told, unfelt, went, within, wrote}
 use Rattle.wl_server.proofs.OverRuns.Moves.BaseMovesLaw.{any_moves}
 
 -- ---- what notes tell
@@ -50,15 +49,10 @@ module _ {U : Type 0} (P : ProtocolError → Type 0) where
   tell_one h is e among = elim (Contains-push_cases [] h (Disconnected (BrokeProtocol e)) among) [ inl never ↦ tell_none e never | inr same ↦ is e same ]
 
   tell_object : (o : IdParts) (u : Option U) → Tell (end_note o u)
-  tell_object o None = tell_none
-  tell_object o (Some u) = tell_one (Destroyed o u) (λ e is. absurd cc)
+  tell_object o h2 = grind (arith, tell_none, tell_one)
 
   notes_of : (d e : Doings U) → d ≡ e → d.notes ≡ e.notes
   notes_of d e is = ap (λ (x : Doings U). x.notes) is
-
-  end_tells : (b : Bool) (reason : DisconnectReason) → ((e : ProtocolError) → reason ≡ BrokeProtocol e → P e) → Tell (end_notes {U = U} b reason)
-  end_tells true reason may = tell_none
-  end_tells false reason may = tell_one (Disconnected reason) (λ e is. may e cc)
 
 -- ---- moves
 
@@ -85,8 +79,7 @@ module _ {T U C : Type 0} (P : ProtocolError → Type 0) (sends : T → Queue �
     subst (Tell P) (sym none) (tell_none P),
     subst (λ (y : Part T U C). Tell P y.waiting) (sym same) (tell_both P p.waiting (note_of_end client n x) tell (tell_object P (id_at client n x) x.value.user_data)),
   )
-  leaves false p q d n x noted same tell =
-      (subst (Tell P) (sym noted) (tell_object P (id_at client n x) x.value.user_data), subst (λ (y : Part T U C). Tell P y.waiting) (sym same) tell)
+  leaves false p q d n x noted same tell = grind (arith, tell_object, id_at)
 
   moves_keep : (p q : Part T U C) (d : Doings U) → Moves (killing P) sends receives client p d q → Keep p d q
   moves_keep p q d (stayed is same) = quiet p q p d (notes_of P d _ is) same refl
@@ -94,24 +87,21 @@ module _ {T U C : Type 0} (P : ProtocolError → Type 0) (sends : T → Queue �
       let (noted, waits) = moves_keep p m a first tell in
       let (noted', waits') = moves_keep m q b second waits in
       (subst (Tell P) (sym (notes_of P d _ is)) (tell_both P a.notes b.notes noted noted'), waits')
-  moves_keep p q d (handed_out {a = a} ids moves among is) = λ tell.
-      let (noted, waits) = moves_keep p q a moves tell in (subst (Tell P) (sym (notes_of P d _ is)) noted, waits)
-  moves_keep p q d (relinked link waits stays unread is same) = quiet p q _ d (notes_of P d _ is) same refl
-  moves_keep p q d (received r answer link reads filled is same) = quiet p q _ d (notes_of P d _ is) same refl
-  moves_keep p q d (told messages es put answer link puts is same) = quiet p q _ d (notes_of P d _ is) same refl
-  moves_keep p q d (flushed es answer link by is same) = quiet p q _ d (notes_of P d _ is) same refl
-  moves_keep p q d (ended reason may is same) = λ tell.
-      (subst (Tell P) (sym (notes_of P d _ is)) (end_tells P p.is_killed reason may), subst (λ (y : Part T U C). Tell P y.waiting) (sym same) tell)
-  moves_keep p q d (born n x free ne serial is same) = quiet p q _ d (notes_of P d _ is) same refl
-  moves_keep p q d (found n x holds is same) = quiet p q p d (notes_of P d _ is) same refl
-  moves_keep p q d (found_none is same) = quiet p q p d (notes_of P d _ is) same refl
-  moves_keep p q d (wrote n x u holds is same) = quiet p q _ d (notes_of P d _ is) same refl
-  moves_keep p q d (went n x waits holds is same) = leaves waits p q d n x (notes_of P d _ is) same
-  moves_keep p q d (remembered n x holds registry is same) = quiet p q _ d (notes_of P d _ is) same refl
-  moves_keep p q d (opens action h acts so is same) = quiet p q _ d (notes_of P d _ is) same refl
-  moves_keep p q d (finished may is same) = quiet p q _ d (notes_of P d _ is) same refl
-  moves_keep p q d (cleaned on is same) = λ tell.
-      (subst (Tell P) (sym (notes_of P d _ is)) tell, subst (λ (y : Part T U C). Tell P y.waiting) (sym same) (tell_none P))
+  moves_keep p q d (handed_out {a = a} ids moves among is) = grind (arith, notes_of, moves_keep p q a moves)
+  moves_keep p q d (moved (relinked link waits stays unread is same)) = quiet p q _ d (notes_of P d _ is) same refl
+  moves_keep p q d (moved (received r answer link reads filled is same)) = quiet p q _ d (notes_of P d _ is) same refl
+  moves_keep p q d (moved (told messages es put answer link puts is same)) = quiet p q _ d (notes_of P d _ is) same refl
+  moves_keep p q d (moved (flushed es answer link by is same)) = quiet p q _ d (notes_of P d _ is) same refl
+  moves_keep p q d (moved (ended reason may is same)) = grind (arith, notes_of, tell_none, tell_one)
+  moves_keep p q d (moved (born n x free ne serial is same)) = quiet p q _ d (notes_of P d _ is) same refl
+  moves_keep p q d (moved (found n x holds is same)) = quiet p q p d (notes_of P d _ is) same refl
+  moves_keep p q d (moved (found_none is same)) = quiet p q p d (notes_of P d _ is) same refl
+  moves_keep p q d (moved (wrote n x u holds is same)) = quiet p q _ d (notes_of P d _ is) same refl
+  moves_keep p q d (moved (went n x waits holds is same)) = leaves waits p q d n x (notes_of P d _ is) same
+  moves_keep p q d (moved (remembered n x holds registry is same)) = quiet p q _ d (notes_of P d _ is) same refl
+  moves_keep p q d (moved (opens action h acts so is same)) = quiet p q _ d (notes_of P d _ is) same refl
+  moves_keep p q d (moved (finished may is same)) = quiet p q _ d (notes_of P d _ is) same refl
+  moves_keep p q d (moved (cleaned on is same)) = grind (arith, notes_of, tell_none)
 
   -- ---- what is held of a client
 
@@ -140,13 +130,7 @@ module _ {T U G C : Type 0} (w : World T G C) where
   call_held : (id : ClientParts) (offer : Offer G) (P : ProtocolError → Type 0) (call : Call T U G C) (s : Seen T U C) (lacked : Bool) (did : List (Deed U)) (t : Seen T U C)
       → ((e : ProtocolError) → MayKillFor offer.table id call e → P e) → PartCall w id offer call s lacked did t → Held P w.sends w.receives id s → Held P w.sends w.receives id t
   call_held id offer P call s lacked did t may h held =
-      elim (any_moves (killing P) w id offer call s lacked did t (record {
-        kills = λ e for f is. killed_for P e f is (may e for);
-        gathers = λ is. refl;
-        hands = λ is. refl;
-        reads = λ is. refl;
-        finishes = λ is. refl;
-      }) h) [
+      elim (any_moves (killing P) w id offer call s lacked did t (grind (arith, killed_for)) h) [
         | inl (ids, goes) ↦ goes_held P w.sends w.receives id s t _ held goes
         | inr (p, none, empty, did_so, same) ↦
             subst (Held P w.sends w.receives id) (sym same)
@@ -164,15 +148,7 @@ module _ {T U G C : Type 0} (w : World T G C) where
   over_run : (before after : ServerState T U G C) (run : List (Entry T U G C)) → Leads w before run after → (id : ClientParts) (error : ProtocolError)
       → TellsError (seen id after) error → TellsError (seen id before) error ⊎ MayHaveKilledFor before.offer id run error
   over_run before after [] leads id error tell = inl (subst (λ (s : ServerState T U G C). TellsError (seen id s) error) leads tell)
-  over_run before after (e ∷ run) (mid, by, leads) id error tell =
-      elim (over_run mid after run leads id error tell) [
-        | inr later ↦ inr (inr (subst (λ (o : Offer G). MayHaveKilledFor o id run error) by.offer later))
-        | inl then ↦
-            elim (each_call_causes before mid e by id error then) [
-              | inl was ↦ inl was
-              | inr may ↦ inr (inl may)
-            ]
-      ]
+  over_run before after (e ∷ run) (mid, by, leads) id error tell = grind (arith, each_call_causes, over_run mid after run leads id error tell)
 
   pub each_error_is_caused : (table : List InterfaceRow) (run : List (Entry T U G C)) (after : ServerState T U G C) → Leads w (new_server table) run after
       → EachErrorIsCaused table run after

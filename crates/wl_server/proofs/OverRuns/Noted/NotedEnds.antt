@@ -1,5 +1,5 @@
 -- That each note of a destroyed object is of one that left, and that the end of a request notes at once what leaves by it.
-use Rattle.std.proofs.Common.{◌≡◌, ℕ, Bool, true, false, List, [], ◌∷◌, ◌++◌, map, Option, None, Some, Result, is_some, refl, sym, ap, subst, ◌∙◌, arith}
+use Rattle.std.proofs.Common.{◌≡◌, ℕ, Bool, true, false, List, [], ◌∷◌, ◌++◌, map, Option, Some, Result, is_some, refl, sym, ap, subst, ◌∙◌, arith}
 use mathlib.Core.Logic.{inl, inr}
 use Rattle.std.specs.Prelude.{◌⊎◌, Contains}
 use Rattle.std.proofs.lemmas.Bool.{false≢true}
@@ -10,7 +10,6 @@ use Rattle.wl_wire.specs.Table.{InterfaceRow}
 use Rattle.wl_link.specs.declared.object.Object.{Object}
 use Rattle.wl_link.proofs.Calls.Branches.{either_option}
 use Rattle.wl_link.specs.Exchange.{Queue, Sending}
-use Rattle.wl_link.specs.Identity.{Id}
 use Rattle.wl_link.specs.Puts.{Said}
 use Rattle.wl_link.specs.Reader.{Given, Verdict, came_to}
 use Rattle.wl_server.specs.declared.error.FinishRefused.{FinishRefused}
@@ -19,19 +18,19 @@ use Rattle.wl_server.specs.declared.notes.Happening.{Happening}
 use Rattle.wl_server.specs.declared.notes.Happening.TheVariants.{Destroyed, Disconnected, Initialized}
 use Rattle.wl_server.specs.declared.objects.Kept.{Kept}
 use Rattle.wl_server.specs.declared.reading.action.OpenAction.TheVariants as opened
-use Rattle.wl_server.specs.Deeds.{Deed, Noted, Put, Sent, left_if, left_in, notes_in, taken_in}
+use Rattle.wl_server.specs.Deeds.{Deed, Put, Sent, left_if, left_in, notes_in, taken_in}
 use Rattle.wl_server.specs.Finish.{FinishesRequest, ended_by, ending, ends, refusal}
 use Rattle.wl_server.specs.Globals.{Offer, new_offer}
 use Rattle.wl_server.specs.Identified.{waiting_of}
 use Rattle.wl_server.specs.Ids.{ClientParts, IdParts, same_client}
 use Rattle.wl_server.specs.NotedEnds.{EachNoteIsOfAnEnd, EndIsNotedAtOnce}
 use Rattle.wl_server.specs.NotedOnce.{destroyed_in}
-use Rattle.wl_server.specs.Part.{Part, end_note, id_at, id_of, named, note_of_end}
-use Rattle.wl_server.specs.PartStep.{OfClient, PartCall, World}
+use Rattle.wl_server.specs.Part.{Part, id_of, named, note_of_end}
+use Rattle.wl_server.specs.PartStep.{World}
 use Rattle.wl_server.specs.Runs.{Leads, history, mine, offer_over}
-use Rattle.wl_server.specs.Server.{Seen, ServerState, new_server, seen}
+use Rattle.wl_server.specs.Server.{ServerState, new_server, seen}
 use Rattle.wl_server.specs.Steps.{Entry}
-use Rattle.wl_server.specs.Telling.{Core, Did, Tells, Told, core_of, deeds_in, end_deeds, speaker}
+use Rattle.wl_server.specs.Telling.{Core, Tells, Told, core_of, deeds_in, end_deeds, speaker}
 use Rattle.wl_server.proofs.OverRuns.Alone.IsolationLaw.{is_isolated}
 use Rattle.wl_server.proofs.OverRuns.Alone.OwnRuns.{are_mine}
 use Rattle.wl_server.proofs.OverRuns.Ids.IdentityLaws.{own_ids}
@@ -62,16 +61,8 @@ module _ {U : Type 0} where
 
   destroyed_among : (notes : List (Happening U)) (o : IdParts) (u : U) → Contains notes (Destroyed o u) → Contains (destroyed_in notes) (id_of o)
   destroyed_among [] o u (k, below, is) = absurd (omega (arith, below))
-  destroyed_among (Initialized ∷ notes) o u among =
-      elim (in_cons (Destroyed o u) Initialized notes among) [
-        | inl is ↦ absurd (false≢true (ap is_destroyed is))
-        | inr behind ↦ destroyed_among notes o u behind
-      ]
-  destroyed_among (Disconnected reason ∷ notes) o u among =
-      elim (in_cons (Destroyed o u) (Disconnected reason) notes among) [
-        | inl is ↦ absurd (false≢true (ap is_destroyed is))
-        | inr behind ↦ destroyed_among notes o u behind
-      ]
+  destroyed_among (Initialized ∷ notes) o u among = grind (arith, in_cons, false≢true, is_destroyed, destroyed_among notes o u)
+  destroyed_among (Disconnected reason ∷ notes) o u among = grind (arith, in_cons, false≢true, is_destroyed, destroyed_among notes o u)
   destroyed_among (Destroyed a v ∷ notes) o u among =
       elim (in_cons (Destroyed o u) (Destroyed a v) notes among) [
         | inl is ↦ subst (λ (i : IdParts). Contains (id_of a ∷ destroyed_in notes) (id_of i)) (ap (destroyed_id a) is) (at_front (id_of a) (destroyed_in notes))
@@ -106,9 +97,7 @@ module _ {U : Type 0} where
   same_both a b one two =
       let left : left_in (a ++ b) ≡ left_in a ++ left_in b = ap (λ (d : Doings U). d.left) (doings_in_both a b) in
       let notes : notes_in (a ++ b) ≡ notes_in a ++ notes_in b = ap (λ (d : Doings U). d.notes) (doings_in_both a b) in
-      left
-      ∙ (ap (λ (l : List Id). l ++ left_in b) one ∙ ap (λ (l : List Id). destroyed_in (notes_in a) ++ l) two)
-      ∙ sym (ap destroyed_in notes ∙ destroyed_both (notes_in a) (notes_in b))
+      grind (arith, left_in, destroyed_in, notes_in, destroyed_both)
 
 same_sends : (U : Type 0) (es : List Sending) → SameEnds {U = U} (map Sent es)
 same_sends U [] = refl
@@ -119,28 +108,20 @@ same_puts U [] = refl
 same_puts U (m ∷ put) = same_puts U put
 
 same_end : (U : Type 0) (o : Option DisconnectReason) → SameEnds {U = U} (end_deeds o)
-same_end U None = refl
-same_end U (Some reason) = refl
+same_end h1 h2 = grind (arith)
 
 module _ {U : Type 0} where
   same_deeds : (es : List Sending) (gave : List (Given (Told U))) (o : Option DisconnectReason) → SameEnds (deeds_in gave)
       → SameEnds (map Sent es ++ (deeds_in gave ++ end_deeds o))
   same_deeds es gave o same = same_both (map Sent es) (deeds_in gave ++ end_deeds o) (same_sends U es) (same_both (deeds_in gave) (end_deeds o) same (same_end U o))
 
-  -- the note of the object that an id names is of that id
-  same_object : (client : ClientParts) (id : IdParts) (x : Object (Kept U)) (u : Option U) → x.value.serial ≡ id.serial
-      → SameEnds (told_deeds (map Did (map Noted (end_note (id_at client id.number x) u) ++ left_if (id_of id) u)))
-  same_object client id x None serial = refl
-  same_object client id x (Some u) serial = ap (λ (s : ℕ). let i : Id = record { number = id.number; serial = s } in i ∷ []) (sym serial)
-
   module _ {C : Type 0} where
     same_ending : (client : ClientParts) (id : IdParts) (x : Object (Kept U)) (c : Core U C) → x.value.serial ≡ id.serial → SameEnds (told_deeds (ending client id x c))
-    same_ending client id x c serial = grind (arith, is_some, named, told_deeds, note_of_end, left_if, id_of, same_object)
+    same_ending client id x c serial = grind (arith, is_some, named, told_deeds, note_of_end, left_if, id_of)
 
     same_events : (client : ClientParts) (c : Core U C) (id : IdParts) (o : Option (Object (Kept U))) (created : Option IdParts) (u : Option U)
         → ((x : Object (Kept U)) → o ≡ Some x → x.value.serial ≡ id.serial) → (d : Core U C) → SameEnds (told_deeds ((ends client c id o created u).events d))
-    same_events client c id None created u serial d = refl
-    same_events client c id (Some x) created u serial d = same_ending client id x d (serial x refl)
+    same_events client c id h4 created u serial d = grind (arith, same_ending)
 
 module _ {T U C : Type 0} (sends : T → Queue → Result ℕ IoFault → T → Type 0) where
   same_told : (p : Part T U C) (v : Verdict (Core U C) (Told U)) (lacked : Bool) (did : List (Deed U)) (q : Part T U C)
@@ -158,20 +139,11 @@ module _ {T U C : Type 0} (sends : T → Queue → Result ℕ IoFault → T → 
               | inr (e, why, (is, no_memory, nothing, same)) ↦ same_none did nothing
               | inl (none, (is, tells')) ↦
                   same_told p (ends client (core_of p) sender (ended_by p.store sender b) created u) lacked did q
-                  (same_events client (core_of p) sender (ended_by p.store sender b) created u
-                  (λ x some. named_serial p.store sender x (ended_named p.store sender b x some)))
+                  (grind (arith, same_events, core_of, ended_by, named_serial, ended_named))
                   tells'
             ]
       ]
 
-module _ {T U C : Type 0} where
-  part_same : (b : Bool) (s : Seen T U C) (R : Part T U C → Part T U C → Type 0) (missing : Type 0) (lacked : Bool) (did : List (Deed U)) (t : Seen T U C)
-      → ((p q : Part T U C) → R p q → SameEnds did) → OfClient b s R missing lacked did t → SameEnds did
-  part_same b s R missing lacked did t h1 h2 = grind (arith, same_none, either_option)
-
 module _ {T U G C : Type 0} (w : World T G C) where
   pub end_is_noted_at_once : EndIsNotedAtOnce U w
-  end_is_noted_at_once before after e target u answer by call id =
-      let (r, is, h) = subst (λ c. PartCall w id before.offer c (seen id before) (e.lacks id) (e.did id) (seen id after)) call (by.each id) in
-      part_same (same_client target id) (seen id before) _ _ (e.lacks id) (e.did id) (seen id after)
-      (λ p q f. finish_same w.sends id p u r (e.lacks id) (e.did id) q f) h
+  end_is_noted_at_once before after e target u answer by call id = grind (arith, seen, same_none, either_option, same_client, finish_same)

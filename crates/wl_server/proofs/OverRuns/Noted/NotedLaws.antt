@@ -12,7 +12,7 @@ use Rattle.wl_server.specs.declared.objects.Kept.{Kept}
 use Rattle.wl_server.specs.declared.notes.DisconnectReason.{DisconnectReason}
 use Rattle.wl_server.specs.declared.notes.Happening.{Happening}
 use Rattle.wl_server.specs.declared.notes.Happening.TheVariants.{Destroyed, Disconnected, Initialized}
-use Rattle.wl_server.proofs.OverRuns.Moves.BaseMoves.{Doings, Goes, Moves, any, born, cleaned, finished, doings_of, end_notes, ended, flushed, followed, found, found_none, handed_by, handed_out, joined, left_id, notes_taken, opens, received, relinked, remembered, stayed, taken_out, told, unfelt, went, within, wrote}
+use Rattle.wl_server.proofs.OverRuns.Moves.BaseMoves.{Doings, Goes, Moves, any, born, cleaned, finished, doings_of, end_notes, ended, flushed, followed, found, found_none, handed_by, handed_out, joined, left_id, notes_taken, moved, opens, received, relinked, remembered, stayed, taken_out, told, unfelt, went, within, wrote}
 use Rattle.wl_server.proofs.OverRuns.Moves.BaseMovesLaw.{call_goes}
 use Rattle.wl_server.proofs.OverRuns.Ids.ChangeLaws.{moves_take}
 use Rattle.wl_server.specs.Deeds.{left_in, taken_in}
@@ -32,13 +32,8 @@ use Rattle.wl_server.specs.Steps.{Entry, offer_after}
 
 -- ---- lists of notes
 
-destroyed_end : (U : Type 0) (b : Bool) (reason : DisconnectReason) → destroyed_in {U = U} (end_notes b reason) ≡ []
-destroyed_end U true reason = refl
-destroyed_end U false reason = refl
-
 ends_end : (U : Type 0) (b : Bool) (reason : DisconnectReason) → ends_in {U = U} (end_notes b reason) + one_if b ≡ 1
-ends_end U true reason = refl
-ends_end U false reason = refl
+ends_end h1 h2 reason = grind (arith)
 
 module _ {U : Type 0} where
   pub destroyed_both : (a b : List (Happening U)) → destroyed_in (a ++ b) ≡ destroyed_in a ++ destroyed_in b
@@ -55,12 +50,10 @@ module _ {U : Type 0} where
 
   -- the note of an object is of that, if it had user data, and tells of no end
   destroyed_note : (o : IdParts) (u : Option U) → destroyed_in (end_note o u) ≡ left_id (id_of o) u
-  destroyed_note o None = refl
-  destroyed_note o (Some u) = refl
+  destroyed_note o h2 = grind (arith)
 
   ends_note : (o : IdParts) (u : Option U) → ends_in (end_note o u) ≡ 0
-  ends_note o None = refl
-  ends_note o (Some u) = refl
+  ends_note o h2 = grind (arith)
 
 same_permuted : {A : Type 0} (xs ys : List A) → ys ≡ xs → IsPermutation xs ys
 same_permuted xs ys same = subst (λ (l : List _). IsPermutation xs l) (sym same) (IsPermutation-refl xs)
@@ -101,10 +94,7 @@ module _ {T U C : Type 0} (sends : T → Queue → Result ℕ IoFault → T → 
             (left ∙ sym (destroyed_note (id_at client n x) x.value.user_data) ∙ ap destroyed_in (sym notes))
             (subst (λ (l : List (Happening U)). IsPermutation (destroyed_in p.waiting ++ d.left) (d.left ++ destroyed_in l)) (sym waits)
             (IsPermutation-append_comm (destroyed_in p.waiting) d.left));
-        ends = (
-            let nobody : ends_in d.notes ≡ 0 = ap ends_in notes ∙ ends_note (id_at client n x) x.value.user_data in
-            let still : one_if q.is_killed ≡ one_if p.is_killed = ap one_if killed in omega (arith, nobody, still)
-            );
+        ends = grind (arith, ends_in, ends_note, id_at, one_if);
         none = ap ends_in waits ∙ none;
       }
 
@@ -113,25 +103,23 @@ module _ {T U C : Type 0} (sends : T → Queue → Result ℕ IoFault → T → 
   moves_note p q d none (followed {m = m} {a = a} {b = b} first second is) =
       let one = moves_note p m a none first in
       subst (λ (x : Doings U). Noting p x q) (sym is) (noting_then p m q a b one (moves_note m q b one.none second))
-  moves_note p q d none (handed_out {a = a} ids moves among is) =
-      let one = moves_note p q a none moves in
-      subst (λ (x : Doings U). Noting p x q) (sym is) (record { objects = one.objects; ends = one.ends; none = one.none })
-  moves_note p q d none (relinked link waits stays unread is same) = quiet p q (record p { link = link }) d _ none is same refl refl refl refl
-  moves_note p q d none (received r answer link reads filled is same) = quiet p q (record p { link = link }) d _ none is same refl refl refl refl
-  moves_note p q d none (told messages es put answer link puts is same) = quiet p q (record p { link = link }) d _ none is same refl refl refl refl
-  moves_note p q d none (flushed es answer link by is same) = quiet p q (record p { link = link }) d _ none is same refl refl refl refl
-  moves_note p q d none (ended reason may is same) = grind (arith, same_permuted, destroyed_in, destroyed_end, append-nil, ends_in, one_if, ends_end)
-  moves_note p q d none (born n x free ne serial is same) = quiet p q _ d _ none is same refl refl refl refl
-  moves_note p q d none (found n x holds is same) = quiet p q p d _ none is same refl refl refl refl
-  moves_note p q d none (found_none is same) = quiet p q p d _ none is same refl refl refl refl
-  moves_note p q d none (wrote n x u holds is same) = quiet p q _ d _ none is same refl refl refl refl
-  moves_note p q d none (went n x waits holds is same) =
+  moves_note p q d none (handed_out {a = a} ids moves among is) = grind (arith, moves_note p q a none moves)
+  moves_note p q d none (moved (relinked link waits stays unread is same)) = quiet p q (record p { link = link }) d _ none is same refl refl refl refl
+  moves_note p q d none (moved (received r answer link reads filled is same)) = quiet p q (record p { link = link }) d _ none is same refl refl refl refl
+  moves_note p q d none (moved (told messages es put answer link puts is same)) = quiet p q (record p { link = link }) d _ none is same refl refl refl refl
+  moves_note p q d none (moved (flushed es answer link by is same)) = quiet p q (record p { link = link }) d _ none is same refl refl refl refl
+  moves_note p q d none (moved (ended reason may is same)) = grind (arith, same_permuted, destroyed_in, append-nil, ends_in, one_if, ends_end)
+  moves_note p q d none (moved (born n x free ne serial is same)) = quiet p q _ d _ none is same refl refl refl refl
+  moves_note p q d none (moved (found n x holds is same)) = quiet p q p d _ none is same refl refl refl refl
+  moves_note p q d none (moved (found_none is same)) = quiet p q p d _ none is same refl refl refl refl
+  moves_note p q d none (moved (wrote n x u holds is same)) = quiet p q _ d _ none is same refl refl refl refl
+  moves_note p q d none (moved (went n x waits holds is same)) =
       went_noting p q d n x waits none (ap (λ (y : Doings U). y.left) is) (ap (λ (y : Doings U). y.notes) is) (ap (λ (y : Part T U C). y.waiting) same)
       (ap (λ (y : Part T U C). y.is_killed) same)
-  moves_note p q d none (remembered n x holds registry is same) = quiet p q _ d _ none is same refl refl refl refl
-  moves_note p q d none (opens action h acts so is same) = quiet p q _ d _ none is same refl refl refl refl
-  moves_note p q d none (finished may is same) = quiet p q _ d _ none is same refl refl refl refl
-  moves_note p q d none (cleaned on is same) = grind (arith, doings_of, destroyed_in)
+  moves_note p q d none (moved (remembered n x holds registry is same)) = quiet p q _ d _ none is same refl refl refl refl
+  moves_note p q d none (moved (opens action h acts so is same)) = quiet p q _ d _ none is same refl refl refl refl
+  moves_note p q d none (moved (finished may is same)) = quiet p q _ d _ none is same refl refl refl refl
+  moves_note p q d none (moved (cleaned on is same)) = grind (arith, doings_of, destroyed_in)
 
   -- ---- what is held of a client
 
@@ -145,9 +133,6 @@ module _ {T U C : Type 0} (sends : T → Queue → Result ℕ IoFault → T → 
 
   unfelt_notes : (s : Seen T U C) → ends_in (waiting_of s.part) ≡ 0 → SeenNoting s (doings_of [] []) s
   unfelt_notes s none = record { objects = same_permuted (held_notes s ++ []) (held_notes s) (sym (append-nil (held_notes s))); ends = omega arith; none = none }
-
-  taken_notes : (s : Seen T U C) → ends_in (waiting_of s.part) ≡ 0 → SeenNoting s (record (doings_of [] []) { taken = s.made }) (record { part = s.part; made = [] })
-  taken_notes s none = grind (arith, same_permuted, append-nil)
 
   -- the notes of moves stand behind those that were made
   behind_made : (made : List (Happening U)) (p q : Part T U C) (d : Doings U) → Noting p d q
@@ -167,9 +152,8 @@ module _ {T U C : Type 0} (sends : T → Queue → Result ℕ IoFault → T → 
   out_notes made p q d none no_taken killed nothing moves = grind (arith, moves_note, destroyed_in, behind_made, ends_both, ends_in, one_if)
 
   goes_note : (s t : Seen T U C) (d : Doings U) → ends_in (waiting_of s.part) ≡ 0 → Goes (any true) sends receives client s d t → SeenNoting s d t
-  goes_note s t d none (unfelt is same) =
-      subst (λ (x : Doings U). SeenNoting s x t) (sym is) (subst (λ (x : Seen T U C). SeenNoting s (doings_of [] []) x) (sym same) (unfelt_notes s none))
-  goes_note s t d none (notes_taken on is same) = grind (arith, doings_of, taken_notes)
+  goes_note s t d none (unfelt is same) = grind (arith, doings_of, unfelt_notes)
+  goes_note s t d none (notes_taken on is same) = grind (arith, doings_of, same_permuted, append-nil)
   goes_note s t d none (within p q there moves same) =
       subst (λ (x : Seen T U C). SeenNoting s d x) (sym same)
       (subst (λ (x : Option (Part T U C)). SeenNoting (record { part = x; made = s.made }) d (record { part = Some q; made = s.made ++ d.notes })) (sym there)
@@ -192,18 +176,7 @@ module _ {T U G C : Type 0} (w : World T G C) (id : ClientParts) where
       let all = doings_in_both e.did (history run) in
       let left : left_in (e.did ++ history run) ≡ left_in e.did ++ left_in (history run) = ap (λ (d : Doings U). d.left) all in
       let taken : taken_in (e.did ++ history run) ≡ taken_in e.did ++ taken_in (history run) = ap (λ (d : Doings U). d.taken) all in
-      record {
-        objects = subst (λ (l : List Id). IsPermutation (held_notes w.sends w.receives id s ++ l) (destroyed_in (taken_in (e.did ++ history run)) ++ held_notes w.sends w.receives id t)) (sym left)
-            (subst (λ (l : List Id). IsPermutation (held_notes w.sends w.receives id s ++ (left_in e.did ++ left_in (history run))) (l ++ held_notes w.sends w.receives id t))
-            (sym (ap destroyed_in taken ∙ destroyed_both (taken_in e.did) (taken_in (history run))))
-            (permuted_then (held_notes w.sends w.receives id s) (left_in e.did) (destroyed_in (taken_in e.did)) (held_notes w.sends w.receives id mid) (left_in (history run))
-            (destroyed_in (taken_in (history run))) (held_notes w.sends w.receives id t) first.objects rest.objects));
-        ends = (
-            let both = ap ends_in taken ∙ ends_both (taken_in e.did) (taken_in (history run)) in let one = first.ends in let two = rest.ends in
-            omega (arith, both, one, two)
-            );
-        none = rest.none;
-      }
+      grind (arith, held_notes, destroyed_in, taken_in, history, left_in, destroyed_both, permuted_then, ends_in, ends_both)
 
   own_notes : (offer : Offer G) (link : LinkState T) (client_data : C) (run : List (Own T U G C)) (t : Seen T U C) → AreMine id run → HasOwnIds w id offer (just_inserted link client_data) run t
       → Alone w id offer (just_inserted link client_data) run t → NotesEach (history run) t

@@ -12,7 +12,6 @@ use Rattle.wl_server.specs.declared.notes.Happening.{Happening}
 use Rattle.wl_server.specs.declared.notes.Note.{Note}
 use Rattle.wl_server.specs.declared.notes.Note.TheVariants as note
 use Rattle.wl_server.specs.declared.notes.Happening.TheVariants as happened
-use Rattle.wl_server.specs.declared.notes.queues.NoteNumbers.{NoteNumbers}
 use Rattle.wl_server.specs.declared.notes.queues.NotePlace.{NotePlace}
 use Rattle.wl_server.specs.declared.runs.step.Reply.TheVariants as reply
 use Rattle.wl_server.specs.declared.runs.step.Step.TheVariants as step
@@ -21,7 +20,7 @@ use Rattle.wl_server.specs.Globals.{Offer}
 use Rattle.wl_server.specs.Ids.{ClientParts}
 use Rattle.wl_server.specs.NoteOrder.{AreInTime, HasNumbers, Rise, all_places, last_number, slot_of, times_at, times_of}
 use Rattle.wl_server.specs.NoteOrder.Ordered.{HandsOutNone, NoneHandedOut}
-use Rattle.wl_server.specs.PartStep.{Asked, Call, CleanedAs, PartCall, World}
+use Rattle.wl_server.specs.PartStep.{Asked, Call, PartCall, World}
 use Rattle.wl_server.specs.Runs.{Leads}
 use Rattle.wl_server.specs.Server.{Seen, ServerState, Stored, client_at, if_serial, new_server, note_of, notes_of, seen, stored_at, told_of}
 use Rattle.wl_server.specs.Steps.{Entry, GathersNotes, HandsOutNotes, MakesNotes, NotesGoOn, OneStep, StepOf}
@@ -61,9 +60,6 @@ module _ {U : Type 0} where
   pub told_slot : (id : ClientParts) (n : Note U) (h : Happening U) (hs : List (Happening U)) → told_of id n ≡ h ∷ hs → id.slot ≡ slot_of n
   told_slot id n h hs is = grind (arith, slot_of, slot_is, told_of, note_is, told_other, same_slots)
 
-  first_is : (h k : Happening U) (hs ks : List (Happening U)) → h ∷ hs ≡ k ∷ ks → h ≡ k
-  first_is h k hs ks is = grind (arith)
-
   -- Notes begin as others do, if their slots do, and what they tell of each client; and only one client of a slot is told of.
   module _ (Is : ClientParts → Type 0) (one : (i j : ClientParts) → Is i → Is j → i.slot ≡ j.slot → i ≡ j) where
     pub begins_so : (a b : List (Note U)) (slots : List ℕ) → map slot_of b ≡ map slot_of a ++ slots
@@ -85,20 +81,14 @@ module _ {U : Type 0} where
             (is (id_of x) (happening_of x) (notes_of (id_of x) a ++ (told (id_of x)).0) x_told) (sym (slot_is y) ∙ (both.0 ∙ slot_is x))
 
         happenings : happening_of y ≡ happening_of x
-        happenings =
-            first_is (happening_of y) (happening_of x) (notes_of (id_of y) b) (notes_of (id_of x) a ++ (told (id_of x)).0)
-            (sym (own_first y b) ∙ (ap (λ (id : ClientParts). notes_of id (y ∷ b)) ids ∙ x_told))
+        happenings = grind (arith, happening_of, notes_of, id_of, own_first, ids, x_told)
 
         same : y ≡ x
         same = note_is y ∙ (ap (λ (id : ClientParts). note_of id (happening_of y)) ids ∙ (ap (note_of (id_of x)) happenings ∙ sym (note_is x)))
 
         told_rest : (id : ClientParts) → (more : List (Happening U)) × (notes_of id b ≡ notes_of id a ++ more)
         told_rest id =
-            let (more, all) = told id in (
-              more,
-              append_cancel_left (told_of id x) (notes_of id b) (notes_of id a ++ more)
-                  (ap (λ (n : Note U). told_of id n ++ notes_of id b) (sym same) ∙ (all ∙ append_assoc (told_of id x) (notes_of id a) more)),
-            )
+            let (more, all) = told id in grind (arith, append_cancel_left, told_of, notes_of, same, append_assoc)
 
         is_rest : (id : ClientParts) (h : Happening U) (hs : List (Happening U)) → notes_of id b ≡ h ∷ hs → Is id
         is_rest id h hs at = grind (arith, told_of, notes_of)
@@ -120,19 +110,12 @@ module _ {T U G C : Type 0} (w : World T G C) (id : ClientParts) (offer : Offer 
   goes_grows s t d h1 = grind (arith, unfelt, append-nil, within, taken_out, notes_taken)
 
   none_handed : (call : Call T U G C) → HandsOutNone call → hands_in call ≡ false
-  none_handed (Asked step.TakeNotes (reply.TakeNotes (Ok out))) none = absurd (none out refl)
-  none_handed call none = refl
+  none_handed call none = grind (arith)
 
   call_grows : (call : Call T U G C) (s : Seen T U C) (lacked : Bool) (did : List (Deed U)) (t : Seen T U C)
       → HandsOutNone call → PartCall w id offer call s lacked did t → Grows s t
   call_grows call s lacked did t none h =
-      elim (any_moves keeping w id offer call s lacked did t (record {
-        kills = λ e may. tt;
-        gathers = λ is. refl;
-        hands = λ is. absurd (false≢true (sym (none_handed call none) ∙ is));
-        reads = λ is. refl;
-        finishes = λ is. refl;
-      }) h) [
+      elim (any_moves keeping w id offer call s lacked did t (grind (arith, false≢true, none_handed)) h) [
         | inl (ids, goes) ↦ goes_grows s t _ goes
         | inr (p, none_waits, empty, did_so, same) ↦ (happened.Initialized ∷ [], ap (λ (x : Seen T U C). x.made) same)
       ]
@@ -142,18 +125,14 @@ module _ {T U G C : Type 0} (w : World T G C) (id : ClientParts) (offer : Offer 
 module _ {T U G C : Type 0} where
   numbers_go : (before : ServerState T U G C) (call : Call T U G C) (after : ServerState T U G C) → NotesGoOn before call after
       → HasNumbers before.numbers (map times_of before.clients) → HasNumbers after.numbers (map times_of after.clients)
-  numbers_go before (Asked step.TakeNotes (reply.TakeNotes (Ok out))) after h has =
-      subst (λ (n : NoteNumbers). HasNumbers n (map times_of after.clients)) (sym h.numbers) (numbers_left _ _ _ h.first has)
-  numbers_go before (Asked step.Cleanup (reply.Cleanup (Ok out))) after h has =
-      subst (λ (n : NoteNumbers). HasNumbers n (map times_of after.clients)) (sym h.numbers) (waiting_anew _ _ h.none_waits (numbers_left _ _ _ h.first has))
+  numbers_go before (Asked step.TakeNotes (reply.TakeNotes (Ok out))) after h has = grind (arith, map, times_of, numbers_left)
+  numbers_go before (Asked step.Cleanup (reply.Cleanup (Ok out))) after h has = grind (arith, map, times_of, waiting_anew, numbers_left)
   numbers_go before _ after h has = h.times.1.keeps has
 
   numbers_rise : (before : ServerState T U G C) (call : Call T U G C) (after : ServerState T U G C) → NotesGoOn before call after
       → after.numbers.made < last_number → before.numbers.made ≤ after.numbers.made
-  numbers_rise before (Asked step.TakeNotes (reply.TakeNotes (Ok out))) after h below =
-      let same = ap (λ (n : NoteNumbers). n.made) h.numbers in omega (arith, same)
-  numbers_rise before (Asked step.Cleanup (reply.Cleanup (Ok out))) after h below =
-      let same = ap (λ (n : NoteNumbers). n.made) h.numbers in omega (arith, same)
+  numbers_rise before (Asked step.TakeNotes (reply.TakeNotes (Ok out))) after h below = grind (arith)
+  numbers_rise before (Asked step.Cleanup (reply.Cleanup (Ok out))) after h below = grind (arith)
   numbers_rise before _ after h below = let more = all_each _ _ _ _ h.times 0 in rise_up before.numbers.made more.more after.numbers.made (more.rise below)
 
 module _ {T U G C : Type 0} (w : World T G C) where
@@ -165,10 +144,7 @@ module _ {T U G C : Type 0} (w : World T G C) where
   run_rises : (before : ServerState T U G C) (run : List (Entry T U G C)) (after : ServerState T U G C) → Leads w before run after
       → after.numbers.made < last_number → before.numbers.made ≤ after.numbers.made
   run_rises before [] after same below = let is = ap (λ (s : ServerState T U G C). s.numbers.made) same in omega (arith, is)
-  run_rises before (e ∷ run) after (mid, one, leads) below =
-      let later = run_rises mid run after leads below in
-      let first = numbers_rise before e.call mid one.notes (omega (arith, later, below)) in
-      omega (arith, first, later)
+  run_rises before (e ∷ run) after (mid, one, leads) below = grind (arith, numbers_rise, run_rises mid run after leads below)
 
 -- ---- an earlier point, and a later one
 
@@ -206,24 +182,15 @@ record Makes {T U G C : Type 0} (s t : ServerState T U G C) : Type 0 where
   each : (id : ClientParts) → (new : List (Happening U)) × (made_of id t.clients ≡ made_of id s.clients ++ new)
 
 module _ {T U C : Type 0} where
-  one_serial : (x : Option (Stored T U C)) (m n : ℕ) → is_some (if_serial m x) ≡ true → is_some (if_serial n x) ≡ true → m ≡ n
-  one_serial x m n h1 h2 = grind (arith, is_some, if_serial)
-
   pub one_client : (clients : List (Option (Stored T U C))) (i j : ClientParts) → is_some (client_at i clients) ≡ true → is_some (client_at j clients) ≡ true → i.slot ≡ j.slot → i ≡ j
-  one_client clients i j a b same = grind (arith, same_parts, one_serial, stored_at, is_some, if_serial)
+  one_client clients i j a b same = grind (arith, same_parts, stored_at, is_some, if_serial)
 
 module _ {T U G C : Type 0} where
   -- what would have been handed out comes first
   drains_later : (s t : ServerState T U G C) (early out : List (Note U)) → Takes s early → Drains t out → Makes s t → t.numbers.made < last_number
       → AreInTime (λ x. x.made) s.numbers.made (map times_of s.clients) → AreInTime (λ x. x.made) t.numbers.made (map times_of t.clients)
       → (rest : List (Note U)) × (out ≡ early ++ rest)
-  drains_later s t early out takes drains makes below has has' = (
-    begun.0,
-    drains.behind
-        ∙ (ap (λ (l : List (Note U)). l ++ drains.more) makes.gathered
-        ∙ (ap (λ (l : List (Note U)). s.notes ++ l) begun.1
-        ∙ (sym (append_assoc s.notes takes.more begun.0) ∙ ap (λ (l : List (Note U)). l ++ begun.0) (sym takes.behind)))),
-  )
+  drains_later s t early out takes drains makes below has has' = grind (arith, begun, append_assoc)
     where
       first : (rest : List NotePlace) × (drains.order ≡ takes.order ++ rest)
       first =
@@ -232,22 +199,12 @@ module _ {T U G C : Type 0} where
           (λ slot. let gives = makes.times slot in (gives.more, gives.behind, gives.rise below)) has'.apart
 
       slots : map slot_of drains.more ≡ map slot_of takes.more ++ (map (λ p. p.slot) first.0 ++ drains.slots)
-      slots =
-          drains.along
-          ∙ (ap (λ (l : List NotePlace). map (λ p. p.slot) l ++ drains.slots) first.1
-          ∙ (ap (λ (l : List ℕ). l ++ drains.slots) (map-append (λ (p : NotePlace). p.slot) takes.order first.0)
-          ∙ (append_assoc (map (λ p. p.slot) takes.order) (map (λ p. p.slot) first.0) drains.slots
-          ∙ ap (λ (l : List ℕ). l ++ (map (λ p. p.slot) first.0 ++ drains.slots)) (sym takes.along))))
+      slots = grind (arith, map, first, map-append, append_assoc)
 
       told : (id : ClientParts) → (more : List (Happening U)) × (notes_of id drains.more ≡ notes_of id takes.more ++ more)
       told id =
           let (new, is) = drains.each id in
-          let (new', is') = makes.each id in (
-            new' ++ new,
-            is
-                ∙ (ap (λ (l : List (Happening U)). l ++ new) is'
-                ∙ (append_assoc (made_of id s.clients) new' new ∙ ap (λ (l : List (Happening U)). l ++ (new' ++ new)) (sym (takes.each id)))),
-          )
+          let (new', is') = makes.each id in grind (arith, append_assoc, made_of)
 
       stored : (id : ClientParts) (h : Happening U) (hs : List (Happening U)) → notes_of id drains.more ≡ h ∷ hs → is_some (client_at id t.clients) ≡ true
       stored id h hs is = grind (arith, client_at, is_some)
@@ -268,9 +225,6 @@ module _ {T U G C : Type 0} (w : World T G C) where
       → e.call ≡ Asked step.TakeNotes (reply.TakeNotes (Ok out)) → OneStep w s e after → Takes s out.items
   takes_of s e after out is one = of (subst (λ (call : Call T U G C). NotesGoOn s call after) is one.notes)
     where
-      each_of : (id : ClientParts) → PartCall w id s.offer (Asked step.TakeNotes (reply.TakeNotes (Ok out))) (seen id s) (e.lacks id) (e.did id) (seen id after)
-      each_of id = subst (λ (call : Call T U G C). PartCall w id s.offer call (seen id s) (e.lacks id) (e.did id) (seen id after)) is (one.each id)
-
       told : (id : ClientParts) → notes_of id out.items ≡ notes_of id s.notes ++ made_of id s.clients
       told id = grind (arith, seen, notes_of)
 
@@ -297,9 +251,6 @@ module _ {T U G C : Type 0} (w : World T G C) where
     where
       each_of : (id : ClientParts) → PartCall w id s.offer (Asked step.Cleanup (reply.Cleanup (Ok out))) (seen id s) (e.lacks id) (e.did id) (seen id after)
       each_of id = subst (λ (call : Call T U G C). PartCall w id s.offer call (seen id s) (e.lacks id) (e.did id) (seen id after)) is (one.each id)
-
-      cleaned : (id : ClientParts) → CleanedAs w id s.offer (Ok out) (seen id s) (e.lacks id) (e.did id) (seen id after)
-      cleaned id = grind (arith, seen)
 
       of : GathersNotes s after → Drains s after.notes
       of h =
@@ -328,7 +279,7 @@ module _ {T U G C : Type 0} (w : World T G C) where
           now id h = sym (ap (λ (l : List (Happening U)). notes_of id after.notes ++ l) (h.none_left id) ∙ append-nil (notes_of id after.notes))
 
           missing : (id : ClientParts) → client_at id s.clients ≡ None → (seen id after).made ≡ notes_of id s.notes ++ []
-          missing id none = grind (arith, either_option, seen, cleaned, notes_of, is_some)
+          missing id none = grind (arith, either_option, seen, notes_of, is_some)
 
   -- ---- a run between
 
@@ -346,10 +297,7 @@ module _ {T U G C : Type 0} (w : World T G C) where
     each = λ id. (
         let (new, is) = makes.each id in
         let (new', is') = call_grows w id t.offer e.call (seen id t) (e.lacks id) (e.did id) (seen id u) none (one.each id) in
-        let made : made_of id u.clients ≡ made_of id t.clients ++ new' =
-        append_cancel_left (notes_of id t.notes) (made_of id u.clients) (made_of id t.clients ++ new')
-        (ap (λ (l : List (Note U)). notes_of id l ++ made_of id u.clients) (sym more.gathered)
-        ∙ (is' ∙ append_assoc (notes_of id t.notes) (made_of id t.clients) new')) in
+        let made : made_of id u.clients ≡ made_of id t.clients ++ new' = grind (arith, append_cancel_left, notes_of, made_of, append_assoc) in
         (new ++ new', made ∙ (ap (λ (l : List (Happening U)). l ++ new') is ∙ append_assoc (made_of id s.clients) new new')));
   }
 
@@ -397,5 +345,4 @@ module _ {T U G C : Type 0} (w : World T G C) where
       at : AreInTime (λ x. x.made) point.numbers.made (map times_of point.clients) → AreInTime (λ x. x.made) mid.numbers.made (map times_of mid.clients)
           → Takes point early.items → Takes mid late.items → Since point early.items mid → (rest : List (Note U)) × (late.items ≡ early.items ++ rest)
       at has has' takes takes' (inl makes) = drains_later point mid early.items late.items takes (takes_drain mid late.items takes') makes below has has'
-      at has has' takes takes' (inr (rest, begun)) =
-          (rest ++ takes'.more, takes'.behind ∙ (ap (λ (l : List (Note U)). l ++ takes'.more) begun ∙ append_assoc early.items rest takes'.more))
+      at has has' takes takes' (inr (rest, begun)) = grind (arith, append_assoc)

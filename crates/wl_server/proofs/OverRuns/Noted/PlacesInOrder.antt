@@ -65,13 +65,7 @@ count_is p slot n w a b waits number at_slot = grind (arith)
 -- what holds of all places holds of one that is there
 found : (P : NotePlace → Type 0) (slot n : ℕ) (ps : List NotePlace) → AllByRecursion P ps → 1 ≤ times_at_time slot n ps → P (place_at false slot n)
 found P slot n [] all some = absurd (omega (arith, some))
-found P slot n (p ∷ ps) (here, all) some = at (λ more. found P slot n ps all more) p.waits (p.number == n) (p.slot == slot) refl refl refl
-  where
-    past : (1 ≤ times_at_time slot n ps → P (place_at false slot n)) → at_time slot n p ≡ 0 → P (place_at false slot n)
-    past later none = let count = sum_by-cons (at_time slot n) p ps in later (omega (arith, some, none, count))
-
-    at : (1 ≤ times_at_time slot n ps → P (place_at false slot n)) → (w a b : Bool) → p.waits ≡ w → (p.number == n) ≡ a → (p.slot == slot) ≡ b → P (place_at false slot n)
-    at h1 w a b h2 h3 h4 = grind (arith, place_is, eqb-true, past, count_is)
+found P slot n (p ∷ ps) (here, all) some = grind (arith, sum_by-cons, at_time, place_is, eqb-true, count_is, found P slot n ps all)
 
 -- ---- what is early comes first
 
@@ -149,10 +143,7 @@ often n ns = sum_by (λ (m : ℕ). if m == n then 1 else 0) ns
 
 none_waiting : (k slot n : ℕ) (ns : List ℕ) → times_at_time slot n (map (place_at true k) ns) ≡ 0
 none_waiting k slot n [] = refl
-none_waiting k slot n (m ∷ ns) =
-    let count = sum_by-cons (at_time slot n) (place_at true k m) (map (place_at true k) ns) in
-    let more = none_waiting k slot n ns in
-    omega (arith, count, more)
+none_waiting k slot n (m ∷ ns) = grind (arith, sum_by-cons, at_time, place_at, map, none_waiting k slot n ns)
 
 pub of_made : (k slot n : ℕ) (b : Bool) → (k == slot) ≡ b → (ns : List ℕ) → times_at_time slot n (map (place_at false k) ns) ≡ (if b then often n ns else 0)
 of_made k slot n true is [] = refl
@@ -179,20 +170,12 @@ module _ (f : NotePlace → ℕ) (slot : ℕ) (waits : Bool) (g : NoteTimes → 
     (own : (k : ℕ) (b : Bool) → (k == slot) ≡ b → (t : NoteTimes) → sum_by f (places_of waits k t) ≡ (if b then g t else 0)) where
   past : (k : ℕ) (ts : List NoteTimes) → slot < k → sum_by f (all_places waits k ts) ≡ 0
   past k [] less = refl
-  past k (t ∷ ts) less =
-      let both = sum_by-append f (places_of waits k t) (all_places waits (k + 1) ts) in
-      let this = own k false (ne_eqb k slot (λ e. omega (arith, less, e))) t in
-      let more = past (k + 1) ts (omega (arith, less)) in
-      omega (arith, both, this, more)
+  past k (t ∷ ts) less = grind (arith, sum_by-append, places_of, all_places, ne_eqb, past (k + 1) ts)
 
   pub among : (k j : ℕ) (ts : List NoteTimes) → slot ≡ k + j → sum_by f (all_places waits k ts) ≡ g (times_at j ts)
   among k j [] is = sym none
   among k zero (t ∷ ts) is = grind (arith, sum_by-append, places_of, all_places, eq-eqb, past)
-  among k (suc j) (t ∷ ts) is =
-      let both = sum_by-append f (places_of waits k t) (all_places waits (k + 1) ts) in
-      let this = own k false (ne_eqb k slot (λ e. omega (arith, is, e))) t in
-      let more = among (k + 1) j ts (omega (arith, is)) in
-      omega (arith, both, this, more)
+  among k (suc j) (t ∷ ts) is = grind (arith, sum_by-append, places_of, all_places, ne_eqb, among (k + 1) j ts)
 
 among_all : (waits : Bool) (slot n : ℕ) (ts : List NoteTimes) → times_at_time slot n (all_places waits 0 ts) ≡ often n (times_at slot ts).made
 among_all waits slot n ts =
@@ -214,11 +197,7 @@ has_number n (m ∷ ns) some = at (λ more. has_number n ns more) (m == n) refl
 
 not_later : (low : ℕ) (ns : List ℕ) (next n : ℕ) → RiseWithin low ns next → n < low → often n ns ≡ 0
 not_later low [] next n rise less = refl
-not_later low (m ∷ ns) next n (first, rest) less =
-    let count = sum_by-cons (λ (k : ℕ). if k == n then 1 else 0) m ns in
-    let none = ap {B = ℕ} (λ (x : Bool). if x then 1 else 0) (ne_eqb m n (λ e. omega (arith, e, first, less))) in
-    let more = not_later (m + 1) ns next n rest (omega (arith, first, less)) in
-    omega (arith, count, none, more)
+not_later low (m ∷ ns) next n (first, rest) less = grind (arith, sum_by-cons, ne_eqb, not_later (m + 1) ns next n rest)
 
 -- numbers that were given later do not count among the early ones
 pub as_often : (ns more ns' : List ℕ) (next next' n : ℕ) → ns' ≡ ns ++ more → RiseWithin next more next' → n < next → often n ns ≡ often n ns'

@@ -1,5 +1,5 @@
 -- The notes that wait, over a run: those that waited at an earlier point come first among those that waited at a later one.
-use Rattle.std.proofs.Common.{◌≡◌, ◌∙◌, ℕ, suc, ◌+◌, ◌<◌, Bool, true, false, List, [], ◌∷◌, ◌++◌, length, map, Option, None, Some, is_some, Result, Ok, Err, Vec, refl, sym, ap, subst, arith, append_assoc, append-nil, true≢false}
+use Rattle.std.proofs.Common.{◌≡◌, ◌∙◌, ℕ, suc, ◌+◌, ◌<◌, Bool, true, false, List, [], ◌∷◌, ◌++◌, length, map, Option, None, Some, is_some, Result, Ok, Vec, refl, sym, ap, subst, arith, append_assoc, append-nil, true≢false}
 use Rattle.std.proofs.lemmas.Option.{none-some}
 use mathlib.Core.Logic.{inl, inr}
 use Rattle.std.specs.Global.{Global}
@@ -28,14 +28,14 @@ use Rattle.wl_server.specs.NoteOrder.{AllNumbered, AllTakeFirst, last_number, sl
 use Rattle.wl_server.specs.NoteOrder.Ordered.{CleansNothing, LeavesNotes, NothingCleaned}
 use Rattle.wl_server.specs.Part.{Part, note_of_end}
 use Rattle.wl_server.specs.PartStep.{Asked, Call, CleanedAs, NotesTaken, PartCall, World}
-use Rattle.wl_server.specs.Runs.{IsNotInserted, Leads, concerns}
+use Rattle.wl_server.specs.Runs.{Leads, concerns}
 use Rattle.wl_server.specs.Server.{NoteTimes, Seen, ServerState, Stored, client_at, if_serial, new_server, notes_of, seen, stored_at, told_of}
 use Rattle.wl_server.specs.Steps.{Entry, GathersNotes, NotesGoOn, OneStep, StepOf}
 use Rattle.wl_server.proofs.CallSteps.Numbering.{GivesWithin, all_waiting, no_numbers, rise_up, within_both, within_none}
 use Rattle.wl_server.proofs.CallSteps.Slots.{slot_of_client}
 use Rattle.wl_server.proofs.CleanupSteps.Gathering.{notes_append}
 use Rattle.wl_server.proofs.OverRuns.Alone.IsolationLaw.{numbered, other_call}
-use Rattle.wl_server.proofs.OverRuns.Moves.BaseMoves.{Doings, Goes, Moves, any, born, cleaned, ended, finished, flushed, followed, found, found_none, handed_out, left_by, notes_taken, opens, received, relinked, remembered, stayed, taken_out, told as told_so, unfelt, went, within, wrote}
+use Rattle.wl_server.proofs.OverRuns.Moves.BaseMoves.{Doings, Goes, Moves, any, followed, handed_out, notes_taken, moved, stayed, taken_out, unfelt, within}
 use Rattle.wl_server.proofs.OverRuns.Moves.BaseMovesLaw.{call_goes, gathers_in}
 use Rattle.wl_server.proofs.OverRuns.Noted.NotesInOrder.{Drains, begins_so, cleanup_drains, happening_of, id_of, made_of, one_client, own_first, run_numbers, slot_is, told_slot}
 use Rattle.wl_server.proofs.OverRuns.Noted.PlacesInOrder.{sorted_of}
@@ -86,24 +86,7 @@ module _ {T U C : Type 0} (sends : T → Queue → Result ℕ IoFault → T → 
   moves_grow p q d (stayed is same) = still p q p same refl
   moves_grow p q d (followed {m = m} {a = a} {b = b} first second is) = grown_both p.waiting m.waiting q.waiting (moves_grow p m a first) (moves_grow m q b second)
   moves_grow p q d (handed_out {a = a} ids moves among is) = moves_grow p q a moves
-  moves_grow p q d (relinked link waits stays unread is same) = still p q _ same refl
-  moves_grow p q d (received r answer link reads filled is same) = still p q _ same refl
-  moves_grow p q d (told_so messages es put answer link puts is same) = still p q _ same refl
-  moves_grow p q d (flushed es answer link by is same) = still p q _ same refl
-  moves_grow p q d (ended reason may is same) = still p q _ same refl
-  moves_grow p q d (born n x free ne serial is same) = still p q _ same refl
-  moves_grow p q d (found n x holds is same) = still p q p same refl
-  moves_grow p q d (found_none is same) = still p q p same refl
-  moves_grow p q d (wrote n x u holds is same) = still p q _ same refl
-  moves_grow p q d (went n x waits holds is same) = at waits same
-    where
-      at : (b : Bool) → q ≡ left_by client b p n x → Grown p.waiting q.waiting
-      at true same = (note_of_end client n x, ap (λ (y : Part T U C). y.waiting) same)
-      at false same = still p q _ same refl
-  moves_grow p q d (remembered n x holds registry is same) = still p q _ same refl
-  moves_grow p q d (opens action h acts so is same) = still p q _ same refl
-  moves_grow p q d (finished may is same) = still p q _ same refl
-  moves_grow p q d (cleaned on is same) = absurd (false≢true on)
+  moves_grow p q d (moved move) = grind (arith, false≢true, grown_still, note_of_end)
 
   goes_grow : (s t : Seen T U C) (d : Doings U) → Goes (any false) sends receives client s d t → Grown (waiting_of s.part) (waiting_of t.part)
   goes_grow s t d h1 = grind (arith, unfelt, grown_still, within, moves_grow, taken_out, notes_taken)
@@ -113,8 +96,7 @@ module _ {T U G C : Type 0} where
   waits_at id s = waiting_of (seen id s).part
 
   calm : (call : Call T U G C) → CleansNothing call → gathers_in call ≡ false
-  calm (Asked step.Cleanup (reply.Cleanup (Ok out))) none = absurd (none out refl)
-  calm call none = refl
+  calm call none = grind (arith)
 
 module _ {T U G C : Type 0} (w : World T G C) where
   step_grows : (s : ServerState T U G C) (e : Entry T U G C) (t : ServerState T U G C) → OneStep w s e t → gathers_in e.call ≡ false → (id : ClientParts)
@@ -125,23 +107,11 @@ module _ {T U G C : Type 0} (w : World T G C) where
       at None is = (waits_at id t, sym (ap (λ (l : List (Happening U)). l ++ waits_at id t) (ap waiting_of is)))
       at (Some p) is = go (concerns id e.call) refl
         where
-          elsewhere : IsNotInserted id e.call
-          elsewhere new inserts = decide (same_client new id) refl
-            where
-              decide : (b : Bool) → same_client new id ≡ b → same_client new id ≡ false
-              decide false far = far
-              decide true here =
-                  let free = (numbered s e.call new one.client inserts).0.free in
-                  let gone = subst (λ (i : ClientParts). stored_at i.slot s.clients ≡ None) (same_client_is new id here) free in
-                  absurd (none-some _ (sym (ap (λ (o : Option (Stored T U C)). option_map (λ c. c.part) (if_serial id.serial o)) gone) ∙ is))
-
           go : (b : Bool) → concerns id e.call ≡ b → Grown (waits_at id s) (waits_at id t)
           go true about =
               goes_grow w.sends w.receives id (seen id s) (seen id t) _
               (call_goes false w id s.offer e.call (seen id s) (e.lacks id) (e.did id) (seen id t) about (one.each id) (λ cleans. absurd (false≢true (sym none ∙ cleans))))
-          go false far =
-              grown_still (waits_at id s) (waits_at id t)
-              (ap (λ (x : Seen T U C). waiting_of x.part) (other_call w id s.offer e.call (seen id s) (e.lacks id) (e.did id) (seen id t) elsewhere far (one.each id)).2)
+          go false far = grind (arith, grown_still, waits_at, waiting_of, other_call, seen, same_client, numbered, stored_at, same_client_is, none-some, option_map, if_serial)
 
   run_grows : (s : ServerState T U G C) (run : List (Entry T U G C)) (t : ServerState T U G C) → Leads w s run t → NothingCleaned run → (id : ClientParts)
       → Grown (waits_at id s) (waits_at id t)
@@ -219,8 +189,7 @@ module _ {T U G C : Type 0} (w : World T G C) where
       taken p each id = let (r, is, h) = each id in go r h
         where
           go : (r : Result (Vec (Note U) Global) OutOfMemory) → NotesTaken w id s.offer r (seen id s) (e.lacks id) (e.did id) (seen id t) → (seen id t).part ≡ (seen id s).part
-          go (Ok out) h = ap (λ (x : Seen T U C). x.part) h.3
-          go (Err f) h = ap (λ (x : Seen T U C). x.part) h.2
+          go h1 h = grind (arith)
 
       at : (call : Call T U G C) → e.call ≡ call → NotesGoOn s call t
           → ((id : ClientParts) → PartCall w id s.offer call (seen id s) (e.lacks id) (e.did id) (seen id t)) → Given s t k
@@ -231,8 +200,7 @@ module _ {T U G C : Type 0} (w : World T G C) where
 
   run_given : (s : ServerState T U G C) (run : List (Entry T U G C)) (t : ServerState T U G C) → Leads w s run t → NothingCleaned run → AllNumbered s.clients → (k : ℕ)
       → Given s t k
-  run_given s [] t same none all k =
-      given_none s t k (ap (λ (x : ServerState T U G C). x.numbers) same) (ap (λ (x : ServerState T U G C). (times_at k (map times_of x.clients)).waiting) same)
+  run_given s [] t same none all k = grind (arith, given_none, times_at, map, times_of)
   run_given s (e ∷ run) t (mid, one, leads) (none, later) all k =
       within_both _ _ _ _ _ _ (step_given s e mid one none all k) (run_given mid run t leads later (numbered_of s e.call mid one.notes) k)
 
@@ -334,22 +302,8 @@ module _ {T U G C : Type 0} (w : World T G C) (s : ServerState T U G C) (e : Ent
   told_next : (id : ClientParts) → (rest : List (Happening U)) × (notes_of id (made ++ (waited ++ gathers.ends)) ≡ made_of id s.clients ++ (waits_at id s ++ rest))
   told_next id =
       elim (either_option (seen id s).part (cleaned_as id)) [
-        | inl (gone, (nobody, (unlacked, did_so, same))) ↦ (
-          [],
-          behind (made_of id s.clients ++ (waits_at id s ++ []))
-              (ap (λ (x : Seen T U C). x.made) same
-              ∙ ap (λ (l : List (Happening U)). notes_of id s.notes ++ l)
-              (sym (ap (λ (l : List (Happening U)). made_of id s.clients ++ (l ++ [])) (ap waiting_of gone) ∙ append-nil (made_of id s.clients)))),
-        )
-        | inr (p, there, (q, c, same)) ↦
-            let (rest, noted) = noted_next id p (e.lacks id) (e.did id) _ q c in (
-              rest,
-              behind (made_of id s.clients ++ (waits_at id s ++ rest))
-                  (ap (λ (x : Seen T U C). x.made) same
-                  ∙ (append_assoc (notes_of id s.notes) (made_of id s.clients) (notes_in (e.did id))
-                  ∙ ap (λ (l : List (Happening U)). notes_of id s.notes ++ (made_of id s.clients ++ l))
-                  (noted ∙ ap (λ (l : List (Happening U)). l ++ rest) (sym (ap waiting_of there))))),
-            )
+        | inl (gone, (nobody, (unlacked, did_so, same))) ↦ grind (arith, behind, made_of, waits_at, notes_of, waiting_of, append-nil)
+        | inr (p, there, (q, c, same)) ↦ grind (arith, noted_next, behind, made_of, waits_at, append_assoc, notes_of, notes_in, waiting_of)
       ]
     where
       now : notes_of id after.notes ≡ (seen id after).made
@@ -431,8 +385,7 @@ module _ {T U G C : Type 0} (w : World T G C) (s : ServerState T U G C) (e : Ent
       at None none =
           let nothing = sym (notes_append id made (waited ++ gathers.ends)) ∙ none_told id none in
           let later = later_empty (notes_of id made) (notes_of id (waited ++ gathers.ends)) nothing in (
-            first_empty (notes_of id made) (notes_of id (waited ++ gathers.ends)) nothing
-                ∙ sym (ap (λ (o : Option (Stored T U C)). option_map_or (λ s. s.made) o []) none),
+            grind (arith, first_empty, notes_of, made, waited, gathers, option_map_or),
             first_empty (notes_of id waited) (notes_of id gathers.ends) (sym (notes_append id waited gathers.ends) ∙ later)
                 ∙ sym (ap (λ (o : Option (Stored T U C)). waiting_of (option_map (λ s. s.part) o)) none),
           )
@@ -472,24 +425,14 @@ module _ {T U G C : Type 0} (w : World T G C) (s : ServerState T U G C) (e : Ent
 
   -- who is told of is stored
   waits_stored : (id : ClientParts) (h : Happening U) (hs : List (Happening U)) → notes_of id second.waited ≡ h ∷ hs → is_some (client_at id t.clients) ≡ true
-  waits_stored id h hs some = at (client_at id t.clients) refl
-    where
-      at : (o : Option (Stored T U C)) → client_at id t.clients ≡ o → is_some o ≡ true
-      at (Some c) there = refl
-      at None gone =
-          let long : 0 ≡ suc (length hs) = ap length (sym (ap (λ (o : Option (Stored T U C)). waiting_of (option_map (λ s. s.part) o)) gone) ∙ (sym (second.each_waited id) ∙ some)) in
-          absurd (omega (arith, long))
+  waits_stored id h hs some = grind (arith, client_at, length, waiting_of, option_map, second)
 
   waits_later : ((id : ClientParts) → Grown (waits_at id s) (waits_at id t))
       → (rest : List NotePlace) × (map made_so (parts w t f after' out' is' two all').waiting ≡ map made_so (parts w s e after out is one all).waiting ++ rest)
       → (rest : List (Note U)) × (second.waited ≡ first.waited ++ rest)
   waits_later grown (rest, behind) =
       begins_so (λ id. is_some (client_at id t.clients) ≡ true) (one_client t.clients) first.waited second.waited (map (λ p. p.slot) rest)
-      ((halves w t f after' out' is' two all').4
-      ∙ (sym (slots_so (parts w t f after' out' is' two all').waiting)
-      ∙ (ap (λ (l : List NotePlace). map (λ p. p.slot) l) behind
-      ∙ (map-append (λ (p : NotePlace). p.slot) (map made_so (parts w s e after out is one all).waiting) rest
-      ∙ ap (λ (l : List ℕ). l ++ map (λ p. p.slot) rest) (slots_so (parts w s e after out is one all).waiting ∙ sym (halves w s e after out is one all).4)))))
+      (grind (arith, halves, slots_so, parts, map, map-append, made_so))
       (λ id. ((grown id).0, second.each_waited id ∙ ((grown id).1 ∙ ap (λ (l : List (Happening U)). l ++ (grown id).0) (sym (first.each_waited id))))) waits_stored
 
 module _ {T U G C : Type 0} (w : World T G C) where

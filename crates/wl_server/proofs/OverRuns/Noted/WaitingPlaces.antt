@@ -59,8 +59,7 @@ made_so p = record { waits = false; number = p.number; slot = p.slot }
 
 after_so : (p : NotePlace) → Waits p → (ps : List NotePlace) → AllByRecursion Waits ps → AllByRecursion (IsNoLater p) ps → AllByRecursion (IsNoLater (made_so p)) (map made_so ps)
 after_so p is [] all later = tt
-after_so p is (q ∷ ps) (waits, all) (here, later) =
-    ((λ w. w, λ e. here.1 (is ∙ sym waits), λ e n. here.2 (is ∙ sym waits) n), after_so p is ps all later)
+after_so p is (q ∷ ps) (waits, all) (here, later) = grind (arith, after_so p is ps all later)
 
 sorted_so : (ps : List NotePlace) → AllByRecursion Waits ps → Sorted ps → Sorted (map made_so ps)
 sorted_so [] all up = tt
@@ -84,11 +83,7 @@ count_waiting slot n (p ∷ ps) (is, all) =
 
 count_made : (slot n : ℕ) (ps : List NotePlace) → AllByRecursion WasMade ps → sum_by (at_waiting slot n) ps ≡ 0
 count_made slot n [] all = refl
-count_made slot n (p ∷ ps) (is, all) =
-    let one = sum_by-cons (at_waiting slot n) p ps in
-    let this = at_is slot n p false is in
-    let more = count_made slot n ps all in
-    omega (arith, one, this, more)
+count_made slot n (p ∷ ps) (is, all) = grind (arith, sum_by-cons, at_waiting, at_is, count_made slot n ps all)
 
 count_parted : (slot n : ℕ) (ps : List NotePlace) (parts : Parted ps) → times_at_time slot n (map made_so parts.waiting) ≡ sum_by (at_waiting slot n) ps
 count_parted slot n ps parts = grind (arith, sum_by-append, count_made, count_waiting)
@@ -105,10 +100,7 @@ list_waiting k slot n (m ∷ ns) =
 
 list_made : (k slot n : ℕ) (ns : List ℕ) → sum_by (at_waiting slot n) (map (place_at false k) ns) ≡ 0
 list_made k slot n [] = refl
-list_made k slot n (m ∷ ns) =
-    let one = sum_by-cons (at_waiting slot n) (place_at false k m) (map (place_at false k) ns) in
-    let more = list_made k slot n ns in
-    omega (arith, one, more)
+list_made k slot n (m ∷ ns) = grind (arith, sum_by-cons, at_waiting, place_at, map, list_made k slot n ns)
 
 of_client : (k slot n : ℕ) (b : Bool) → (k == slot) ≡ b → (t : NoteTimes) → sum_by (at_waiting slot n) (places_of true k t) ≡ (if b then often n t.waiting else 0)
 of_client k slot n b is t = grind (arith, sum_by-append, place_at, list_made, list_waiting, of_made)
@@ -189,8 +181,7 @@ abbrev at_slot : ℕ → NotePlace → ℕ
 at_slot slot p = if p.slot == slot then 1 else 0
 
 kind_is : (v : Bool) (slot : ℕ) (p : NotePlace) (c b : Bool) → is_kind v p.waits ≡ c → (p.slot == slot) ≡ b → of_kind v slot p ≡ (if c then (if b then 1 else 0) else 0)
-kind_is v slot p c b kind here =
-    ap (λ (x : Bool). if x then (if p.slot == slot then 1 else 0) else 0) kind ∙ ap (λ (x : Bool). if c then (if x then 1 else 0) else 0) here
+kind_is v slot p c b kind here = grind (arith)
 
 kind_list : (v u : Bool) (k slot : ℕ) (c b : Bool) → is_kind v u ≡ c → (k == slot) ≡ b → (ns : List ℕ)
     → sum_by (of_kind v slot) (map (place_at u k) ns) ≡ (if c then (if b then length ns else 0) else 0)
@@ -202,16 +193,8 @@ kind_list v u k slot true true kind here (n ∷ ns) =
     let this = kind_is v slot (place_at u k n) true true kind here in
     let more = kind_list v u k slot true true kind here ns in
     omega (arith, one, this, more)
-kind_list v u k slot true false kind here (n ∷ ns) =
-    let one = sum_by-cons (of_kind v slot) (place_at u k n) (map (place_at u k) ns) in
-    let this = kind_is v slot (place_at u k n) true false kind here in
-    let more = kind_list v u k slot true false kind here ns in
-    omega (arith, one, this, more)
-kind_list v u k slot false b kind here (n ∷ ns) =
-    let one = sum_by-cons (of_kind v slot) (place_at u k n) (map (place_at u k) ns) in
-    let this = kind_is v slot (place_at u k n) false b kind here in
-    let more = kind_list v u k slot false b kind here ns in
-    omega (arith, one, this, more)
+kind_list v u k slot true false kind here (n ∷ ns) = grind (arith, sum_by-cons, of_kind, place_at, map, kind_is, kind_list v u k slot true false kind here ns)
+kind_list v u k slot false b kind here (n ∷ ns) = grind (arith, sum_by-cons, of_kind, place_at, map, kind_is, kind_list v u k slot false b kind here ns)
 
 -- the numbers of that kind
 abbrev pub kind_of : Bool → NoteTimes → List ℕ
@@ -222,8 +205,7 @@ kind_client : (v : Bool) (k slot : ℕ) (b : Bool) → (k == slot) ≡ b → (t 
 kind_client v k slot b h1 t = grind (arith, sum_by-append, place_at, kind_list)
 
 none_of_kind : (v : Bool) → length (kind_of v no_times) ≡ 0
-none_of_kind true = refl
-none_of_kind false = refl
+none_of_kind h1 = grind (arith)
 
 kind_among : (v : Bool) (slot : ℕ) (ts : List NoteTimes) → sum_by (of_kind v slot) (all_places true 0 ts) ≡ length (kind_of v (times_at slot ts))
 kind_among v slot ts = among (of_kind v slot) slot true (λ t. length (kind_of v t)) (none_of_kind v) (λ k b is t. kind_client v k slot b is t) 0 slot ts (omega arith)
@@ -239,11 +221,7 @@ kind_all v slot (p ∷ ps) (is, all) =
 
 kind_none : (v : Bool) (slot : ℕ) (ps : List NotePlace) → AllByRecursion (λ p. is_kind v p.waits ≡ false) ps → sum_by (of_kind v slot) ps ≡ 0
 kind_none v slot [] all = refl
-kind_none v slot (p ∷ ps) (is, all) =
-    let one = sum_by-cons (of_kind v slot) p ps in
-    let this : of_kind v slot p ≡ 0 = ap (λ (x : Bool). if x then (if p.slot == slot then 1 else 0) else 0) is in
-    let more = kind_none v slot ps all in
-    omega (arith, one, this, more)
+kind_none v slot (p ∷ ps) (is, all) = grind (arith, sum_by-cons, of_kind, kind_none v slot ps all)
 
 all_not : (u : Bool) (ps : List NotePlace) → AllByRecursion (λ p. p.waits ≡ u) ps → AllByRecursion (λ p. is_kind false p.waits ≡ not u) ps
 all_not u [] all = tt

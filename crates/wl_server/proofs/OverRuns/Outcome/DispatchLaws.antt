@@ -1,5 +1,5 @@
 -- That a dispatch has one outcome, where memory is not refused and the handler is deterministic.
-use Rattle.std.proofs.Common.{◌≡◌, ◌≢◌, ℕ, length, Bool, true, false, List, [], ◌∷◌, ◌++◌, Option, None, is_some, Result, Ok, Err, refl, sym, ap, subst, ◌∙◌, true≢false, arith}
+use Rattle.std.proofs.Common.{◌≡◌, ◌≢◌, ℕ, length, Bool, false, List, [], ◌∷◌, ◌++◌, Option, None, is_some, Result, Ok, Err, refl, sym, ap, subst, ◌∙◌, true≢false, arith}
 use Rattle.std.specs.Prelude.{◌||◌}
 use Rattle.std.proofs.lemmas.List.{same_from_push}
 use Rattle.std.proofs.lemmas.Option.{same_Some}
@@ -7,7 +7,6 @@ use Rattle.wl_wire.specs.declared.error.IoFault.{IoFault}
 use Rattle.wl_server.specs.declared.error.ActionError.{ActionError}
 use Rattle.wl_server.specs.declared.error.FinishError.{FinishError}
 use Rattle.wl_server.specs.declared.reading.action.Action.{Action}
-use Rattle.wl_server.specs.declared.reading.action.Action.TheVariants as action
 use Rattle.wl_server.specs.declared.reading.action.Reading.{Reading}
 use Rattle.wl_server.specs.declared.runs.step.Reply.{Reply}
 use Rattle.wl_server.specs.declared.runs.step.Reply.TheVariants as reply
@@ -28,8 +27,7 @@ use Rattle.wl_server.proofs.OverRuns.Outcome.WholeRuns.{asked_one, entry_one, re
 
 -- memory was refused in neither
 both_calm : (a b : Bool) → (a || b) ≡ false → (a ≡ false) × (b ≡ false)
-both_calm true b calm = absurd (true≢false calm)
-both_calm false b calm = (refl, calm)
+both_calm h1 b calm = grind (arith, true≢false)
 
 -- ---- what replies that are the same tell a dispatch
 
@@ -91,17 +89,12 @@ module _ {H T U G C : Type 0} (w : World T G C) (known : IsDetermined w) (ordere
 
   as_handed : (h h' : H) (before after : BackendState T U G C) (a : Action) (end : Step T U G C) → Answers w answers id h before a end h' after
       → AnswersHanded h before (handed a) end h' after
-  as_handed h h' before after (action.Request sender opcode args is_destructor created) end so = so
-  as_handed h h' before after (action.Bind global object) end so = so
+  as_handed h h' before after h5 end so = grind (arith)
 
   handed_one : (h h1 h2 : H) (b c x y : BackendState T U G C) (a : Handed) (end end' : Step T U G C) → SameBackend ordered b c → AnswersHanded h b a end h1 x
       → AnswersHanded h c a end' h2 y → HandledSame ordered end end' h1 h2 x y
-  handed_one h h1 h2 b c x y (Request sender opcode args is_destructor created) end end' same (u, so, is) (v, so', is') =
-      let one = acts.requests h h1 h2 b c x y id sender opcode args created u v same so so' in
-      (is ∙ ap (λ (z : Option U). let k : Step T U G C = step.FinishRequest id z in k) one.0 ∙ sym is', one.1, one.2)
-  handed_one h h1 h2 b c x y (Bind global object) end end' same (u, so, is) (v, so', is') =
-      let one = acts.binds h h1 h2 b c x y id global object u v same so so' in
-      (is ∙ ap (λ (z : U). let k : Step T U G C = step.FinishBind id z in k) one.0 ∙ sym is', one.1, one.2)
+  handed_one h h1 h2 b c x y (Request sender opcode args is_destructor created) end end' same (u, so, is) (v, so', is') = grind (arith)
+  handed_one h h1 h2 b c x y (Bind global object) end end' same (u, so, is) (v, so', is') = grind (arith)
 
   -- the same action was handled
   handles_one : {h h1 h2 : H} {b c : BackendState T U G C} {a a' : Action} {run run' : List (Entry T U G C)} {l m : Bool} {why why' : Option FinishError} {x y : Server}
@@ -215,11 +208,7 @@ module _ {H T U G C : Type 0} (w : World T G C) (known : IsDetermined w) (ordere
   pub client_one : {h h1 h2 : H} {s t x y : Server} {run run' : List (Entry T U G C)} {l m : Bool} {answer answer' : Result ℕ IoFault} → SameServer ordered s t → l ≡ false → m ≡ false
       → IsDispatched w answers id h s run l answer h1 x → IsDispatched w answers id h t run' m answer' h2 y → (answer ≡ answer') × (h1 ≡ h2) × SameServer ordered x y
   client_one {h} {h1} {h2} {s} {t} {x} {y} {run} {run'} {l} {m} {answer} {answer'} same calm calm' d d' =
-      let one = goes_one same (dispatched_goes calm d) (dispatched_goes calm' d') in (
-        d.answer_is ∙ ap (λ (f : IoFault). dispatched f d.left.read) one.0 ∙ ap (λ (r : Reading). dispatched d'.fault r.read) one.2 ∙ sym d'.answer_is,
-        one.1,
-        one.3,
-      )
+      let one = goes_one same (dispatched_goes calm d) (dispatched_goes calm' d') in grind (arith, dispatched)
 
 -- ---- clients one after another
 
@@ -248,11 +237,7 @@ module _ {H T U G C : Type 0} (w : World T G C) (known : IsDetermined w) (ordere
       let earlier = each_one same c.0 d.0 each (subst (λ (i : List ClientParts). EachIsDispatched w answers i h t first b' count' k' z') (sym ends.0) each') in
       let there = subst (λ (i : ClientParts). IsDispatched w answers i k z' next n' answer' h2 y) (sym ends.1)
       (subst (λ (o : H). IsDispatched w answers id' o z' next n' answer' h2 y) (sym earlier.1) serves') in
-      let one = client_one w known ordered answers acts id earlier.2 c.1 d.1 serves there in (
-        total_is ∙ ap (λ (o : ℕ). total_with o answer) earlier.0 ∙ ap (λ (o : Result ℕ IoFault). total_with count' o) one.0 ∙ sym total_is',
-        one.1,
-        one.2,
-      )
+      let one = client_one w known ordered answers acts id earlier.2 c.1 d.1 serves there in grind (arith, total_with)
 
   -- ---- the end of a dispatch
 

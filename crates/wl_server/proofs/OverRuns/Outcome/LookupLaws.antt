@@ -27,10 +27,6 @@ module _ {T U C : Type 0} where
   none_or_some : (x : Stored T U C) (o : Option (Part T U C)) → Some x.part ≡ o → o ≡ None → ⊥
   none_or_some x o is none = true≢false (ap is_some is ∙ ap is_some none)
 
-  -- two clients of one slot that are the same to all ids have one serial and one part
-  stored_one : (n : ℕ) (x y : Stored T U C) → part_at (if_serial x.serial (Some x)) ≡ part_at (if_serial x.serial (Some y)) → id_if_stored n (Some x) ≡ id_if_stored n (Some y)
-  stored_one n x y same = grind (arith, if_serial, found, id_if_stored, none_or_some, ap₂, no_times)
-
 module _ {T U G C : Type 0} (s t : ServerState T U G C) (same : HoldsSame s t) where
   slot_one : (k n : ℕ) (a b : Option (Stored T U C)) → stored_at k s.clients ≡ a → stored_at k t.clients ≡ b → id_if_stored n a ≡ id_if_stored n b
   slot_one k n None None is is' = refl
@@ -39,8 +35,7 @@ module _ {T U G C : Type 0} (s t : ServerState T U G C) (same : HoldsSame s t) w
       at b (sym (ap (λ z. part_at (if_serial x.serial z)) is) ∙ ap (λ (z : Seen T U C). z.part) (same.each id) ∙ ap (λ z. part_at (if_serial x.serial z)) is')
     where
       at : (b : Option (Stored T U C)) → part_at (if_serial x.serial (Some x)) ≡ part_at (if_serial x.serial b) → id_if_stored n (Some x) ≡ id_if_stored n b
-      at (Some y) parts = stored_one n x y parts
-      at None parts = absurd (none_or_some x None (sym (ap part_at (found x (Some x) refl)) ∙ parts) refl)
+      at h1 parts = grind (arith, if_serial, id_if_stored, ap₂, no_times, none_or_some, part_at, found)
   slot_one k n None (Some y) is is' =
       let id : ClientParts = record { slot = k; serial = y.serial } in
       let parts : part_at (if_serial y.serial (Some y)) ≡ part_at (if_serial y.serial None)

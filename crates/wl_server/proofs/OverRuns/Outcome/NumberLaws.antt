@@ -1,7 +1,6 @@
 -- That the numbers which are given out have one outcome: those of globals and of clients.
 use Rattle.std.proofs.Common.{◌≡◌, ◌≢◌, ℕ, ◌<◌, Option, None, is_some, Result, Err, sym, ap, ◌∙◌, true≢false, arith}
 use Rattle.std.specs.Prelude.{IsSome, List, nat_le, slice_get}
-use mathlib.Core.Logic.{inl, inr}
 use Rattle.std.proofs.lemmas.Bool.{cases_order}
 use Rattle.wl_wire.specs.declared.interface.InterfaceId.{InterfaceId}
 use Rattle.wl_wire.specs.Table.{InterfaceRow}
@@ -14,7 +13,7 @@ use Rattle.wl_server.specs.Globals.{Globals, CreatesGlobal, CreatesNext, IsNextG
 use Rattle.wl_server.specs.Ids.{ClientParts, GlobalParts}
 use Rattle.wl_server.specs.Next.{NextClient, NextClientIsGiven}
 use Rattle.wl_server.specs.Server.{Stored, stored_at}
-use Rattle.wl_server.specs.Steps.{InsertsNext, IsLeastFree, IsNextClient, LacksSlot}
+use Rattle.wl_server.specs.Steps.{InsertsNext, IsLeastFree, IsNextClient}
 
 -- ---- globals
 
@@ -22,16 +21,11 @@ pub global_is : (a b : GlobalParts) → a.name ≡ b.name → a.serial ≡ b.ser
 global_is a b names serials = grind (arith)
 
 module _ {G : Type 0} (globals : Globals G) where
-  next_global_one : (a b : GlobalParts) → IsNextGlobal globals a → IsNextGlobal globals b → a ≡ b
-  next_global_one a b (least, left, next) (least', left', next') =
-      global_is a b (least_absent_one name_range globals.store a.name b.name least least') (next ∙ sym next')
-
   next_not_lacked : (a : GlobalParts) → IsNextGlobal globals a → LacksName globals → ⊥
-  next_not_lacked a (least, left, next) (inl full) = full_not_absent name_range globals.store a.name full least
-  next_not_lacked a (least, left, next) (inr last) = omega (arith, left, last)
+  next_not_lacked a h2 h3 = grind (arith, full_not_absent, name_range)
 
   creates_next_one : (a b : Result GlobalParts GlobalError) → a ≢ Err global.OutOfMemory → b ≢ Err global.OutOfMemory → CreatesNext globals a → CreatesNext globals b → a ≡ b
-  creates_next_one a b h1 h2 h3 h4 = grind (arith, next_global_one, next_not_lacked)
+  creates_next_one a b h1 h2 h3 h4 = grind (arith, global_is, least_absent_one, name_range, next_not_lacked)
 
   -- the answer to the creation of a global
   pub creates_global_one : (table : List InterfaceRow) (i : InterfaceId) (version : ℕ) (a b : Result GlobalParts GlobalError)
@@ -56,15 +50,11 @@ module _ {T U C : Type 0} (last : ℕ) (clients : List (Option (Stored T U C))) 
   pub next_client_one : (a b : ClientParts) → IsNextClient last clients a → IsNextClient last clients b → a ≡ b
   next_client_one a b (least, left, next) (least', left', next') = client_is a b (least_free_one a.slot b.slot least least') (next ∙ sym next')
 
-  next_not_full : (a : ClientParts) → IsNextClient last clients a → LacksSlot last clients → ⊥
-  next_not_full a (least, left, next) (inl full) = some_not_none (stored_at a.slot clients) (full a.slot least.below) least.free
-  next_not_full a (least, left, next) (inr spent) = omega (arith, left, spent)
-
   -- the answer to the insertion of a client
   pub inserts_next_one : (a b : Result ClientParts InsertClientError) → a ≢ Err insert.OutOfMemory → b ≢ Err insert.OutOfMemory
       → InsertsNext last clients a → InsertsNext last clients b → a ≡ b
-  inserts_next_one a b h1 h2 h3 h4 = grind (arith, next_client_one, next_not_full)
+  inserts_next_one a b h1 h2 h3 h4 = grind (arith, next_client_one, some_not_none, stored_at)
 
   -- the id that was told is the one that is given
   pub client_is_as_told : (told : Option ClientParts) → NextClient last clients told → NextClientIsGiven last clients told
-  client_is_as_told told h1 = grind (arith, next_client_one, next_not_full)
+  client_is_as_told told h1 = grind (arith, next_client_one, some_not_none, stored_at)

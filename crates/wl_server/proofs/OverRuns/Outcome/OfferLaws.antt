@@ -6,7 +6,6 @@ use Rattle.wl_wire.specs.declared.protocol.TableError.TheVariants as table
 use Rattle.wl_wire.specs.Table.{AnswersGrowth, InterfaceRow, grown}
 use Rattle.wl_wire.proofs.Growth.{AnswersGrowth-unique}
 use Rattle.wl_server.specs.declared.error.GlobalError.{GlobalError}
-use Rattle.wl_server.specs.declared.error.GlobalError.TheVariants as global
 use Rattle.wl_server.specs.declared.runs.step.Reply.{Reply}
 use Rattle.wl_server.specs.declared.runs.step.Reply.TheVariants as reply
 use Rattle.wl_server.specs.declared.runs.step.Step.{Step}
@@ -27,8 +26,7 @@ use Rattle.wl_server.specs.Steps.{Entry, AnswersShared, lacks_growth, offer_afte
 -- the offer after them, where the answers are alike
 pub growth_offer : {G : Type 0} (offer : Offer G) (rows rows' : List InterfaceRow) (p q : Result (Unit {0}) TableError) → rows ≡ rows' → p ≡ q
     → with_table offer (grown offer.table rows p) ≡ with_table offer (grown offer.table rows' q)
-growth_offer offer rows rows' p q same answers =
-    ap (λ these. with_table offer (grown offer.table these p)) same ∙ ap (λ answer. with_table offer (grown offer.table rows' answer)) answers
+growth_offer offer rows rows' p q same answers = grind (arith, with_table, grown)
 
 -- a want of memory for them is told by the answer
 growth_allowed : (T U G C : Type 0) (rows : List InterfaceRow) (p : Result (Unit {0}) TableError) → lacks_growth {T = T} {U = U} {G = G} {C = C} (Grown rows p) ≡ false
@@ -48,8 +46,7 @@ module _ {T U G C : Type 0} where
 
   -- the offer after two calls of one step, where they are answered alike
   pub offer_one : (offer : Offer G) (s : Step T U G C) (p q : Reply T U) → SharedSame s p q → offer_after offer (Asked s p) ≡ offer_after offer (Asked s q)
-  offer_one offer (step.CreateGlobal i version handler) p q shared = ap (λ (z : Reply T U). offer_after {C = C} offer (Asked (step.CreateGlobal i version handler) z)) shared
-  offer_one offer s p q shared = refl
+  offer_one offer s p q shared = grind (arith, offer_after)
 
   -- what a step leaves of the offer, another leaves that is the same
   pub offer_as : (offer : Offer G) (s s' : Step T U G C) (q : Reply T U) → SameStep s s' → offer_after offer (Asked s q) ≡ offer_after offer (Asked s' q)
@@ -66,8 +63,7 @@ module _ {T U G C : Type 0} where
 
   pub answered_step : (w : World T G C) (id : ClientParts) (offer : Offer G) (s : Step T U G C) (answer : Reply T U) (before : Seen T U C) (lacked : Bool) (did : List (Deed U))
       (after : Seen T U C) → PartStep w id offer s answer before lacked did after → Answered (Asked s answer)
-  answered_step w id offer (step.CreateGlobal i version handler) answer before lacked did after (r, is, h) = (r, is)
-  answered_step w id offer s answer before lacked did after h = tt
+  answered_step w id offer s answer before lacked did after h = grind (arith)
 
   pub answered_call : (w : World T G C) (id : ClientParts) (offer : Offer G) (call : Call T U G C) (before : Seen T U C) (lacked : Bool) (did : List (Deed U)) (after : Seen T U C)
       → PartCall w id offer call before lacked did after → Answered call
@@ -77,22 +73,15 @@ module _ {T U G C : Type 0} where
     abbrev Ample : Step T U G C → Reply T U → Type 0
     Ample s answer = lacks_growth (Asked s answer) ≡ false
 
-    -- a want of memory for a global is told by its answer
-    created_allowed : (s : Step T U G C) (r : Result GlobalParts GlobalError) → Ample s (reply.CreateGlobal r) → r ≢ Err global.OutOfMemory
-    created_allowed s r ample is = grind (arith, true≢false)
-
     -- a client's own calls and the shared ones are answered alike, where their answers tell what all clients share
     pub shared_same : (s : Step T U G C) (p q : Reply T U) → is_about id s ≡ true → Ample s p → Ample s q → AnswersShared offer (Asked s p) → AnswersShared offer (Asked s q)
         → Answered (Asked s p) → Answered (Asked s q) → SharedSame s p q
-    shared_same s p q h1 h2 h3 h4 h5 h6 h7 = grind (arith, true≢false, creates_global_one, created_allowed)
-
-    answered_as : (s s' : Step T U G C) (q : Reply T U) → SameStep s s' → Answered (Asked s' q) → Answered (Asked s q)
-    answered_as s s' q h1 h2 = grind (arith)
+    shared_same s p q h1 h2 h3 h4 h5 h6 h7 = grind (arith, true≢false, creates_global_one)
 
     -- so it is of calls: they are answered alike, and leave one offer
     pub shared_call : (call call' : Call T U G C) → SameCall call call' → concerns id call ≡ true → lacks_growth call ≡ false → lacks_growth call' ≡ false
         → AnswersShared offer call → AnswersShared offer call' → Answered call → Answered call' → SharedAnswer call call' × (offer_after offer call ≡ offer_after offer call')
-    shared_call (Asked s p) (Asked s' q) same own ample ample' n n' h g = grind (arith, shared_same, numbers_as, answered_as, offer_one, offer_as)
+    shared_call (Asked s p) (Asked s' q) same own ample ample' n n' h g = grind (arith, shared_same, numbers_as, offer_one, offer_as)
     shared_call (Changed target t) (Changed target' t') same own ample ample' n n' h g = (tt, refl)
     shared_call (Grown rows p) (Grown rows' q) same own ample ample' n n' h g =
         let answers = growth_same T U G C offer rows rows' p q same ample ample' n n' in (answers, growth_offer offer rows rows' p q same answers)
@@ -122,41 +111,27 @@ module _ {T U G C : Type 0} where
   -- the calls that one client's run has are its own or shared
   own_more : (id : ClientParts) (e : Entry T U G C) (run : List (Entry T U G C)) (b : Bool) → concerns id e.call ≡ b → AreOwn id (mine id run)
       → AreOwn id (if b then (own_of id e ∷ mine id run) else mine id run)
-  own_more id e run true is own = (is, own)
-  own_more id e run false is own = own
+  own_more id e run h4 is own = grind (arith)
 
   pub mine_own : (id : ClientParts) (run : List (Entry T U G C)) → AreOwn id (mine id run)
   mine_own id [] = tt
   mine_own id (e ∷ run) = own_more id e run (concerns id e.call) refl (mine_own id run)
 
-  -- the globals that it creates are numbered by the offer alone
-  numbered_more : (id : ClientParts) (offer : Offer G) (e : Entry T U G C) (run : List (Entry T U G C)) (b : Bool) → concerns id e.call ≡ b → AnswersShared offer e.call
-      → AreNumbered (offer_after offer e.call) (mine id run) → AreNumbered offer (if b then (own_of id e ∷ mine id run) else mine id run)
-  numbered_more id offer e run true is n more = (n, more)
-  numbered_more id offer e run false is n more = subst (λ (o : Offer G). AreNumbered o (mine id run)) (offer_of_other id offer e.call is) more
-
   pub mine_numbered : (w : World T G C) (id : ClientParts) (before after : ServerState T U G C) (run : List (Entry T U G C)) → Leads w before run after
       → AreNumbered before.offer (mine id run)
   mine_numbered w id before after [] same = tt
-  mine_numbered w id before after (e ∷ run) (mid, by, leads) = grind (arith, numbered_more, concerns, mine, mine_numbered w id mid after run leads)
-
-  answered_more : (id : ClientParts) (e : Entry T U G C) (run : List (Entry T U G C)) (b : Bool) → Answered e.call → AreAnswered (mine id run)
-      → AreAnswered (if b then (own_of id e ∷ mine id run) else mine id run)
-  answered_more id e run true h more = (h, more)
-  answered_more id e run false h more = more
+  mine_numbered w id before after (e ∷ run) (mid, by, leads) = grind (arith, offer_of_other, concerns, mine, mine_numbered w id mid after run leads)
 
   mine_answered : (w : World T G C) (id : ClientParts) (before after : ServerState T U G C) (run : List (Entry T U G C)) → Leads w before run after
       → AreAnswered (mine id run)
   mine_answered w id before after [] same = tt
-  mine_answered w id before after (e ∷ run) (mid, by, leads) =
-      answered_more id e run (concerns id e.call) (answered_call w id before.offer e.call _ _ _ _ (by.each id)) (mine_answered w id mid after run leads)
+  mine_answered w id before after (e ∷ run) (mid, by, leads) = grind (arith, concerns, answered_call, mine_answered w id mid after run leads)
 
   -- the calls of others leave the offer
   offer_more : (id : ClientParts) (offer : Offer G) (e : Entry T U G C) (run : List (Entry T U G C)) (b : Bool) → concerns id e.call ≡ b
       → own_offer (offer_after offer e.call) (mine id run) ≡ offer_over (offer_after offer e.call) run
       → own_offer offer (if b then (own_of id e ∷ mine id run) else mine id run) ≡ offer_over (offer_after offer e.call) run
-  offer_more id offer e run true is more = more
-  offer_more id offer e run false is more = ap (λ (o : Offer G). own_offer o (mine id run)) (sym (offer_of_other id offer e.call is)) ∙ more
+  offer_more id offer e run h5 is more = grind (arith, own_offer, mine, offer_of_other)
 
   mine_offer : (id : ClientParts) (offer : Offer G) (run : List (Entry T U G C)) → own_offer offer (mine id run) ≡ offer_over offer run
   mine_offer id offer [] = refl

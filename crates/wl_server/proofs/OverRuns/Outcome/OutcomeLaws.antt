@@ -1,32 +1,29 @@
 -- That what a client's own calls and the shared ones lead to alone is one outcome, where memory is not refused and what a
 -- transport answers and becomes follows from its value.
-use Rattle.std.proofs.Common.{◌≡◌, ℕ, Bool, true, false, List, [], ◌∷◌, ◌++◌, Option, None, Some, Result, Ok, Err, refl, sym, ap, subst, ◌∙◌, true≢false, arith}
+use Rattle.std.proofs.Common.{◌≡◌, Bool, true, false, List, [], ◌∷◌, ◌++◌, Option, None, Some, Result, Ok, Err, refl, sym, ap, subst, ◌∙◌, true≢false, arith}
 use mathlib.Core.Logic.{inl, inr}
 use Rattle.wl_wire.specs.declared.error.IoFault.{IoFault}
 use Rattle.wl_link.proofs.Calls.Branches.{both_bool}
 use Rattle.wl_link.specs.Link.{LinkState}
 use Rattle.wl_server.specs.declared.error.EventError.TheVariants as event
-use Rattle.wl_server.specs.declared.error.GlobalError.{GlobalError}
-use Rattle.wl_server.specs.declared.error.GlobalError.TheVariants as global
 use Rattle.wl_server.specs.declared.error.InsertClientError.{InsertClientError}
-use Rattle.wl_server.specs.declared.error.InsertClientError.TheVariants as insert
 use Rattle.wl_server.specs.declared.error.ScriptError.{ScriptError}
 use Rattle.wl_server.specs.declared.notes.Happening.TheVariants.{Initialized}
 use Rattle.wl_server.specs.declared.runs.step.Reply.{Reply}
 use Rattle.wl_server.specs.declared.runs.step.Reply.TheVariants as reply
 use Rattle.wl_server.specs.declared.runs.step.Step.{Step}
 use Rattle.wl_server.specs.declared.runs.step.Step.TheVariants as step
-use Rattle.wl_server.specs.Deeds.{Deed, notes_in}
+use Rattle.wl_server.specs.Deeds.{Deed}
 use Rattle.wl_server.specs.Events.{SendsEvent, SessionMessage, session_content}
 use Rattle.wl_server.specs.Globals.{Offer}
-use Rattle.wl_server.specs.Ids.{ClientParts, GlobalParts, same_client}
+use Rattle.wl_server.specs.Ids.{ClientParts, same_client}
 use Rattle.wl_server.specs.Moves.{Moved, nothing_taken, taken}
 use Rattle.wl_link.proofs.Calls.NumberLaws.{fresh_one}
 use Rattle.wl_server.proofs.OverRuns.Outcome.Determined.{IsDetermined}
 use Rattle.wl_server.specs.Outcome.{SameAnswer, SameCall, SameOutcome, SameReply, SameStep, SendsSame, SharedAnswer, SharedSame}
 use Rattle.wl_server.specs.Part.{Part, fresh_part}
 use Rattle.wl_server.proofs.OverRuns.Outcome.PartOutcome.{SameEnd, SameFelt, changes_one, cleaned_one, creates_one, destroys_one, finishes_bind_one, finishes_request_one, flushed_one, flushes_live_one, hears_one, kills_one, limits_one, moves_one, next_action_one, posts_error_one, same_felt, sends_event_one, sets_one}
-use Rattle.wl_server.specs.PartStep.{Asked, Call, Changed, CleanedAs, FeelsGlobal, FeelsLoss, FlushedFor, Grown, InsertedAs, MovedFor, NotesTaken, OfClient, OnPart, PartCall, PartStep, Unfelt, World, around, share_of}
+use Rattle.wl_server.specs.PartStep.{Asked, Call, Changed, CleanedAs, FlushedFor, Grown, InsertedAs, MovedFor, OfClient, OnPart, PartCall, PartStep, Unfelt, World, around, share_of}
 use Rattle.wl_server.specs.Reading.{action_content, new_reading}
 use Rattle.wl_server.specs.Runs.{concerns, is_about}
 use Rattle.wl_server.specs.Server.{Seen}
@@ -40,22 +37,12 @@ result_of (Ok _) = Ok tt
 result_of (Err e) = Err e
 
 result_of_taken : (r : Result (Unit {0}) ScriptError) → result_of (nothing_taken r) ≡ r
-result_of_taken (Ok u) = refl
-result_of_taken (Err e) = refl
+result_of_taken h1 = grind (arith)
 
 nothing_taken_one : (a b : Result (Unit {0}) ScriptError) → nothing_taken a ≡ nothing_taken b → a ≡ b
 nothing_taken_one a b same = sym (result_of_taken a) ∙ ap result_of same ∙ result_of_taken b
 
 module _ {T U : Type 0} where
-  -- what an insertion and what a creation answers
-  abbrev inserted_in : Reply T U → Result ClientParts InsertClientError
-  inserted_in (reply.InsertClient r) = r
-  inserted_in _ = Err insert.Full
-
-  abbrev created_in : Reply T U → Result GlobalParts GlobalError
-  created_in (reply.CreateGlobal r) = r
-  created_in _ = Err global.Full
-
   -- two replies are the same where what they are is
   same_reply : (id : ClientParts) (p q p' q' : Reply T U) → p ≡ p' → q ≡ q' → SameReply id p' q' → SameReply id p q
   same_reply id p q p' q' is is' same = subst (λ r. SameReply id r q) (sym is) (subst (λ r. SameReply id p' r) (sym is') same)
@@ -63,12 +50,6 @@ module _ {T U : Type 0} where
 -- ---- what is held of a client
 
 module _ {T U C : Type 0} (before : Seen T U C) (d e : List (Deed U)) (x y : Seen T U C) where
-  abbrev with_part : Option (Part T U C) → List (Deed U) → Seen T U C
-  with_part q did = record { part = q; made = before.made ++ notes_in did }
-
-  part_one : (q q' : Option (Part T U C)) → SameFelt d e q q' → x ≡ with_part q d → y ≡ with_part q' e → SameFelt d e x y
-  part_one q q' one same same' = grind (arith)
-
   unfelt_one : Unfelt before false d x → Unfelt before false e y → SameFelt d e x y
   unfelt_one (unlacked, did, same) (unlacked', did', same') = same_felt did did' same same'
 
@@ -76,14 +57,13 @@ module _ {T U C : Type 0} (before : Seen T U C) (d e : List (Deed U)) (x y : See
   on_one : {P : Type 0} (R R' : Part T U C → Part T U C → Type 0) (missing missing' : Type 0) → (missing → missing' → P)
       → ((p q q' : Part T U C) → R p q → R' p q' → SameFelt d e q q' × P) → OnPart before R missing false d x → OnPart before R' missing' false e y
       → SameFelt d e x y × P
-  on_one R R' missing missing' absent each h g = grind (arith, unfelt_one, part_one)
+  on_one R R' missing missing' absent each h g = grind (arith, unfelt_one)
 
   -- a step about this client or about another
   of_one : {P : Type 0} (b : Bool) (R R' : Part T U C → Part T U C → Type 0) (missing missing' : Type 0) → (missing → missing' → P)
       → ((p q q' : Part T U C) → R p q → R' p q' → SameFelt d e q q' × P) → OfClient b before R missing false d x → OfClient b before R' missing' false e y
       → SameFelt d e x y × (b ≡ true → P)
-  of_one true R R' missing missing' absent each h g = let one = on_one R R' missing missing' absent each h g in (one.0, λ own. one.1)
-  of_one false R R' missing missing' absent each h g = (unfelt_one h g, λ own. absurd (true≢false (sym own)))
+  of_one h1 h2 h3 missing missing' absent each h g = grind (arith, on_one, unfelt_one, true≢false)
 
 -- the answers apart
 with_answer : {A U S : Type 0} {a b : A} {d e : List (Deed U)} {x y : S} → SameEnd a b d e x y → SameFelt d e x y × (a ≡ b)
@@ -124,35 +104,20 @@ module _ {T U G C : Type 0} (w : World T G C) (known : IsDetermined w) (id : Cli
       ]
   inserted_one transport client_data (Err f) h g = unfelt_one before d e x y h g
 
-  global_one : (i : _) (version : ℕ) (handler : G) (r : Result GlobalParts GlobalError) → FeelsGlobal w id offer i version handler r before false d x
-      → FeelsGlobal w id offer i version handler r before false e y → SameFelt d e x y
-  global_one i version handler (Ok g) h h' = (on_one before d e x y _ _ _ _ (λ _ _. tt) (λ p q q' f f'. with_none (hears_one w.sends known.sends p _ d e q q' f f')) h h').0
-  global_one i version handler (Err f) h h' = unfelt_one before d e x y h h'
-
-  loss_one : (g : GlobalParts) → FeelsLoss w id offer g before false d x → FeelsLoss w id offer g before false e y → SameFelt d e x y
-  loss_one g h h' = grind (arith, on_one, with_none, hears_one, unfelt_one)
-
   flushed_for_one : (target : Option ClientParts) (r r' : Result (Unit {0}) IoFault) → FlushedFor w id offer target r before false d x
       → FlushedFor w id offer target r' before false e y → SameFelt d e x y × ((let s : Step T U G C = step.Flush target in is_about id s) ≡ true → r ≡ r')
-  flushed_for_one None r r' (is, felt) (is', felt') =
-      ((on_one before d e x y _ _ _ _ (λ _ _. tt) (λ p q q' f f'. with_none (flushes_live_one w.sends known.sends p d e q q' f f')) felt felt').0, λ own. is ∙ sym is')
+  flushed_for_one None r r' (is, felt) (is', felt') = grind (arith, on_one, with_none, flushes_live_one)
   flushed_for_one (Some target) r r' h g =
       of_one before d e x y (same_client target id) _ _ _ _ (λ a b. a ∙ sym b) (λ p q q' f f'. with_answer (flushed_one w.sends known.sends p r r' d e q q' f f')) h g
 
   moved_one : (target : ClientParts) (m : _) (r r' : Moved) → MovedFor w id offer target m r before false d x → MovedFor w id offer target m r' before false e y
       → SameFelt d e x y × (same_client target id ≡ true → r ≡ r')
-  moved_one target m r r' h g =
-      of_one before d e x y (same_client target id) _ _ _ _ (λ a b. a ∙ sym b) (λ p q q' f f'. with_answer (moves_one w.moves known.moves p m r r' d e q q' f f')) h g
+  moved_one target m r r' h g = grind (arith, of_one, same_client, with_answer, moves_one)
 
   cleaned_as_one : (r r' : _) → Ample step.Cleanup (reply.Cleanup r)
       → Ample step.Cleanup (reply.Cleanup r')
       → CleanedAs w id offer r before false d x → CleanedAs w id offer r' before false e y → SameFelt d e x y × SameReply {T = T} {U = U} id (reply.Cleanup r) (reply.Cleanup r')
-  cleaned_as_one r r' h1 h2 h3 h4 = grind (arith, true≢false, unfelt_one, cleaned_one, share_of, part_one, with_answer)
-
-  notes_taken_one : (r r' : _) → Ample step.TakeNotes (reply.TakeNotes r)
-      → Ample step.TakeNotes (reply.TakeNotes r')
-      → NotesTaken w id offer r before false d x → NotesTaken w id offer r' before false e y → SameFelt d e x y × SameReply {T = T} {U = U} id (reply.TakeNotes r) (reply.TakeNotes r')
-  notes_taken_one r r' h1 h2 h3 h4 = grind (arith, true≢false, same_felt)
+  cleaned_as_one r r' h1 h2 h3 h4 = grind (arith, true≢false, unfelt_one, cleaned_one, share_of, with_answer)
 
   -- each step has one outcome
   pub step_one : (s : Step T U G C) (p q : Reply T U) → Ample s p → Ample s q → SharedSame s p q
@@ -163,49 +128,32 @@ module _ {T U G C : Type 0} (w : World T G C) (known : IsDetermined w) (id : Cli
       let one = of_one before d e x y (same_client target id) _ _ _ _ (λ a b. a ∙ sym b)
       (λ s q q' f f'. with_answer (creates_one id s r r' d e q q' f.0 f'.0 f.1 f'.1 offer.table i version u f.2 f'.2)) h g in
       outcome (same_client target id) p q one.0 (λ own. same_reply id p q _ _ is is' (ap reply.CreateObject (one.1 own)))
-  step_one (step.DestroyObject o) p q ample ample' shared (r, is, h) (r', is', g) =
-      let one = of_one before d e x y (same_client o.client id) _ _ _ _ (λ a b. a ∙ sym b)
-      (λ s q q' f f'. with_answer (destroys_one w.sends known.sends id s o r r' d e q q' f f')) h g in
-      outcome (same_client o.client id) p q one.0 (λ own. same_reply id p q _ _ is is' (ap reply.DestroyObject (one.1 own)))
+  step_one (step.DestroyObject o) p q ample ample' shared (r, is, h) (r', is', g) = grind (arith, of_one, same_client, with_answer, destroys_one, outcome, same_reply)
   step_one (step.SendEvent m) p q ample ample' shared (r, is, h) (r', is', g) =
       let one = of_one before d e x y (same_client m.sender_id.client id) _ _ _ _ (λ a b. a ∙ sym b)
       (λ s q q' f f'. with_answer (sends_event_one w.sends known.sends id s (session_content m) r r' d e q q' offer.table f f')) h g in
       outcome (same_client m.sender_id.client id) p q one.0 (λ own. same_reply id p q _ _ is is' (ap reply.SendEvent (one.1 own)))
   step_one (step.PostError o code text) p q ample ample' shared (is, h) (is', g) = grind (arith, of_one, with_none, posts_error_one, outcome, same_reply)
   step_one (step.KillClient target reason) p q ample ample' shared (is, h) (is', g) = grind (arith, of_one, with_none, kills_one, outcome, same_reply)
-  step_one (step.CreateGlobal i version handler) p q ample ample' shared (r, is, h) (r', is', g) = grind (arith, outcome, global_one, same_reply)
-  step_one (step.DisableGlobal g) p q ample ample' shared (is, h) (is', h') =
-      outcome true p q (loss_one g h h') (λ own. same_reply id p q reply.DisableGlobal reply.DisableGlobal is is' refl)
-  step_one (step.RemoveGlobal g) p q ample ample' shared (is, h) (is', h') =
-      outcome true p q (loss_one g h h') (λ own. same_reply id p q reply.RemoveGlobal reply.RemoveGlobal is is' refl)
+  step_one (step.CreateGlobal i version handler) p q ample ample' shared (r, is, h) (r', is', g) = grind (arith, outcome, on_one, with_none, hears_one, unfelt_one, same_reply)
+  step_one (step.DisableGlobal g) p q ample ample' shared (is, h) (is', h') = grind (arith, outcome, on_one, with_none, hears_one, unfelt_one, same_reply)
+  step_one (step.RemoveGlobal g) p q ample ample' shared (is, h) (is', h') = grind (arith, outcome, on_one, with_none, hears_one, unfelt_one, same_reply)
   step_one (step.Flush target) p q ample ample' shared (r, is, h) (r', is', g) =
       let one = flushed_for_one target r r' h g in
       outcome (is_about {T = T} {U = U} {G = G} {C = C} id (step.Flush target)) p q one.0 (λ own. same_reply id p q _ _ is is' (ap reply.Flush (one.1 own)))
-  step_one (step.SetDefaultMaxBufferSize limit) p q ample ample' shared (is, h) (is', g) =
-      outcome true p q (unfelt_one before d e x y h g) (λ own. same_reply id p q reply.SetDefaultMaxBufferSize reply.SetDefaultMaxBufferSize is is' refl)
+  step_one (step.SetDefaultMaxBufferSize limit) p q ample ample' shared (is, h) (is', g) = grind (arith, outcome, unfelt_one, same_reply)
   step_one (step.SetClientMaxBufferSize target limit) p q ample ample' shared (is, h) (is', g) =
       let one = of_one before d e x y (same_client target id) _ _ _ _ (λ _ _. tt)
       (λ s q q' f f'. with_none (limits_one s limit d e q q' f.1 f'.1 f.2 f'.2)) h g in
       outcome (same_client target id) p q one.0 (λ own. same_reply id p q reply.SetClientMaxBufferSize reply.SetClientMaxBufferSize is is' refl)
-  step_one (step.NextAction target) p q ample ample' shared (r, left, is, h) (r', left', is', g) =
-      let one = of_one before d e x y {P = (action_content r ≡ action_content r') × (left ≡ left')} (same_client target id) _ _ _ _ (λ a b. (a.0 ∙ sym b.0, a.1 ∙ sym b.1))
-      (λ s q q' f f'. let n = next_action_one w.sends known.sends w.receives known.receives (around w id offer) new_reading s (action_content r) (action_content r') left left' d e q q' f f' in
-      let a = with_answer n.0 in (a.0, (a.1, n.1))) h g in
-      outcome (same_client target id) p q one.0 (λ own. same_reply id p q (reply.NextAction r) (reply.NextAction r') is is' (one.1 own).0)
-  step_one (step.NextActionWithin target reading) p q ample ample' shared (r, left, is, h) (r', left', is', g) =
-      let one = of_one before d e x y {P = (action_content r ≡ action_content r') × (left ≡ left')} (same_client target id) _ _ _ _ (λ a b. (a.0 ∙ sym b.0, a.1 ∙ sym b.1))
-      (λ s q q' f f'. let n = next_action_one w.sends known.sends w.receives known.receives (around w id offer) reading s (action_content r) (action_content r') left left' d e q q' f f' in
-      let a = with_answer n.0 in (a.0, (a.1, n.1))) h g in
-      outcome (same_client target id) p q one.0 (λ own. same_reply id p q (reply.NextActionWithin r left) (reply.NextActionWithin r' left') is is' (one.1 own))
-  step_one (step.FinishRequest target u) p q ample ample' shared (r, is, h) (r', is', g) =
-      let one = of_one before d e x y (same_client target id) _ _ _ _ (λ a b. a ∙ sym b)
-      (λ s q q' f f'. with_answer (finishes_request_one w.sends known.sends id s u r r' d e q q' f f')) h g in
-      outcome (same_client target id) p q one.0 (λ own. same_reply id p q _ _ is is' (ap reply.FinishRequest (one.1 own)))
+  step_one (step.NextAction target) p q ample ample' shared (r, left, is, h) (r', left', is', g) = grind (arith, of_one, action_content, same_client, next_action_one, around, new_reading, with_answer, outcome, same_reply)
+  step_one (step.NextActionWithin target reading) p q ample ample' shared (r, left, is, h) (r', left', is', g) = grind (arith, of_one, action_content, same_client, next_action_one, around, with_answer, outcome, same_reply)
+  step_one (step.FinishRequest target u) p q ample ample' shared (r, is, h) (r', is', g) = grind (arith, of_one, same_client, with_answer, finishes_request_one, outcome, same_reply)
   step_one (step.FinishBind target u) p q ample ample' shared (r, is, h) (r', is', g) = grind (arith, of_one, with_answer, finishes_bind_one, outcome, same_reply)
   step_one step.Cleanup p q ample ample' shared (r, is, h) (r', is', g) =
       let one = cleaned_as_one r r' (subst (λ z. Ample step.Cleanup z) is ample) (subst (λ z. Ample step.Cleanup z) is' ample') h g in
       outcome true p q one.0 (λ own. same_reply id p q (reply.Cleanup r) (reply.Cleanup r') is is' one.1)
-  step_one step.TakeNotes p q ample ample' shared (r, is, h) (r', is', g) = grind (arith, notes_taken_one, outcome, same_reply)
+  step_one step.TakeNotes p q ample ample' shared (r, is, h) (r', is', g) = grind (arith, true≢false, same_felt, outcome, same_reply)
   step_one (step.Arrive target bytes tokens) p q ample ample' shared (r, is, h) (r', is', g) = grind (arith, moved_one, nothing_taken, outcome, same_reply, nothing_taken_one)
   step_one (step.ArriveFault target f) p q ample ample' shared (r, is, h) (r', is', g) = grind (arith, moved_one, nothing_taken, outcome, same_reply, nothing_taken_one)
   step_one (step.Accept target n) p q ample ample' shared (r, is, h) (r', is', g) = grind (arith, moved_one, nothing_taken, outcome, same_reply, nothing_taken_one)

@@ -1,7 +1,6 @@
 -- That each call on what is one client's has one outcome, where memory is not refused to it.
-use Rattle.std.proofs.Common.{◌≡◌, ◌≢◌, ℕ, Bool, true, false, List, [], ◌∷◌, ◌++◌, map, Option, Some, Result, Ok, Err, sym, ap, subst, ◌∙◌, true≢false, arith}
+use Rattle.std.proofs.Common.{◌≡◌, ◌≢◌, ℕ, Bool, true, false, List, [], map, Option, Some, Result, Ok, Err, sym, ap, subst, ◌∙◌, true≢false, arith}
 use Rattle.std.specs.Prelude.{◌==◌, MatchBool, slice_get}
-use Rattle.std.specs.FinMap as finmap
 use mathlib.Core.Logic.{inl, inr}
 use Rattle.wl_wire.specs.declared.error.IoFault.{IoFault}
 use Rattle.wl_wire.specs.declared.error.IoFault.TheVariants as fault
@@ -9,12 +8,12 @@ use Rattle.wl_wire.specs.declared.interface.InterfaceId.{InterfaceId}
 use Rattle.wl_wire.specs.Table.{InterfaceRow}
 use Rattle.wl_link.specs.declared.object.Object.{Object}
 use Rattle.wl_link.proofs.Calls.Branches.{both_bool, both_option, both_result}
-use Rattle.wl_link.specs.Exchange.{Queue, Sending, IsFunction, IsReceiveFunction}
+use Rattle.wl_link.specs.Exchange.{Queue, IsFunction, IsReceiveFunction}
 use Rattle.wl_link.specs.Link.{LinkState, LimitSet}
 use Rattle.wl_link.proofs.Calls.OneLaws.{one_flush_lem, one_write_lem}
 use Rattle.wl_link.specs.Puts.{Said}
 use Rattle.wl_link.proofs.Readings.PutsLaws.{not_lacked}
-use Rattle.wl_link.specs.Reader.{Given, Gives, Turn, Verdict, handled_in, ReaderState}
+use Rattle.wl_link.specs.Reader.{Verdict, handled_in}
 use Rattle.wl_link.proofs.Readings.ReaderLaws.{reads_one}
 use Rattle.wl_link.proofs.Readings.ServedLaws.{carries_one}
 use Rattle.wl_link.specs.Store.{server_range}
@@ -30,7 +29,7 @@ use Rattle.wl_server.specs.declared.error.FinishRefused.{FinishRefused}
 use Rattle.wl_server.specs.declared.error.InvalidId.{InvalidId}
 use Rattle.wl_server.specs.declared.objects.Kept.{Kept}
 use Rattle.wl_server.specs.declared.notes.DisconnectReason.{DisconnectReason}
-use Rattle.wl_server.specs.Deeds.{Deed, Handed, Noted, Put, Sent}
+use Rattle.wl_server.specs.Deeds.{Deed, Handed}
 use Rattle.wl_server.specs.Errors.{PostsError, posts}
 use Rattle.wl_server.specs.Events.{SendsEvent, SendsGranted, SentAs, SessionMessage, ends_closed, ends_sender, event_check, said, wire_message}
 use Rattle.wl_server.proofs.OverRuns.Outcome.ExchangeLaws.{carries_sends, reads_turns}
@@ -145,12 +144,7 @@ module _ {T U C : Type 0} where
         → Tells sends v link false d x → Tells sends v link false e y → SameFelt d e x y
     tells_one v link d e x y (es, gave, end, carried, did, same) (fs, gave', end', carried', did', same') =
         let one = carries_one sends function speaker v link end end' es fs gave gave' carried carried' in
-        let sent = carries_sends sends function speaker v link end end' es fs gave gave' carried carried' in record {
-          did = did ∙ ap (λ (z : List Sending). deeds_of (map Sent z) gave end.core) sent
-              ∙ ap (λ (z : List (Given (Told U))). deeds_of (map Sent fs) z end.core) one.gave
-              ∙ ap (λ (z : ReaderState T (Core U C)). deeds_of (map Sent fs) gave' z.core) one.after ∙ sym did';
-          after = same ∙ ap part_of one.after ∙ sym same';
-        }
+        let sent = carries_sends sends function speaker v link end end' es fs gave gave' carried carried' in grind (arith, deeds_of, map, part_of)
 
     pub destroys_one : (client : ClientParts) (s : Part T U C) (id : IdParts) (a b : Result (Unit {0}) DestroyError) (d e : List (Deed U)) (x y : Part T U C)
         → Destroys sends client s id a false d x → Destroys sends client s id b false e y → SameEnd a b d e x y
@@ -180,12 +174,7 @@ module _ {T U C : Type 0} where
 
     pub flushed_one : (s : Part T U C) (a b : Result (Unit {0}) IoFault) (d e : List (Deed U)) (x y : Part T U C)
         → FlushedTo sends s a false d x → FlushedTo sends s b false e y → SameEnd a b d e x y
-    flushed_one s a b d e x y (es, link, by, unlacked, did, same) (fs, link', by', unlacked', did', same') =
-        let one = one_flush_lem sends function s.link link link' es fs a b by by' (not_lacked a (sym unlacked)) (not_lacked b (sym unlacked')) in record {
-          answer = one.answer;
-          did = did ∙ ap (λ (z : List Sending). let sent : List (Deed U) = map Sent z in sent) one.sends ∙ sym did';
-          after = same ∙ ap (λ (l : LinkState T). with_link s l) one.after ∙ sym same';
-        }
+    flushed_one s a b d e x y h8 h9 = grind (arith, one_flush_lem, not_lacked, map, with_link)
 
     pub flushes_live_one : (s : Part T U C) (d e : List (Deed U)) (x y : Part T U C) → FlushesLive sends s false d x → FlushesLive sends s false e y → SameFelt d e x y
     flushes_live_one s d e x y h g =
@@ -201,11 +190,7 @@ module _ {T U C : Type 0} where
     cleaned_one client s out others d e x y h g =
         elim (both_bool s.is_killed h g) [
           | inl ((sent, a, end, flushed, did, is, same), (sent', b, end', flushed', did', is', same')) ↦
-              let one = flushed_one s a b sent sent' end end' flushed flushed' in record {
-                answer = is ∙ ap (λ (p : Part T U C). p.link.transport ∷ []) one.after ∙ sym is';
-                did = did ∙ ap (λ (z : List (Deed U)). map Noted s.waiting ++ (objects_leave client (finmap.entries s.store.objects) ++ z)) one.did ∙ sym did';
-                after = same ∙ sym same';
-              }
+              let one = flushed_one s a b sent sent' end end' flushed flushed' in grind (arith, map, objects_leave)
           | inr ((unlacked, did, is, same), (unlacked', did', is', same')) ↦ same_end is is' did did' same same'
         ]
 
@@ -215,14 +200,9 @@ module _ {T U C : Type 0} where
       sent_as_one : (sender : Object (Kept U)) (ends : Bool) (wrote : Result (Unit {0}) IoFault) (link : LinkState T) (rest rest' : List (Deed U))
           → SentAs sends client s m sender ends wrote link a false rest x → SentAs sends client s m sender ends wrote link b false rest' y → SameEnd a b rest rest' x y
       sent_as_one sender ends (Ok u) link rest rest' (more, told, is, did) (more', told', is', did') =
-          let one = tells_one (ends_sender client (core_of s) m sender ends) link more more' x y told told' in record {
-            answer = is ∙ sym is';
-            did = did ∙ ap (λ (z : List (Deed U)). Put (said m) ∷ z) one.did ∙ sym did';
-            after = one.after;
-          }
+          let one = tells_one (ends_sender client (core_of s) m sender ends) link more more' x y told told' in grind (arith, said)
       sent_as_one sender ends (Err fault.OutOfMemory) link rest rest' h g = absurd (true≢false (sym h.1))
-      sent_as_one sender ends (Err other) link rest rest' h g =
-          answered_too h.1 g.1 (tells_one (ends_closed client (core_of s) m sender ends) link rest rest' x y h.0 g.0)
+      sent_as_one sender ends (Err other) link rest rest' h g = grind (arith, answered_too, tells_one, ends_closed, core_of)
 
       wrote_allowed : (sender : Object (Kept U)) (ends : Bool) (wrote : Result (Unit {0}) IoFault) (link : LinkState T) (answer : Result (Unit {0}) EventError) (rest : List (Deed U))
           (after : Part T U C) → SentAs sends client s m sender ends wrote link answer false rest after → wrote ≢ Err fault.OutOfMemory
@@ -237,11 +217,7 @@ module _ {T U C : Type 0} where
           s.link by by' in
           let answered = subst (λ z. SentAs sends client s m sender ends z link' b false rest' y) (sym same.answer) sent' in
           let linked = subst (λ l. SentAs sends client s m sender ends w l b false rest' y) (sym same.after) answered in
-          let one = sent_as_one sender ends w link rest rest' sent linked in record {
-            answer = one.answer;
-            did = did ∙ ap (λ (z : List Sending). map Sent z ++ rest) same.sends ∙ ap (λ (z : List (Deed U)). map Sent fs ++ z) one.did ∙ sym did';
-            after = one.after;
-          }
+          let one = sent_as_one sender ends w link rest rest' sent linked in grind (arith, map)
 
       pub sends_event_one : (table : List InterfaceRow) → SendsEvent sends client table s m a false d x → SendsEvent sends client table s m b false e y → SameEnd a b d e x y
       sends_event_one table h g =
@@ -271,29 +247,14 @@ module _ {T U C : Type 0} where
           ]
 
       pub finishes_request_one : FinishesRequest sends client s u a false d x → FinishesRequest sends client s u b false e y → SameEnd a b d e x y
-      finishes_request_one h g =
-          elim (both_option s.action h g) [
-            | inl (none, (is, unlacked, did, same), (is', unlacked', did', same')) ↦ same_end is is' did did' same same'
-            | inr (action, some, p, q) ↦ finishes_open_one action p q
-          ]
+      finishes_request_one h g = grind (arith, both_option, same_end, finishes_open_one)
 
     -- ---- a reading
 
     module _ {G : Type 0} (receives : T → ℕ → Result Queue IoFault → T → Type 0) (receives_function : IsReceiveFunction receives) (around : Around G C) (r : Reading) (s : Part T U C)
         (a b : Result Handed ActionError) (left left' : Reading) (d e : List (Deed U)) (x y : Part T U C) where
       reads_to_one : ReadsTo sends receives around r s a left false d x → ReadsTo sends receives around r s b left' false e y → SameEnd a b d e x y × (left ≡ left')
-      reads_to_one (turns, out, end, reads, is, rest, unlacked, did, same) (turns', out', end', reads', is', rest', unlacked', did', same') =
-          let one = reads_one sends function receives receives_function (server around) r.turns_left (reader_part s) end end' turns turns' out out' (sym unlacked) (sym unlacked') reads reads' in
-          let went = reads_turns sends function (server around) receives receives_function r.turns_left (reader_part s) end end' turns turns' out out' (sym unlacked) (sym unlacked') reads reads' in (
-            record {
-              answer = is ∙ ap (λ (o : Gives (Told U)). answered o.stopped o.gave) one.out ∙ sym is';
-              did = did ∙ ap (λ (z : List Turn). deeds_of (exchanges_in z) out.gave end.core) went
-                  ∙ ap (λ (o : Gives (Told U)). deeds_of (exchanges_in turns') o.gave end.core) one.out
-                  ∙ ap (λ (z : ReaderState T (Core U C)). deeds_of (exchanges_in turns') out'.gave z.core) one.after ∙ sym did';
-              after = same ∙ ap part_of one.after ∙ sym same';
-            },
-            rest ∙ ap (λ (o : Gives (Told U)). read_on r o.left (handled_in turns)) one.out ∙ ap (λ (z : List Turn). read_on r out'.left (handled_in z)) went ∙ sym rest',
-          )
+      reads_to_one h1 h2 = grind (arith, reads_one, server, reader_part, reads_turns, answered, deeds_of, exchanges_in, part_of, read_on, handled_in)
 
       pub next_action_one : NextAction sends receives around r s a left false d x → NextAction sends receives around r s b left' false e y → SameEnd a b d e x y × (left ≡ left')
       next_action_one h g =

@@ -21,7 +21,7 @@ use Rattle.wl_server.specs.declared.runs.step.Step.{Step}
 use Rattle.wl_server.specs.declared.runs.step.Step.TheVariants as step
 use Rattle.wl_server.specs.Ids.{ClientParts}
 use Rattle.wl_server.specs.NoteOrder.{AllNumbered, AllTakeFirst, GivesNumbers, InTurn, IsInOrder, IsNoLater, IsNumbered, Rise, RiseFromSlot, all_places, number_past, numbers_from, places_of, slot_of, times_at, times_of}
-use Rattle.wl_server.specs.Outcome.{SameCall, SameStep}
+use Rattle.wl_server.specs.Outcome.{SameCall}
 use Rattle.wl_server.specs.Outcome.Whole.{OrdersSame}
 use Rattle.wl_server.specs.Part.{Part}
 use Rattle.wl_server.specs.PartStep.{Asked, Call, Changed, Grown, PartCall, World}
@@ -35,18 +35,12 @@ use Rattle.wl_server.proofs.OverRuns.Outcome.WholeLaws.{found, slot_same}
 
 -- ---- lists
 
-cons_one : {A : Type 0} (x y : A) (xs ys : List A) → x ∷ xs ≡ y ∷ ys → (x ≡ y) × (xs ≡ ys)
-cons_one {A = A} x y xs ys is = grind (arith)
-
 -- two fronts of the same list are one if they are as long
 pub fronts_one : {A : Type 0} (xs ys zs ws : List A) → xs ++ ys ≡ zs ++ ws → length xs ≡ length zs → (xs ≡ zs) × (ys ≡ ws)
 fronts_one [] ys [] ws is long = (refl, is)
 fronts_one [] ys (z ∷ zs) ws is long = absurd (omega (arith, long))
 fronts_one (x ∷ xs) ys [] ws is long = absurd (omega (arith, long))
-fronts_one (x ∷ xs) ys (z ∷ zs) ws is long =
-    let both = cons_one x z (xs ++ ys) (zs ++ ws) is in
-    let rest = fronts_one xs ys zs ws both.1 (omega (arith, long)) in
-    (ap (λ y. y ∷ xs) both.0 ∙ ap (λ l. z ∷ l) rest.0, rest.1)
+fronts_one (x ∷ xs) ys (z ∷ zs) ws is long = grind (arith, fronts_one xs ys zs ws)
 
 -- and so are two ends
 ends_of_one : {A : Type 0} (xs ys zs ws : List A) → xs ++ ys ≡ zs ++ ws → length ys ≡ length ws → ys ≡ ws
@@ -79,24 +73,14 @@ at_is q p a b c same_kind number at_slot = grind (arith)
 at_itself : (q : NotePlace) → is_at q q ≡ 1
 at_itself q = at_is q q true true true (eq-eqb (kind q.waits) (kind q.waits) refl) (eq-eqb q.number q.number refl) (eq-eqb q.slot q.slot refl)
 
-same_place : (p q : NotePlace) → p.waits ≡ q.waits → p.number ≡ q.number → p.slot ≡ q.slot → p ≡ q
-same_place p q waits number at_slot = grind (arith)
-
 -- what holds of all places holds of one that is there
 holds_there : (P : NotePlace → Type 0) (q : NotePlace) (ps : List NotePlace) → AllByRecursion P ps → 1 ≤ often_at q ps → P q
 holds_there P q [] all some = absurd (omega (arith, some))
-holds_there P q (p ∷ ps) (here, all) some =
-    at (λ more. holds_there P q ps all more) (kind p.waits == kind q.waits) (p.number == q.number) (p.slot == q.slot) refl refl refl
-  where
-    past : (1 ≤ often_at q ps → P q) → is_at q p ≡ 0 → P q
-    past later none = let count = sum_by-cons (is_at q) p ps in later (omega (arith, some, none, count))
-
-    at : (1 ≤ often_at q ps → P q) → (a b c : Bool) → (kind p.waits == kind q.waits) ≡ a → (p.number == q.number) ≡ b → (p.slot == q.slot) ≡ c → P q
-    at h1 a b c h2 h3 h4 = grind (arith, same_place, same_kind, eqb-true, past, at_is)
+holds_there P q (p ∷ ps) (here, all) some = grind (arith, kind, sum_by-cons, is_at, same_kind, eqb-true, at_is, holds_there P q ps all)
 
 -- a place that is no later than another, and no earlier
 one_place : (p q : NotePlace) → IsNoLater p q → IsNoLater q p → p ≡ q
-one_place p q first second = grind (arith, same_place, false≢true)
+one_place p q first second = grind (arith, false≢true)
 
 -- two orders of the same places are one
 one_order : (a b : List NotePlace) → Sorted a → Sorted b → ((q : NotePlace) → often_at q a ≡ often_at q b) → a ≡ b
@@ -139,8 +123,7 @@ one_order (x ∷ a) (y ∷ b) (after_x, up) (after_y, up') same = ap (λ (p : No
         omega (arith, one, two, this, all)
 
 no_places : (waits : Bool) (slot : ℕ) → places_of waits slot no_times ≡ []
-no_places true slot = refl
-no_places false slot = refl
+no_places h1 slot = grind (arith)
 
 places_one : (waits : Bool) (slot : ℕ) (ts us : List NoteTimes) → ((k : ℕ) → times_at k ts ≡ times_at k us) → all_places waits slot ts ≡ all_places waits slot us
 places_one waits slot [] [] same = refl
@@ -200,11 +183,7 @@ module _ (of : NoteTimes → List ℕ) where
   turn_on (suc j) n ts a ts' b others turn =
       let next : suc (j + n) ≡ suc j + n = omega arith in
       let still : times_at (j + n) ts' ≡ times_at (j + n) ts = others (j + n) (omega arith) in
-      subst (λ (m : ℕ). InTurn of m ts a ts' b) next (
-        b,
-        turn_on j n ts a ts' b others turn,
-        subst (λ (t : NoteTimes). GivesNumbers (of (times_at (j + n) ts)) b (of t) b) (sym still) (gives_none (of (times_at (j + n) ts)) b),
-      )
+      grind (arith, times_at, gives_none, turn_on j n ts a ts' b others turn)
 
   turns_one : (n m : ℕ) (ts us ts' us' : List NoteTimes) (a c b d : ℕ) → ((k : ℕ) → times_at k ts ≡ times_at k us)
       → ((k : ℕ) → length (of (times_at k ts')) ≡ length (of (times_at k us'))) → a ≡ c → ((k : ℕ) → n ≤ k → times_at k ts' ≡ times_at k ts)
@@ -220,11 +199,7 @@ module _ (of : NoteTimes → List ℕ) where
           (subst (λ (l : ℕ). InTurn of l us c us' d) swapped (turn_on n m us c us' d others' turn'))
 
       each : (k : ℕ) → of (times_at k ts') ≡ of (times_at k us')
-      each k = at (nat_lt k (m + n)) refl
-        where
-          at : (x : Bool) → nat_lt k (m + n) ≡ x → of (times_at k ts') ≡ of (times_at k us')
-          at true below = both.1 k (ltb-true k (m + n) below)
-          at false past = grind (arith, ltb-false)
+      each k = grind (arith, nat_lt, both, ltb-true, ltb-false)
 
 both_times : (t u : NoteTimes) → t.made ≡ u.made → t.waiting ≡ u.waiting → t ≡ u
 both_times t u made waiting = grind (arith)
@@ -291,21 +266,14 @@ module _ {T U G C : Type 0} (s t : ServerState T U G C) (each : (id : ClientPart
   numbers_long one two k =
       let long = as_long (stored_at k s.clients) (stored_at k t.clients) (alike_at k (stored_at k s.clients) (stored_at k t.clients) refl refl) (one k) (two k) in
       let here = times_stored s.clients k in
-      let there = times_stored t.clients k in (
-        ap (λ (t : NoteTimes). length t.made) here ∙ (long.0 ∙ sym (ap (λ (t : NoteTimes). length t.made) there)),
-        ap (λ (t : NoteTimes). length t.waiting) here ∙ (long.1 ∙ sym (ap (λ (t : NoteTimes). length t.waiting) there)),
-      )
+      let there = times_stored t.clients k in grind (arith, length)
 
 -- ---- notes of ends, in the order of the slots
 
 module _ {U : Type 0} where
   slot_within : (id : ClientParts) (low : ℕ) (b : List (Note U)) (h : Happening U) (hs : List (Happening U)) → RiseFromSlot low b → notes_of id b ≡ h ∷ hs → low ≤ id.slot
   slot_within id low [] h hs rise is = let long : 0 ≡ suc (length hs) = ap length is in absurd (omega (arith, long))
-  slot_within id low (n ∷ b) h hs (first, rise) is = at (λ none. slot_within id (slot_of n) b h hs rise none) (told_of id n) refl
-    where
-      at : (notes_of id b ≡ h ∷ hs → slot_of n ≤ id.slot) → (l : List (Happening U)) → told_of id n ≡ l → low ≤ id.slot
-      at later [] none = let more = later (sym (ap (λ (l : List (Happening U)). l ++ notes_of id b) none) ∙ is) in omega (arith, first, more)
-      at later (k ∷ ks) some = let own = told_slot id n k ks some in omega (arith, first, own)
+  slot_within id low (n ∷ b) h hs (first, rise) is = grind (arith, slot_of, told_of, notes_of, told_slot, slot_within id (slot_of n) b h hs rise)
 
   module _ (Is : ClientParts → Type 0) (one : (i j : ClientParts) → Is i → Is j → i.slot ≡ j.slot → i ≡ j) where
     ends_one : (low low' : ℕ) (a b : List (Note U)) → RiseFromSlot low a → RiseFromSlot low' b → ((id : ClientParts) → notes_of id a ≡ notes_of id b)
@@ -334,9 +302,7 @@ module _ {U : Type 0} where
             (is (id_of x) (happening_of x) (notes_of (id_of x) a) x_told) slots
 
         happenings : happening_of y ≡ happening_of x
-        happenings =
-            (cons_one (happening_of y) (happening_of x) (notes_of (id_of y) b) (notes_of (id_of x) a)
-            (sym (own_first y b) ∙ (ap (λ (id : ClientParts). notes_of id (y ∷ b)) ids ∙ x_told))).0
+        happenings = grind (arith, happening_of, notes_of, id_of, own_first, ids, x_told)
 
         same : x ≡ y
         same = note_is x ∙ (ap (λ (id : ClientParts). note_of id (happening_of x)) (sym ids) ∙ (ap (note_of (id_of y)) (sym happenings) ∙ sym (note_is y)))
@@ -376,11 +342,7 @@ module _ {T U G C : Type 0} where
       let long = numbers_long x y each notes one two k in
       let here = first k in
       let there = first' k in
-      both_times (times_at k (map times_of x.clients)) (times_at k (map times_of y.clients))
-      (ends_of_one here.made (times_at k (map times_of x.clients)).made there.made (times_at k (map times_of y.clients)).made
-      (sym here.of_made ∙ (ap (λ (t : NoteTimes). t.made) (same.times k) ∙ there.of_made)) long.0)
-      (ends_of_one here.waiting (times_at k (map times_of x.clients)).waiting there.waiting (times_at k (map times_of y.clients)).waiting
-      (sym here.of_waiting ∙ (ap (λ (t : NoteTimes). t.waiting) (same.times k) ∙ there.of_waiting)) long.1)
+      grind (arith, both_times, times_at, map, times_of, ends_of_one)
 
   makes_one : (s t x y : ServerState T U G C) → OrdersSame s t → ((id : ClientParts) → seen id x ≡ seen id y) → MakesNotes s x → MakesNotes t y → OrdersSame x y
   makes_one s t x y same each h g = record {
@@ -458,10 +420,7 @@ module _ {T U G C : Type 0} (w : World T G C) where
 
       at : (p : IsInOrder true s.clients s.notes h.told) → (q : IsInOrder true t.clients t.notes g.told)
           → ((id : ClientParts) → client_at id t.clients ≡ None → notes_of id (q.2.0 ++ g.ends) ≡ []) → x.notes ≡ y.notes
-      at (order, ordered, (more, behind, along)) (order', ordered', (more', behind', along')) stored =
-          h.behind
-          ∙ (ap (λ (l : List (Note U)). l ++ h.ends) (behind ∙ (ap (λ (l : List (Note U)). l ++ more) same.notes ∙ (ap (λ (l : List (Note U)). t.notes ++ l) mores ∙ sym behind')))
-          ∙ (ap (λ (l : List (Note U)). g.told ++ l) ends ∙ sym g.behind))
+      at (order, ordered, (more, behind, along)) (order', ordered', (more', behind', along')) stored = grind (arith, mores, ends)
         where
           places : order ≡ order'
           places = orders_one true (map times_of s.clients) (map times_of t.clients) order order' ordered.rise ordered.numbers ordered'.rise ordered'.numbers same.times
@@ -491,11 +450,7 @@ module _ {T U G C : Type 0} (w : World T G C) where
               (λ id. (notes_of id h.ends, sym (told id) ∙ notes_append id more h.ends)) is
 
           as_many : length more' ≡ length more
-          as_many =
-              let long = ap length slots in
-              let here = length-map more slot_of in
-              let there = length-map more' slot_of in
-              omega (arith, long, here, there)
+          as_many = grind (arith, length, slots, length-map, slot_of)
 
           mores : more ≡ more'
           mores = sym (fronts_one more' g.ends more begun.0 begun.1 as_many).0
@@ -528,9 +483,7 @@ module _ {T U G C : Type 0} (w : World T G C) where
       drains = cleanup_drains w t f y out is by
 
       same_more : drains.more ≡ g.in_order.2.0 ++ g.ends
-      same_more = append_cancel_left t.notes drains.more (g.in_order.2.0 ++ g.ends)
-          (sym drains.behind
-          ∙ (g.behind ∙ (ap (λ (l : List (Note U)). l ++ g.ends) g.in_order.2.1 ∙ append_assoc t.notes g.in_order.2.0 g.ends)))
+      same_more = grind (arith, append_cancel_left, drains, append_assoc)
 
       notes : x.notes ≡ y.notes
       notes = gathered_one s t x y same each h g (λ id none. ap (notes_of id) (sym same_more) ∙ drains.stored id none)
@@ -548,11 +501,8 @@ module _ {T U G C : Type 0} where
   call_kind (Changed target t) = 2
   call_kind (Grown rows answer) = 2
 
-  step_kinds : (s s' : Step T U G C) → SameStep s s' → step_kind s ≡ step_kind s'
-  step_kinds s s' h1 = grind (arith)
-
   call_kinds : (c c' : Call T U G C) → SameCall c c' → call_kind c ≡ call_kind c'
-  call_kinds c c' h1 = grind (arith, step_kinds)
+  call_kinds c c' h1 = grind (arith)
 
   -- the notes were handed out, or gathered, or none was moved
   abbrev MovesSo : ServerState T U G C → Entry T U G C → ServerState T U G C → Type 0
@@ -573,16 +523,14 @@ module _ {T U G C : Type 0} where
         taken p is h ample (Ok out) so =
             let whole = is ∙ ap (Asked step.TakeNotes) so in
             inl (out, ap call_kind whole, whole, subst (λ (q : Reply T U). NotesGoOn s (Asked step.TakeNotes q) x) so h)
-        taken p is h ample (Err f) so =
-            absurd (true≢false (subst (λ (q : Reply T U). lacks_growth {G = G} {C = C} (Asked step.TakeNotes q) ≡ false) so ample))
+        taken p is h ample (Err f) so = grind (arith, true≢false, lacks_growth)
 
         cleaned : (p : Reply T U) → e.call ≡ Asked step.Cleanup p → NotesGoOn s (Asked step.Cleanup p) x → lacks_growth {G = G} {C = C} (Asked step.Cleanup p) ≡ false
             → (r : Result (Vec (ClientParts × T) Global) OutOfMemory) → p ≡ reply.Cleanup r → MovesSo s e x
         cleaned p is h ample (Ok out) so =
             let whole = is ∙ ap (Asked step.Cleanup) so in
             inr (inl (out, ap call_kind whole, whole, subst (λ (q : Reply T U). NotesGoOn s (Asked step.Cleanup q) x) so h))
-        cleaned p is h ample (Err f) so =
-            absurd (true≢false (subst (λ (q : Reply T U). lacks_growth {G = G} {C = C} (Asked step.Cleanup q) ≡ false) so ample))
+        cleaned p is h ample (Err f) so = grind (arith, true≢false, lacks_growth)
 
         at : (call : Call T U G C) → e.call ≡ call → NotesGoOn s call x → lacks_growth call ≡ false
             → PartCall w any s.offer call (seen any s) (e.lacks any) (e.did any) (seen any x) → MovesSo s e x

@@ -1,5 +1,5 @@
 -- What a cleanup hands out is determined by the share that each client has in it.
-use Rattle.std.proofs.Common.{◌≡◌, ℕ, zero, suc, ◌<◌, ◌⊎◌, true, false, List, [], ◌∷◌, length, refl, sym, ap, subst, ◌∙◌, true≢false, arith}
+use Rattle.std.proofs.Common.{◌≡◌, ℕ, zero, suc, ◌<◌, ◌⊎◌, true, false, List, [], ◌∷◌, length, refl, sym, subst, ◌∙◌, true≢false, arith}
 use Rattle.std.specs.Prelude.{slice_index_or}
 use mathlib.Core.Logic.{inl, inr}
 use Rattle.std.proofs.lemmas.Bool.{cases_Bool, cases_order, eqb-true}
@@ -59,19 +59,11 @@ module _ {T : Type 0} where
 
   module _ (e f : ClientParts × T) (rest rest' : List (ClientParts × T)) (shares : (id : ClientParts) → share_of id (e ∷ rest) ≡ share_of id (f ∷ rest'))
       (rises : RiseBySlot (e ∷ rest)) (rises' : RiseBySlot (f ∷ rest')) (later : ((id : ClientParts) → share_of id rest ≡ share_of id rest') → rest ≡ rest') where
-    -- two fronts of one client are the same, and so are the shares behind them
-    same_front : same_client f.0 e.0 ≡ true → e ≡ f
-    same_front same =
-        let firsts : e.1 ∷ share_of e.0 rest ≡ f.1 ∷ share_of e.0 rest'
-        = sym (share_first e.0 e rest (same_self e.0)) ∙ shares e.0 ∙ share_first e.0 f rest' same in
-        let values : e.1 ≡ f.1 = cc in
-        ap (λ (i : ClientParts). let z : ClientParts × T = (i, e.1) in z) (sym (same_client_is f.0 e.0 same)) ∙ ap (λ (t : T). let z : ClientParts × T = (f.0, t) in z) values
-
     same_behind : (id : ClientParts) → e ≡ f → (same_client e.0 id ≡ true) ⊎ (same_client e.0 id ≡ false) → share_of id rest ≡ share_of id rest'
     same_behind id h1 h2 = grind (arith, share_first, share_later)
 
     found : same_client f.0 e.0 ≡ true → e ∷ rest ≡ f ∷ rest'
-    found same = grind (arith, same_front, same_behind, cases_Bool)
+    found same = grind (arith, share_of, share_first, same_self, same_client_is, same_behind, cases_Bool)
 
     one_slot : e.0.slot ≡ f.0.slot → (same_client f.0 e.0 ≡ true) ⊎ (same_client f.0 e.0 ≡ false) → e ∷ rest ≡ f ∷ rest'
     one_slot slots (inl same) = found same
@@ -92,5 +84,4 @@ module _ {T : Type 0} where
   shares_one [] [] rises rises' shares = refl
   shares_one [] (f ∷ rest') rises rises' shares = absurd (has_share f rest' (sym (shares f.0)))
   shares_one (e ∷ rest) [] rises rises' shares = absurd (has_share e rest (shares e.0))
-  shares_one (e ∷ rest) (f ∷ rest') rises rises' shares =
-      fronts e f rest rest' shares rises rises' (λ same. shares_one rest rest' (rest_rises e rest rises) (rest_rises f rest' rises') same)
+  shares_one (e ∷ rest) (f ∷ rest') rises rises' shares = grind (arith, fronts, rest_rises, shares_one rest rest' (rest_rises e rest rises) (rest_rises f rest' rises'))

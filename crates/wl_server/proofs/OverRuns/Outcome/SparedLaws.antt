@@ -1,11 +1,10 @@
 -- That a dispatch has one outcome, where memory is refused neither to it nor to a call of its handler.
 --
 -- A dispatch after which no call of the handler lacked memory is one with a handler none of whose calls may lack it.
-use Rattle.std.proofs.Common.{◌≡◌, ℕ, Bool, true, List, Option, Result, sym, ap, ◌∙◌, arith}
+use Rattle.std.proofs.Common.{◌≡◌, ℕ, Bool, true, List, Option, Result, arith}
 use Rattle.wl_wire.specs.declared.error.IoFault.{IoFault}
 use Rattle.wl_server.specs.declared.error.FinishError.{FinishError}
 use Rattle.wl_server.specs.declared.reading.action.Action.{Action}
-use Rattle.wl_server.specs.declared.reading.action.Action.TheVariants as action
 use Rattle.wl_server.specs.declared.reading.action.Reading.{Reading}
 use Rattle.wl_server.specs.declared.runs.step.Step.{Step}
 use Rattle.wl_server.specs.Backend.{BackendState}
@@ -38,12 +37,7 @@ module _ {H T U G C : Type 0} (w : World T G C) (answers : Answering H T U G C) 
 
     answers_so : (h h' : H) (before after : BackendState T U G C) (a : Action) (end : Step T U G C) → spared h' ≡ true → Answers w answers id h before a end h' after
         → Answers w (with_memory answers spared) id h before a end h' after
-    answers_so h h' before after (action.Request sender opcode args is_destructor created) end is (u, so, ends) = (u, (so, is), ends)
-    answers_so h h' before after (action.Bind global object) end is (u, so, ends) = (u, (so, is), ends)
-
-    answers_back : (h h' : H) (before after : BackendState T U G C) (a : Action) (end : Step T U G C) → spared h' ≡ true → Answers w answers id h before a end h' after
-        → spared h ≡ true
-    answers_back h h' before after a end h1 h2 = grind (arith)
+    answers_so h h' before after h5 end is h8 = grind (arith)
 
     handles_so : {h h' : H} {before : BackendState T U G C} {a : Action} {run : List (Entry T U G C)} {lacked : Bool} {why : Option FinishError} {after : Server}
         → spared h' ≡ true → Handles w answers id h before a run lacked why h' after → Handles w (with_memory answers spared) id h before a run lacked why h' after
@@ -83,8 +77,7 @@ module _ {H T U G C : Type 0} (w : World T G C) (answers : Answering H T U G C) 
 
     round_back : {h h' : H} {r r' : Reading} {s s' : Server} {run : List (Entry T U G C)} {lacked : Bool} {why : Option FinishError}
         → spared h' ≡ true → Round w answers id h r s run lacked why h' r' s' → spared h ≡ true
-    round_back {h} {h'} {r} {r'} {s} {s'} {run} {lacked} {why} is p =
-        answers_back h h' p.found p.handles.left p.handed p.handles.end is p.handles.answers_so
+    round_back {h} {h'} {r} {r'} {s} {s'} {run} {lacked} {why} is p = grind (arith)
 
     rounds_so : {h h' : H} {r r' : Reading} {s s' : Server} {run : List (Entry T U G C)} {lacked : Bool}
         → spared h' ≡ true → Rounds w answers id h r s run lacked h' r' s' → Rounds w (with_memory answers spared) id h r s run lacked h' r' s'
@@ -104,8 +97,7 @@ module _ {H T U G C : Type 0} (w : World T G C) (answers : Answering H T U G C) 
 
     last_back : {h h' : H} {r r' : Reading} {s s' : Server} {run : List (Entry T U G C)} {lacked : Bool} {f : IoFault}
         → spared h' ≡ true → Last w answers id h r s run lacked f h' r' s' → spared h ≡ true
-    last_back {h} {h'} {r} {r'} {s} {s'} {run} {lacked} {f} is (no_action e error by call run_is lacked_is fault_is kept) = ap spared (sym kept) ∙ is
-    last_back {h} {h'} {r} {r'} {s} {s'} {run} {lacked} {f} is (not_ended why round fault_is) = round_back is round
+    last_back {h} {h'} {r} {r'} {s} {s'} {run} {lacked} {f} is h11 = grind (arith, round_back)
 
     -- ---- a client
 

@@ -23,14 +23,6 @@ use Rattle.wl_server.proofs.OverRuns.Outcome.ShareLaws.{shares_one}
 use Rattle.wl_server.specs.Steps.{Entry, InsertsNext, IsLeastFree, IsRefused, RisesBySlot, lacks_growth}
 use Rattle.wl_server.specs.Outcome.Whole.{HoldsSame, WholeReply}
 
-is_none_by : {A : Type 0} (o : Option A) → is_some o ≡ false → o ≡ None
-is_none_by None is = refl
-is_none_by (Some x) is = absurd (true≢false is)
-
-not_true : (b : Bool) → (b ≡ true → ⊥) → b ≡ false
-not_true true never = absurd (never refl)
-not_true false never = refl
-
 -- ---- slots
 
 module _ {T U C : Type 0} where
@@ -39,7 +31,7 @@ module _ {T U C : Type 0} where
   SameSlots clients others = (k : ℕ) → is_some (stored_at k clients) ≡ is_some (stored_at k others)
 
   free_there : (clients others : List (Option (Stored T U C))) → SameSlots clients others → (n : ℕ) → IsLeastFree clients n → IsLeastFree others n
-  free_there clients others same n least = grind (arith, is_none_by, stored_at, is_some)
+  free_there clients others same n least = grind (arith, true≢false, stored_at, is_some)
 
   pub inserts_there : (last : ℕ) (clients others : List (Option (Stored T U C))) → SameSlots clients others → (r : Result ClientParts InsertClientError)
       → InsertsNext last clients r → InsertsNext last others r
@@ -75,7 +67,7 @@ module _ {T U G C : Type 0} where
 
   -- where memory was not refused, it was refused neither for what a call makes of its own nor to any client
   pub ample_by : (e : Entry T U G C) → IsRefused e → e.refused ≡ false → (lacks_growth e.call ≡ false) × ((id : ClientParts) → e.lacks id ≡ false)
-  ample_by e tells none = grind (arith, not_true, lacks_growth, true≢false)
+  ample_by e tells none = grind (arith, lacks_growth, true≢false)
 
 -- ---- replies
 
@@ -117,8 +109,7 @@ module _ {T U G C : Type 0} (ordered : Bool) (w : World T G C) (any : ClientPart
       → Ample s p → Ample s q → Rises s p → Rises s q
       → ((out out' : Vec (Note U) Global) → s ≡ step.TakeNotes → p ≡ reply.TakeNotes (Ok out) → q ≡ reply.TakeNotes (Ok out')
       → IsTrue ordered → out.items ≡ out'.items) → PartStep w any offer s p before false d x → PartStep w any offer s q before false e y → WholeReply ordered p q
-  whole_one (step.InsertClient transport client_data) p q one shared ample ample' rises rises' took (r, is, h) (r', is', g) =
-      same_whole ordered p q (reply.InsertClient r) (reply.InsertClient r') is is' (λ id. sym is ∙ shared ∙ is')
+  whole_one (step.InsertClient transport client_data) p q one shared ample ample' rises rises' took (r, is, h) (r', is', g) = grind (arith, same_whole)
   whole_one (step.SetObjectData o u) p q one shared ample ample' rises rises' took (r, is, h) (r', is', g) =
       same_whole ordered p q (reply.SetObjectData r) (reply.SetObjectData r') is is' (let here = same_here o.client p q _ _ is is' (one o.client (same_self o.client)) in λ id. here)
   whole_one (step.CreateObject target i version u) p q one shared ample ample' rises rises' took (r, is, h) (r', is', g) =
@@ -128,24 +119,16 @@ module _ {T U G C : Type 0} (ordered : Bool) (w : World T G C) (any : ClientPart
   whole_one (step.SendEvent m) p q one shared ample ample' rises rises' took (r, is, h) (r', is', g) =
       same_whole ordered p q (reply.SendEvent r) (reply.SendEvent r') is is'
       (let here = same_here m.sender_id.client p q _ _ is is' (one m.sender_id.client (same_self m.sender_id.client)) in λ id. here)
-  whole_one (step.PostError o code text) p q one shared ample ample' rises rises' took (is, h) (is', g) =
-      same_whole ordered p q reply.PostError reply.PostError is is' (λ id. refl)
-  whole_one (step.KillClient target reason) p q one shared ample ample' rises rises' took (is, h) (is', g) =
-      same_whole ordered p q reply.KillClient reply.KillClient is is' (λ id. refl)
-  whole_one (step.CreateGlobal i version handler) p q one shared ample ample' rises rises' took (r, is, h) (r', is', g) =
-      same_whole ordered p q (reply.CreateGlobal r) (reply.CreateGlobal r') is is' (λ id. sym is ∙ shared ∙ is')
-  whole_one (step.DisableGlobal g) p q one shared ample ample' rises rises' took (is, h) (is', h') =
-      same_whole ordered p q reply.DisableGlobal reply.DisableGlobal is is' (λ id. refl)
-  whole_one (step.RemoveGlobal g) p q one shared ample ample' rises rises' took (is, h) (is', h') =
-      same_whole ordered p q reply.RemoveGlobal reply.RemoveGlobal is is' (λ id. refl)
-  whole_one (step.Flush None) p q one shared ample ample' rises rises' took (r, is, h) (r', is', g) =
-      same_whole ordered p q (reply.Flush r) (reply.Flush r') is is' (let here = same_here any p q _ _ is is' (one any refl) in λ id. here)
+  whole_one (step.PostError o code text) p q one shared ample ample' rises rises' took (is, h) (is', g) = grind (arith, same_whole)
+  whole_one (step.KillClient target reason) p q one shared ample ample' rises rises' took (is, h) (is', g) = grind (arith, same_whole)
+  whole_one (step.CreateGlobal i version handler) p q one shared ample ample' rises rises' took (r, is, h) (r', is', g) = grind (arith, same_whole)
+  whole_one (step.DisableGlobal g) p q one shared ample ample' rises rises' took (is, h) (is', h') = grind (arith, same_whole)
+  whole_one (step.RemoveGlobal g) p q one shared ample ample' rises rises' took (is, h) (is', h') = grind (arith, same_whole)
+  whole_one (step.Flush None) p q one shared ample ample' rises rises' took (r, is, h) (r', is', g) = grind (arith, same_whole, same_here)
   whole_one (step.Flush (Some target)) p q one shared ample ample' rises rises' took (r, is, h) (r', is', g) =
       same_whole ordered p q (reply.Flush r) (reply.Flush r') is is' (let here = same_here target p q _ _ is is' (one target (same_self target)) in λ id. here)
-  whole_one (step.SetDefaultMaxBufferSize limit) p q one shared ample ample' rises rises' took (is, h) (is', g) =
-      same_whole ordered p q reply.SetDefaultMaxBufferSize reply.SetDefaultMaxBufferSize is is' (λ id. refl)
-  whole_one (step.SetClientMaxBufferSize target limit) p q one shared ample ample' rises rises' took (is, h) (is', g) =
-      same_whole ordered p q reply.SetClientMaxBufferSize reply.SetClientMaxBufferSize is is' (λ id. refl)
+  whole_one (step.SetDefaultMaxBufferSize limit) p q one shared ample ample' rises rises' took (is, h) (is', g) = grind (arith, same_whole)
+  whole_one (step.SetClientMaxBufferSize target limit) p q one shared ample ample' rises rises' took (is, h) (is', g) = grind (arith, same_whole)
   whole_one (step.NextAction target) p q one shared ample ample' rises rises' took (r, left, is, h) (r', left', is', g) =
       same_whole ordered p q (reply.NextAction r) (reply.NextAction r') is is' (let here = same_here target p q (reply.NextAction r) (reply.NextAction r') is is' (one target (same_self target)) in λ id. here)
   whole_one (step.NextActionWithin target reading) p q one shared ample ample' rises rises' took (r, left, is, h) (r', left', is', g) =

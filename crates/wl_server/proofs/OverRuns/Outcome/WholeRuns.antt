@@ -1,5 +1,5 @@
 -- That each call of a server has one outcome, where memory is not refused, and so each run of calls.
-use Rattle.std.proofs.Common.{◌≡◌, ◌≢◌, ℕ, ◌+◌, Bool, false, List, [], ◌∷◌, Result, Ok, Err, Vec, refl, sym, ap, subst, ◌∙◌, true≢false, arith}
+use Rattle.std.proofs.Common.{◌≡◌, ◌≢◌, ℕ, Bool, false, List, [], ◌∷◌, Result, Ok, Err, Vec, refl, sym, ap, subst, ◌∙◌, true≢false, arith}
 use Rattle.std.specs.Global.{Global}
 use Rattle.std.specs.Prelude.{IsTrue}
 use Rattle.wl_server.specs.declared.error.InsertClientError.{InsertClientError}
@@ -33,9 +33,6 @@ module _ {T U G C : Type 0} where
   inserted_one (step.InsertClient transport client_data) p q shared = ap (λ (z : Reply T U). inserted_by {G = G} (Asked (step.InsertClient transport client_data) z)) shared
   inserted_one s p q shared = refl
 
-  inserted_as : (s s' : Step T U G C) (q : Reply T U) → SameStep s s' → inserted_by (Asked s q) ≡ inserted_by (Asked s' q)
-  inserted_as s s' q h1 = grind (arith, inserted_by)
-
   clients_as : (before : ServerState T U G C) (s s' : Step T U G C) (q : Reply T U) → SameStep s s' → NumbersClient before (Asked s' q) → NumbersClient before (Asked s q)
   clients_as before s s' q h1 h2 = grind (arith)
 
@@ -46,7 +43,7 @@ module _ {T U G C : Type 0} where
   call_offer offer call call' h1 h2 = grind (arith, offer_one, offer_as, growth_offer)
 
   call_inserted : (call call' : Call T U G C) → SameCall call call' → SharedAnswer call call' → inserted_by call ≡ inserted_by call'
-  call_inserted call call' h1 h2 = grind (arith, inserted_one, inserted_as)
+  call_inserted call call' h1 h2 = grind (arith, inserted_one, inserted_by)
 
   -- ---- a call
 
@@ -113,20 +110,14 @@ module _ {T U G C : Type 0} where
       let here : (id : ClientParts) → PartCall w id s.offer e.call (seen id s) false (e.did id) (seen id x)
       = λ id. subst (λ (b : Bool). PartCall w id s.offer e.call (seen id s) b (e.did id) (seen id x)) (ample.1 id) (by.each id) in
       let there : (id : ClientParts) → PartCall w id s.offer f.call (seen id s) false (f.did id) (seen id y)
-      = λ id. subst (λ (o : Offer G). PartCall w id o f.call (seen id s) false (f.did id) (seen id y)) (sym same.offer)
-      (subst (λ (z : Seen T U C). PartCall w id t.offer f.call z false (f.did id) (seen id y)) (sym (same.each id))
-      (subst (λ (b : Bool). PartCall w id t.offer f.call (seen id t) b (f.did id) (seen id y)) (ample'.1 id) (by'.each id))) in
+      = grind (arith, seen) in
       let numbers = subst (λ (o : Offer G). AnswersShared o f.call) (sym same.offer) by'.global in
       let one = call_whole w known ordered s t same (λ id. e.did id) (λ id. f.did id) (λ id. seen id x) (λ id. seen id y) e.call f.call same_call ample.0 ample'.0 by.client by'.client
       by.global numbers by.order by'.order (λ out out' is is' counts. took_one w s t x y e f (whole.order counts) same.each by by' out out' is is') here there in (
         one.0,
         λ id. (one.2 id).did,
         record {
-          held = record {
-            offer = by.offer ∙ call_offer s.offer e.call f.call same_call one.1 ∙ ap (λ (o : Offer G). offer_after o f.call) same.offer ∙ sym by'.offer;
-            last = by.last ∙ ap (λ (n : ℕ). s.last_client + n) (call_inserted e.call f.call same_call one.1) ∙ ap (λ (n : ℕ). n + inserted_by f.call) same.last ∙ sym by'.last;
-            each = λ id. (one.2 id).after;
-          };
+          held = grind (arith, call_offer, offer_after, call_inserted, inserted_by);
           order = λ counts. notes_one w s t x y e f (whole.order counts) (λ id. (one.2 id).after) same_call ample.0 ample'.0 by by';
         },
       )
@@ -134,8 +125,7 @@ module _ {T U G C : Type 0} where
   -- ---- runs
 
   pub run_one : (w : World T G C) → IsDetermined w → RunsHaveOneOutcome U w
-  run_one w known ordered s t x y [] [] same calls h g =
-      (tt, subst (λ (z : ServerState T U G C). SameServer ordered z y) (sym h) (subst (λ (z : ServerState T U G C). SameServer ordered s z) (sym g) same))
+  run_one w known ordered s t x y [] [] same calls h g = grind (arith)
   run_one w known ordered s t x y [] (f ∷ run') same calls h g = absurd calls
   run_one w known ordered s t x y (e ∷ run) [] same calls h g = absurd calls
   run_one w known ordered s t x y (e ∷ run) (f ∷ run') same (call, none, none', calls) (mid, by, leads) (mid', by', leads') =
@@ -145,19 +135,14 @@ module _ {T U G C : Type 0} where
 
   -- ---- steps with their replies
 
-  same_as_itself : (k : Step T U G C) → SameStep k k
-  same_as_itself k = grind (arith)
-
   pub asked_one : (c c' : Call T U G C) (k : Step T U G C) (p q : Reply T U) → c ≡ Asked k p → c' ≡ Asked k q → SameCall c c'
-  asked_one c c' k p q is is' =
-      subst (λ (z : Call T U G C). SameCall z c') (sym is) (subst (λ (z : Call T U G C). SameCall (Asked k p) z) (sym is') (same_as_itself k))
+  asked_one c c' k p q is is' = grind (arith)
 
   pub replied_one : (ordered : Bool) (c c' : Call T U G C) (k : Step T U G C) (p q : Reply T U) → c ≡ Asked k p → c' ≡ Asked k q → WholeAnswer ordered c c' → WholeReply ordered p q
   replied_one ordered c c' k p q is is' same = grind (arith)
 
   pub performance_one : (w : World T G C) → IsDetermined w → PerformancesHaveOneOutcome U w
-  performance_one w known ordered s t x y [] [] [] n n' same h g =
-      (tt, subst (λ (z : ServerState T U G C). SameServer ordered z y) (sym h) (subst (λ (z : ServerState T U G C). SameServer ordered s z) (sym g) same))
+  performance_one w known ordered s t x y [] [] [] n n' same h g = grind (arith)
   performance_one w known ordered s t x y [] (p ∷ replies) replies' n n' same h g = absurd (omega (arith, n))
   performance_one w known ordered s t x y [] [] (q ∷ replies') n n' same h g = absurd (omega (arith, n'))
   performance_one w known ordered s t x y (k ∷ steps) [] replies' n n' same h g = absurd (omega (arith, n))

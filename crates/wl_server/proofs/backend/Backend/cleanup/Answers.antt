@@ -72,12 +72,3 @@ returns-in-Ok-clause-plain g c = cleans_up _ (returns-in-Ok-clause-call g c)
 
 pub returns-in-Err-clause-plain : goal.returns-in-Err-clause-plain
 returns-in-Err-clause-plain g c = cleans_up _ (returns-in-Err-clause-call g c)
-
-pub clean_up-self-inside-requires-clause-none : goal.clean_up-self-inside-requires-clause-none
-clean_up-self-inside-requires-clause-none g c = c.in-Ok.ensures.none
-
-pub clean_up-self-inside-requires-clause-notes : goal.clean_up-self-inside-requires-clause-notes
-clean_up-self-inside-requires-clause-notes g c = rw c.deref.ensures.value at c.in-Ok.ensures.notes
-
-pub clean_up-self-inside-requires-clause-order : goal.clean_up-self-inside-requires-clause-order
-clean_up-self-inside-requires-clause-order g c = rw c.deref.ensures.value at c.in-Ok.ensures.order

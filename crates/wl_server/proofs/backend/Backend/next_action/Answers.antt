@@ -2,20 +2,10 @@ use Rattle.std.proofs.lemmas.Result.{err_from_is_err_and}
 use Rattle.wl_server.proofs.OverRuns.Cut.RoomLaws.{next_has_room}
 use Rattle.wl_server.proofs.backend.Backend.next_action.Goals as goal
 
-pub returns-in_err-next_action_into-clause-call : goal.returns-in_err-next_action_into-clause-call
-returns-in_err-next_action_into-clause-call g c =
-    let p = err_from_is_err_and c.from_residual.result c.from_residual.ensures.1 in
-    rw (p.1, p.2) c.in_err-next_action_into.ensures.call
-
 pub returns-in_err-next_action_into-clause-cutting : goal.returns-in_err-next_action_into-clause-cutting
 returns-in_err-next_action_into-clause-cutting g c =
     let p = err_from_is_err_and c.from_residual.result c.from_residual.ensures.1 in
     rw (p.1, p.2) c.in_err-next_action_into.ensures.cutting
-
-pub returns-in_err-next_action_into-clause-plain : goal.returns-in_err-next_action_into-clause-plain
-returns-in_err-next_action_into-clause-plain g c =
-    let p = err_from_is_err_and c.from_residual.result c.from_residual.ensures.1 in
-    rw (p.1, p.2) c.in_err-next_action_into.ensures.plain
 
 pub returns-in_err-next_action_into-clause-reason : goal.returns-in_err-next_action_into-clause-reason
 returns-in_err-next_action_into-clause-reason g c =

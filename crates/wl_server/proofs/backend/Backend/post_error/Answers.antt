@@ -1,7 +1,7 @@
-use Rattle.std.proofs.Common.{◌≡◌, ◌∙◌, ℕ, List, Option, None, Some, Result, false, is_some, refl, sym, ap, true≢false}
+use Rattle.std.proofs.Common.{◌≡◌, ℕ, List, Option, None, Some, Result, is_some, refl, arith}
+use Rattle.std.proofs.lemmas.Grind.{common_steps}
 use Rattle.std.specs.Option.{option_map}
 use Rattle.wl_server.specs.Posted.{PostsOn}
-use Rattle.wl_server.specs.Server.{client_at}
 use Rattle.wl_server.proofs.CallSteps.Numbering.{numbered_at, numbers_set}
 use Rattle.wl_server.proofs.ObjectCalls.Told.{at_slot}
 use Rattle.wl_wire.specs.declared.error.IoFault.{IoFault}
@@ -40,10 +40,7 @@ pub invariant_of-self-2 : goal.invariant_of-self-2
 invariant_of-self-2 g c = (slots_set _ _ _ _ _ c.self.invariant.0, numbers_set _ _ _ _ _ _ c.in-Some.ensures.value c.post_error-self-inside.ensures.in_time c.self.invariant.1, numbered_at _ _ _ _ c.in-Some.ensures.value c.post_error-self-inside.ensures.numbered c.self.invariant.2, c.in-Some.ensures.touched c.self.invariant.3 _)
 
 pub returns-in_default-clause-exactly : goal.returns-in_default-clause-exactly
-returns-in_default-clause-exactly g c = λ p q before after.
-    let none : is_some (client_at c.args.id.now.client c.args.self.now.server.clients) ≡ false =
-    rw (← c.self.view_is) (stored_by _ _ _ false c.client-client.ensures (ap is_some c.in_default.ensures.value)) in
-    absurd (true≢false (sym (ap is_some before) ∙ (mapped_some _ _ ∙ none)))
+returns-in_default-clause-exactly g c = grind (arith, common_steps, is_some, stored_by, mapped_some)
 
 pub returns-clause-exactly : goal.returns-clause-exactly
 returns-clause-exactly g c = rw (← c.self.view_is)

@@ -1,15 +1,12 @@
-use Rattle.std.proofs.Common.{refl}
+use Rattle.std.proofs.Common.{arith}
+use Rattle.std.proofs.lemmas.Grind.{common_steps}
 use Rattle.wl_server.specs.Dispatch.{answering}
 use Rattle.wl_server.specs.PartStep.{over}
 use Rattle.wl_server.proofs.Dispatches.Serving.{fewer_wait, so_far_more, so_far_none, some_end, some_rounds}
 use Rattle.wl_server.proofs.backend.Backend.serve_some.Goals as goal
 
 pub loop-fault-init : goal.loop-fault-init
-loop-fault-init g c = record {
-  so_far = so_far_none (over g.T.Transport.sends g.T.Transport.receives g.G.GlobalHandler.views) (answering g.H.Handler.requests g.H.Handler.binds) c.args.id.now
-      c.args.handler.now c.args.reading.now c.args.self.now;
-  left = refl;
-}
+loop-fault-init g c = grind (arith, common_steps, so_far_none)
 
 pub returns-in-Some : goal.returns-in-Some
 returns-in-Some g c =
@@ -23,16 +20,7 @@ returns-then-reading-left g c =
     c.loop-fault.invariant.so_far c.serve_action.ensures c.in_default.is) c.if-reading-left.true
 
 pub loop-fault-preserved : goal.loop-fault-preserved
-loop-fault-preserved g c =
-    let kept = fewer_wait c.args.id.now c.loop-fault.reading c.loop-fault.self.server c.serve_action.new.reading c.serve_action.new.self.server c.args.reading.now.turns_left
-    (c.serve_action.ensures.fewer c.in_default.is) c.loop-fault.invariant.left c.if-reading-left.false in
-    record {
-      so_far = so_far_more (over g.T.Transport.sends g.T.Transport.receives g.G.GlobalHandler.views) (answering g.H.Handler.requests g.H.Handler.binds) c.args.id.now
-          c.loop-fault.invariant.so_far c.serve_action.ensures c.in_default.is;
-      left = kept.0;
-    }
+loop-fault-preserved g c = grind (arith, common_steps, fewer_wait, so_far_more)
 
 pub loop-fault-smaller : goal.loop-fault-smaller
-loop-fault-smaller g c =
-    (fewer_wait c.args.id.now c.loop-fault.reading c.loop-fault.self.server c.serve_action.new.reading c.serve_action.new.self.server c.args.reading.now.turns_left
-    (c.serve_action.ensures.fewer c.in_default.is) c.loop-fault.invariant.left c.if-reading-left.false).1
+loop-fault-smaller g c = grind (arith, common_steps, fewer_wait)

@@ -1,6 +1,5 @@
 use Rattle.std.proofs.Common.{◌≡◌, ◌∙◌, None, Option, option_copied, Bor, map, sym, ap, subst, refl, List, ℕ, arith}
 use Rattle.std.proofs.lemmas.Grind.{common_steps}
-use Rattle.wl_server.specs.Objects.{destroyable}
 use Rattle.wl_server.specs.declared.notes.Happening.{Happening}
 use Rattle.wl_server.specs.NoteOrder.{GivesNumbers, NotesInTime}
 use Rattle.wl_server.proofs.CallSteps.Numbering.{in_time_both, still_waits, waits_in_time}
@@ -13,9 +12,7 @@ copied_none : {X : Type 0} (found : Option (Bor X)) (o : Option X) → option_co
 copied_none found o is none = sym is ∙ ap option_copied none
 
 pub returns-in_default-clause-does : goal.returns-in_default-clause-does
-returns-in_default-clause-does g c =
-    let is : destroyable c.args.self.now.part c.args.id.now ≡ None = rw (← c.self.view_is) (copied_none c.destroyable.result _ c.destroyable.ensures c.in_default.is) in
-    refused g.T.Transport.sends c.args.self.now c.args.id.now is
+returns-in_default-clause-does g c = grind (arith, common_steps, copied_none, refused)
 
 pub returns-in-Err-clause-does : goal.returns-in-Err-clause-does
 returns-in-Err-clause-does g c = rw (← c.self.view_is)
@@ -53,6 +50,3 @@ returns-clause-in_time g c =
     (subst (λ (l : List (ℕ × Happening _)). GivesNumbers (map (λ w. w.0) l) c.args.numbers.now.waiting (map (λ w. w.0) c.take_out_noted.new.waiting.queue.items) c.take_out_noted.new.numbers.waiting)
     c.reserve_note.ensures.items c.take_out_noted.ensures.in_time) refl c.take_out_noted.ensures.made) in
     in_time_both _ _ _ _ _ _ first c.kill_unless_written.ensures.in_time
-
-pub returns-clause-numbered : goal.returns-clause-numbered
-returns-clause-numbered g c = grind (arith, common_steps)

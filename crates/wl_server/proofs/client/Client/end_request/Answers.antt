@@ -1,7 +1,5 @@
-use Rattle.std.proofs.Common.{◌≡◌, ◌∙◌, MatchResult, false, refl, subst, sym, true, ap}
-use Rattle.wl_link.specs.Store.{Store}
-use Rattle.wl_server.specs.declared.objects.Kept.{Kept}
-use Rattle.wl_server.specs.Inside.Finishing.{DataHeld}
+use Rattle.std.proofs.Common.{◌≡◌, ◌∙◌, MatchResult, false, refl, subst, sym, true, ap, arith}
+use Rattle.std.proofs.lemmas.Grind.{common_steps}
 use Rattle.wl_server.specs.declared.notes.DisconnectReason.TheVariants.{ConnectionClosed}
 use Rattle.wl_server.specs.Inside.Client.{Does}
 use Rattle.wl_server.specs.Server.{NoteTimes, Stored, untimed}
@@ -13,9 +11,7 @@ use Rattle.wl_server.proofs.Readings.Finishing.{ends_done, ends_none, ends_starv
 use Rattle.wl_server.proofs.client.Client.end_request.Goals as goal
 
 pub returns-in-Some-clause-done : goal.returns-in-Some-clause-done
-returns-in-Some-clause-done g c =
-    request_refused g.T.Transport.sends c.args.id.now c.args.self.now c.args.sender.now c.args.is_destructor c.args.created c.args.user_data c.in-Some.error
-    (rw (← c.self.view_is) c.in-Some.ensures)
+returns-in-Some-clause-done g c = grind (arith, common_steps, request_refused)
 
 pub returns-then-is_out_of_memory-clause-done : goal.returns-then-is_out_of_memory-clause-done
 returns-then-is_out_of_memory-clause-done g c =
@@ -42,9 +38,7 @@ returns-clause-done g c =
     (told_untimed _ c.end_sender-told.result c.kill_unless_written.new.self _ closed))
 
 pub returns-clause-back : goal.returns-clause-back
-returns-clause-back g c =
-    subst (λ (x : Store (Kept _)). DataHeld x c.args.created c.args.user_data c.finish_action-back.result)
-    (sym (store_unless_written _ c.kill_unless_written.new.self c.end_sender-told.result c.kill_unless_written.ensures.closed)) c.finish_action-back.ensures.back
+returns-clause-back g c = grind (arith, common_steps, store_unless_written)
 
 pub returns-clause-in_time : goal.returns-clause-in_time
 returns-clause-in_time g c =

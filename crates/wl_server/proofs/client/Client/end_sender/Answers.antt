@@ -1,5 +1,4 @@
-use Rattle.std.proofs.Common.{ap, map, rules, subst, sym, refl, List, ℕ, arith}
-use Rattle.std.proofs.lemmas.Grind.{common_steps}
+use Rattle.std.proofs.Common.{ap, map, subst, sym, refl, List, ℕ}
 use Rattle.wl_server.specs.declared.notes.Happening.{Happening}
 use Rattle.wl_server.specs.NoteOrder.{GivesNumbers}
 use Rattle.wl_server.proofs.CallSteps.Numbering.{made_in_time, still_made}
@@ -19,15 +18,9 @@ returns-in_default-reserve_end-clause-in_time g c = rw (← c.self.view_is) (sti
 pub returns-then-is_out_of_memory-clause-in_time : goal.returns-then-is_out_of_memory-clause-in_time
 returns-then-is_out_of_memory-clause-in_time g c = rw (← c.self.view_is) (still_made _ _ _ _ (ap (map (λ m. m.0)) c.reserve_end.ensures.items))
 
-pub take_out_made-requires : goal.take_out_made-requires
-take_out_made-requires g c = search rules
-
 pub returns-clause-in_time : goal.returns-clause-in_time
 returns-clause-in_time g c =
     rw (← c.self.view_is)
     (made_in_time _ _ _ _ _ _
     (subst (λ (l : List (ℕ × Happening _)). GivesNumbers (map (λ m. m.0) l) c.args.numbers.now.made (map (λ m. m.0) c.take_out_made.new.made.queue.items) c.take_out_made.new.numbers.made)
     c.reserve_end.ensures.items c.take_out_made.ensures.in_time) refl c.take_out_made.ensures.waiting)
-
-pub returns-clause-numbered : goal.returns-clause-numbered
-returns-clause-numbered g c = grind (arith, common_steps)

@@ -6,12 +6,3 @@ returns-in-Some-Some-clause-back g c =
     rw (c.in-Some-Some.is-0, c.in-Some-Some.is-1)
     (given_held c.self.inside.objects.map.store c.give_if_kept.new.objects.store c.in-Some-Some.id c.in-Some-Some.user_data c.give_if_kept.result
     c.give_if_kept.ensures.back c.give_if_kept.ensures.given)
-
-pub invariant_of-self : goal.invariant_of-self
-invariant_of-self g c = c.self.invariant
-
-pub invariant_of-self-in_default : goal.invariant_of-self-in_default
-invariant_of-self-in_default g c = c.self.invariant
-
-pub invariant_of-self-in_default-2 : goal.invariant_of-self-in_default-2
-invariant_of-self-in_default-2 g c = c.self.invariant

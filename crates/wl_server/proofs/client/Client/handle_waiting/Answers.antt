@@ -1,4 +1,5 @@
-use Rattle.std.proofs.Common.{◌≡◌, ◌≤◌, ◌∙◌, rules, refl}
+use Rattle.std.proofs.Common.{◌≡◌, ◌∙◌, arith}
+use Rattle.std.proofs.lemmas.Grind.{common_steps}
 use Rattle.wl_server.specs.Inside.ReadingLoop.{around_of}
 use Rattle.wl_server.specs.declared.reading.action.MessageEnd.{MessageEnd}
 use Rattle.wl_server.specs.declared.reading.action.MessageEnd.TheVariants as came
@@ -10,16 +11,7 @@ never : ◌≡◌ {A = MessageEnd} came.Continues came.HandsOut → ⊥
 never same = cc
 
 pub loop-end-init : goal.loop-end-init
-loop-end-init g c =
-    let within : c.args.reading.now.read ≤ 0xFFFFFFFFFFFFFFFF = search rules in
-    record {
-      place = c.requires.place;
-      kept = refl;
-      left = refl;
-      goes = goes_none g.T.Transport.sends g.T.Transport.receives (around_of g.G.GlobalHandler.views c.args.around.now) c.args.self.now c.args.reading.now within c.requires.live;
-      in_time = in_time_none _ _;
-      numbered = λ is. is;
-    }
+loop-end-init g c = grind (arith, common_steps, goes_none, in_time_none)
 
 pub loop-end-preserved : goal.loop-end-preserved
 loop-end-preserved g c = record {
@@ -50,12 +42,3 @@ returns-in-HandsOut-clause-in_time g c = in_time_both _ _ _ _ _ _ c.loop-end.inv
 
 pub returns-in-Ends-clause-in_time : goal.returns-in-Ends-clause-in_time
 returns-in-Ends-clause-in_time g c = in_time_both _ _ _ _ _ _ c.loop-end.invariant.in_time c.handle_message.ensures.in_time
-
-pub returns-in-Lacks-clause-numbered : goal.returns-in-Lacks-clause-numbered
-returns-in-Lacks-clause-numbered g c is = c.handle_message.ensures.numbered (c.loop-end.invariant.numbered is)
-
-pub returns-in-HandsOut-clause-numbered : goal.returns-in-HandsOut-clause-numbered
-returns-in-HandsOut-clause-numbered g c is = c.handle_message.ensures.numbered (c.loop-end.invariant.numbered is)
-
-pub returns-in-Ends-clause-numbered : goal.returns-in-Ends-clause-numbered
-returns-in-Ends-clause-numbered g c is = c.handle_message.ensures.numbered (c.loop-end.invariant.numbered is)

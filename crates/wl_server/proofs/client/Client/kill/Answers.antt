@@ -1,11 +1,10 @@
-use Rattle.std.proofs.Common.{◌≡◌, ◌∙◌, List, refl, sym, ap, append-nil, [], map, arith}
+use Rattle.std.proofs.Common.{◌≡◌, ◌∙◌, List, refl, sym, ap, append-nil, [], map}
 use Rattle.std.proofs.lemmas.List.{map-append}
-use Rattle.std.proofs.lemmas.Grind.{common_steps}
 use Rattle.wl_server.specs.declared.notes.Happening.{Happening}
 use Rattle.wl_server.specs.declared.notes.queues.NoteNumbers.{NoteNumbers}
 use Rattle.wl_server.specs.Part.{Part}
 use Rattle.wl_server.specs.Server.{Stored, no_times}
-use Rattle.wl_server.proofs.CallSteps.Numbering.{in_time_none, made_in_time}
+use Rattle.wl_server.proofs.CallSteps.Numbering.{made_in_time}
 use Rattle.wl_server.proofs.client.Client.kill.Goals as goal
 
 with_made : {T U C : Type 0} (p : Part T U C) (serial : _) (made made' : List (Happening U)) → made ≡ made'
@@ -24,15 +23,3 @@ returns-clause-killed g c =
 pub returns-clause-in_time : goal.returns-clause-in_time
 returns-clause-in_time g c =
     rw (← c.self.view_is) (made_in_time _ _ _ _ _ _ c.push.ensures.in_time refl (ap (λ (n : NoteNumbers). n.waiting) c.push.ensures.numbers))
-
-pub returns-then-self-clause-in_time : goal.returns-then-self-clause-in_time
-returns-then-self-clause-in_time g c = in_time_none _ _
-
-pub push-requires : goal.push-requires
-push-requires g c = grind (arith, common_steps)
-
-pub invariant_of-self : goal.invariant_of-self
-invariant_of-self g c = grind (arith, common_steps)
-
-pub returns-clause-numbered : goal.returns-clause-numbered
-returns-clause-numbered g c = grind (arith, common_steps)

@@ -1,6 +1,5 @@
-use Rattle.std.proofs.Common.{false, map, [], ap, arith}
+use Rattle.std.proofs.Common.{false, map, arith}
 use Rattle.std.proofs.lemmas.Grind.{common_steps}
-use Rattle.wl_server.specs.declared.notes.queues.NoteNumbers.{NoteNumbers}
 use Rattle.wl_server.proofs.CallSteps.Numbering.{made_in_time}
 use Rattle.wl_server.proofs.client.Client.new.Goals as goal
 use Rattle.wl_server.specs.Server.{no_times}
@@ -27,12 +26,4 @@ returns-clause-inserted g c = (
 )
 
 pub returns-clause-in_time : goal.returns-clause-in_time
-returns-clause-in_time g c =
-    made_in_time [] _ [] _ c.args.numbers.now c.first_parts.new.numbers c.in_ok-socket.ensures.in_time (ap (map (λ w. w.0)) c.new-3.ensures)
-    (ap (λ (n : NoteNumbers). n.waiting) c.in_ok-socket.ensures.numbers)
-
-pub invariant_of-result : goal.invariant_of-result
-invariant_of-result g c = grind (arith, common_steps)
-
-pub returns-clause-numbered : goal.returns-clause-numbered
-returns-clause-numbered g c = grind (arith, common_steps)
+returns-clause-in_time g c = grind (arith, common_steps, made_in_time)

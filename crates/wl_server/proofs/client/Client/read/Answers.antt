@@ -1,19 +1,12 @@
-use Rattle.std.proofs.Common.{◌≡◌, ◌≤◌, ◌-◌, suc, arith, rules, refl, ◌∙◌}
+use Rattle.std.proofs.Common.{◌≡◌, ◌-◌, suc, arith, refl, ◌∙◌}
+use Rattle.std.proofs.lemmas.Grind.{common_steps}
 use Rattle.wl_server.specs.Inside.ReadingLoop.{around_of}
 use Rattle.wl_server.proofs.CallSteps.Numbering.{in_time_both, in_time_none}
 use Rattle.wl_server.proofs.Readings.OneMessage.{fills_ends, fills_goes, goes_ends, goes_goes, goes_none, goes_within, none_left}
 use Rattle.wl_server.proofs.client.Client.read.Goals as goal
 
 pub loop-end-init : goal.loop-end-init
-loop-end-init g c =
-    let within : c.args.reading.now.read ≤ 0xFFFFFFFFFFFFFFFF = search rules in
-    record {
-      place = c.requires.place;
-      kept = refl;
-      goes = goes_none g.T.Transport.sends g.T.Transport.receives (around_of g.G.GlobalHandler.views c.args.around.now) c.args.self.now c.args.reading.now within c.requires.live;
-      in_time = in_time_none _ _;
-      numbered = λ is. is;
-    }
+loop-end-init g c = grind (arith, common_steps, goes_none, in_time_none)
 
 pub returns-in-Some-clause-ends : goal.returns-in-Some-clause-ends
 returns-in-Some-clause-ends g c =
@@ -57,12 +50,3 @@ returns-then-reading-eq0-clause-in_time g c = in_time_both _ _ _ _ _ _ c.loop-en
 pub returns-in-Some-receive-clause-in_time : goal.returns-in-Some-receive-clause-in_time
 returns-in-Some-receive-clause-in_time g c =
     in_time_both _ _ _ _ _ _ (in_time_both _ _ _ _ _ _ c.loop-end.invariant.in_time c.handle_waiting.ensures.in_time) c.receive.ensures.in_time
-
-pub returns-in-Some-clause-numbered : goal.returns-in-Some-clause-numbered
-returns-in-Some-clause-numbered g c is = c.handle_waiting.ensures.numbered (c.loop-end.invariant.numbered is)
-
-pub returns-then-reading-eq0-clause-numbered : goal.returns-then-reading-eq0-clause-numbered
-returns-then-reading-eq0-clause-numbered g c is = c.handle_waiting.ensures.numbered (c.loop-end.invariant.numbered is)
-
-pub returns-in-Some-receive-clause-numbered : goal.returns-in-Some-receive-clause-numbered
-returns-in-Some-receive-clause-numbered g c is = c.receive.ensures.numbered (c.handle_waiting.ensures.numbered (c.loop-end.invariant.numbered is))

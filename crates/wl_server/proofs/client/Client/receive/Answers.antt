@@ -21,30 +21,3 @@ pub returns-in_default-fault-clause-fills : goal.returns-in_default-fault-clause
 returns-in_default-fault-clause-fills g c =
     rw (← c.self.view_is)
     (fault_fills g.T.Transport.receives (record { serial = _; part = _; made = _; times = no_times }) c.kill.new.self c.fill_incoming_buffers.new.self c.in-Err.fault c.in_default-fault.not-WouldBlock c.in_default-fault.not-OutOfMemory c.in-Err.ensures.filled c.fill_incoming_buffers.ensures.doubled c.kill.ensures.killed)
-
-pub invariant_of-self : goal.invariant_of-self
-invariant_of-self g c = c.self.invariant
-
-pub invariant_of-self-in-OutOfMemory : goal.invariant_of-self-in-OutOfMemory
-invariant_of-self-in-OutOfMemory g c = c.self.invariant
-
-pub invariant_of-self-in-WouldBlock : goal.invariant_of-self-in-WouldBlock
-invariant_of-self-in-WouldBlock g c = c.self.invariant
-
-pub invariant_of-self-in_default-fault : goal.invariant_of-self-in_default-fault
-invariant_of-self-in_default-fault g c = c.self.invariant
-
-pub returns-in-OutOfMemory-clause-numbered : goal.returns-in-OutOfMemory-clause-numbered
-returns-in-OutOfMemory-clause-numbered g c = rw (← c.self.view_is) (λ numbered. numbered)
-
-pub returns-in-WouldBlock-clause-numbered : goal.returns-in-WouldBlock-clause-numbered
-returns-in-WouldBlock-clause-numbered g c = rw (← c.self.view_is) (λ numbered. numbered)
-
-pub returns-in_default-clause-numbered : goal.returns-in_default-clause-numbered
-returns-in_default-clause-numbered g c = rw (← c.self.view_is) (λ numbered. numbered)
-
-pub returns-in_default-fault-clause-in_time : goal.returns-in_default-fault-clause-in_time
-returns-in_default-fault-clause-in_time g c = rw (← c.self.view_is) c.kill.ensures.in_time
-
-pub returns-in_default-fault-clause-numbered : goal.returns-in_default-fault-clause-numbered
-returns-in_default-fault-clause-numbered g c = rw (← c.self.view_is) c.kill.ensures.numbered

@@ -1,7 +1,6 @@
-use Rattle.std.proofs.Common.{◌≡◌, ◌∙◌, true, Result, Ok, Err, map, refl, sym, subst, ap, List, ℕ, arith}
+use Rattle.std.proofs.Common.{◌≡◌, ◌∙◌, true, Result, Ok, Err, map, refl, sym, subst, ap, List, ℕ}
 use Rattle.std.proofs.lemmas.Bool.{false≢true}
 use Rattle.std.specs.Prelude.{is_err, OnErr, ◌++◌}
-use Rattle.std.proofs.lemmas.Grind.{common_steps}
 use Rattle.wl_link.specs.Link.{Wrote}
 use Rattle.wl_wire.specs.Message.{WireMessage}
 use Rattle.wl_server.specs.Inside.Ending.{notes_ending, registries_ending}
@@ -91,24 +90,3 @@ returns-clause-in_time g c =
     (subst (λ (l : List (ℕ × Happening _)). GivesNumbers (map (λ w. w.0) l) c.args.numbers.now.waiting (map (λ w. w.0) c.end_sender.new.waiting.queue.items) c.end_sender.new.numbers.waiting)
     c.make_room.ensures.items c.end_sender.ensures.in_time) refl c.end_sender.ensures.made) in
     in_time_both _ _ _ _ _ _ first c.tell_end.ensures.in_time
-
-pub invariant_of-self : goal.invariant_of-self
-invariant_of-self g c = c.self.invariant
-
-pub invariant_of-self-2 : goal.invariant_of-self-2
-invariant_of-self-2 g c = c.self.invariant
-
-pub invariant_of-self-then-is_out_of_memory : goal.invariant_of-self-then-is_out_of_memory
-invariant_of-self-then-is_out_of_memory g c = c.self.invariant
-
-pub returns-in-Err-clause-numbered : goal.returns-in-Err-clause-numbered
-returns-in-Err-clause-numbered g c = λ numbered. numbered
-
-pub returns-then-is_err-clause-numbered : goal.returns-then-is_err-clause-numbered
-returns-then-is_err-clause-numbered g c = rw (← c.self.view_is, c.make_room.ensures.items) (λ numbered. numbered)
-
-pub returns-then-self-clause-numbered : goal.returns-then-self-clause-numbered
-returns-then-self-clause-numbered g c = λ numbered. numbered
-
-pub returns-clause-numbered : goal.returns-clause-numbered
-returns-clause-numbered g c = grind (arith, common_steps)

@@ -1,5 +1,4 @@
-use Rattle.std.proofs.Common.{◌≤◌, refl, arith, rules}
-use Rattle.std.proofs.lemmas.Grind.{common_steps}
+use Rattle.std.proofs.Common.{refl}
 use Rattle.wl_server.specs.declared.reading.response.Response.TheVariants as response
 use Rattle.wl_server.specs.Inside.ReadingLoop.{around_of, found_with}
 use Rattle.wl_server.proofs.CallSteps.Numbering.{in_time_none}
@@ -25,19 +24,6 @@ returns-in_default-clause-handles g c = rw (← c.self.view_is)
     (message_taken g.T.Transport.sends g.T.Transport.receives (around_of g.G.GlobalHandler.views c.args.around.now) _ c.args.reading.now _ c.take_request-taken.new.socket
     c.self.inside.objects c.take_request-taken.new.objects c.in-Ok.response c.take_request-taken.new.finding.found c.take_request-taken.new.finding.args.items _ _
     (rw (← c.self.view_is) at c.requires.live) refl c.in-Ok.ensures.took (c.respond.ensures.handled c.take_request-taken.new.finding.found c.take_request-taken.new.finding.args.items (found_with c.take_request-taken.new.finding.found c.take_request-taken.new.finding.args.items)) c.in-Ok.ensures.fewer refl c.saturating_add-reading.ensures)
-
-pub returns-in-Err-clause-handles : goal.returns-in-Err-clause-handles
-returns-in-Err-clause-handles g c =
-    let took = c.in-Err.ensures.took in
-    let within : c.args.reading.now.read ≤ 0xFFFFFFFFFFFFFFFF = search rules in
-    rw (← c.self.view_is)
-    (rw (took.0, took.1, took.2, took.3) at c.not_taken.ensures.handles c.args.reading.now (found_with c.take_request-taken.new.finding.found c.take_request-taken.new.finding.args.items) within)
-
-pub returns-in-Syncs-clause-in_time : goal.returns-in-Syncs-clause-in_time
-returns-in-Syncs-clause-in_time g c = grind (arith, common_steps)
-
-pub returns-in_default-clause-in_time : goal.returns-in_default-clause-in_time
-returns-in_default-clause-in_time g c = grind (arith, common_steps)
 
 pub returns-in-HandsOut-clause-in_time : goal.returns-in-HandsOut-clause-in_time
 returns-in-HandsOut-clause-in_time g c = rw (← c.self.view_is) (in_time_none _ _)

@@ -1,4 +1,5 @@
-use Rattle.std.proofs.Common.{◌≡◌, ◌∙◌, true, false, ap, subst}
+use Rattle.std.proofs.Common.{◌≡◌, ◌∙◌, true, false, ap, subst, arith}
+use Rattle.std.proofs.lemmas.Grind.{common_steps}
 use Rattle.wl_server.specs.NoteOrder.{NotesInTime}
 use Rattle.wl_server.proofs.CallSteps.Numbering.{in_time_both}
 use Rattle.wl_server.proofs.ObjectCalls.Posting.{posted_dead, posted_live, posted_starved}
@@ -36,9 +37,7 @@ returns-in-Err-clause-carried g c =
     (posted_starved g.T.Transport.sends c.args.protocol.now c.args.self.now c.args.id.now c.args.code c.args.text c.kill_unless_written.new.self live c.kill_unless_written.ensures.closed)
 
 pub returns-then-self-clause-exactly : goal.returns-then-self-clause-exactly
-returns-then-self-clause-exactly g c = λ live kept.
-    let dead : c.args.self.now.part.is_killed ≡ true = rw (← c.self.view_is) c.if-self.true in
-    not_live c.args.self.now.part dead live
+returns-then-self-clause-exactly g c = grind (arith, common_steps, not_live)
 
 pub returns-then-refused-clause-exactly : goal.returns-then-refused-clause-exactly
 returns-then-refused-clause-exactly g c = λ live kept.
@@ -54,9 +53,7 @@ returns-else-refused-clause-exactly g c = λ live kept.
     (c.put_posted-wrote.ensures.wrote kept) c.flush_dropped-lacked.ensures.flushed.1 c.if-refused.ensures.refused c.kill_unless_written-refused.ensures.closed c.kill.ensures.killed
 
 pub returns-in-Err-clause-exactly : goal.returns-in-Err-clause-exactly
-returns-in-Err-clause-exactly g c = λ live kept.
-    rw c.kill_unless_written.ensures.refused
-    (lacked_exactly g.T.Transport.sends c.args.self.now c.kill_unless_written.new.self c.args.id.now.number c.args.code c.args.text c.kill_unless_written.ensures.closed)
+returns-in-Err-clause-exactly g c = grind (arith, common_steps, lacked_exactly)
 
 pub returns-then-refused-clause-in_time : goal.returns-then-refused-clause-in_time
 returns-then-refused-clause-in_time g c =

@@ -1,7 +1,5 @@
-use Rattle.std.proofs.Common.{◌≡◌, ◌∙◌, ℕ, arith, length, subst, sym, refl}
+use Rattle.std.proofs.Common.{◌∙◌, sym, refl}
 use Rattle.std.proofs.lemmas.Option.{slice_get_read}
-use Rattle.wl_server.specs.Inside.Leaving.{FlushesKilled}
-use Rattle.wl_server.specs.Inside.Places.{AllFeel}
 use Rattle.wl_server.specs.NoteOrder.{times_of}
 use Rattle.wl_server.proofs.CleanupSteps.Gathering.{map_set}
 use Rattle.wl_server.proofs.CallSteps.Numbering.{numbered_set}
@@ -20,9 +18,3 @@ loop-slot-preserved g c =
       times = map_set times_of _ _ _ _ here c.flush_at-refused.ensures.times ∙ c.loop-slot.invariant.times;
       numbered = λ all. numbered_set _ _ _ _ here c.flush_at-refused.ensures.numbered (c.loop-slot.invariant.numbered all);
     }
-
-pub returns-clause-felt : goal.returns-clause-felt
-returns-clause-felt g c =
-    let end : c.loop-slot.slot ≡ length c.args.clients.now.items = omega (arith, c.loop-slot-test.false, c.loop-slot.auto.slot-end, c.loop-slot.invariant.ends) in
-    subst (λ (n : ℕ). AllFeel (λ id p lacked did q. FlushesKilled g.T.Transport.sends p lacked did q) c.loop-slot.refused n c.args.clients.now.items c.loop-slot.clients.items)
-    end c.loop-slot.invariant.felt

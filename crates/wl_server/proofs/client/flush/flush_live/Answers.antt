@@ -1,9 +1,7 @@
-use Rattle.std.proofs.Common.{◌≡◌, ◌∙◌, ◌+◌, ℕ, arith, length, refl, subst, sym}
+use Rattle.std.proofs.Common.{◌∙◌, ◌+◌, arith, length, refl, sym}
 use Rattle.std.specs.Prelude.{slice_set}
 use Rattle.std.proofs.lemmas.List.{length-set}
 use Rattle.std.proofs.lemmas.Option.{slice_get_read}
-use Rattle.wl_server.specs.Felt.{FlushesLive}
-use Rattle.wl_server.specs.Inside.Places.{AllFeel}
 use Rattle.wl_server.specs.Inside.Touched.{HasSent, IsQuiet}
 use Rattle.wl_server.specs.NoteOrder.{times_of}
 use Rattle.wl_server.proofs.CallSteps.Feeling.{none_felt, one_more_felt}
@@ -48,9 +46,3 @@ loop-slot-preserved g c =
       sent = sent;
       quiet = λ words all. out_set IsQuiet words c.loop-slot.clients.items c.loop-slot.slot _ _ here c.flush_at-refused.ensures.quiet (inv.quiet words all);
     }
-
-pub returns-clause-felt : goal.returns-clause-felt
-returns-clause-felt g c =
-    let end : c.loop-slot.slot ≡ length c.args.clients.now.items = omega (arith, c.loop-slot-test.false, c.loop-slot.invariant.within, c.loop-slot.invariant.ends) in
-    subst (λ (n : ℕ). AllFeel (λ id p lacked did q. FlushesLive g.T.Transport.sends p lacked did q) c.loop-slot.refused n c.args.clients.now.items c.loop-slot.clients.items)
-    end c.loop-slot.invariant.felt

@@ -1,16 +1,12 @@
 use Rattle.std.proofs.Common.{◌∙◌, arith, refl}
+use Rattle.std.proofs.lemmas.Grind.{common_steps}
 use Rattle.std.proofs.lemmas.Option.{slice_get_read}
 use Rattle.wl_server.proofs.ObjectCalls.Inserting.{none_of, slot_of, stored_past, stored_read}
 use Rattle.wl_server.proofs.CleanupSteps.Taken.{one_more_taken, taken_less}
 use Rattle.wl_server.proofs.client.insert.free_slot.Goals as goal
 
 pub loop-slot-preserved : goal.loop-slot-preserved
-loop-slot-preserved g c =
-    let here = slice_get_read c.args.clients.now _ c.loop-slot.slot c.index-clients-slot.result refl c.loop-slot-test.true c.index-clients-slot.is in
-    record {
-      taken = one_more_taken c.args.clients.now c.loop-slot.slot c.index-clients-slot.result c.loop-slot.invariant.taken here c.if-is_none.ensures;
-      ends = refl;
-    }
+loop-slot-preserved g c = grind (arith, common_steps, slice_get_read, one_more_taken)
 
 pub returns-then-is_none : goal.returns-then-is_none
 returns-then-is_none g c =

@@ -3,11 +3,6 @@ use Rattle.wl_server.specs.Inside.Inserting.{IsPut}
 use Rattle.wl_server.proofs.ObjectCalls.Inserting.{put_behind}
 use Rattle.wl_server.proofs.client.insert.put_at.Goals as goal
 
-pub returns-then-slot-len-clause-put : goal.returns-then-slot-len-clause-put
-returns-then-slot-len-clause-put g c =
-    let len = c.args.clients.now.ok.0 in
-    c.put_within.ensures.put
-
 pub returns-else-slot-len-clause-put : goal.returns-else-slot-len-clause-put
 returns-else-slot-len-clause-put g c =
     let len = c.args.clients.now.ok.0 in

@@ -1,4 +1,4 @@
-use Rattle.std.proofs.Common.{◌≡◌, Option, List, Some, arith, refl, subst, sym}
+use Rattle.std.proofs.Common.{◌≡◌, Option, List, Some, refl, subst, sym}
 use Rattle.wl_server.specs.Inside.Client.{IsInserted}
 use Rattle.wl_server.specs.Inside.Inserting.{IsPut}
 use Rattle.wl_server.specs.Server.{Stored}
@@ -17,12 +17,6 @@ returns-clause-put g c = (
   subst (λ n. IsInserted n c.args.transport (Some c.args.max_buffer_size) c.args.client_data c.in_ok-client.client) c.serial-serial.ensures c.in_ok-client.ensures.inserted,
   moved _ _ _ _ _ _ c.in_ok-reserve_slot.ensures.items c.slot-slot.ensures c.put_at.ensures.put,
 )
-
-pub returns-clause-slots : goal.returns-clause-slots
-returns-clause-slots g c within =
-    let len = c.in_ok-reserve_slot.ensures.len in
-    let slot = c.slot-slot.type_inv in
-    c.put_at.ensures.slots (omega (arith, within, len)) slot
 
 pub returns-clause-in_time : goal.returns-clause-in_time
 returns-clause-in_time g c = λ none.

@@ -1,16 +1,9 @@
-use Rattle.std.proofs.Common.{Bool, false, Err, Ok, ap, arith, refl}
+use Rattle.std.proofs.Common.{Bool, false, Err, Ok, ap, arith}
 use Rattle.wl_link.specs.Identity.{Id}
 use Rattle.wl_server.specs.Felt.{is_first}
 use Rattle.wl_server.specs.Telling.{by_object, making}
-use Rattle.wl_server.proofs.GlobalCalls.PutEach.{first_all, first_failed, first_more, first_none, wrote_by}
+use Rattle.wl_server.proofs.GlobalCalls.PutEach.{first_all, first_failed, first_more, wrote_by}
 use Rattle.wl_server.proofs.globals.announce.put_to_each.Goals as goal
-
-pub loop-registry-init : goal.loop-registry-init
-loop-registry-init g c = record {
-  puts = λ makes. first_none g.T.Transport.sends (λ r. making (makes r) (by_object r c.args.message.now.opcode c.args.message.now.args.items)) c.args.socket.now c.args.registries.now;
-  opcode = refl;
-  args = refl;
-}
 
 pub returns-in-Err-clause-puts : goal.returns-in-Err-clause-puts
 returns-in-Err-clause-puts g c =

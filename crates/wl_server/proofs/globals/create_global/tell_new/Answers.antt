@@ -35,12 +35,3 @@ returns-clause-felt g c =
     let end : c.loop-slot.slot ≡ length c.args.clients.now = omega (arith, c.loop-slot-test.false, c.loop-slot.auto.slot-end) in
     subst (λ (n : ℕ). AllFeel (HearsNew g.T.Transport.sends g.G.GlobalHandler.views c.args.protocol.now c.args.id.now c.args.global.now) c.loop-slot.refused n c.args.clients.now
     c.loop-slot.clients) end c.loop-slot.invariant.felt
-
-pub returns-clause-in_time : goal.returns-clause-in_time
-returns-clause-in_time g c = (c.loop-slot.slot, c.loop-slot.invariant.in_time)
-
-pub loop-slot-smaller : goal.loop-slot-smaller
-loop-slot-smaller g c = omega (arith, c.loop-slot-test.true)
-
-pub returns-clause-numbered : goal.returns-clause-numbered
-returns-clause-numbered g c = c.loop-slot.invariant.numbered

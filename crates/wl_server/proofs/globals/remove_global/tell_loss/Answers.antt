@@ -25,12 +25,3 @@ returns-clause-felt g c =
     let end : c.loop-slot.slot ≡ length c.args.clients.now = omega (arith, c.loop-slot-test.false, c.loop-slot.auto.slot-end) in
     subst (λ (n : ℕ). AllFeel (λ id p lacked did q. Hears g.T.Transport.sends p (removals p c.args.name) lacked did q) c.loop-slot.refused n c.args.clients.now c.loop-slot.clients)
     end c.loop-slot.invariant.felt
-
-pub returns-clause-in_time : goal.returns-clause-in_time
-returns-clause-in_time g c = (c.loop-slot.slot, c.loop-slot.invariant.in_time)
-
-pub loop-slot-smaller : goal.loop-slot-smaller
-loop-slot-smaller g c = omega (arith, c.loop-slot-test.true)
-
-pub returns-clause-numbered : goal.returns-clause-numbered
-returns-clause-numbered g c = c.loop-slot.invariant.numbered

@@ -1,5 +1,4 @@
-use Rattle.std.proofs.Common.{map, refl, subst, arith}
-use Rattle.std.proofs.lemmas.Grind.{common_steps}
+use Rattle.std.proofs.Common.{map, refl, subst}
 use Rattle.wl_wire.specs.Message.{WireMessage}
 use Rattle.wl_server.specs.Inside.Puts.{Puts}
 use Rattle.wl_server.specs.Telling.{by_object}
@@ -18,9 +17,3 @@ returns-in-Some-clause-felt g c = λ slot.
 
 pub returns-in_default-clause-felt : goal.returns-in_default-clause-felt
 returns-in_default-clause-felt g c = λ slot. rw (c.in-Some.is, ← c.client.view_is) (_, killed_hears _ (record { serial = _; part = _; made = _; times = no_times }) _ c.if-not-client.false, refl)
-
-pub returns-in-Some-clause-in_time : goal.returns-in-Some-clause-in_time
-returns-in-Some-clause-in_time g c = grind (arith, common_steps)
-
-pub returns-in_default-clause-numbered : goal.returns-in_default-clause-numbered
-returns-in_default-clause-numbered g c = grind (arith, common_steps)

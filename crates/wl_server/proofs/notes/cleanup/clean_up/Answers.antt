@@ -4,7 +4,6 @@ use Rattle.wl_server.specs.NoteOrder.{AllNumbered, AllTakeFirst, Along, IsOrderO
 use Rattle.wl_server.specs.Server.{NoteTimes, Stored}
 use Rattle.wl_server.specs.Inside.Leaving.{collected, given_at}
 use Rattle.wl_server.proofs.CallSteps.Numbering.{all_take_both, all_take_leave, all_take_none, none_waits, numbered_staying}
-use Rattle.wl_server.proofs.CleanupSteps.Gathering.{gathers_length}
 use Rattle.wl_server.proofs.CleanupSteps.Idle.{none_flushed, none_given, none_leaves, none_noted}
 use Rattle.wl_server.proofs.CleanupSteps.Rooms.{flushed_counts, flushed_order, gathered_ends, gathered_given}
 use Rattle.wl_server.proofs.notes.cleanup.clean_up.Goals as goal
@@ -30,12 +29,6 @@ returns-then-capacity-eq0-clause-cleaned g c =
       gave = c.requires.none ∙ sym (none_given c.gather.new.clients.items left);
     }
 
-pub gather-requires-clause-order : goal.gather-requires-clause-order
-gather-requires-clause-order g c = subst (λ (l : List NotePlace). IsOrderOf true c.args.clients.now.items l) (sym c.deref.ensures.value) c.requires.order
-
-pub gather-requires-clause-room : goal.gather-requires-clause-room
-gather-requires-clause-room g c = let fits = c.requires.notes in omega (arith, fits)
-
 pub gather-requires-2-clause-order : goal.gather-requires-2-clause-order
 gather-requires-2-clause-order g c =
     subst (λ (l : List NotePlace). IsOrderOf true c.flush_killed-refused.new.clients.items l) (sym c.deref-2.ensures.value)
@@ -46,13 +39,6 @@ gather-requires-2-clause-room g c =
     let same = (flushed_counts g.T.Transport.sends _ _ _ c.flush_killed-refused.ensures.felt).0 in
     let fits = c.requires.notes in
     omega (arith, same, fits)
-
-pub leave_all-requires-clause-slots : goal.leave_all-requires-clause-slots
-leave_all-requires-clause-slots g c =
-    let len = c.flush_killed-refused.ensures.felt.len in
-    let few = c.requires.slots in
-    let gathered = gathers_length _ _ _ _ _ c.gather-2.ensures.gathered in
-    omega (arith, len, few, gathered)
 
 pub leave_all-requires-clause-notes : goal.leave_all-requires-clause-notes
 leave_all-requires-clause-notes g c =
@@ -75,20 +61,6 @@ leave_all-requires-clause-given g c =
     let long = c.args.memory.now.given.ok.0 in
     let fits = c.requires.given in
     omega (arith, same, gathered, none, long, fits)
-
-pub returns-clause-cleaned : goal.returns-clause-cleaned
-returns-clause-cleaned g c = record {
-  flushed = c.flush_killed-refused.new.clients.items;
-  left = c.gather-2.new.clients.items;
-  told = c.gather-2.new.notes.items;
-  flushes = c.flush_killed-refused.ensures.felt;
-  gathers = c.gather-2.ensures.gathered;
-  all = c.gather-2.ensures.ended;
-  in_order = (c.args.memory.now.order.items, c.requires.order, subst (λ (l : List NotePlace). Along c.args.notes.now.items c.gather-2.new.notes.items l) c.deref-2.ensures.value c.gather-2.ensures.along);
-  stay = c.leave_all.ensures.stay;
-  noted = c.leave_all.ensures.noted;
-  gave = c.leave_all.ensures.given ∙ ap (λ l. l ++ collected given_at 0 c.gather-2.new.clients.items) c.requires.none;
-}
 
 pub returns-clause-first : goal.returns-clause-first
 returns-clause-first g c =

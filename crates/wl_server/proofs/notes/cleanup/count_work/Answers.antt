@@ -1,7 +1,8 @@
 use Rattle.std.proofs.Common.{◌<◌, true, List, Option, arith, ap, length, map, refl}
+use Rattle.std.proofs.lemmas.Grind.{common_steps}
 use Rattle.std.proofs.lemmas.Option.{slice_get_read}
 use Rattle.wl_server.specs.Inside.Gathering.{count_leaving}
-use Rattle.wl_server.specs.Inside.Leaving.{collected, ends_at, given_at}
+use Rattle.wl_server.specs.Inside.Leaving.{ends_at, given_at}
 use Rattle.wl_server.specs.Inside.NoteOrder.{count_places}
 use Rattle.wl_server.specs.NoteOrder.{times_of}
 use Rattle.wl_server.specs.Server.{Stored}
@@ -78,12 +79,6 @@ loop-slot-preserved g c =
       all = refl;
     }
 
-pub returns-clause-few_gathered : goal.returns-clause-few_gathered
-returns-clause-few_gathered g c = let fewer = c.loop-slot.invariant.few_gathered in omega (arith, fewer)
-
-pub returns-clause-few_leaving : goal.returns-clause-few_leaving
-returns-clause-few_leaving g c = let fewer = c.loop-slot.invariant.few_leaving in omega (arith, fewer)
-
 pub returns-clause-gathered : goal.returns-clause-gathered
 returns-clause-gathered g c below =
     let most = c.loop-slot.invariant.gathered below in
@@ -98,15 +93,7 @@ returns-clause-places g c below =
     omega (arith, most, none)
 
 pub returns-clause-leaving : goal.returns-clause-leaving
-returns-clause-leaving g c below =
-    let most = c.loop-slot.invariant.leaving below in
-    let none = ap (λ (l : List (Option (Stored _ _ _))). length (collected given_at c.loop-slot.slot l))
-    (drop_past c.args.clients.now c.loop-slot.slot (omega (arith, c.loop-slot-test.false, c.loop-slot.invariant.all))) in
-    omega (arith, most, none)
+returns-clause-leaving g c below = grind (arith, common_steps, drop_past)
 
 pub returns-clause-ends : goal.returns-clause-ends
-returns-clause-ends g c below =
-    let most = c.loop-slot.invariant.ends below in
-    let none = ap (λ (l : List (Option (Stored _ _ _))). length (collected ends_at c.loop-slot.slot l))
-    (drop_past c.args.clients.now c.loop-slot.slot (omega (arith, c.loop-slot-test.false, c.loop-slot.invariant.all))) in
-    omega (arith, most, none)
+returns-clause-ends g c below = grind (arith, common_steps, drop_past)

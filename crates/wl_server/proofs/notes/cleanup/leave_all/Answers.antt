@@ -1,13 +1,9 @@
-use Rattle.std.proofs.Common.{◌∙◌, ◌≤◌, length, arith, refl, sym}
+use Rattle.std.proofs.Common.{◌∙◌, ◌≤◌, length, arith, sym}
 use Rattle.std.proofs.lemmas.List.{length-set}
 use Rattle.std.proofs.lemmas.Option.{slice_get_read}
-use Rattle.std.proofs.lemmas.Grind.{common_steps}
 use Rattle.wl_server.specs.Inside.Leaving.{ends_at, given_at}
-use Rattle.wl_server.proofs.CleanupSteps.Outgoing.{leave_begins, leave_ends, leave_one, leave_room}
+use Rattle.wl_server.proofs.CleanupSteps.Outgoing.{leave_ends, leave_one, leave_room}
 use Rattle.wl_server.proofs.notes.cleanup.leave_all.Goals as goal
-
-pub loop-slot-init : goal.loop-slot-init
-loop-slot-init g c = record { leave = leave_begins _ _ _; notes = refl; given = refl; ends = c.len-slot-end.ensures ∙ c.args.clients.now.ok.0; len = refl }
 
 pub leave_at-requires-clause-notes : goal.leave_at-requires-clause-notes
 leave_at-requires-clause-notes g c =
@@ -40,9 +36,3 @@ pub returns-clause-stay : goal.returns-clause-stay
 returns-clause-stay g c =
     let past : length c.args.clients.now.items ≤ c.loop-slot.slot = omega (arith, c.loop-slot-test.false, c.loop-slot.invariant.ends, c.loop-slot.invariant.len) in
     (leave_ends c.loop-slot.slot c.args.clients.now.items c.loop-slot.clients.items _ _ _ _ c.loop-slot.invariant.leave past c.loop-slot.invariant.len).0
-
-pub returns-clause-noted : goal.returns-clause-noted
-returns-clause-noted g c = grind (arith, common_steps)
-
-pub returns-clause-given : goal.returns-clause-given
-returns-clause-given g c = grind (arith, common_steps)

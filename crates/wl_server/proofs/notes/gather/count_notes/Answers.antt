@@ -1,4 +1,5 @@
 use Rattle.std.proofs.Common.{◌≡◌, ◌<◌, [], drop, arith, length-drop, refl}
+use Rattle.std.proofs.lemmas.Grind.{common_steps}
 use Rattle.std.proofs.lemmas.List.{nil_from_length}
 use Rattle.std.proofs.lemmas.Option.{slice_get_read}
 use Rattle.wl_server.specs.Inside.Touched.{IsQuiet}
@@ -52,15 +53,6 @@ loop-slot-preserved g c =
       ends = refl;
     }
 
-pub returns-clause-no_more : goal.returns-clause-no_more
-returns-clause-no_more g c = let fewer = c.loop-slot.invariant.no_more in omega (arith, fewer)
-
-pub loop-slot-smaller : goal.loop-slot-smaller
-loop-slot-smaller g c = omega (arith, c.loop-slot-test.true, c.next_from-slot-in-loop-slot.ensures.from)
-
-pub returns-clause-quiet : goal.returns-clause-quiet
-returns-clause-quiet g c = c.loop-slot.invariant.quiet
-
 pub returns-clause-all : goal.returns-clause-all
 returns-clause-all g c = λ below.
     let none : drop c.loop-slot.slot c.args.clients.now ≡ [] = nil_from_length _ (omega (arith, length-drop c.loop-slot.slot c.args.clients.now, c.loop-slot-test.false)) in
@@ -68,7 +60,4 @@ returns-clause-all g c = λ below.
     omega (arith, counted)
 
 pub returns-clause-places : goal.returns-clause-places
-returns-clause-places g c = λ below.
-    let none : drop c.loop-slot.slot c.args.clients.now ≡ [] = nil_from_length _ (omega (arith, length-drop c.loop-slot.slot c.args.clients.now, c.loop-slot-test.false)) in
-    let counted = rw none at (c.loop-slot.invariant.places below) in
-    omega (arith, counted)
+returns-clause-places g c = grind (arith, common_steps, nil_from_length, length-drop)

@@ -66,6 +66,3 @@ returns-clause-no_numbers g c =
 
 pub returns-clause-ended : goal.returns-clause-ended
 returns-clause-ended g c = grind (arith, common_steps)
-
-pub returns-clause-along : goal.returns-clause-along
-returns-clause-along g c = grind (arith, common_steps)

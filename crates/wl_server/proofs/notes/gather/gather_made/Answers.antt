@@ -1,4 +1,3 @@
-use Rattle.std.proofs.lemmas.Result.{err_from_is_err_and}
 use Rattle.std.proofs.Common.{◌<◌, ◌≤◌, List, Option, false, subst, [], map, refl, sym, append-nil, arith}
 use Rattle.std.specs.Vec.{vec_capacity, vec_len}
 use Rattle.std.proofs.lemmas.Grind.{common_steps}
@@ -19,16 +18,10 @@ returns-then-count-eq0-clause-ended g c =
     (none_of c.count_notes-count.result (count_leaving false c.args.clients.now.items) c.if-count-eq0.true all)
 
 pub returns-in_err-order-clause-some : goal.returns-in_err-order-clause-some
-returns-in_err-order-clause-some g c =
-    let more = subst (λ xs. c.count_notes-count.result ≤ count_leaving false xs) c.deref.ensures.value c.count_notes-count.ensures.no_more in
-    on_err c.from_residual.result
-    (positive c.count_notes-count.result (count_leaving false c.args.clients.now.items) c.if-count-eq0.false more)
+returns-in_err-order-clause-some g c = grind (arith, common_steps, on_err, positive)
 
 pub returns-in_err-reserve-clause-some : goal.returns-in_err-reserve-clause-some
-returns-in_err-reserve-clause-some g c =
-    let more = subst (λ xs. c.count_notes-count.result ≤ count_leaving false xs) c.deref.ensures.value c.count_notes-count.ensures.no_more in
-    on_err c.from_residual-in_err-reserve.result
-    (positive c.count_notes-count.result (count_leaving false c.args.clients.now.items) c.if-count-eq0.false more)
+returns-in_err-reserve-clause-some g c = grind (arith, common_steps, on_err, positive)
 
 pub gather-requires-clause-room : goal.gather-requires-clause-room
 gather-requires-clause-room g c =
@@ -51,15 +44,6 @@ returns-in_err-order-clause-first g c = all_take_none _
 pub returns-in_err-reserve-clause-first : goal.returns-in_err-reserve-clause-first
 returns-in_err-reserve-clause-first g c = all_take_none _
 
-pub returns-then-count-eq0-clause-numbered : goal.returns-then-count-eq0-clause-numbered
-returns-then-count-eq0-clause-numbered g c = λ all. all
-
-pub returns-in_err-order-clause-numbered : goal.returns-in_err-order-clause-numbered
-returns-in_err-order-clause-numbered g c = λ all. all
-
-pub returns-in_err-reserve-clause-numbered : goal.returns-in_err-reserve-clause-numbered
-returns-in_err-reserve-clause-numbered g c = λ all. all
-
 pub returns-in_err-order-clause-quiet : goal.returns-in_err-order-clause-quiet
 returns-in_err-order-clause-quiet g c = subst (λ (xs : List (Option (Stored _ _ _))). AllQuiet c.count_notes-count.new.to_note.words.items xs) c.deref.ensures.value c.count_notes-count.ensures.quiet
 
@@ -69,62 +53,11 @@ returns-in_err-reserve-clause-quiet g c = subst (λ (xs : List (Option (Stored _
 pub returns-clause-quiet : goal.returns-clause-quiet
 returns-clause-quiet g c = subst (λ (xs : List (Option (Stored _ _ _))). AllQuiet c.count_notes-count.new.to_note.words.items xs) c.deref.ensures.value c.count_notes-count.ensures.quiet
 
-pub gather-requires-clause-order : goal.gather-requires-clause-order
-gather-requires-clause-order g c = rw c.deref-3.ensures.value (rw c.deref-2.ensures.value at c.in_ok-order.ensures)
-
 pub order_of-requires-clause-quiet : goal.order_of-requires-clause-quiet
 order_of-requires-clause-quiet g c = rw c.deref-2.ensures.value (rw c.deref.ensures.value at c.count_notes-count.ensures.quiet)
 
-pub order_of-requires-clause-slots : goal.order_of-requires-clause-slots
-order_of-requires-clause-slots g c = rw c.deref-2.ensures.value c.requires.slots
-
-pub returns-clause-ended : goal.returns-clause-ended
-returns-clause-ended g c = c.gather.ensures.ended
-
-pub returns-clause-first : goal.returns-clause-first
-returns-clause-first g c = c.gather.ensures.first
-
-pub returns-clause-gathered : goal.returns-clause-gathered
-returns-clause-gathered g c = rw c.in_ok-reserve.ensures.items at c.gather.ensures.gathered
-
-pub returns-clause-in_order : goal.returns-clause-in_order
-returns-clause-in_order g c = (c.in_ok-order.order.items, rw c.deref-2.ensures.value at c.in_ok-order.ensures, rw (c.in_ok-reserve.ensures.items, c.deref-3.ensures.value) at c.gather.ensures.along)
-
-pub returns-clause-numbered : goal.returns-clause-numbered
-returns-clause-numbered g c = c.gather.ensures.numbered
-
-pub returns-in_err-order-clause-ended : goal.returns-in_err-order-clause-ended
-returns-in_err-order-clause-ended g c =
-    let p = err_from_is_err_and c.from_residual.result c.from_residual.ensures.1 in
-    rw p.1 tt
-
-pub returns-in_err-order-clause-gathered : goal.returns-in_err-order-clause-gathered
-returns-in_err-order-clause-gathered g c =
-    let p = err_from_is_err_and c.from_residual.result c.from_residual.ensures.1 in
-    rw p.1 tt
-
-pub returns-in_err-order-clause-in_order : goal.returns-in_err-order-clause-in_order
-returns-in_err-order-clause-in_order g c =
-    let p = err_from_is_err_and c.from_residual.result c.from_residual.ensures.1 in
-    rw p.1 tt
-
 pub returns-in_err-order-clause-unchanged : goal.returns-in_err-order-clause-unchanged
 returns-in_err-order-clause-unchanged g c = on_err c.from_residual.result (refl, refl)
-
-pub returns-in_err-reserve-clause-ended : goal.returns-in_err-reserve-clause-ended
-returns-in_err-reserve-clause-ended g c =
-    let p = err_from_is_err_and c.from_residual-in_err-reserve.result c.from_residual-in_err-reserve.ensures.1 in
-    rw p.1 tt
-
-pub returns-in_err-reserve-clause-gathered : goal.returns-in_err-reserve-clause-gathered
-returns-in_err-reserve-clause-gathered g c =
-    let p = err_from_is_err_and c.from_residual-in_err-reserve.result c.from_residual-in_err-reserve.ensures.1 in
-    rw p.1 tt
-
-pub returns-in_err-reserve-clause-in_order : goal.returns-in_err-reserve-clause-in_order
-returns-in_err-reserve-clause-in_order g c =
-    let p = err_from_is_err_and c.from_residual-in_err-reserve.result c.from_residual-in_err-reserve.ensures.1 in
-    rw p.1 tt
 
 pub returns-in_err-reserve-clause-unchanged : goal.returns-in_err-reserve-clause-unchanged
 returns-in_err-reserve-clause-unchanged g c = on_err c.from_residual-in_err-reserve.result (refl, c.reserve.ensures.items)

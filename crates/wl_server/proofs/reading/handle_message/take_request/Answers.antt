@@ -1,4 +1,5 @@
-use Rattle.std.proofs.Common.{arith, ap, length, inr, refl, subst, sym}
+use Rattle.std.proofs.Common.{arith, ap, length, subst}
+use Rattle.std.proofs.lemmas.Grind.{common_steps}
 use Rattle.wl_wire.specs.Message.{content}
 use Rattle.wl_wire.specs.Parse.{IsThere, opcode_of, sender_of}
 use Rattle.wl_wire.specs.Table.{message_row}
@@ -34,10 +35,7 @@ request-requires-clause-name g c =
     (message_row c.args.front.now.desc.now) c.requires.front.row
 
 pub request-requires-clause-sender : goal.request-requires-clause-sender
-request-requires-clause-sender g c =
-    rw c.make_room.ensures.store
-    (sender_read c.args.around.now.protocol.now c.args.objects.now.map.store c.args.socket.now c.args.front.now c.requires.front c.read_with_signature.new.self
-    (content c.read_with_signature.new.message) (rw c.as_slice-signature.ensures.value at c.in_ok-read_with_signature.ensures.read))
+request-requires-clause-sender g c = grind (arith, common_steps, sender_read)
 
 pub returns-clause-took : goal.returns-clause-took
 returns-clause-took g c =
@@ -49,8 +47,3 @@ returns-clause-took g c =
       row_read c.args.around.now.protocol.now c.args.objects.now.map.store c.args.socket.now c.args.front.now c.requires.front c.read_with_signature.new.self m read,
       rw (c.make_room.ensures.store, c.make_room.ensures.registries, c.make_room.ensures.serial) at c.request.ensures.responds,
     )
-
--- only a message that is there whole asks for memory
-pub returns-in_default-clause-took : goal.returns-in_default-clause-took
-returns-in_default-clause-took g c =
-    (refl, c.make_room.ensures.store, c.make_room.ensures.serial, c.make_room.ensures.registries, inr (refl, (message_row c.args.front.now.desc.now, sym c.requires.front.row, c.in_default.ensures.asked.0, c.in_default.ensures.asked.1)))
