@@ -135,13 +135,9 @@ module _ {T U G C : Type 0} (w : World T G C) (known : IsDetermined w) (id : Cli
       outcome (same_client m.sender_id.client id) p q one.0 (λ own. same_reply id p q _ _ is is' (ap reply.SendEvent (one.1 own)))
   step_one (step.PostError o code text) p q ample ample' shared (is, h) (is', g) = grind (arith, of_one, with_none, posts_error_one, outcome, same_reply)
   step_one (step.KillClient target reason) p q ample ample' shared (is, h) (is', g) = grind (arith, of_one, with_none, kills_one, outcome, same_reply)
-  step_one (step.CreateGlobal i version handler) p q ample ample' shared (r, is, h) (r', is', g) = grind (arith, outcome, on_one, with_none, hears_one, unfelt_one, same_reply)
-  step_one (step.DisableGlobal g) p q ample ample' shared (is, h) (is', h') = grind (arith, outcome, on_one, with_none, hears_one, unfelt_one, same_reply)
-  step_one (step.RemoveGlobal g) p q ample ample' shared (is, h) (is', h') = grind (arith, outcome, on_one, with_none, hears_one, unfelt_one, same_reply)
   step_one (step.Flush target) p q ample ample' shared (r, is, h) (r', is', g) =
       let one = flushed_for_one target r r' h g in
       outcome (is_about {T = T} {U = U} {G = G} {C = C} id (step.Flush target)) p q one.0 (λ own. same_reply id p q _ _ is is' (ap reply.Flush (one.1 own)))
-  step_one (step.SetDefaultMaxBufferSize limit) p q ample ample' shared (is, h) (is', g) = grind (arith, outcome, unfelt_one, same_reply)
   step_one (step.SetClientMaxBufferSize target limit) p q ample ample' shared (is, h) (is', g) =
       let one = of_one before d e x y (same_client target id) _ _ _ _ (λ _ _. tt)
       (λ s q q' f f'. with_none (limits_one s limit d e q q' f.1 f'.1 f.2 f'.2)) h g in
@@ -159,6 +155,7 @@ module _ {T U G C : Type 0} (w : World T G C) (known : IsDetermined w) (id : Cli
   step_one (step.Accept target n) p q ample ample' shared (r, is, h) (r', is', g) = grind (arith, moved_one, nothing_taken, outcome, same_reply, nothing_taken_one)
   step_one (step.AcceptFault target f) p q ample ample' shared (r, is, h) (r', is', g) = grind (arith, moved_one, nothing_taken, outcome, same_reply, nothing_taken_one)
   step_one (step.TakeSent target) p q ample ample' shared (r, is, h) (r', is', g) = grind (arith, moved_one, taken, outcome, same_reply)
+  step_one s p q ample ample' shared h g = grind (arith, outcome, on_one, with_none, hears_one, unfelt_one, same_reply)
 
   -- what a step does, another does that is the same
   pub part_as : (s s' : Step T U G C) (q : Reply T U) → SameStep s s' → PartStep w id offer s' q before false e y → PartStep w id offer s q before false e y

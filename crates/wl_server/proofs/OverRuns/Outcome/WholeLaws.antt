@@ -109,7 +109,6 @@ module _ {T U G C : Type 0} (ordered : Bool) (w : World T G C) (any : ClientPart
       → Ample s p → Ample s q → Rises s p → Rises s q
       → ((out out' : Vec (Note U) Global) → s ≡ step.TakeNotes → p ≡ reply.TakeNotes (Ok out) → q ≡ reply.TakeNotes (Ok out')
       → IsTrue ordered → out.items ≡ out'.items) → PartStep w any offer s p before false d x → PartStep w any offer s q before false e y → WholeReply ordered p q
-  whole_one (step.InsertClient transport client_data) p q one shared ample ample' rises rises' took (r, is, h) (r', is', g) = grind (arith, same_whole)
   whole_one (step.SetObjectData o u) p q one shared ample ample' rises rises' took (r, is, h) (r', is', g) =
       same_whole ordered p q (reply.SetObjectData r) (reply.SetObjectData r') is is' (let here = same_here o.client p q _ _ is is' (one o.client (same_self o.client)) in λ id. here)
   whole_one (step.CreateObject target i version u) p q one shared ample ample' rises rises' took (r, is, h) (r', is', g) =
@@ -119,16 +118,9 @@ module _ {T U G C : Type 0} (ordered : Bool) (w : World T G C) (any : ClientPart
   whole_one (step.SendEvent m) p q one shared ample ample' rises rises' took (r, is, h) (r', is', g) =
       same_whole ordered p q (reply.SendEvent r) (reply.SendEvent r') is is'
       (let here = same_here m.sender_id.client p q _ _ is is' (one m.sender_id.client (same_self m.sender_id.client)) in λ id. here)
-  whole_one (step.PostError o code text) p q one shared ample ample' rises rises' took (is, h) (is', g) = grind (arith, same_whole)
-  whole_one (step.KillClient target reason) p q one shared ample ample' rises rises' took (is, h) (is', g) = grind (arith, same_whole)
-  whole_one (step.CreateGlobal i version handler) p q one shared ample ample' rises rises' took (r, is, h) (r', is', g) = grind (arith, same_whole)
-  whole_one (step.DisableGlobal g) p q one shared ample ample' rises rises' took (is, h) (is', h') = grind (arith, same_whole)
-  whole_one (step.RemoveGlobal g) p q one shared ample ample' rises rises' took (is, h) (is', h') = grind (arith, same_whole)
   whole_one (step.Flush None) p q one shared ample ample' rises rises' took (r, is, h) (r', is', g) = grind (arith, same_whole, same_here)
   whole_one (step.Flush (Some target)) p q one shared ample ample' rises rises' took (r, is, h) (r', is', g) =
       same_whole ordered p q (reply.Flush r) (reply.Flush r') is is' (let here = same_here target p q _ _ is is' (one target (same_self target)) in λ id. here)
-  whole_one (step.SetDefaultMaxBufferSize limit) p q one shared ample ample' rises rises' took (is, h) (is', g) = grind (arith, same_whole)
-  whole_one (step.SetClientMaxBufferSize target limit) p q one shared ample ample' rises rises' took (is, h) (is', g) = grind (arith, same_whole)
   whole_one (step.NextAction target) p q one shared ample ample' rises rises' took (r, left, is, h) (r', left', is', g) =
       same_whole ordered p q (reply.NextAction r) (reply.NextAction r') is is' (let here = same_here target p q (reply.NextAction r) (reply.NextAction r') is is' (one target (same_self target)) in λ id. here)
   whole_one (step.NextActionWithin target reading) p q one shared ample ample' rises rises' took (r, left, is, h) (r', left', is', g) =
@@ -153,3 +145,4 @@ module _ {T U G C : Type 0} (ordered : Bool) (w : World T G C) (any : ClientPart
       same_whole ordered p q (reply.AcceptFault r) (reply.AcceptFault r') is is' (let here = same_here target p q _ _ is is' (one target (same_self target)) in λ id. here)
   whole_one (step.TakeSent target) p q one shared ample ample' rises rises' took (r, is, h) (r', is', g) =
       same_whole ordered p q (reply.TakeSent r) (reply.TakeSent r') is is' (let here = same_here target p q (reply.TakeSent r) (reply.TakeSent r') is is' (one target (same_self target)) in λ id. here)
+  whole_one s p q one shared ample ample' rises rises' took h g = grind (arith, same_whole)
