@@ -236,11 +236,6 @@ module _ {T U G C : Type 0} (w : World T G C) (id : ClientParts) (r : Id) where
       loss_follows offer g (freed offer.globals g) s lacked did t (λ client_data x kept. freed_one w.views id client_data offer g x kept)
       (λ client_data hidden. freed_stays w.views id client_data offer g hidden) h
   step_follows offer known (step.Flush target) answer s lacked did t about numbered alone (a, is, h) = flushed_follows offer target a s lacked did t h
-  step_follows offer known (step.SetDefaultMaxBufferSize limit) answer s lacked did t about numbered alone (is, h) = other_limit (unfelt_follows offer s lacked did t h)
-    where
-      -- the limit is nothing to what is shown
-      other_limit : Follows offer offer s did t → Follows offer (record offer { default_limit = limit }) s did t
-      other_limit f = grind (arith, log_of, registries_in, limit_watch, part_scene)
   step_follows offer known (step.SetClientMaxBufferSize target limit) answer s lacked did t about numbered alone (is, h) =
       of_client offer (same_client target id) s _ _ lacked did t
       (λ p q (no_memory, none, (link, set, same)). relinked_lives w.views id r offer p link did q none same) h
@@ -252,7 +247,7 @@ module _ {T U G C : Type 0} (w : World T G C) (id : ClientParts) (r : Id) where
       of_client offer (same_client target id) s _ _ lacked did t (λ p q f. finishes_bind_lives w.views id r offer p u a lacked did q f) h
   step_follows offer known step.Cleanup answer s lacked did t about numbered alone (a, is, h) = cleanup_follows offer a s lacked did t h
   step_follows offer known step.TakeNotes answer s lacked did t about numbered alone (a, is, h) = taken_follows offer a s lacked did t h
-  step_follows offer known _ answer s lacked did t about numbered alone h = moved_follows offer _ _ _ s lacked did t h.2
+  step_follows offer known call answer s lacked did t about numbered alone h = grind (arith, offer_after, moved_follows, log_of, registries_in, append-nil, limit_watch, part_scene)
 
   call_follows : (offer : Offer G) → HasInterfaces offer → (call : Call T U G C) (s : Seen T U C) (lacked : Bool) (did : List (Deed U)) (t : Seen T U C) → concerns id call ≡ true
       → AnswersShared offer call → IsLeftAlone r call → PartCall w id offer call s lacked did t → Follows offer (offer_after offer call) s did t

@@ -300,7 +300,6 @@ module _ {T U G C : Type 0} (kind : Kind) (w : World T G C) (id : ClientParts) (
   step_goes (step.DisableGlobal g) answer s lacked did t about may (is, h) = loss_goes g s lacked did t h
   step_goes (step.RemoveGlobal g) answer s lacked did t about may (is, h) = loss_goes g s lacked did t h
   step_goes (step.Flush target) answer s lacked did t about may (r, is, h) = flushed_goes target r s lacked did t h
-  step_goes (step.SetDefaultMaxBufferSize limit) answer s lacked did t about may (is, h) = unfelt_goes kind w.sends w.receives id s lacked did t h
   step_goes (step.SetClientMaxBufferSize target limit) answer s lacked did t about may (is, h) =
       of_client kind w.sends w.receives id (same_client target id) s _ _ lacked did t
       (λ mine p q (no_memory, none, (link, (l, limits, set), same)). moved (relinked link (ap (λ (k : LinkState T). k.outgoing) set) (ap (λ (k : LinkState T). k.outgoing_capacity) set)
@@ -311,7 +310,7 @@ module _ {T U G C : Type 0} (kind : Kind) (w : World T G C) (id : ClientParts) (
   step_goes (step.FinishBind target u) answer s lacked did t about may (r, is, h) = grind (arith, of_client, same_client, finishes_bind_moves)
   step_goes step.Cleanup answer s lacked did t about may (r, is, h) = grind (arith, cleanup_goes, gathers_in)
   step_goes step.TakeNotes answer s lacked did t about may (r, is, h) = grind (arith, taken_goes, hands_in)
-  step_goes _ answer s lacked did t about may h = moved_goes _ _ _ s lacked did t h.2
+  step_goes call answer s lacked did t about may h = grind (arith, doings_of, doings_in, unfelt, moved_goes)
 
   -- Over a call that is about a client, or about none, what is held of the client goes over base moves, which make the
   -- deeds of the call and hand out its ids.
