@@ -1,5 +1,5 @@
 -- How a server with another value of a client's transport is one in which the program changed that.
-use Rattle.std.proofs.Common.{◌≡◌, ◌+◌, Bool, true, false, List, [], Option, None, Some, option_map, ◌++◌, append-nil, refl, sym, ap, subst, arith}
+use Rattle.std.proofs.Common.{◌≡◌, ◌+◌, Bool, true, false, List, [], Some, option_map, ◌++◌, append-nil, refl, sym, ap, arith}
 use mathlib.Core.Logic.{inl, inr}
 use Rattle.std.specs.Option.{option_map_or}
 use Rattle.std.specs.Prelude.{◌⊎◌, slice_get, slice_set}
@@ -59,8 +59,4 @@ module _ {T U G C : Type 0} (w : World T G C) (before : ServerState T U G C) (ta
   -- whatever is left in the transport of a stored client
   pub changed : (c : Stored T U C) → slice_get before.clients target.slot ≡ Some (Some c) → c.serial ≡ target.serial → AllNumbered before.clients
       → Makes w before (Changed target t) false (server_over before target t)
-  changed c here known all =
-      subst (λ (o : Option (Option (Stored T U C))). Makes w before (Changed target t) false (record before {
-        clients = slice_set before.clients target.slot (option_map (λ s. over_transport s t) (option_map_or (λ y. y) o None));
-      }))
-      (sym here) (changed_at c here known all)
+  changed c h1 h2 h3 = grind (arith, slice_set, option_map, over_transport, option_map_or, changed_at, lacks_at, same_client, did_at, false≢true, set_in_time, in_time_none, numbered_set, each_set, changes, untimed, append-nil, none_lacks)

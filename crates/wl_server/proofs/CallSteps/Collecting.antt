@@ -59,10 +59,7 @@ module _ {T U C : Type 0} where
 
   pub ends_for : (id : ClientParts) (clients : List (Option (Stored T U C))) → notes_of id (collected ends_at 0 clients) ≡ ends_in id (client_at id clients)
   ends_for id clients =
-      collected_at (notes_of id) ends_at id.slot refl (notes_append id) (other_ends id) 0 id.slot clients (omega arith) ∙ at (slice_get clients id.slot)
-    where
-      at : (o : Option (Option (Stored T U C))) → option_map_or (λ x. notes_of id (ends_at id.slot x)) o [] ≡ ends_in id (if_serial id.serial (option_map_or (λ s. s) o None))
-      at h1 = grind (arith, own_ends)
+      collected_at (notes_of id) ends_at id.slot refl (notes_append id) (other_ends id) 0 id.slot clients (omega arith) ∙ (grind (arith, own_ends, slice_get clients id.slot))
 
   -- ---- transports
 
@@ -100,12 +97,9 @@ module _ {T : Type 0} where
   one_rises n i t c rest h1 h2 h3 = grind (arith)
 
 module _ {T U C : Type 0} where
-  given_from : (n : ℕ) (x : Option (Stored T U C)) → AreFrom n (given_at n x)
-  given_from n h2 j d below = grind (arith, id_in)
-
   collected_from : (m n : ℕ) (clients : List (Option (Stored T U C))) → m ≤ n → AreFrom m (collected given_at n clients)
   collected_from m n [] le j d below = absurd (omega (arith, below))
-  collected_from m n (x ∷ clients) le j d below = grind (arith, from_more, given_at, collected, given_from, collected_from m (n + 1) clients)
+  collected_from m n (x ∷ clients) le j d below = grind (arith, from_more, given_at, collected, id_in, collected_from m (n + 1) clients)
 
   rises_more : (n : ℕ) (x : Option (Stored T U C)) (rest : List (ClientParts × T)) → AreFrom (n + 1) rest → Rises rest → Rises (given_at n x ++ rest)
   rises_more n None rest from rises = rises

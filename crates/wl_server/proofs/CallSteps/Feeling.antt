@@ -1,5 +1,5 @@
 -- A step that each client feels by itself, one slot after another.
-use Rattle.std.proofs.Common.{◌≡◌, ◌≢◌, ◌∙◌, ℕ, ◌+◌, ◌<◌, ◌≤◌, Bool, true, false, ◌||◌, List, [], length, map, Option, None, Some, is_some, refl, sym, ap, subst, arith, true≢false}
+use Rattle.std.proofs.Common.{◌≡◌, ◌≢◌, ◌∙◌, ℕ, ◌+◌, ◌<◌, Bool, true, false, ◌||◌, List, [], length, map, Option, None, Some, is_some, refl, sym, ap, subst, arith, true≢false}
 use mathlib.Core.Logic.{inl, inr}
 use Rattle.std.specs.Option.{option_map_or}
 use Rattle.std.specs.Prelude.{◌⊎◌, ◌==◌, if◌then◌else◌, nat_lt, slice_get, slice_set}
@@ -52,34 +52,21 @@ module _ {T U C : Type 0} (R : Kind T U C) where
   one_more_felt refused lacked slot start now place place' all here feels = record {
     lacks = now_lacks;
     len = length-set now slot place' ∙ all.len;
-    felt = λ k below. at k (k == slot) refl below;
-    rest = λ k above. get_set_other now slot k place' (differ k above) ∙ all.rest k (omega (arith, above));
-    told = λ k below is. tells k (k == slot) refl below is;
+    felt = λ k below. (grind (arith, slice_get, slice_set, eqb-true, get_set_same, get_set_other, other_of, less, k == slot));
+    rest = λ k above. get_set_other now slot k place' (λ e. absurd (omega (arith, e, above))) ∙ all.rest k (omega (arith, above));
+    told = λ k below is. (grind (arith, less, k == slot));
     blame = λ is. blames refused lacked refl refl is;
   }
     where
       now_lacks : ℕ → Bool
       now_lacks k = if k == slot then lacked else all.lacks k
 
-      differ : (k : ℕ) → slot + 1 ≤ k → slot ≢ k
-      differ k above e = absurd (omega (arith, e, above))
-
       less : (k : ℕ) → (k == slot) ≡ false → k < slot + 1 → k < slot
       less k is below = let other : k ≢ slot = other_of k slot is in omega (arith, below, other)
 
-      at : (k : ℕ) (b : Bool) → (k == slot) ≡ b → k < slot + 1
-          → FeltAt R k (slice_get start k) (if b then lacked else all.lacks k) (slice_get (slice_set now slot place') k)
-      at k h2 is below = grind (arith, slice_get, slice_set, eqb-true, get_set_same, get_set_other, other_of, less)
-
-      tells : (k : ℕ) (b : Bool) → (k == slot) ≡ b → k < slot + 1 → (if b then lacked else all.lacks k) ≡ true → (refused || lacked) ≡ true
-      tells k h2 is below h = grind (arith, less)
-
-      here_lacks : (b : Bool) → (slot == slot) ≡ b → lacked ≡ true → (if b then lacked else all.lacks slot) ≡ true
-      here_lacks h1 is h = grind (arith, other_of)
-
       blames : (r l : Bool) → refused ≡ r → lacked ≡ l → (r || l) ≡ true → (k : ℕ) × (k < slot + 1) × (now_lacks k ≡ true)
       blames true l was is h = grind (arith, eqb-true)
-      blames false true was is h = (slot, omega arith, here_lacks (slot == slot) refl is)
+      blames false true was is h = (slot, omega arith, (grind (arith, other_of, slot == slot)))
       blames false false was is h = absurd (false≢true h)
 
   -- ---- what is felt by each id

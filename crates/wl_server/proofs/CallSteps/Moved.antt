@@ -1,5 +1,5 @@
 -- A client whose transport was changed by its program.
-use Rattle.std.proofs.Common.{◌≡◌, List, [], ◌++◌, refl, sym, ap, append-nil}
+use Rattle.std.proofs.Common.{◌≡◌, List, [], refl, sym, ap, append-nil}
 use Rattle.wl_link.specs.Link.{with_transport}
 use Rattle.wl_server.specs.declared.notes.Happening.{Happening}
 use Rattle.wl_server.specs.Inside.Client.{Does}
@@ -8,13 +8,8 @@ use Rattle.wl_server.specs.PartStep.{WithTransport}
 use Rattle.wl_server.specs.Server.{Stored, no_times}
 
 module _ {T U C : Type 0} where
-  -- a client that made no notes
-  pub without_notes : (s : Stored T U C) (q : Part T U C)
-      → ◌≡◌ {A = Stored T U C} (record { serial = s.serial; part = q; made = s.made; times = no_times }) (record { serial = s.serial; part = q; made = s.made ++ []; times = no_times })
-  without_notes s q = ap (λ (made : List (Happening U)). let x : Stored T U C = record { serial = s.serial; part = q; made = made; times = no_times } in x) (sym (append-nil s.made))
-
   pub moved : (s : Stored T U C) (becomes : T → T → Type 0) (t : T) → becomes s.part.link.transport t
       → Does s (λ p did q. (did ≡ []) × WithTransport becomes p q) (record s { part = with_link s.part (with_transport s.part.link t) })
   moved s becomes t is =
       let q : Part T U C = with_link s.part (with_transport s.part.link t) in
-      ([], q, (refl, (t, is, refl)), without_notes s q)
+      ([], q, (refl, (t, is, refl)), (ap (λ (made : List (Happening U)). let x : Stored T U C = record { serial = s.serial; part = q; made = made; times = no_times } in x) (sym (append-nil s.made))))

@@ -150,11 +150,8 @@ module _ (of : NoteTimes → List ℕ) where
       more : RiseWithin next gives.more next'
       more = gives.rise below
 
-      up : next ≤ next'
-      up = rise_up next gives.more next' more
-
       rise_at : (k : ℕ) (b : Bool) → (k == i) ≡ b → RiseWithin 0 (of (times_at k ts')) next'
-      rise_at k h2 same = grind (arith, times_at, rise_append, other_of, rise_higher, up)
+      rise_at k h2 same = grind (arith, times_at, rise_append, other_of, rise_higher, rise_up, next, more)
 
       -- a number that is there was there, or is new
       old_or_new : (k n : ℕ) (b : Bool) → (k == i) ≡ b → Contains (of (times_at k ts')) n → Contains (of (times_at k ts)) n ⊎ ((k ≡ i) × (next ≤ n))
@@ -222,11 +219,8 @@ module _ (of : NoteTimes → List ℕ) where
       more : GivesWithin (of (times_at n ts)) mid (of (times_at n ts')) next'
       more = within (of (times_at n ts)) mid (of (times_at n ts')) next' gives
 
-      up : next' < last_number → mid ≤ next'
-      up below = rise_up mid more.more next' (more.rise below)
-
       at : (k < n → GivesWithin (of (times_at k ts)) next (of (times_at k ts')) mid) → (b : Bool) → (k == n) ≡ b → GivesWithin (of (times_at k ts)) next (of (times_at k ts')) next'
-      at earlier h2 same = grind (arith, times_at, eqb-true, within_lower, up, turn_up, more, other_of, rise_higher)
+      at earlier h2 same = grind (arith, times_at, eqb-true, within_lower, rise_up, turn_up, more, other_of, rise_higher)
 
 -- the made notes of a client, whether or not others got numbers meanwhile
 pub all_each : (ts : List NoteTimes) (a : NoteNumbers) (ts' : List NoteTimes) (b : NoteNumbers) → AllInTime ts a ts' b → (k : ℕ)

@@ -46,11 +46,8 @@ is_own step.Cleanup answer = false
 is_own step.TakeNotes answer = false
 is_own s answer = not (lacks_growth (Asked s answer))
 
-not_true : (b : Bool) → not b ≡ true → b ≡ false
-not_true h1 h = grind (arith, false≢true)
-
 own_of : {T U G C : Type 0} (s : Step T U G C) (answer : Reply T U) → is_own s answer ≡ true → IsOwn (Asked s answer)
-own_of s answer h = grind (arith, false≢true, not_true, lacks_growth)
+own_of s answer h = grind (arith, false≢true, lacks_growth)
 
 -- a server of these values
 abbrev pub held_by : {T U G C : Type 0} → List InterfaceRow → Store (KeptGlobal G) → ℕ → ℕ → ℕ → List (Option (Stored T U C)) → List (Note U) → NoteNumbers → ServerState T U G C
@@ -88,7 +85,7 @@ module _ {T U G C : Type 0} (w : World T G C) (before : ServerState T U G C) (s 
       global = own.global before.offer;
       order = own.order;
       room = own.room before;
-      refused = (is_refused, λ h. was_refused h);
+      refused = ((λ is. inr (target, rw (same_self target) is)), λ h. (grind (arith, false≢true, lacks_at)));
       notes = own.notes before _ (record { gathered = refl; times = set_in_time before.clients target.slot (Some c) (Some c') before.numbers numbers' here times; numbered = numbered_set before.clients target.slot (Some c) (Some c') here numbered all });
       each = λ id. to id _ _ _ _ (each_set before.clients before.notes target c c' R missing lacked did q here known does is id);
     },
@@ -96,12 +93,6 @@ module _ {T U G C : Type 0} (w : World T G C) (before : ServerState T U G C) (s 
     where
       last : (n : ℕ) → n ≡ 0 → before.last_client ≡ before.last_client + n
       last n zero = omega (arith, zero)
-
-      is_refused : lacked ≡ true → (lacks_growth (Asked s answer) ≡ true) ⊎ ((id : ClientParts) × (lacks_at (same_client target id) lacked ≡ true))
-      is_refused is = inr (target, rw (same_self target) is)
-
-      was_refused : (lacks_growth (Asked s answer) ≡ true) ⊎ ((id : ClientParts) × (lacks_at (same_client target id) lacked ≡ true)) → lacked ≡ true
-      was_refused h1 = grind (arith, false≢true, lacks_at)
 
   -- the same of the client that was looked up by the id, as this was read
   pub done_to : {was : Bool} (read : ClientParts) (c c' : Stored T U C) (lacked : Bool) → read ≡ target → Some c ≡ client_at read before.clients

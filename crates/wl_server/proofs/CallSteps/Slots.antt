@@ -75,14 +75,10 @@ module _ {T U C : Type 0} where
       → is_some (client_at id clients) ≡ b
   stored_by clients read id b same is = subst (λ (i : ClientParts). is_some (client_at i clients) ≡ b) same (sym is)
 
-  pub slot_holds : (clients : List (Option (Stored T U C))) (id : ClientParts) (x : Option (Stored T U C)) → is_some (client_at id clients) ≡ true
-      → x ≡ slice_index_or clients id.slot x → slice_get clients id.slot ≡ Some x
-  slot_holds clients id x some value = slice_get_read clients (length clients) id.slot x refl (slot_within clients id some) value
-
   -- what was read at the slot of a stored client is the client
   pub slot_reads : (clients : List (Option (Stored T U C))) (id : ClientParts) (n : ℕ) (x : Option (Stored T U C)) → is_some (client_at id clients) ≡ true
       → n ≡ id.slot → x ≡ slice_index_or clients n x → x ≡ client_at id clients
-  slot_reads clients id n x some at value = grind (arith, client_at, if_serial, option_map_or, slot_holds, slice_index_or, is_some, false≢true)
+  slot_reads clients id n x some at value = grind (arith, client_at, if_serial, option_map_or, slice_get_read, slot_within, slice_index_or, is_some, false≢true)
 
   -- the client of an id is at its slot, under its serial
   pub slot_of_client : (clients : List (Option (Stored T U C))) (id : ClientParts) (s : Stored T U C) → Some s ≡ client_at id clients

@@ -43,8 +43,7 @@ module _ {T U C : Type 0} where
   -- ---- what nobody asks for
 
   pub none_leaving : (waits : Bool) (clients : List (Option (Stored T U C))) → count_leaving waits clients ≤ 0 → AllLeft waits clients
-  none_leaving waits clients none slot x here =
-      let one = count_at waits clients slot x here in nil_from_length (to_gather waits x) (omega (arith, one, none))
+  none_leaving waits clients none slot x here = nil_from_length (to_gather waits x) (omega (arith, count_at waits clients slot x here, none))
 
   pub none_ends : (n : ℕ) (clients : List (Option (Stored T U C))) → length (collected given_at n clients) ≤ 0 → length (collected ends_at n clients) ≤ 0
   none_ends n [] none = none
@@ -66,10 +65,7 @@ module _ {T U C : Type 0} where
       at [] none rest =
           let long : length (to_gather waits (Some s)) ≡ 0 = ap length none in
           later (Some s) clients (rest (omega (arith, more, long)))
-      at (h ∷ told) is rest = (0, s, refl, λ none. some_none (sym is ∙ none))
-        where
-          some_none : h ∷ told ≡ [] → ⊥
-          some_none e = cc
+      at (h ∷ told) is rest = (0, s, refl, λ none. (grind (arith, sym is ∙ none)))
 
   one_is_killed : (n : ℕ) (clients : List (Option (Stored T U C))) → 0 < length (collected given_at n clients) → SomeClient clients (λ s. s.part.is_killed ≡ true)
   one_is_killed n [] more = absurd (omega (arith, more))

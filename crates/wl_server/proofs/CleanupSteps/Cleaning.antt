@@ -78,11 +78,8 @@ module _ {T U G C : Type 0} (w : World T G C) (id : ClientParts) (offer : Offer 
       → CleanedBy (Some s) n lacked (staying (Some (emptied true s1))) n3
   cleaned_from s s1 lacked sent n n2 n3 flushes made gathered noted given = at s.part.is_killed refl flushes
     where
-      made_so : notes_in sent ≡ [] → s1.made ≡ s.made
-      made_so quiet = made ∙ (ap (λ (l : List (Happening U)). s.made ++ l) quiet ∙ append-nil s.made)
-
       gathered_so : notes_in sent ≡ [] → s1.part.waiting ≡ s.part.waiting → n2 ≡ n ++ (s.made ++ s.part.waiting)
-      gathered_so quiet waits = grind (arith, append-nil, made_so)
+      gathered_so quiet waits = grind (arith, append-nil, made)
 
       at : (b : Bool) → s.part.is_killed ≡ b
           → MatchBool b ((answer : Result (Unit {0}) IoFault) × FlushedTo w.sends s.part answer lacked sent s1.part) ((lacked ≡ false) × (sent ≡ []) × (s1.part ≡ s.part))
@@ -103,10 +100,6 @@ module _ {T U G C : Type 0} (w : World T G C) (id : ClientParts) (offer : Offer 
           (noted ∙ ap (λ (b : Bool). n2 ++ (if b then ends_of id (entries s1.part.store.objects) else [])) live1)
           (given ∙ ap (λ (b : Bool). if b then (s1.part.link.transport ∷ []) else []) live1)))
 
-  -- the numbers of its notes are of no account
-  seen_untimed : (n : List (Happening U)) (x : Option (Stored T U C)) → seen_as n (staying (option_map untimed x)) ≡ seen_as n (staying x)
-  seen_untimed n x = grind (arith, seen_as, untimed)
-
   ends_untimed : (x : Option (Stored T U C)) → ends_in id x ≡ ends_in id (option_map untimed x)
   ends_untimed h1 = grind (arith)
 
@@ -118,7 +111,7 @@ module _ {T U G C : Type 0} (w : World T G C) (id : ClientParts) (offer : Offer 
       → Feels (seen_as [] x0) (λ p q. FlushesKilled w.sends p lacked sent q) lacked sent (seen_as [] x1)
       → option_map (emptied true) x2 ≡ option_map (emptied true) x1 → to_gather true x2 ≡ [] → n2 ++ to_gather true x2 ≡ n ++ to_gather true x1
       → n3 ≡ n2 ++ ends_in id x2 → share_of id out.items ≡ given_in x2 → CleanedBy x0 n lacked (staying x2) n3
-  cleaned_one x0 x1 x2 lacked sent n n2 n3 felt same none told noted given = grind (arith, seen_as, seen_untimed, staying, is, at, told1, noted1, given1)
+  cleaned_one x0 x1 x2 lacked sent n n2 n3 felt same none told noted given = grind (arith, seen_as, untimed, staying, is, at, told1, noted1, given1)
     where
       is : option_map untimed x2 ≡ option_map (emptied true) x1
       is = left_is x2 none ∙ same

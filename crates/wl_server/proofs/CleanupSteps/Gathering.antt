@@ -158,13 +158,11 @@ module _ {T U C : Type 0} (waits : Bool) where
       → MovesNote waits slot x notes x' notes' → Gathers waits clients notes (slice_set clients slot x') notes'
   gathers_at clients notes notes' slot x x' here (h, left, rest, is) =
       let told : List (Happening U) = h ∷ [] in
-      let fewer : length (to_gather waits x) ≡ length told + length (to_gather waits x') = ap length left ∙ length-append told (to_gather waits x') in
       let more : length notes' ≡ length notes + length told =
       ap length is ∙ (length-append notes (notes_from waits slot x told) ∙ ap (λ (n : ℕ). length notes + n) (from_length slot x told (to_gather waits x') left))
       in
-      let set = count_set clients slot x x' here in
       record {
         rest = map_set (option_map (emptied waits)) clients slot x x' here rest;
         told = told_at clients notes notes' slot x x' here (h, left, rest, is);
-        count = omega (arith, fewer, more, set);
+        count = omega (arith, ap length left ∙ length-append told (to_gather waits x'), more, count_set clients slot x x' here);
       }

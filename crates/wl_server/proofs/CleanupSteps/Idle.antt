@@ -1,5 +1,5 @@
 -- A cleanup of which no client is to be taken out.
-use Rattle.std.proofs.Common.{◌≡◌, ℕ, ◌+◌, ◌≤◌, Bool, true, false, List, [], ◌∷◌, length, Option, None, Some, refl, ap, arith}
+use Rattle.std.proofs.Common.{◌≡◌, ℕ, ◌+◌, ◌≤◌, Bool, false, List, [], ◌∷◌, length, Option, None, Some, refl, ap, arith}
 use Rattle.std.specs.Prelude.{Result, if◌then◌else◌, slice_get}
 use Rattle.std.proofs.lemmas.List.{length-append, nil_from_length}
 use Rattle.wl_wire.specs.declared.error.IoFault.{IoFault}
@@ -19,8 +19,7 @@ module _ {T U C : Type 0} where
   live_at : (clients : List (Option (Stored T U C))) (slot : ℕ) (s : Stored T U C) → length (collected given_at 0 clients) ≤ 0 → slice_get clients slot ≡ Some (Some s)
       → s.part.is_killed ≡ false
   live_at clients slot s none here =
-      let one = part_length given_at 0 slot slot clients (Some s) (omega arith) here in
-      live_one (id_in slot s) s.part.link.transport s.part.is_killed (omega (arith, one, none))
+      live_one (id_in slot s) s.part.link.transport s.part.is_killed (omega (arith, part_length given_at 0 slot slot clients (Some s) (omega arith) here, none))
 
   -- so none is flushed
   pub none_flushed : (sends : T → Queue → Result ℕ IoFault → T → Type 0) (clients : List (Option (Stored T U C))) → length (collected given_at 0 clients) ≤ 0
@@ -31,12 +30,9 @@ module _ {T U C : Type 0} where
     felt = λ k below. at k (slice_get clients k) refl;
     rest = λ k above. refl;
     told = λ k below is. is;
-    blame = λ is. absurd (not_so is);
+    blame = λ is. absurd (cc);
   }
     where
-      not_so : (false ≡ true) → ⊥
-      not_so is = cc
-
       at : (k : ℕ) (o : Option (Option (Stored T U C))) → slice_get clients k ≡ o
           → FeltAt (λ id p lacked did q. FlushesKilled sends p lacked did q) k o false o
       at k None here = (refl, refl)
@@ -53,5 +49,4 @@ module _ {T U C : Type 0} where
   none_given clients none = nil_from_length (collected given_at 0 clients) (omega (arith, none))
 
   pub none_noted : (clients : List (Option (Stored T U C))) → length (collected given_at 0 clients) ≤ 0 → collected ends_at 0 clients ≡ []
-  none_noted clients none =
-      let no_ends = none_ends 0 clients none in nil_from_length (collected ends_at 0 clients) (omega (arith, no_ends))
+  none_noted clients none = nil_from_length (collected ends_at 0 clients) (omega (arith, none_ends 0 clients none))

@@ -103,11 +103,7 @@ module _ {U : Type 0} (slot k : ℕ) where
   pub put_both : (made waiting : List (ℕ × Happening U)) (order order' order'' : List NotePlace) → order' ≡ order ++ map (place_of false slot) made
       → order'' ≡ order' ++ map (place_of true slot) waiting
       → places_at k order'' ≡ places_at k order + (if slot == k then length (map (λ n. n.1) made ++ map (λ n. n.1) waiting) else 0)
-  put_both made waiting order order' order'' is is' = at (slot == k) (put false made order order' is) (put true waiting order' order'' is')
-    where
-      at : (b : Bool) → places_at k order' ≡ places_at k order + (if b then length made else 0) → places_at k order'' ≡ places_at k order' + (if b then length waiting else 0)
-          → places_at k order'' ≡ places_at k order + (if b then length (map (λ n. n.1) made ++ map (λ n. n.1) waiting) else 0)
-      at b h1 h2 = grind (arith, length-append, length-map)
+  put_both made waiting order order' order'' is is' = grind (arith, length-append, length-map, slot == k, put false made order order' is, put true waiting order' order'' is')
 
 -- how many places a slot has among those of a client's notes
 at_place : (waits : Bool) (slot k : ℕ) (b : Bool) → (slot == k) ≡ b → (ns : List ℕ) → places_at k (map (place_at waits slot) ns) ≡ (if b then length ns else 0)
@@ -241,9 +237,8 @@ module _ {T U C : Type 0} (waits : Bool) where
       → i < length order → n ≡ (get_or order i d).slot → slice_get clients n ≡ Some x → MovesNote waits n x notes x' notes' → Left clients (drop i order)
       → Left (slice_set clients n x') (drop (i + 1) order)
   place_left clients notes notes' order i n d x x' within is there moved left =
-      let p : NotePlace = get_or order i d in
       subst (λ (m : ℕ). Left (slice_set clients m x') (drop (i + 1) order)) (sym is)
-      (left_after clients notes notes' order i p x x' (slice_get-get_or order i d within) (subst (λ (m : ℕ). slice_get clients m ≡ Some x) is there)
+      (left_after clients notes notes' order i (get_or order i d) x x' (slice_get-get_or order i d within) (subst (λ (m : ℕ). slice_get clients m ≡ Some x) is there)
       (subst (λ (m : ℕ). MovesNote waits m x notes x' notes') is moved) left)
 
   -- there is no place where there is no note

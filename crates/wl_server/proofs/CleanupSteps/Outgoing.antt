@@ -33,12 +33,6 @@ if_true h1 h2 h3 is a = grind (arith, false≢true)
 pub if_false : (b : Bool) (A B : Type 0) → b ≡ false → B → MatchBool b A B
 if_false h1 h2 h3 is a = grind (arith, false≢true)
 
-not_true : (b : Bool) → (b ≡ true → ⊥) → b ≡ false
-not_true h1 other = grind (arith)
-
-not_false : (b : Bool) → (b ≡ false → ⊥) → b ≡ true
-not_false h1 other = grind (arith)
-
 pub same_killed : (a b : Bool) → beq a b ≡ true → a ≡ b
 same_killed a b h1 = grind (arith)
 
@@ -74,8 +68,8 @@ module _ {T U C : Type 0} where
 
   pub not_flushed : (sends : T → Queue → Result ℕ IoFault → T → Type 0) (killed : Bool) (s : Stored T U C) → (s.part.is_killed ≡ killed → ⊥)
       → Does s (λ p did q. Flushes sends killed p false did q) s
-  not_flushed sends true s other = not_killed sends s (not_true s.part.is_killed other)
-  not_flushed sends false s other = killed_stays sends s (not_false s.part.is_killed other)
+  not_flushed sends true s other = not_killed sends s (grind (arith, s.part.is_killed))
+  not_flushed sends false s other = killed_stays sends s (grind (arith, s.part.is_killed))
 
   -- ---- what is noted of one client
 
@@ -125,7 +119,7 @@ module _ {T U C : Type 0} where
   leave_one slot start now notes notes' notes'' given given' given'' x x' before here stays noted gave = record {
     same = map_set staying now slot x x' here (ap staying stays ∙ staying_stays x) ∙ before.same;
     rest = λ k above. get_set_other now slot k x' (λ e. absurd (omega (arith, above, e))) ∙ before.rest k (omega (arith, above));
-    left = λ k y below get. at k y (k == slot) refl below get;
+    left = λ k y below get. (grind (arith, same_Some, get_set_same, slice_get, slice_set, staying, staying_stays, other_of, get_set_other, k == slot));
     noted = ap (λ (l : List (Note U)). l ++ collected ends_at (slot + 1) (drop (slot + 1) start)) noted
         ∙ (append_assoc notes' (ends_at slot x) (collected ends_at (slot + 1) (drop (slot + 1) start))
         ∙ (ap (λ (l : List (Note U)). notes' ++ l) (sym (collected_drop ends_at slot slot start x there)) ∙ before.noted));
@@ -137,9 +131,6 @@ module _ {T U C : Type 0} where
       there : slice_get start slot ≡ Some x
       there = sym (before.rest slot (omega arith)) ∙ here
 
-      at : (k : ℕ) (y : Option (Stored T U C)) (b : Bool) → (k == slot) ≡ b → k < slot + 1 → slice_get (slice_set now slot x') k ≡ Some y → staying y ≡ y
-      at k y b h1 h2 h3 = grind (arith, same_Some, get_set_same, slice_get, slice_set, staying, staying_stays, other_of, get_set_other)
-
   -- there is room for what the next one leaves
   pub leave_room : {A : Type 0} (give : ℕ → Option (Stored T U C) → List A) (slot : ℕ) (start : List (Option (Stored T U C))) (has has' : List A) (x : Option (Stored T U C)) (n n' room room' : ℕ)
       → has' ++ collected give slot (drop slot start) ≡ has ++ collected give 0 start → slice_get start slot ≡ Some x → n ≡ length has → n' ≡ length has'
@@ -148,10 +139,7 @@ module _ {T U C : Type 0} where
       let whole : length has' + length (collected give slot (drop slot start)) ≡ length has + length (collected give 0 start) =
       sym (length-append has' (collected give slot (drop slot start))) ∙ (ap length are ∙ length-append has (collected give 0 start))
       in
-      let part : length (collected give slot (drop slot start)) ≡ length (give slot x) + length (collected give (slot + 1) (drop (slot + 1) start)) =
-      ap length (collected_drop give slot slot start x here) ∙ length-append (give slot x) (collected give (slot + 1) (drop (slot + 1) start))
-      in
-      omega (arith, whole, part, is, is', fits, same)
+      omega (arith, whole, ap length (collected_drop give slot slot start x here) ∙ length-append (give slot x) (collected give (slot + 1) (drop (slot + 1) start)), is, is', fits, same)
 
   pub leave_ends : (slot : ℕ) (start now : List (Option (Stored T U C))) (notes notes' : List (Note U)) (given given' : List (ClientParts × T)) → Leave slot start now notes notes' given given'
       → length start ≤ slot → length now ≡ length start
@@ -168,21 +156,14 @@ module _ {T U C : Type 0} where
       let fits : count < 0xFFFFFFFFFFFFFFFF = omega (arith, is, below) in
       let fits' : one < 0xFFFFFFFFFFFFFFFF = omega (arith, is, below) in
       let all = before fits in
-      let this = some fits' in
-      let part : length (collected give slot (drop slot clients)) ≡ length (give slot x) + length (collected give (slot + 1) (drop (slot + 1) clients)) =
-      ap length (collected_drop give slot slot clients x here) ∙ length-append (give slot x) (collected give (slot + 1) (drop (slot + 1) clients))
-      in
-      omega (arith, is, below, all, this, part)
+      omega (arith, is, below, all, some fits', ap length (collected_drop give slot slot clients x here) ∙ length-append (give slot x) (collected give (slot + 1) (drop (slot + 1) clients)))
 
   pub counted_fewer : {A : Type 0} (give : ℕ → Option (Stored T U C) → List A) (clients : List (Option (Stored T U C))) (slot : ℕ) (x : Option (Stored T U C)) (count one count' : ℕ)
       → slice_get clients slot ≡ Some x → count + length (collected give slot (drop slot clients)) ≤ length (collected give 0 clients)
       → one ≤ length (give slot x) → count' ≡ min (count + one) 0xFFFFFFFFFFFFFFFF
       → count' + length (collected give (slot + 1) (drop (slot + 1) clients)) ≤ length (collected give 0 clients)
   counted_fewer give clients slot x count one count' here before some is =
-      let part : length (collected give slot (drop slot clients)) ≡ length (give slot x) + length (collected give (slot + 1) (drop (slot + 1) clients)) =
-      ap length (collected_drop give slot slot clients x here) ∙ length-append (give slot x) (collected give (slot + 1) (drop (slot + 1) clients))
-      in
-      omega (arith, is, before, some, part)
+      omega (arith, is, before, some, ap length (collected_drop give slot slot clients x here) ∙ length-append (give slot x) (collected give (slot + 1) (drop (slot + 1) clients)))
 
 -- ---- the notes of ends are in the order of the slots
 

@@ -1,5 +1,5 @@
 -- The room that a cleanup made is enough, also once the killed clients were flushed and all notes gathered.
-use Rattle.std.proofs.Common.{◌≡◌, ℕ, suc, ◌+◌, Bool, true, List, [], ◌∷◌, ◌++◌, length, Option, None, Some, is_some, Result, refl, sym, subst, arith, append-nil}
+use Rattle.std.proofs.Common.{◌≡◌, ℕ, suc, ◌+◌, Bool, true, List, [], ◌∷◌, length, Option, None, Some, is_some, Result, refl, sym, subst, arith, append-nil}
 use Rattle.std.specs.Option.{option_map, option_map_or}
 use Rattle.std.specs.Prelude.{map, slice_get}
 use Rattle.std.proofs.lemmas.List.{length-append}
@@ -7,12 +7,12 @@ use Rattle.std.proofs.lemmas.Option.{slice_get_within}
 use Rattle.wl_wire.specs.declared.error.IoFault.{IoFault}
 use Rattle.wl_link.specs.Exchange.{Queue}
 use Rattle.wl_server.specs.declared.notes.Note.{Note}
-use Rattle.wl_server.specs.Deeds.{Deed, notes_in}
+use Rattle.wl_server.specs.Deeds.{notes_in}
 use Rattle.wl_server.specs.Inside.Gathering.{Gathers, all_emptied, count_leaving, emptied}
 use Rattle.wl_server.specs.NoteOrder.{IsOrderOf, times_of, to_gather}
 use Rattle.wl_server.specs.Inside.Leaving.{FlushesKilled, collected, ends_at, given_at}
-use Rattle.wl_server.specs.Part.{Part, with_link}
-use Rattle.wl_server.specs.Inside.Places.{AllFeel, FeltAt, PlaceFeels}
+use Rattle.wl_server.specs.Part.{with_link}
+use Rattle.wl_server.specs.Inside.Places.{AllFeel, PlaceFeels}
 use Rattle.wl_server.specs.Server.{Stored, no_times, stored_at}
 use Rattle.wl_server.specs.declared.notes.queues.NotePlace.{NotePlace}
 use Rattle.wl_server.proofs.Readings.Notes.{notes_of_sends}
@@ -39,29 +39,21 @@ module _ {T U C : Type 0} where
 
   -- ---- a flush
 
-  same_flushed : (sends : T → Queue → Result ℕ IoFault → T → Type 0) (slot : ℕ) (s : Stored T U C) (q : Part T U C) (lacked : Bool) (did : List (Deed U))
-      → FlushesKilled sends s.part lacked did q → SamePlace slot (Some s) (Some (record { serial = s.serial; part = q; made = s.made ++ notes_in did; times = no_times }))
-  same_flushed sends slot s q lacked did flushes = grind (arith, no_times, append-nil, notes_in, notes_of_sends, with_link)
-
   same_place : (sends : T → Queue → Result ℕ IoFault → T → Type 0) (slot : ℕ) (x y : Option (Stored T U C)) (lacked : Bool)
       → PlaceFeels (λ id p lacked did q. FlushesKilled sends p lacked did q) slot x lacked y → SamePlace slot x y
   same_place sends slot None y lacked (not, is) = subst (λ (o : Option (Stored T U C)). SamePlace slot None o) (sym is) (refl, refl, refl)
   same_place sends slot (Some s) y lacked (s', (did, q, flushes, made), is) =
       subst (λ (o : Option (Stored T U C)). SamePlace slot (Some s) o) (sym is)
-      (subst (λ (x : Stored T U C). SamePlace slot (Some s) (Some x)) (sym made) (same_flushed sends slot s q lacked did flushes))
+      (subst (λ (x : Stored T U C). SamePlace slot (Some s) (Some x)) (sym made) (grind (arith, no_times, append-nil, notes_in, notes_of_sends, with_link)))
 
   pub flushed_counts : (sends : T → Queue → Result ℕ IoFault → T → Type 0) (refused : Bool) (start now : List (Option (Stored T U C)))
       → AllFeel (λ id p lacked did q. FlushesKilled sends p lacked did q) refused (length start) start now → SameCounts 0 start now
   flushed_counts sends refused start now all = same_counts 0 start now all.len (λ slot k x y at is is'. place slot k x y at is is')
     where
-      felt : (k : ℕ) (x y : Option (Stored T U C)) (o o' : Option (Option (Stored T U C))) → o ≡ Some x → o' ≡ Some y
-          → FeltAt (λ id p lacked did q. FlushesKilled sends p lacked did q) k o (all.lacks k) o' → SamePlace k x y
-      felt k x y o o' h1 h2 h3 = grind (arith, is_some, same_place)
-
       place : (slot k : ℕ) (x y : Option (Stored T U C)) → slot ≡ 0 + k → slice_get start k ≡ Some x → slice_get now k ≡ Some y → SamePlace slot x y
       place slot k x y at is is' =
           let same : slot ≡ k = omega (arith, at) in
-          subst (λ (n : ℕ). SamePlace n x y) (sym same) (felt k x y (slice_get start k) (slice_get now k) is is' (all.felt k (slice_get_within start k x is)))
+          subst (λ (n : ℕ). SamePlace n x y) (sym same) (grind (arith, is_some, same_place, slice_get start k, slice_get now k, all.felt k (slice_get_within start k x is)))
 
   -- ---- the places of notes
 

@@ -6,7 +6,7 @@ use Rattle.wl_wire.specs.declared.error.OutOfMemory.{OutOfMemory}
 use Rattle.wl_server.specs.declared.notes.Note.{Note}
 use Rattle.wl_server.specs.Inside.Gathering.{Gathers, all_emptied}
 use Rattle.wl_server.specs.Inside.Inserting.{AreTaken, HasSlots, IsPut}
-use Rattle.wl_server.specs.Inside.Places.{AllFeel, FeltAt}
+use Rattle.wl_server.specs.Inside.Places.{AllFeel}
 use Rattle.wl_server.specs.Server.{Stored, stored_at}
 use Rattle.wl_server.specs.Steps.{IsLeastFree}
 use Rattle.wl_server.proofs.CallSteps.Slots.{Kind}
@@ -51,14 +51,10 @@ module _ {T U C : Type 0} where
 
   -- ---- where each client feels something
 
-  felt_at : (R : Kind T U C) (slot : ℕ) (lacked : Bool) (before after : Option (Option (Stored T U C)))
-      → FeltAt R slot before lacked after → is_some (option_map_or (λ s. s) before None) ≡ true → is_some (option_map_or (λ s. s) after None) ≡ true
-  felt_at R slot lacked before after h1 h2 = grind (arith)
-
   pub taken_felt : (R : Kind T U C) (n : ℕ) (refused : Bool) (before after : List (Option (Stored T U C)))
       → AllFeel R refused (length before) before after → AreTaken n before → AreTaken n after
   unfolding AreTaken
-  taken_felt R n refused before after all taken k below = grind (arith, is_some, felt_at)
+  taken_felt R n refused before after all taken k below = grind (arith, is_some)
 
   pub slots_felt : (R : Kind T U C) (count n : ℕ) (refused : Bool) (before after : List (Option (Stored T U C)))
       → AllFeel R refused (length before) before after → HasSlots count n before → HasSlots count n after

@@ -1,7 +1,7 @@
 -- How often calls receive from a client: only readings do, and each at most as often as it is allowed.
 --
 -- A call that does not read a client is the same over a transport that never receives, and over that no base move does.
-use Rattle.std.proofs.Common.{◌≡◌, ℕ, ◌+◌, ◌≤◌, Bool, true, false, List, [], ◌∷◌, ◌++◌, append_assoc, append-nil, length, Option, None, Some, Result, Ok, Err, MatchBool, refl, ap, subst, ◌∙◌, true≢false, arith}
+use Rattle.std.proofs.Common.{◌≡◌, ℕ, ◌+◌, ◌≤◌, Bool, false, List, [], ◌∷◌, ◌++◌, append_assoc, append-nil, length, Option, None, Some, Result, Ok, Err, MatchBool, refl, ap, ◌∙◌, true≢false, arith}
 use Rattle.wl_wire.specs.declared.error.IoFault.{IoFault}
 use Rattle.wl_link.proofs.Calls.Branches.{either_bool, either_option, either_result}
 use Rattle.wl_link.specs.Exchange.{Queue}
@@ -13,12 +13,11 @@ use Rattle.wl_server.specs.declared.reading.action.Action.{Action}
 use Rattle.wl_server.specs.declared.reading.action.Reading.{Reading}
 use Rattle.wl_server.specs.declared.runs.step.Reply.{Reply}
 use Rattle.wl_server.specs.declared.runs.step.Reply.TheVariants as reply
-use Rattle.wl_server.specs.declared.runs.step.Step.{Step}
 use Rattle.wl_server.specs.declared.runs.step.Step.TheVariants as step
 use Rattle.wl_server.specs.Backend.{BackendState}
 use Rattle.wl_server.specs.Bounded.{EachIsBounded, EachPartIsBounded, KeepsTo, receives_in, receives_over}
 use Rattle.wl_server.specs.Deeds.{Deed, Handed, came_in}
-use Rattle.wl_server.specs.Dispatch.{Answering, Answers, EndsDispatch, Handles, Last, Round, Rounds, IsDispatched, EachIsDispatched, more, no_action, none, not_ended}
+use Rattle.wl_server.specs.Dispatch.{Answering, EndsDispatch, Handles, Last, Round, Rounds, IsDispatched, EachIsDispatched, more, no_action, none, not_ended}
 use Rattle.wl_server.specs.Globals.{Offer}
 use Rattle.wl_server.specs.Ids.{ClientParts, same_client}
 use Rattle.wl_server.specs.Part.{Part}
@@ -88,9 +87,7 @@ module _ {T U G C : Type 0} (w : World T G C) (id : ClientParts) (offer : Offer 
   nothing call other h = ap length (call_quiet w id offer before after lacked did call other h)
 
   keeps_to : (call : Call T U G C) → PartCall w id offer call before lacked did after → KeepsTo id call (receives_in did)
-  keeps_to (Asked (step.NextAction target) answer) (r, left, is, h) = grind (arith, same_client, receives_in, reads_bounded, new_reading, action_content)
-  keeps_to (Asked (step.NextActionWithin target reading) answer) (r, left, is, h) = of_reply target reading left r answer is (reads_bounded target reading (action_content r) left h)
-  keeps_to call h = nothing call refl h
+  keeps_to call h1 = grind (arith, same_client, receives_in, reads_bounded, new_reading, action_content, of_reply, nothing, either_option, around, part_bounded, length, call_quiet)
 
 -- so each call does of each client
 pub each_bounded : {T U G C : Type 0} (w : World T G C) (before after : ServerState T U G C) (e : Entry T U G C) → OneStep w before e after → EachIsBounded e
@@ -118,28 +115,14 @@ module _ {T U G C : Type 0} (w : World T G C) (id : ClientParts) where
   pub reading_bounded : (before after : ServerState T U G C) (e : Entry T U G C) (r r' : Reading) (answer : Result Action ActionError)
       → e.call ≡ Asked (step.NextActionWithin id r) (reply.NextActionWithin answer r') → OneStep w before e after
       → receives_in (e.did id) + r'.turns_left ≤ r.turns_left
-  reading_bounded before after e r r' answer is one =
-      own (same_client id id) (same_self id) (subst (λ (c : Call T U G C). KeepsTo id c (receives_in (e.did id))) is (each_bounded w before after e one id))
-    where
-      own : (b : Bool) → b ≡ true → MatchBool b (receives_in (e.did id) + r'.turns_left ≤ r.turns_left) (receives_in (e.did id) ≡ 0)
-          → receives_in (e.did id) + r'.turns_left ≤ r.turns_left
-      own h1 is few = grind (arith, true≢false)
+  reading_bounded before after e r r' answer h1 h2 = grind (arith, same_client, same_self, receives_in, each_bounded, true≢false, keeps_to, seen)
 
 -- ---- a dispatch
 
 module _ {H T U G C : Type 0} (w : World T G C) (answers : Answering H T U G C) (id : ClientParts) where
   handles_quiet : (h h' : H) (before : BackendState T U G C) (after : ServerState T U G C) (a : Action) (run : List (Entry T U G C)) (lacked : Bool) (why : Option FinishError)
       → Handles w answers id h before a run lacked why h' after → receives_over id run ≡ 0
-  handles_quiet h h' before after a run lacked why handles =
-      let calls = calls_quiet w id before.server handles.left.server handles.calls handles.leads handles.spared in
-      let last = one_quiet w id handles.left.server after handles.ended ended_unread handles.ends in
-      let both = over_split id run handles.calls (handles.ended ∷ []) handles.run_is in omega (arith, calls, last, both)
-    where
-      unread : (a : Action) (end : Step T U G C) (answer : Reply T U) → Answers w answers id h before a end h' handles.left → reads_of id (Asked end answer) ≡ false
-      unread h1 end answer h4 = grind (arith, reads_of)
-
-      ended_unread : reads_of id handles.ended.call ≡ false
-      ended_unread = ap (λ (c : Call T U G C). reads_of id c) handles.ended_is ∙ unread a handles.end handles.answer handles.answers_so
+  handles_quiet h h' before after a run lacked why h1 = grind (arith, calls_quiet, one_quiet, over_split, reads_of, spared_unread, nothing, seen, receives_over, over_both)
 
   -- so many receives were made, and so many are left
   abbrev Spends : Reading → List (Entry T U G C) → Reading → Type 0
@@ -149,22 +132,18 @@ module _ {H T U G C : Type 0} (w : World T G C) (answers : Answering H T U G C) 
       → Round w answers id h r before run lacked why h' r' after → Spends r run r'
   round_spends h h' r r' before after run lacked why round =
       let read = reading_bounded w id before round.found.server round.read r r' (Ok round.handed) round.read_is round.reads in
-      let rest = handles_quiet h h' round.found after round.handed round.rest round.end_lacked why round.handles in
-      let run_is : receives_over id run ≡ receives_in (round.read.did id) + receives_over id round.rest = ap (receives_over id) round.run_is in omega (arith, read, rest, run_is)
+      omega (arith, read, handles_quiet h h' round.found after round.handed round.rest round.end_lacked why round.handles, ap (receives_over id) round.run_is)
 
   rounds_spend : (h h' : H) (r r' : Reading) (before after : ServerState T U G C) (run : List (Entry T U G C)) (lacked : Bool)
       → Rounds w answers id h r before run lacked h' r' after → Spends r run r'
-  rounds_spend h h' r r' before after run lacked (none nothing' unlacked) = let is : receives_over id run ≡ 0 = ap (receives_over id) nothing' in omega (arith, is)
+  rounds_spend h h' r r' before after run lacked (none nothing' unlacked) = omega (arith, ap (receives_over id) nothing')
   rounds_spend h h' r r' before after run lacked (more {h1 = h1} {r1 = r1} {s1 = s1} {first = first} {next = next} {before = was} {now = now} rounds round run_is lacked_is) =
-      let earlier = rounds_spend h h1 r r1 before s1 first was rounds in
-      let later = round_spends h1 h' r1 r' s1 after next now None round in
-      let both = over_split id run first next run_is in omega (arith, earlier, later, both)
+      omega (arith, rounds_spend h h1 r r1 before s1 first was rounds, round_spends h1 h' r1 r' s1 after next now None round, over_split id run first next run_is)
 
   last_spends : (h h' : H) (r r' : Reading) (before after : ServerState T U G C) (run : List (Entry T U G C)) (lacked : Bool) (f : IoFault)
       → Last w answers id h r before run lacked f h' r' after → Spends r run r'
   last_spends h h' r r' before after run lacked f (no_action e error one call run_is lacked_is fault_is same) =
-      let read = reading_bounded w id before after e r r' (Err error) call one in
-      let is : receives_over id run ≡ receives_in (e.did id) + 0 = ap (receives_over id) run_is in omega (arith, read, is)
+      omega (arith, reading_bounded w id before after e r r' (Err error) call one, ap (receives_over id) run_is)
   last_spends h h' r r' before after run lacked f (not_ended why round fault_is) = round_spends h h' r r' before after run lacked (Some why) round
 
   pub run_bounded : (h h' : H) (before after : ServerState T U G C) (run : List (Entry T U G C)) (lacked : Bool) (answer : Result ℕ IoFault)
@@ -172,8 +151,7 @@ module _ {H T U G C : Type 0} (w : World T G C) (answers : Answering H T U G C) 
   run_bounded h h' before after run lacked answer serves =
       let s = serves.rounds_end in
       let first = rounds_spend h s.handler new_reading s.reading before s.mid s.first s.first_lacked s.rounds in
-      let last = last_spends s.handler h' s.reading serves.left s.mid after s.last s.last_lacked serves.fault s.end in
-      let both = over_split id run s.first s.last s.run_is in omega (arith, first, last, both)
+      omega (arith, first, last_spends s.handler h' s.reading serves.left s.mid after s.last s.last_lacked serves.fault s.end, over_split id run s.first s.last s.run_is)
 
   -- the cleanup at the end of a dispatch receives nothing
   pub dispatch_bounded : (h h' : H) (before mid : ServerState T U G C) (after : BackendState T U G C) (calls : List (Entry T U G C)) (lacked : Bool) (answer result : Result ℕ IoFault)
@@ -181,9 +159,7 @@ module _ {H T U G C : Type 0} (w : World T G C) (answers : Answering H T U G C) 
       → receives_over id (calls ++ ends.cleanup ∷ []) ≤ 64
   dispatch_bounded h h' before mid after calls lacked answer result serves ends =
       let few = run_bounded h h' before mid calls lacked answer serves in
-      let other : reads_of id ends.cleanup.call ≡ false = ap (λ (c : Call T U G C). reads_of id c) ends.cleanup_is in
-      let last = one_quiet w id mid after.server ends.cleanup other ends.cleans in
-      let both = over_both id calls (ends.cleanup ∷ []) in omega (arith, few, last, both)
+      omega (arith, few, one_quiet w id mid after.server ends.cleanup (ap (λ (c : Call T U G C). reads_of id c) ends.cleanup_is) ends.cleans, over_both id calls (ends.cleanup ∷ []))
 
 -- ---- clients one after another
 

@@ -16,15 +16,12 @@ use Rattle.wl_server.specs.Steps.{Entry}
 use Rattle.wl_server.proofs.Dispatches.Waiting.{spared_unread}
 use Rattle.wl_server.proofs.OverRuns.Alone.IsolationLaw.{not_again, other_call}
 use Rattle.wl_server.proofs.OverRuns.Moves.BaseMoves.{Doings, Goes, Kind, Moves, followed, handed_out, notes_taken, moved, stayed, taken_out, unfelt, within}
-use Rattle.wl_server.proofs.OverRuns.Moves.BaseMovesLaw.{call_moves, finishes_of}
+use Rattle.wl_server.proofs.OverRuns.Moves.BaseMovesLaw.{call_moves}
 use Rattle.wl_server.proofs.Plain.Base.{none_and_some, one_value}
 
 -- no action is opened, and none is ended
 abbrev standing : Kind
 standing = record { gathers = true; hands = true; reads = false; finishes = false; kills = λ reason. Unit {0}; closes = tt }
-
-pub spared_unended : {T U G C : Type 0} (id : ClientParts) (call : Call T U G C) → spares id call ≡ true → finishes_of id call ≡ false
-spared_unended id call h1 = grind (arith)
 
 module _ {T U C : Type 0} where
   -- it is not stored, or an action of it is open
@@ -59,7 +56,7 @@ module _ {T U G C : Type 0} (w : World T G C) (id : ClientParts) where
       go true about =
           goes_stand w.sends w.receives id s t _
           (call_moves standing w id offer call s lacked did t about
-          (grind (arith, true≢false, spared_unread, spared_unended)) h) stands
+          (grind (arith, true≢false, spared_unread)) h) stands
       go false far = subst Stands (sym (ap (λ (x : Seen T U C). x.part) (other_call w id offer call s lacked did t other far h).2)) stands
 
   -- so it is over all calls of a handler, if the id was given before

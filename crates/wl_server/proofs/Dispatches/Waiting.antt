@@ -36,11 +36,11 @@ use Rattle.wl_server.specs.Inside.Dispatching.{Fewer, waiting_of, waits}
 use Rattle.wl_server.specs.Part.{Part}
 use Rattle.wl_server.specs.PartStep.{Asked, Call, PartCall, ReadsFor, World, around}
 use Rattle.wl_server.specs.Reached.{AllSpare, spares}
-use Rattle.wl_server.specs.Reading.{Around, NextAction, action_content, action_in, answered, garbled, server}
+use Rattle.wl_server.specs.Reading.{Around, NextAction, action_content, action_in, answered, server}
 use Rattle.wl_server.specs.Runs.{Leads}
 use Rattle.wl_server.specs.Server.{Seen, ServerState, seen}
 use Rattle.wl_server.specs.Steps.{Entry, OneStep}
-use Rattle.wl_server.specs.Telling.{Core, Finish, Stops, Told, core_of, part_of, reader_part, speaker, tells}
+use Rattle.wl_server.specs.Telling.{Core, Finish, Stops, Told, core_of, reader_part, speaker, tells}
 use Rattle.wl_server.proofs.OverRuns.Alone.IsolationLaw.{same_self}
 use Rattle.wl_server.proofs.OverRuns.Ids.ReplyLaws.{own_step}
 use Rattle.wl_server.proofs.OverRuns.Moves.BaseMoves.{Doings, Goes, Kind, Moves, followed, handed_out, notes_taken, moved, stayed, taken_out, unfelt, within}
@@ -148,12 +148,10 @@ module _ {T Core Event Finish : Type 0} (sends : T → Queue → Result ℕ IoFa
   reads_no_more left p end (Received r ∷ turns) out (on, lacks, (n, is, (link, filled, finds, h))) = grind (arith, received, counted_answer, count_of, at_link, reads_no_more n (at_link p link) end turns out)
   reads_no_more left p end (Handled es ∷ turns) out (on, (v, link, first, lacked, mid, rest, (m, read, is), carried, split, more)) =
       let shorter = taken_shorter (reader.signature p.core) p.link link m read in
-      let kept = carried_length v link mid es first lacked carried in
-      as_much_behind left p mid end out rest (ap (λ (o : Gives Event). o.left) split) (omega (arith, shorter, kept)) (reads_no_more left mid end turns rest more)
+      as_much_behind left p mid end out rest (ap (λ (o : Gives Event). o.left) split) (omega (arith, shorter, carried_length v link mid es first lacked carried)) (reads_no_more left mid end turns rest more)
   reads_no_more left p end (Unread es ∷ turns) out (on, (v, link, first, lacked, mid, rest, (malformed, same, is), carried, split, more)) =
       let before = ap (λ (l : LinkState T). length l.incoming.bytes) same in
-      let kept = carried_length v link mid es first lacked carried in
-      as_much_behind left p mid end out rest (ap (λ (o : Gives Event). o.left) split) (omega (arith, before, kept)) (reads_no_more left mid end turns rest more)
+      as_much_behind left p mid end out rest (ap (λ (o : Gives Event). o.left) split) (omega (arith, before, carried_length v link mid es first lacked carried)) (reads_no_more left mid end turns rest more)
 
 -- ---- a reading that hands out an action
 
@@ -164,10 +162,6 @@ module _ {U : Type 0} where
   ends_garbled (m ∷ put) rest = ends_garbled put rest
 
 module _ {T U G C : Type 0} (sends : T → Queue → Result ℕ IoFault → T → Type 0) (receives : T → ℕ → Result Queue IoFault → T → Type 0) (a : Around G C) where
-  unread_ends : (c : Core U C) (link : LinkState T) (es : List Sending) (first : List (Given (Told U))) (lacked : Bool) (mid : ReaderState T (Core U C))
-      → CarriesOut sends (server a) (garbled c) link es first lacked mid → (rest : List (Given (Told U))) → action_in (first ++ rest) ≡ Err (Io fault.Proto)
-  unread_ends c link es first lacked mid h1 rest = grind (arith, action_in, ends_garbled, true≢false)
-
   abbrev reader : Reader (Core U C) (Told U) (Finish U)
   reader = server a
 
@@ -180,7 +174,7 @@ module _ {T U G C : Type 0} (sends : T → Queue → Result ℕ IoFault → T �
       let shorter = taken_shorter sends receives reader (reader.signature p.core) p.link link m read in
       let kept = carried_length sends receives reader v link mid es first lacked carried in
       grind (arith, less_behind, reader, reads_no_more)
-  reads_less left p end (Unread es ∷ turns) out h (on, (v, link, first, lacked, mid, rest, (malformed, same, so), carried, split, more)) is = grind (arith, action_in, unread_ends)
+  reads_less left p end (Unread es ∷ turns) out h (on, (v, link, first, lacked, mid, rest, (malformed, same, so), carried, split, more)) is = grind (arith, action_in, ends_garbled, true≢false)
 
 module _ {T U G C : Type 0} (w : World T G C) (id : ClientParts) where
   part_less : (offer : Offer G) (r r' : Reading) (p q : Part T U C) (h : Handed) (lacked : Bool) (did : List (Deed U))
@@ -193,14 +187,9 @@ module _ {T U G C : Type 0} (w : World T G C) (id : ClientParts) where
             elim (either_bool p.is_killed next') [
               | inl (is, same, unlacked, none', stays) ↦ absurd cc
               | inr (turns, out, end, reads, is, left, lacks, did_so, ends) ↦
-                  of_less out end left ends (reads_less w.sends w.receives (around w id offer) r.turns_left (reader_part p) end turns out h reads (sym is))
+                  grind (arith, reads_less w.sends w.receives (around w id offer) r.turns_left (reader_part p) end turns out h reads (sym is))
             ]
       ]
-    where
-      of_less : (out : Gives (Told U)) (end : ReaderState T (Core U C)) → {n : ℕ} → r' ≡ record { turns_left = out.left; read = n } → q ≡ part_of end
-          → Less w.sends w.receives (server (around w id offer)) r.turns_left (reader_part p) out end
-          → (r'.turns_left < r.turns_left) ⊎ ((r'.turns_left ≡ r.turns_left) × (length q.link.incoming.bytes < length p.link.incoming.bytes))
-      of_less out end h1 h2 h3 = grind (arith)
 
   -- what the call is to this client
   of_call : (before after : ServerState T U G C) (e : Entry T U G C) (call : Call T U G C) → e.call ≡ call → OneStep w before e after
@@ -243,14 +232,11 @@ module _ {T U G C : Type 0} (w : World T G C) (id : ClientParts) where
       → Handles w answers id h found a run lacked why h' after → Fewer id r before.server r' after
   round_fewer answers h h' r r' before found after a run lacked why calls handles =
       go (reads_fewer r r' before a found calls) (calls_add_nothing w id found.server handles.left.server handles.calls handles.leads handles.spared)
-      (one_adds_nothing w id handles.left.server after handles.ended ended_unread handles.ends)
+      (one_adds_nothing w id handles.left.server after handles.ended (ap (λ (c : Call T U G C). reads_of id c) handles.ended_is ∙ unread a handles.end handles.answer handles.answers_so) handles.ends)
     where
       unread : (a : Action) (end : Step T U G C) (answer : Reply T U) → Answers w answers id h found a end h' handles.left → reads_of id (Asked end answer) ≡ false
       unread (action.Request sender opcode args is_destructor created) end answer (u, so, is) = ap (λ (s : Step T U G C). reads_of {T = T} {U = U} {G = G} {C = C} id (Asked s answer)) is
       unread (action.Bind global object) end answer (u, so, is) = ap (λ (s : Step T U G C). reads_of {T = T} {U = U} {G = G} {C = C} id (Asked s answer)) is
-
-      ended_unread : reads_of id handles.ended.call ≡ false
-      ended_unread = ap (λ (c : Call T U G C). reads_of id c) handles.ended_is ∙ unread a handles.end handles.answer handles.answers_so
 
       go : Fewer id r before.server r' found.server → waiting_of id handles.left.server ≤ waiting_of id found.server → waiting_of id after ≤ waiting_of id handles.left.server
           → Fewer id r before.server r' after

@@ -25,12 +25,8 @@ module _ {T A : Type 0} (sends : T → Queue → Result ℕ IoFault → T → Ty
   pub first_more : (before mid after : LinkState T) (xs : List A) (n : ℕ) (x : A) (answer : Result (Unit {0}) IoFault) → n < length xs → x ≡ get_or xs n x
       → PutsFirst before xs n (Ok tt) mid → Wrote sends mid (say x).message answer after → PutsFirst before xs (n + 1) answer after
   first_more before mid after xs n x answer below here puts wrote =
-      subst (λ (ms : List Said). Puts sends before ms answer after) (sym one_more)
+      subst (λ (ms : List Said). Puts sends before ms answer after) (sym (ap (map say) (take_more xs n x below ∙ ap (λ (y : A). take n xs ++ y ∷ []) (sym here)) ∙ map-append say (take n xs) (x ∷ [])))
       (puts_more sends before mid after (map say (take n xs)) (say x ∷ []) answer puts (puts_one sends mid after (say x) answer wrote))
-    where
-      one_more : map say (take (n + 1) xs) ≡ map say (take n xs) ++ say x ∷ []
-      one_more =
-          ap (map say) (take_more xs n x below ∙ ap (λ (y : A). take n xs ++ y ∷ []) (sym here)) ∙ map-append say (take n xs) (x ∷ [])
 
   -- one of them failed
   pub first_failed : (before after : LinkState T) (xs : List A) (n : ℕ) (f : IoFault) → PutsFirst before xs n (Err f) after → Puts sends before (map say xs) (Err f) after

@@ -1,17 +1,15 @@
 -- What a client comes to that was told messages: it is closed down where one could not be put.
-use Rattle.std.proofs.Common.{◌≡◌, ◌∙◌, ℕ, Bool, true, false, ◌||◌, List, [], ◌++◌, append-nil, None, Result, Ok, Err, MatchResult, refl, ap, subst, arith}
+use Rattle.std.proofs.Common.{◌≡◌, ◌∙◌, ℕ, Bool, true, false, ◌||◌, List, [], ◌++◌, Result, Ok, Err, refl, ap, subst, arith}
 use Rattle.wl_wire.specs.declared.error.IoFault.{IoFault}
 use Rattle.wl_link.specs.Exchange.{Queue}
 use Rattle.wl_link.specs.Link.{LinkState}
 use Rattle.wl_link.specs.Puts.{Said, lacks_memory}
 use Rattle.wl_link.specs.Reader.{Verdict, came_to}
-use Rattle.wl_server.specs.declared.notes.DisconnectReason.TheVariants.{ConnectionClosed}
 use Rattle.wl_server.specs.declared.notes.Happening.{Happening}
-use Rattle.wl_server.specs.Inside.Client.{Does}
 use Rattle.wl_server.specs.Deeds.{Deed, notes_in}
 use Rattle.wl_server.specs.Inside.Puts.{Puts}
-use Rattle.wl_server.specs.Server.{Stored, no_times, untimed}
-use Rattle.wl_server.specs.Telling.{Core, Kills, Tells, Told, closed_down, end_deeds, part_of, speaker, tells}
+use Rattle.wl_server.specs.Server.{Stored, no_times}
+use Rattle.wl_server.specs.Telling.{Core, Tells, Told, closed_down, end_deeds, part_of, speaker, tells}
 use Rattle.wl_server.specs.Inside.Carried.{told_notes}
 use Rattle.wl_server.proofs.Readings.Notes.{tells_put}
 
@@ -37,13 +35,6 @@ module _ {T U C : Type 0} where
   -- a client of that core and link, with these notes made
   abbrev pub client_of : ℕ → Core U C → LinkState T → List (Happening U) → Stored T U C
   client_of serial c link made = record { serial = serial; part = part_of (record { core = c; link = link }); made = made; times = no_times }
-
-  -- it is closed down where a message could not be put
-  pub told_closing : (serial : ℕ) (c : Core U C) (link : LinkState T) (made : List (Happening U)) (told : Result (Unit {0}) IoFault) (after : Stored T U C)
-      → c.ended ≡ None
-      → MatchResult told (λ _. untimed after ≡ client_of serial c link made) (λ _. Does (client_of serial c link made) (λ p did q. Kills p ConnectionClosed did q) after)
-      → untimed after ≡ client_of serial (closing c told) link (made ++ notes_in (end_deeds (closing c told).ended))
-  told_closing serial c link made told after h1 h2 = grind (arith, append-nil, closed_down)
 
   -- the messages were put up to the first that failed, and nothing is noted beside the end of the client
   pub told_by : (sends : T → Queue → Result ℕ IoFault → T → Type 0) (c : Core U C) (puts : List Said) (events : Core U C → List (Told U))

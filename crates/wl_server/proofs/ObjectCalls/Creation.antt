@@ -1,5 +1,5 @@
 -- How an insertion, or why there is none, is a creation.
-use Rattle.std.proofs.Common.{◌≡◌, ℕ, ◌+◌, ◌<◌, Bool, true, false, List, [], Option, Some, is_some, Result, Ok, Err, MatchOption, MatchBool, Bor, not, option_copied, option_map, refl, ap, subst, ◌∙◌, inl, inr, true≢false, arith}
+use Rattle.std.proofs.Common.{◌≡◌, ℕ, ◌+◌, ◌<◌, Bool, true, false, List, [], Option, Some, is_some, Result, Ok, Err, MatchOption, MatchBool, Bor, not, option_copied, option_map, refl, ap, subst, inl, inr, true≢false, arith}
 use Rattle.std.specs.Prelude.{◌==◌, slice_get}
 use Rattle.std.proofs.lemmas.Bool.{eqb-true, eq-eqb, false≢true}
 use Rattle.wl_wire.specs.declared.interface.InterfaceId.{InterfaceId}
@@ -80,11 +80,8 @@ module _ {T U C : Type 0} (table : List InterfaceRow) (client : ClientParts) (s 
         id : ℕ → IdParts
         id k = record { number = n; serial = k; client = client; interface = i }
 
-        is_new : x ≡ new_object s.part i version u
-        is_new = is ∙ ap (λ (k : ℕ). fresh_object i version k (Some u)) next
-
         becomes : with_both store serial ≡ with_new_at s.part n (new_object s.part i version u)
-        becomes = grind (arith, stored, is_new)
+        becomes = grind (arith, stored, is, next)
 
     pub exhausted : (e : NewError) (x : Object (Kept U)) (store : Store (Kept U)) → e ≡ new.IdsExhausted → InsertsNew server_range s.part.store x (Err e) store
         → Refused create.IdsExhausted store

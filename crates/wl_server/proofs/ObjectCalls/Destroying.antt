@@ -1,5 +1,5 @@
 -- How what was done to an object that the program destroys is its destruction.
-use Rattle.std.proofs.Common.{◌≡◌, ◌∙◌, ℕ, Bool, true, false, eqb, cond, List, [], ◌++◌, append-nil, Option, None, Some, is_some, IfSome, Result, Ok, Err, MatchOption, MatchResult, refl, sym, ap, subst, inl, inr, arith}
+use Rattle.std.proofs.Common.{◌≡◌, ◌∙◌, ℕ, Bool, true, false, eqb, cond, List, [], ◌++◌, append-nil, Option, None, Some, is_some, IfSome, Result, Ok, Err, MatchResult, refl, sym, ap, subst, inl, inr, arith}
 use Rattle.std.proofs.lemmas.Bool.{false≢true}
 use Rattle.wl_wire.specs.declared.error.IoFault.{IoFault}
 use Rattle.wl_wire.specs.declared.error.IoFault.TheVariants as fault
@@ -32,11 +32,8 @@ use Rattle.wl_server.proofs.ObjectCalls.Posting.{arrived, kills_is, linked}
 -- ---- what an id names
 
 module _ {U : Type 0} where
-  found : (id : Id) (h : Option (Object (Kept U))) (x : Object (Kept U)) → named_in serial_of id h ≡ Some x → h ≡ Some x
-  found id h2 x e = grind (arith, eqb, serial_of)
-
   not_null : (b : Bool) (id : Id) (h : Option (Object (Kept U))) (x : Object (Kept U)) → cond b None (named_in serial_of id h) ≡ Some x → h ≡ Some x
-  not_null h1 id h x e = grind (arith, found)
+  not_null h1 id h x e = grind (arith, eqb, serial_of)
 
   -- an object that an id names is the one at the id's number
   pub named_is_held : (store : Store (Kept U)) (id : IdParts) (x : Object (Kept U)) → named store id ≡ Some x → held store id.number ≡ Some x
@@ -48,19 +45,13 @@ module _ {U : Type 0} where
 
 -- ---- the object that may be destroyed
 
-at_none : {A : Type 0} (o : Option A) (X : Type 0) (Y : A → Type 0) → o ≡ None → X → MatchOption o X Y
-at_none o X Y is x = rw is x
-
-at_some : {A : Type 0} (o : Option A) (X : Type 0) (Y : A → Type 0) (a : A) → o ≡ Some a → Y a → MatchOption o X Y
-at_some o X Y a is y = rw is y
-
 module _ {T U C : Type 0} (sends : T → Queue → Result ℕ IoFault → T → Type 0) (s : Stored T U C) (id : IdParts) where
   abbrev pub Destruction : Result (Unit {0}) DestroyError → Part T U C → List (Deed U) → Part T U C → Type 0
   Destruction answer p did q = Destroys sends id.client p id answer (lacks_destroy answer) did q
 
   -- there is no such object
   pub refused : destroyable s.part id ≡ None → Does s (λ p did q. Destruction (Err destroy.InvalidId) p did q) s
-  refused none = does_quietly s (Destruction (Err destroy.InvalidId)) s.part (at_none (destroyable s.part id) _ _ none (refl, refl, refl, refl))
+  refused none = does_quietly s (Destruction (Err destroy.InvalidId)) s.part (rw none (refl, refl, refl, refl))
 
   module _ (x : Object (Kept U)) (is : destroyable s.part id ≡ Some x) where
     abbrev verdict : Verdict (Core U C) (Told U)
@@ -70,7 +61,7 @@ module _ {T U C : Type 0} (sends : T → Queue → Result ℕ IoFault → T → 
         → IsCarried sends verdict s (lacks_destroy answer) after → Does s (λ p did q. Destruction answer p did q) after
     carried answer after answered done =
         let t = tells_carried sends verdict s after (lacks_destroy answer) done in
-        (t.0, t.1, at_some (destroyable s.part id) _ _ x is (answered, t.2), t.3)
+        (t.0, t.1, (rw is (answered, t.2)), t.3)
 
     silent : (c : Core U C) → told_notes (verdict.events c) ≡ []
     silent c = leaves_no_note id x.value.user_data c
@@ -102,13 +93,9 @@ module _ {T U C : Type 0} (sends : T → Queue → Result ℕ IoFault → T → 
     untold link waiting n wrote same number puts lacked = carried (Err destroy.OutOfMemory) (with_waiting (linked s link) waiting) refl (
       core_of s.part,
       link,
-      inl (Err fault.OutOfMemory, link, [], false, at wrote lacked (subst (λ (k : ℕ). Puts sends s.part.link (deletions k) wrote link) number puts), (refl, refl, refl), refl, refl),
+      inl (Err fault.OutOfMemory, link, [], false, (grind (arith, false≢true, subst (λ (k : ℕ). Puts sends s.part.link (deletions k) wrote link) number puts)), (refl, refl, refl), refl, refl),
       ap (with_waiting (linked s link)) same ∙ ap (with_notes (linked s link)) (sym (no_notes s.made (silent (core_of s.part)))),
     )
-      where
-        at : (wrote : Result (Unit {0}) IoFault) → lacks_memory wrote ≡ true → Puts sends s.part.link (deletions id.number) wrote link
-            → Puts sends s.part.link (deletions id.number) (Err fault.OutOfMemory) link
-        at h1 lacked puts = grind (arith, false≢true)
 
     -- it is gone, and this is the link
     abbrev pub gone : LinkState T → Stored T U C
@@ -153,13 +140,6 @@ module _ {T U C : Type 0} (sends : T → Queue → Result ℕ IoFault → T → 
       times = no_times;
     }
 
-    -- what was taken out is gone
-    left : (link : LinkState T) (store : Store (Kept U)) (registries : List Id) (before waiting : List (Happening U)) → store ≡ removed s.part.store id.number
-        → IfSome (held s.part.store id.number) (λ y. registries ≡ registries_without s.part.registries id.number y)
-        → IfSome (held s.part.store id.number) (λ y. waiting ≡ before ++ note_of_end id.client id.number y) → before ≡ s.part.waiting
-        → with_all link store registries waiting ≡ gone link
-    left link store registries before waiting without forgotten noted same = grind (arith, registries_without, note_of_end, named_is_held, named)
-
     -- what was taken out is gone, and the client was told, or closed down where it could not be
     pub destroyed : (link : LinkState T) (n : ℕ) (store : Store (Kept U)) (registries : List Id) (before waiting : List (Happening U))
         (wrote : Result (Unit {0}) IoFault) (after : Stored T U C) → n ≡ id.number → Puts sends s.part.link (deletions n) wrote link
@@ -171,4 +151,4 @@ module _ {T U C : Type 0} (sends : T → Queue → Result ℕ IoFault → T → 
         → Does s (λ p did q. Destruction (Ok tt) p did q) after
     destroyed link n store registries before waiting wrote after number puts lacked without forgotten noted same told =
         told_destroyed link n wrote after (with_all link store registries waiting) number
-        (left link store registries before waiting without forgotten noted same) puts lacked told
+        (grind (arith, registries_without, note_of_end, named_is_held, named)) puts lacked told

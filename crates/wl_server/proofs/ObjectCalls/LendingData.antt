@@ -70,13 +70,6 @@ module _ {T U G C R : Type 0} (call : U → R → U → Type 0) (w : World T G C
     lent_with x (Some u) found is store (r, left, called, ok, written) =
         let set = set_to x left store found written in rw is (r, left, called, ok, set, sets_object_data o left (Ok tt) set)
 
-    lent_at : (found : Option (Object (Kept U))) → named s.part.store o ≡ found → (store : Store (Kept U))
-        → MatchOption found ((answer ≡ Err _) × (store ≡ s.part.store))
-        (λ x. MatchOption x.value.user_data ((answer ≡ Err _) × (store ≡ s.part.store))
-        (λ u. (r : R) × (left : U) × call u r left × (answer ≡ Ok r) × (store ≡ rewritten s.part.store o.number (with_user_data left x))))
-        → Lent found store
-    lent_at h1 found store h = grind (arith, kept, lent_with)
-
     pub lends_stored : (store : Store (Kept U)) → LendsDataIn call s.part.store o answer store
         → LendsObjectData call w (record { server = before; refused = was }) o answer (at_slot (having store))
-    lends_stored store h = rw (looked_up read (Some s) same there) (lent_at (named s.part.store o) refl store h)
+    lends_stored store h = rw (looked_up read (Some s) same there) (grind (arith, kept, lent_with, named s.part.store o))

@@ -42,10 +42,6 @@ module _ {T U C : Type 0} where
   pub kills_is : (s after : Stored T U C) (reason : DisconnectReason) → Does s (λ p did q. Kills p reason did q) after → untimed after ≡ ended s reason
   kills_is s after reason (did, q, (deeds, part), is) = grind (arith)
 
-  -- a killed one stays as it is
-  pub ended_twice : (s : Stored T U C) (first second : DisconnectReason) → ended (ended s first) second ≡ ended s first
-  ended_twice s first second = ap (with_made (ended s first)) (append-nil (ended s first).made)
-
   -- where a write failed the client is closed down, and any later reason counts no more
   abbrev pub spoken : Result (Unit {0}) IoFault → Stored T U C → DisconnectReason → Stored T U C
   spoken (Ok _) s reason = ended s reason
@@ -53,7 +49,7 @@ module _ {T U C : Type 0} where
 
   pub told_is : (s after : Stored T U C) (wrote : Result (Unit {0}) IoFault) (reason : DisconnectReason)
       → MatchResult wrote (λ _. after ≡ s) (λ _. Does s (λ p did q. Kills p ConnectionClosed did q) after) → ended after reason ≡ spoken wrote s reason
-  told_is s after wrote reason h1 = grind (arith, kills_is, ended_twice)
+  told_is s after wrote reason h1 = grind (arith, kills_is, with_made, ended, append-nil)
 
   -- the client as it is where its core came to this
   abbrev pub arrived : Stored T U C → Core U C → LinkState T → Stored T U C

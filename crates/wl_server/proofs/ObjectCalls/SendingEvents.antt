@@ -28,7 +28,7 @@ use Rattle.wl_server.specs.Inside.Puts.{Puts}
 use Rattle.wl_server.specs.Server.{Stored, no_times, untimed}
 use Rattle.wl_server.specs.Telling.{Core, Kills, Tells, closed_down, core_of, end_deeds, part_of, tells}
 use Rattle.wl_server.proofs.CallSteps.Doing.{told_untimed}
-use Rattle.wl_server.proofs.ObjectCalls.Closing.{client_of, closing, told_by, told_closing}
+use Rattle.wl_server.proofs.ObjectCalls.Closing.{client_of, closing, told_by}
 use Rattle.wl_server.proofs.ObjectCalls.Destroying.{leaves_no_note, named_is_held}
 use Rattle.wl_server.proofs.Readings.Notes.{notes_append, notes_of_sends}
 use Rattle.wl_server.proofs.GlobalCalls.Putting.{puts_none}
@@ -117,9 +117,16 @@ module _ {T U C : Type 0} (client : ClientParts) (m : SessionMessage) (sender : 
         after-is : (did : List (Deed U)) → notes_in did ≡ notes_in (end_deeds (closing c told).ended)
             → untimed s2 ≡ record { serial = s.serial; part = part_of (record { core = closing c told; link = after }); made = s.made ++ notes_in did; times = no_times }
         after-is did notes =
-            told_closing s.serial c after s.made told s2 (none_ended ends)
-            (subst (λ (x : Stored T U C). MatchResult told (λ _. untimed s2 ≡ x) (λ _. Does x (λ p did q. Kills p ConnectionClosed did q) s2))
-            (ap (λ (x : Stored T U C). let y : Stored T U C = record x { part = with_link x.part after } in y) ended ∙ after_end_is s ends after) (told_untimed _ told s2 (record s1 { part = with_link s1.part after }) closed))
+            grind (
+              arith,
+              append-nil,
+              closed_down,
+              s.serial,
+              s.made,
+              none_ended ends,
+              subst (λ (x : Stored T U C). MatchResult told (λ _. untimed s2 ≡ x) (λ _. Does x (λ p did q. Kills p ConnectionClosed did q) s2))
+                  (ap (λ (x : Stored T U C). let y : Stored T U C = record x { part = with_link x.part after } in y) ended ∙ after_end_is s ends after) (told_untimed _ told s2 (record s1 { part = with_link s1.part after }) closed),
+            )
             ∙ ap (λ (l : List (Happening U)). client_of s.serial (closing c told) after (s.made ++ l)) (sym notes)
 
         by : (written : Result (Unit {0}) IoFault) → WroteBy sends s.part.link (wire_message m) es written mid → lacks_memory written ≡ false
@@ -168,13 +175,9 @@ module _ {T U C : Type 0} (client : ClientParts) (m : SessionMessage) (sender : 
     not_written s s1 ends mid written (es, wrote) lacked same = (
       map Sent es ++ [],
       with_link s.part mid,
-      inr (es, [], written, mid, wrote, refused_as written lacked, refl),
+      inr (es, [], written, mid, wrote, (grind (arith, false≢true)), refl),
       grind (arith, untimed, with_link, append-nil, notes_behind),
     )
-      where
-        refused_as : (written : Result (Unit {0}) IoFault) → lacks_memory written ≡ true
-            → SentAs sends client s.part m sender ends written mid (Err refused.OutOfMemory) true [] (with_link s.part mid)
-        refused_as h1 lacked = grind (arith, false≢true)
 
 -- ---- an event, refused or not
 
@@ -195,12 +198,7 @@ module _ {T U C : Type 0} (sends : T → Queue → Result ℕ IoFault → T → 
       → Does s (λ p did q. SendsGranted sends client p m sender ends answer lacked did q) after
       → Does s (λ p did q. SendsEvent sends client table p m answer lacked did q) after
   was_granted sender ends answer lacked after live is (did, q, granted, same) =
-      (did, q, where_live _ _ s.part.is_killed live (where_granted _ (event_check client s.part.store table m) is granted), same)
+      (did, q, where_live _ _ s.part.is_killed live (rw is granted), same)
     where
       where_live : (A B : Type 0) (killed : Bool) → killed ≡ false → B → MatchBool killed A B
       where_live h1 h2 h3 live there = grind (arith, false≢true)
-
-      where_granted : (Q : EventError → Type 0) (checked : Result (Object (Kept U) × Bool) EventError) → checked ≡ Ok (sender, ends)
-          → SendsGranted sends client s.part m sender ends answer lacked did q
-          → MatchResult checked (λ g. SendsGranted sends client s.part m g.0 g.1 answer lacked did q) Q
-      where_granted Q checked is there = rw is there

@@ -23,10 +23,6 @@ module _ {T U C : Type 0} where
   pub kills_link : (s after : Stored T U C) (reason : DisconnectReason) → Does s (λ p did q. Kills p reason did q) after → after.part.link ≡ s.part.link
   kills_link s after reason kills = ap (λ (x : Stored T U C). x.part.link) (kills_is s after reason kills)
 
-  told_link : (s after : Stored T U C) (wrote : Result (Unit {0}) IoFault)
-      → MatchResult wrote (λ _. after ≡ s) (λ _. Does s (λ p did q. Kills p ConnectionClosed did q) after) → after.part.link ≡ s.part.link
-  told_link s after h3 same = grind (arith, kills_link)
-
   -- the error was written, and what waits was flushed
   pub told_exactly : (sends : T → Queue → Result ℕ IoFault → T → Type 0) (before : LinkState T) (put flushed told after : Stored T U C) (reason : DisconnectReason)
       (n code : ℕ) (text : List ℕ) (wrote : Result (Unit {0}) IoFault) (es : List Sending) (refused lacked : Bool)
@@ -34,7 +30,7 @@ module _ {T U C : Type 0} where
       → refused ≡ lacks_memory wrote → MatchResult wrote (λ _. told ≡ flushed) (λ _. Does flushed (λ p did q. Kills p ConnectionClosed did q) told)
       → Does told (λ p did q. Kills p reason did q) after → TellsOrLacks sends before n code text (refused || lacked) after.part.link
   told_exactly sends before put flushed told after reason n code text wrote es refused lacked wrote-is flushes refused-is tells kills =
-      let same : after.part.link ≡ flushed.part.link = kills_link told after reason kills ∙ told_link flushed told wrote tells in
+      let same : after.part.link ≡ flushed.part.link = kills_link told after reason kills ∙ (grind (arith, kills_link)) in
       subst (λ (l : LinkState T). TellsOrLacks sends before n code text (refused || lacked) l) (sym same)
       (inl (wrote, put.part.link, es, lacked, wrote-is, flushes, ap (λ (b : Bool). b || lacked) refused-is))
 

@@ -10,7 +10,7 @@ use Rattle.wl_wire.specs.declared.argument.ArgumentType.{ArgumentType}
 use Rattle.wl_wire.specs.declared.argument.Token.{Token}
 use Rattle.wl_wire.specs.declared.error.IoFault.{IoFault}
 use Rattle.wl_wire.specs.declared.interface.InterfaceId.{InterfaceId}
-use Rattle.wl_wire.specs.Argument.{WireArgument, kind_of, type_of}
+use Rattle.wl_wire.specs.Argument.{WireArgument, type_of}
 use Rattle.wl_wire.specs.Message.{WireMessage}
 use Rattle.wl_wire.specs.MessageRows.{creates, next_interface}
 use Rattle.wl_wire.specs.Reading.{Reads as ReadsArguments}
@@ -39,15 +39,12 @@ use Rattle.wl_server.proofs.OverRuns.Moves.MovesOfRequests.{valid_new}
 abbrev is_new : {Id Fd : Type 0} → Argument Id Fd → Bool
 is_new a = is_new_id (type_of a)
 
-new_of_kind : (k : ArgumentType) → is_new_id (kind_of k) ≡ is_new_id k
-new_of_kind h1 = grind (arith)
-
 new_in_both : (signature : List ArgumentType) (args : List WireArgument) (payload : List ℕ) (fds : List Token) → ReadsArguments signature args payload fds
     → list_any is_new_id signature ≡ list_any is_new args
 unfolding ReadsArguments
 new_in_both [] [] payload fds r = refl
 new_in_both (k ∷ signature) (a ∷ args) payload fds r =
-    ap₂ (λ (x y : Bool). x || y) (sym (new_of_kind k) ∙ ap is_new_id (piece_fits k a r.0 r.5).0) (new_in_both signature args r.1 r.2 r.6)
+    ap₂ (λ (x y : Bool). x || y) (sym (grind (arith)) ∙ ap is_new_id (piece_fits k a r.0 r.5).0) (new_in_both signature args r.1 r.2 r.6)
 new_in_both _ _ payload fds r = absurd r
 
 new_on_the_wire : (args : List (Argument IdParts Token)) → is_some (new_id_in args) ≡ list_any is_new (map wire_argument args)
@@ -146,9 +143,6 @@ module _ {U : Type 0} (client : ClientParts) (version : ℕ) where
       )
       go false valid = tt
 
-  one : (d : Converting U) (x : WireArgument) → One d x (convert_one client version d x)
-  one d x = grind (arith, one_object, allows_null, eqb, one_new)
-
   -- what the arguments became: behind those that were gone through stand theirs
   abbrev pub Came : Converting U → List (Argument IdParts Token) → List WireArgument → Outcome U → Type 0
   Came d done args (Whole e all) =
@@ -176,13 +170,10 @@ module _ {U : Type 0} (client : ClientParts) (version : ℕ) where
 
   pub converts : (d : Converting U) (done : List (Argument IdParts Token)) (args : List WireArgument) → Came d done args (convert client version d done args)
   converts d done [] = ([], sym (append-nil done), refl, λ k x there. there, tt, inl (refl, refl))
-  converts d done (x ∷ args) = goes_on d done x args (convert_one client version d x) (one d x) (λ next all. converts next all args)
+  converts d done (x ∷ args) = goes_on d done x args (convert_one client version d x) (grind (arith, one_object, allows_null, eqb, one_new)) (λ next all. converts next all args)
 
 module _ {U : Type 0} (client : ClientParts) (version : ℕ) (row : MessageRow) (objects : Objects (Kept U)) (e : Converting U) (args : List (Argument IdParts Token)) (wire : List WireArgument) where
-  by_table : e.created ≡ new_id_in args → map wire_argument args ≡ wire → creates row ≡ list_any is_new wire → is_some e.created ≡ creates row
-  by_table is numbers makes = ap is_some is ∙ new_on_the_wire args ∙ ap (list_any is_new) numbers ∙ sym makes
-
   -- all arguments were gone through: the object that they made, if any, is that of the new id among them
   pub made_by_all : Making client version (start objects row) e args → map wire_argument args ≡ wire → creates row ≡ list_any is_new wire
       → MakesItsObject client e.objects.store row version args e.created × MatchOption e.created (Unit {0}) (λ id. held objects.store id.number ≡ None)
-  made_by_all h1 h2 h3 = grind (arith, by_table)
+  made_by_all h1 h2 h3 = grind (arith, is_some, new_on_the_wire, is_new)

@@ -22,7 +22,7 @@ use Rattle.wl_server.specs.Part.{Part}
 use Rattle.wl_server.specs.PartStep.{Call, CleanedAs, World, share_of}
 use Rattle.wl_server.specs.Plain.{CleansUpClients, HandsOut, TakesNotes}
 use Rattle.wl_server.specs.Server.{Seen, seen}
-use Rattle.wl_server.specs.Steps.{RiseBySlot, RisesBySlot}
+use Rattle.wl_server.specs.Steps.{RisesBySlot}
 use Rattle.wl_server.proofs.Plain.Base.{calm, none_and_some, of_each, offer_of, one_value, refused_growth, some_lacks, split_bool, unchanged, when_false, when_true}
 use Rattle.wl_server.proofs.Plain.Verdicts.{lacking}
 
@@ -55,13 +55,7 @@ module _ {T U G C : Type 0} {w : World T G C} {before after : BackendState T U G
   cleanup_each : (answer : Result (Vec (ClientParts × T) Global) OutOfMemory) → Calls w before step.Cleanup (reply.Cleanup answer) after → (id : ClientParts)
       → (lacked : Bool) × (did : List (Deed U)) × CleanedAs w id before.server.offer answer (seen id before.server) lacked did (seen id after.server)
   cleanup_each answer call id =
-      let (lacked, did, (r, is, h)) = of_each call id in grind (arith, seen, inside)
-    where
-      inside : (r : Result (Vec (ClientParts × T) Global) OutOfMemory) → ◌≡◌ {A = Reply T U} (reply.Cleanup answer) (reply.Cleanup r) → answer ≡ r
-      inside r is = cc
-
-  rises : (out : Vec (ClientParts × T) Global) → Calls w before step.Cleanup (reply.Cleanup (Ok out)) after → RiseBySlot out.items
-  rises out call = let (e, is, refused, by) = call.step in subst (λ (c : Call T U G C). RisesBySlot c) is by.order
+      let (lacked, did, (r, is, h)) = of_each call id in grind (arith, seen)
 
   -- the last flush of a killed client lacked memory
   cleanup_memory : (out : Vec (ClientParts × T) Global) → Calls w before step.Cleanup (reply.Cleanup (Ok out)) after → after.refused ≡ true
@@ -89,7 +83,7 @@ module _ {T U G C : Type 0} {w : World T G C} {before after : BackendState T U G
     killed = λ id p there killed. let (lacked, did, h) = cleanup_each (Ok out) call id in cleaned_killed w id before.server.offer out _ _ lacked did p there killed h;
     live = λ id p there live. let (lacked, did, h) = cleanup_each (Ok out) call id in cleaned_live w id before.server.offer out _ _ lacked did p there live h;
     unknown = λ id none. let (lacked, did, h) = cleanup_each (Ok out) call id in cleaned_none w id before.server.offer out _ _ lacked did none h;
-    by_slot = rises out call;
+    by_slot = let (e, is, refused, by) = call.step in subst (λ (c : Call T U G C). RisesBySlot c) is by.order;
     globals = offer_of call;
     memory = λ known. cleanup_memory out call known;
   }

@@ -2,7 +2,7 @@
 use Rattle.std.proofs.Common.{◌≡◌, ℕ, Bool, true, false, List, [], None, Some, Result, Ok, Err, refl, sym, ap, subst, arith}
 use mathlib.Core.Logic.{inl, inr}
 use Rattle.std.proofs.lemmas.Bool.{eq-eqb, ne_eqb}
-use Rattle.std.specs.Prelude.{◌==◌, slice_get}
+use Rattle.std.specs.Prelude.{slice_get}
 use Rattle.wl_wire.specs.declared.interface.InterfaceId.{InterfaceId}
 use Rattle.wl_wire.specs.Table.{InterfaceRow}
 use Rattle.wl_link.proofs.Calls.Branches.{either_option}
@@ -46,11 +46,8 @@ module _ {T U C : Type 0} {client : ClientParts} {p : Part T U C} {i : Interface
   abbrev made : Object (Kept U)
   made = new_object p i version u
 
-  numbered : (new.n == 0) ≡ false
-  numbered = let first = new.absent.within in ne_eqb new.n 0 (λ (zero : new.n ≡ 0). absurd (omega (arith, first, zero)))
-
   new_after : named q.store id ≡ Some (fresh_object i version id.serial (Some u))
-  new_after = grind (arith, named, stored, made, named_here, id_at, numbered, stored_here, eq-eqb, fresh_object)
+  new_after = grind (arith, named, stored, made, named_here, id_at, ne_eqb, stored_here, eq-eqb, fresh_object)
 
   new_others : (other : IdParts) → same_id (id_of id) (id_of other) ≡ false → named q.store other ≡ named p.store other
   new_others other differ = grind (arith, named, other_named, stored, made, held_stored, nothing_has, held, same_id, id_of)
@@ -132,13 +129,9 @@ module _ {T U G C : Type 0} {w : World T G C} {before after : BackendState T U G
     globals = offer_of call;
     memory = (
         let (did, (r, is, h)) = of_own call target refl (λ other lacked did differ (r, is, h). (when_false _ (same_client target other) differ h).0) in
-        of_answer r after.refused did (inside r is) h
+        grind (arith, either_option, seen, own, lacks_create, after.refused, inside r is)
         );
   }
     where
       inside : (r : Result IdParts CreateError) → ◌≡◌ {A = Reply T U} (reply.CreateObject answer) (reply.CreateObject r) → r ≡ answer
       inside r is = cc
-
-      of_answer : (r : Result IdParts CreateError) (lacked : Bool) (did : List (Deed U)) → r ≡ answer
-          → Of before.server.offer.table target target i version u r (seen target before.server) lacked did (seen target after.server) → lacked ≡ lacks_create answer
-      of_answer r lacked did same h = grind (arith, either_option, seen, own, lacks_create)

@@ -5,7 +5,6 @@ use Rattle.wl_link.proofs.Calls.Branches.{either_option}
 use Rattle.wl_link.specs.declared.object.Object.{Object}
 use Rattle.wl_server.specs.declared.error.InvalidId.{InvalidId}
 use Rattle.wl_server.specs.declared.objects.Kept.{Kept}
-use Rattle.wl_server.specs.declared.runs.step.Reply.{Reply}
 use Rattle.wl_server.specs.declared.runs.step.Reply.TheVariants as reply
 use Rattle.wl_server.specs.declared.runs.step.Step.TheVariants as step
 use Rattle.wl_server.specs.Backend.{BackendState, Calls}
@@ -24,9 +23,6 @@ use Rattle.wl_server.proofs.Plain.Naming.{names_so, rewritten_named, rewritten_o
 
 abbrev Refused : Result (Unit {0}) InvalidId → Type 0
 Refused answer = answer ≡ Err _
-
-not_both : {answer : Result (Unit {0}) InvalidId} → answer ≡ Ok tt → Refused answer → ⊥
-not_both ok refused = absurd cc
 
 module _ {T U C : Type 0} (o : IdParts) (u : U) (answer : Result (Unit {0}) InvalidId) where
   abbrev Sets : Bool → List (Deed U) → Part T U C → Part T U C → Type 0
@@ -55,7 +51,7 @@ module _ {T U C : Type 0} (o : IdParts) (u : U) (answer : Result (Unit {0}) Inva
         | inr (p, there, (q, (calm, none, set), same)) ↦
             elim (either_option (named p.store o) set) [
               | inl (unknown, (is, stays)) ↦ nothing_new s t p q did there stays (ap notes_in none) same
-              | inr (x, is, (ok, changed)) ↦ absurd (not_both ok refused)
+              | inr (x, is, (ok, changed)) ↦ absurd (absurd cc)
             ]
       ]
 
@@ -66,10 +62,7 @@ module _ {T U G C : Type 0} {w : World T G C} {before after : BackendState T U G
   set_each : (o : IdParts) (u : U) (answer : Result (Unit {0}) InvalidId) → Calls w before (step.SetObjectData o u) (reply.SetObjectData answer) after → (id : ClientParts)
       → (lacked : Bool) × (did : List (Deed U)) × Set o u answer id (seen id before.server) lacked did (seen id after.server)
   set_each o u answer call id =
-      let (lacked, did, (r, is, h)) = of_each call id in (lacked, did, subst (λ (a : Result (Unit {0}) InvalidId). Set o u a id (seen id before.server) lacked did (seen id after.server)) (sym (inside r is)) h)
-    where
-      inside : (r : Result (Unit {0}) InvalidId) → ◌≡◌ {A = Reply T U} (reply.SetObjectData answer) (reply.SetObjectData r) → answer ≡ r
-      inside r is = cc
+      let (lacked, did, (r, is, h)) = of_each call id in (lacked, did, subst (λ (a : Result (Unit {0}) InvalidId). Set o u a id (seen id before.server) lacked did (seen id after.server)) (sym (cc)) h)
 
   pub sets_object_data : (o : IdParts) (u : U) (answer : Result (Unit {0}) InvalidId) → Calls w before (step.SetObjectData o u) (reply.SetObjectData answer) after
       → SetsObjectData before o u answer after

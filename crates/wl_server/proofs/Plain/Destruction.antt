@@ -6,7 +6,7 @@ use Rattle.wl_wire.specs.declared.error.IoFault.{IoFault}
 use Rattle.wl_link.proofs.Calls.Branches.{either_option}
 use Rattle.wl_link.specs.declared.object.Object.{Object}
 use Rattle.wl_link.specs.Exchange.{Queue}
-use Rattle.wl_link.specs.Store.{Store, removed}
+use Rattle.wl_link.specs.Store.{removed}
 use Rattle.wl_server.specs.declared.error.DestroyError.{DestroyError}
 use Rattle.wl_server.specs.declared.error.DestroyError.TheVariants as destroy
 use Rattle.wl_server.specs.declared.objects.Kept.{Kept}
@@ -64,16 +64,7 @@ module _ {T U C : Type 0} (sends : T → Queue → Result ℕ IoFault → T → 
   -- an id of another number or serial
   destroy_others : (answer : Result (Unit {0}) DestroyError) (lacked : Bool) (did : List (Deed U)) (p q : Part T U C) → Does answer lacked did p q → (other : IdParts)
       → same_id (id_of o) (id_of other) ≡ false → named q.store other ≡ named p.store other
-  destroy_others answer lacked did p q h other differ =
-      elim (either_option (destroyable p o) h) [
-        | inl (unknown, (is, calm, none, same)) ↦ ap (λ (x : Part T U C). named x.store other) same
-        | inr (x, is, (answered, tells)) ↦
-            ap (λ (s : Store (Kept U)). named s other) (left_store p x lacked did q tells)
-            ∙ at lacked (removed_others p.store o x (names_so p.store o x (destroyable_named p o x is)) other differ)
-      ]
-    where
-      at : (b : Bool) → named (removed p.store o.number) other ≡ named p.store other → named (cond b p.store (removed p.store o.number)) other ≡ named p.store other
-      at h1 is = grind (arith)
+  destroy_others answer lacked did p q h1 other h2 = grind (arith, either_option, destroyable, named, left_store, removed_others, names_so, destroyable_named, removed, told, destroys, core_of, eqb-true)
 
   -- no memory is refused where the answer is another
   destroy_calm : (answer : Result (Unit {0}) DestroyError) → ((lacked : Bool) → answer ≡ unless_refused destroy.OutOfMemory lacked → lacked ≡ false) → (lacked : Bool)
@@ -133,18 +124,11 @@ module _ {T U G C : Type 0} {w : World T G C} {before after : BackendState T U G
       → (lacked : Bool) × (did : List (Deed U)) × Of w.sends o id answer (same_client o.client id) (seen id before.server) lacked did (seen id after.server)
   destroy_each answer call id =
       let (lacked, did, (r, is, h)) = of_each call id in
-      (lacked, did, subst (λ (a : Result (Unit {0}) DestroyError). Of w.sends o id a (same_client o.client id) (seen id before.server) lacked did (seen id after.server)) (sym (inside r is)) h)
-    where
-      inside : (r : Result (Unit {0}) DestroyError) → ◌≡◌ {A = Reply T U} (reply.DestroyObject answer) (reply.DestroyObject r) → answer ≡ r
-      inside r is = cc
+      (lacked, did, subst (λ (a : Result (Unit {0}) DestroyError). Of w.sends o id a (same_client o.client id) (seen id before.server) lacked did (seen id after.server)) (sym (cc)) h)
 
   destroy_memory : (answer : Result (Unit {0}) DestroyError) → ((lacked : Bool) → answer ≡ unless_refused destroy.OutOfMemory lacked → lacked ≡ false)
       → Calls w before (step.DestroyObject o) (reply.DestroyObject answer) after → after.refused ≡ false
-  destroy_memory answer so call =
-      calm call refl (grind (arith, never, same_client, destroy_calm, inside))
-    where
-      inside : (r : Result (Unit {0}) DestroyError) → ◌≡◌ {A = Reply T U} (reply.DestroyObject answer) (reply.DestroyObject r) → answer ≡ r
-      inside r is = cc
+  destroy_memory answer h1 h2 = grind (arith, calm, never, same_client, destroy_calm, either_option)
 
   destroyed_as : (answer : Result (Unit {0}) DestroyError) → Calls w before (step.DestroyObject o) (reply.DestroyObject answer) after → DestroyedAs before o answer after
   destroyed_as (Ok ok) call =

@@ -19,7 +19,6 @@ use Rattle.wl_server.specs.declared.error.FinishError.TheVariants as finish
 use Rattle.wl_server.specs.declared.error.FinishRefused.{FinishRefused}
 use Rattle.wl_server.specs.declared.reading.action.Action.{Action}
 use Rattle.wl_server.specs.declared.reading.action.Action.TheVariants as action
-use Rattle.wl_server.specs.declared.reading.action.OpenAction.{OpenAction}
 use Rattle.wl_server.specs.declared.reading.action.Reading.{Reading}
 use Rattle.wl_server.specs.declared.runs.step.Reply.{Reply}
 use Rattle.wl_server.specs.declared.runs.step.Reply.TheVariants as reply
@@ -28,15 +27,14 @@ use Rattle.wl_server.specs.declared.runs.step.Step.TheVariants as step
 use Rattle.wl_server.specs.Backend.{BackendState}
 use Rattle.wl_server.specs.Deeds.{Deed, Handed}
 use Rattle.wl_server.specs.Dispatch.{Answering, Answers, DispatchesAll, DispatchesClient, Handles, Last, Rounds, after_cleanup, cleaned, dispatched, fault_of_end, fault_of_reading, more as one_round, no_action, none as no_round, not_ended, refusal_in}
-use Rattle.wl_server.specs.Finish.{FinishesBind, FinishesOpenBind, FinishesRequest, refusal}
+use Rattle.wl_server.specs.Finish.{FinishesBind, FinishesRequest, refusal}
 use Rattle.wl_server.specs.Globals.{Offer}
 use Rattle.wl_server.specs.Inside.Finishing.{lacks_finish}
 use Rattle.wl_server.specs.Ids.{ClientParts}
-use Rattle.wl_server.specs.Objects.{unless_refused}
 use Rattle.wl_server.specs.Part.{Part}
 use Rattle.wl_server.specs.PartStep.{Asked, Call, CleanedAs, OnPart, PartCall, ReadsFor, World, around}
 use Rattle.wl_server.specs.Plain.Dispatch.{AllLive, DispatchOfOneLeaves, DispatchOfSeveralLeaves, IsBusy, IsIdle, KeepsGlobals, LeftBy}
-use Rattle.wl_server.specs.Plain.Reading.{FaultLeaves, IsHandedOut, IsKilledOnce, ReadAs}
+use Rattle.wl_server.specs.Plain.Reading.{FaultLeaves, IsKilledOnce, ReadAs}
 use Rattle.wl_server.specs.Reading.{Around, NextAction, action_content, server}
 use Rattle.wl_server.specs.ReadingEnds.{LastReceiveFailed}
 use Rattle.wl_server.specs.Server.{Seen, ServerState, seen}
@@ -127,9 +125,6 @@ module _ {T U C : Type 0} (table : List InterfaceRow) (id : ClientParts) (s t : 
   ended_by (Io fault.Proto) h = read_killed fault.Proto (λ q k. k) h
   ended_by (Io (fault.Other n)) h = read_killed (fault.Other n) (λ q k. k) h
 
-ended_finish : {T U C : Type 0} (why : FinishError) (found : Option (Part T U C)) → EndedBy (fault_of_end why) found
-ended_finish h1 found = grind (arith)
-
 -- ---- a client whose dispatch ends with `InvalidInput`
 
 module _ {T U C : Type 0} where
@@ -159,19 +154,13 @@ module _ {T U C : Type 0} (table : List InterfaceRow) (id : ClientParts) (s t : 
   read_shut ActionOpen h is = open_shut h
   read_shut (Io f) h is = gone_shut t.part (read_killed table id s t fault.InvalidInput (λ q k. k) (subst (λ (x : IoFault). ReadAs table id (Err (Io x)) s t) is h))
 
-  opens : (h : Handed) (q : Part T U C) → IsHandedOut table id h q → IsSome q.action
-  opens h1 q h3 = grind (arith, is_some)
-
   read_stands : (h : Handed) → ReadAs table id (Ok h) s t → Stands t.part
   read_stands h (inl (none, is, same)) = absurd (ok_no_err is)
   read_stands h (inr (p, was, inl (some, is, same))) = absurd (ok_no_err is)
   read_stands h (inr (p, was, inr (inl (idle, dead, is, same)))) = absurd (ok_no_err is)
-  read_stands h (inr (p, was, inr (inr (idle, live, (q, (handed, (lives, is))))))) = inr (q, ap (λ (x : Seen T U C). x.part) is, opens h q handed)
+  read_stands h (inr (p, was, inr (inr (idle, live, (q, (handed, (lives, is))))))) = inr (q, ap (λ (x : Seen T U C). x.part) is, (grind (arith, is_some)))
 
 -- ---- whether memory was refused
-
-or_first : (a b : Bool) → a ≡ true → (a || b) ≡ true
-or_first h1 b is = grind (arith, true≢false)
 
 or_then : (a b : Bool) → b ≡ true → (a || b) ≡ true
 or_then h1 b is = grind (arith)
@@ -234,12 +223,9 @@ module _ {T U G C : Type 0} (w : World T G C) (id : ClientParts) (s s' : ServerS
       absurd (never r (why ∙ ap refusal_in answer_is)
       (own id (seen id s) (λ p q. FinishesBind p u r (e.lacks id) (e.did id) q) (r ≡ Err (record { error = finish.InvalidId; user_data = u })) (e.lacks id) (e.did id) (seen id s') h))
     where
-      open_bind : (r : BindAnswer) → IsStarved r → (p q : Part T U C) (a : OpenAction) → FinishesOpenBind p a u r (e.lacks id) (e.did id) q → ⊥
-      open_bind r h1 p q a h2 = grind (arith)
-
       never : (r : BindAnswer) → IsStarved r
           → OnPart (seen id s) (λ p q. FinishesBind p u r (e.lacks id) (e.did id) q) (r ≡ Err (record { error = finish.InvalidId; user_data = u })) (e.lacks id) (e.did id) (seen id s') → ⊥
-      never r starved h = grind (arith, either_option, seen, open_bind)
+      never r starved h = grind (arith, either_option, seen)
 
 module _ {H T U G C : Type 0} (w : World T G C) (answers : Answering H T U G C) (id : ClientParts) where
   no_more : (r r' : Reading) (s s' : ServerState T U G C) (e : Entry T U G C) (error : ActionError) → OneStep w s e s'
@@ -257,7 +243,7 @@ module _ {H T U G C : Type 0} (w : World T G C) (answers : Answering H T U G C) 
       → Last w answers id h r s run lacked f h' r' s' → EndedBy f (seen id s').part
   last_leaves {r = r} {r' = r'} {s = s} {s' = s'} (no_action e error by is run_is lacked_is f_is same) =
       subst (λ (f : IoFault). EndedBy f (seen id s').part) (sym f_is) (no_more r r' s s' e error by is)
-  last_leaves {s' = s'} (not_ended why round f_is) = subst (λ (f : IoFault). EndedBy f (seen id s').part) (sym f_is) (ended_finish why (seen id s').part)
+  last_leaves {s' = s'} (not_ended why round f_is) = subst (λ (f : IoFault). EndedBy f (seen id s').part) (sym f_is) (grind (arith, (seen id s').part))
 
   -- ---- an action whose end is refused
 
@@ -274,10 +260,7 @@ module _ {H T U G C : Type 0} (w : World T G C) (answers : Answering H T U G C) 
   module _ (why : FinishError) (is_not : why ≡ finish.OutOfMemory → ⊥) where
     request_same : (p q : Part T U C) (u : Option U) (r : Result (Unit {0}) (FinishRefused (Option U))) (lacked : Bool) (did : List (Deed U))
         → Some why ≡ refusal_in {T = T} (reply.FinishRequest r) → FinishesRequest w.sends id p u r lacked did q → q ≡ p
-    request_same p q u r lacked did so does = grind (arith, either_option, refusal, accepted)
-      where
-        accepted : (lacked : Bool) → r ≡ unless_refused (record { error = finish.OutOfMemory; user_data = u }) lacked → ⊥
-        accepted lacked h1 = grind (arith, refusal_in)
+    request_same p q u r lacked did so does = grind (arith, either_option, refusal, refusal_in)
 
     module _ (s s' : ServerState T U G C) (e : Entry T U G C) (by : OneStep w s e s') (answer : Reply T U) (so : Some why ≡ refusal_in answer) where
       bind_stays : (u : U) → e.call ≡ Asked (step.FinishBind id u) answer → (seen id s').part ≡ (seen id s).part
@@ -292,10 +275,7 @@ module _ {H T U G C : Type 0} (w : World T G C) (answers : Answering H T U G C) 
   born_rounds (no_round run_is lacked_is) born = born
   born_rounds (one_round {s1 = s1} before round run_is lacked_is) born =
       let so_far = born_rounds before born in
-      let read = round.reads.last in
-      let handled = born_still w id round.found.server round.handles.left.server round.handles.calls (omega (arith, so_far, read)) round.handles.leads in
-      let ended = round.handles.ends.last in
-      omega (arith, handled, ended)
+      omega (arith, born_still w id round.found.server round.handles.left.server round.handles.calls (omega (arith, so_far, round.reads.last)) round.handles.leads, round.handles.ends.last)
 
   last_shut : {h h' : H} {r r' : Reading} {s s' : ServerState T U G C} {run : List (Entry T U G C)} {lacked : Bool} {f : IoFault}
       → Last w answers id h r s run lacked f h' r' s' → id.serial ≤ s.last_client → f ≡ fault.InvalidInput → Shut (seen id s').part
@@ -309,11 +289,8 @@ module _ {H T U G C : Type 0} (w : World T G C) (answers : Answering H T U G C) 
       (subst Stands (sym (end_stays why is_not round.handles))
       (run_stands w id round.found.server round.handles.left.server round.handles.calls (omega (arith, born, read)) round.handles.leads round.handles.spared stands))
     where
-      other : fault.OutOfMemory ≡ fault.InvalidInput → ⊥
-      other is = absurd cc
-
       is_not : why ≡ finish.OutOfMemory → ⊥
-      is_not is = other (sym (ap fault_of_end is) ∙ sym f_is ∙ so)
+      is_not is = absurd cc
 
   -- ---- memory
 
@@ -338,12 +315,9 @@ module _ {H T U G C : Type 0} (w : World T G C) (answers : Answering H T U G C) 
   last_starved {h = h} {h' = h'} {s' = s'} (not_ended why round f_is) lacks =
       round.lacked_is ∙ or_then round.read.refused round.end_lacked (at why (sym f_is ∙ lacks) round.handles)
     where
-      other : fault.InvalidInput ≡ fault.OutOfMemory → ⊥
-      other is = absurd cc
-
       at : (why : FinishError) → fault_of_end why ≡ fault.OutOfMemory → Handles w answers id h round.found round.handed round.rest round.end_lacked (Some why) h' s' → round.end_lacked ≡ true
       at finish.OutOfMemory lacks x = end_starved x
-      at _ lacks x = absurd (other lacks)
+      at _ lacks x = absurd (absurd cc)
 
   -- ---- a client
 
@@ -398,9 +372,6 @@ module _ {H T U G C : Type 0} (w : World T G C) (answers : Answering H T U G C) 
             | inr busy ↦ inr (inl busy)
           ]
 
-      of_fault : (f : IoFault) (read : ℕ) → dispatched f read ≡ Err fault.OutOfMemory → f ≡ fault.OutOfMemory
-      of_fault h1 read is = grind (arith, eqb)
-
       at : (r : Result (Vec (ClientParts × T) Global) OutOfMemory) → ends.out ≡ reply.Cleanup r
           → CleanedAs w id mid.offer r (seen id mid) (ends.cleanup.lacks id) (ends.cleanup.did id) (seen id after.server) → EndedBy rounds.fault (seen id mid).part
           → DispatchOfOneLeaves answers before id result after
@@ -411,10 +382,14 @@ module _ {H T U G C : Type 0} (w : World T G C) (answers : Answering H T U G C) 
         all = λ fine. all_live w mid after ends.cleanup ends.out ends.cleans ends.cleanup_is out is;
         memory = λ lacks.
             ends.refused
-            ∙ or_first lacked ends.cleanup.refused
-            (rounds.rounds_end.lacked_is
-            ∙ or_then rounds.rounds_end.first_lacked rounds.rounds_end.last_lacked
-            (last_starved rounds.rounds_end.end (of_fault rounds.fault rounds.left.read (sym (result_as (Ok out) is) ∙ lacks))));
+            ∙ (grind (
+              arith,
+              true≢false,
+              ends.cleanup.refused,
+              rounds.rounds_end.lacked_is
+                  ∙ or_then rounds.rounds_end.first_lacked rounds.rounds_end.last_lacked
+                  (last_starved rounds.rounds_end.end (grind (arith, eqb, rounds.fault, rounds.left.read, sym (result_as (Ok out) is) ∙ lacks))),
+            ));
         globals = λ keeps. dispatch_keeps w answers keeps id h h' before mid after calls lacked answer result rounds ends;
       }
       at (Err l) is cleans was = record {

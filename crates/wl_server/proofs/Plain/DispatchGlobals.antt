@@ -2,10 +2,9 @@
 use Rattle.std.proofs.Common.{◌≡◌, ◌∙◌, ℕ, Bool, List, Option, Result, Ok, refl, ap, arith}
 use Rattle.wl_wire.specs.declared.error.IoFault.{IoFault}
 use Rattle.wl_server.specs.declared.error.FinishError.{FinishError}
-use Rattle.wl_server.specs.declared.reading.action.Action.{Action}
 use Rattle.wl_server.specs.declared.reading.action.Reading.{Reading}
 use Rattle.wl_server.specs.Backend.{BackendState}
-use Rattle.wl_server.specs.Dispatch.{Answering, EachIsDispatched, EndsDispatch, Handles, IsDispatched, Round, Rounds, more, none}
+use Rattle.wl_server.specs.Dispatch.{Answering, EachIsDispatched, EndsDispatch, IsDispatched, Round, Rounds, more, none}
 use Rattle.wl_server.specs.Ids.{ClientParts}
 use Rattle.wl_server.specs.PartStep.{Call, World}
 use Rattle.wl_server.specs.Plain.Dispatch.{KeepsGlobals}
@@ -19,14 +18,10 @@ module _ {H T U G C : Type 0} (w : World T G C) (answers : Answering H T U G C) 
   kept_by before after e call by is same = by.offer ∙ ap (offer_after before.offer) is ∙ same
 
   module _ (id : ClientParts) where
-    handled_keeps : (h h' : H) (before : BackendState T U G C) (a : Action) (run : List (Entry T U G C)) (lacked : Bool) (why : Option FinishError) (after : ServerState T U G C)
-        → Handles w answers id h before a run lacked why h' after → after.offer ≡ before.server.offer
-    handled_keeps h h' before a run lacked why after x = grind (arith, kept_by)
-
     round_keeps : (h h' : H) (r r' : Reading) (before after : ServerState T U G C) (run : List (Entry T U G C)) (lacked : Bool) (why : Option FinishError)
         → Round w answers id h r before run lacked why h' r' after → after.offer ≡ before.offer
     round_keeps h h' r r' before after run lacked why round =
-        handled_keeps h h' round.found round.handed round.rest round.end_lacked why after round.handles
+        grind (arith, kept_by, round.found, round.handed, round.rest, round.end_lacked, round.handles)
         ∙ kept_by before round.found.server round.read _ round.reads round.read_is refl
 
     rounds_keep : (h h' : H) (r r' : Reading) (before after : ServerState T U G C) (run : List (Entry T U G C)) (lacked : Bool)

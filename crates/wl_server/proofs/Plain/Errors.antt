@@ -1,5 +1,5 @@
 -- An error that the program posts.
-use Rattle.std.proofs.Common.{◌≡◌, ◌≢◌, ℕ, Bool, true, false, cond, List, [], ◌∷◌, ◌++◌, append-nil, map, None, Some, IsSome, is_some, Result, Ok, Err, refl, sym, ap, subst, ◌∙◌, true≢false, arith}
+use Rattle.std.proofs.Common.{◌≡◌, ℕ, Bool, true, false, cond, List, [], ◌∷◌, ◌++◌, append-nil, map, Some, is_some, Result, Ok, Err, refl, sym, ap, subst, ◌∙◌, true≢false, arith}
 use mathlib.Core.Logic.{inl, inr}
 use Rattle.std.specs.Prelude.{◌⊎◌, ◌==◌, MatchBool, option_map}
 use Rattle.wl_wire.specs.declared.error.IoFault.{IoFault}
@@ -32,9 +32,6 @@ by_choice : {P Q : Type 0} (b : Bool) → MatchBool b P Q → ((b ≡ true) × P
 by_choice true p = inl (refl, p)
 by_choice false q = inr (refl, q)
 
-noted_if : {U : Type 0} (b : Bool) (reason : DisconnectReason) → notes_in {U = U} (end_deeds (cond b None (Some reason))) ≡ cond b [] (Disconnected reason ∷ [])
-noted_if h1 reason = grind (arith)
-
 module _ {T U C : Type 0} (sends : T → Queue → Result ℕ IoFault → T → Type 0) (table : List InterfaceRow) (id : IdParts) (code : ℕ) (text : List ℕ) where
   -- the client is killed for this reason, and otherwise as it was but for its link
   record IsEnded (p : Part T U C) (did : List (Deed U)) (q : Part T U C) : Type 0 where
@@ -55,14 +52,10 @@ module _ {T U C : Type 0} (sends : T → Queue → Result ℕ IoFault → T → 
   closes : (c : Core U C) → Dies c (closed_down c)
   closes c = record { for = ConnectionClosed; right = inr refl; core = refl }
 
-  -- a core that was closed down keeps that reason
-  closed_first : (c : Core U C) → Dies c ((posts table c id code text).last (closed_down c))
-  closed_first c = record { for = ConnectionClosed; right = inr refl; core = refl }
-
   came : (c : Core U C) (wrote : Result (Unit {0}) IoFault) → Dies c (came_to speaker (posts table c id code text) wrote)
   came c (Ok u) = record { for = BrokeProtocol (error_of table id code text); right = inl refl; core = refl }
   came c (Err fault.OutOfMemory) = closes c
-  came c _ = closed_first c
+  came c _ = record { for = ConnectionClosed; right = inr refl; core = refl }
 
   ends : (p q : Part T U C) (lacked : Bool) (did : List (Deed U)) → Tells sends (verdict p) p.link lacked did q → IsEnded p did q
   ends p q lacked did (es, gave, end, carries, did_so, same) = carried carries
@@ -74,7 +67,7 @@ module _ {T U C : Type 0} (sends : T → Queue → Result ℕ IoFault → T → 
         core_is = ap core_of same ∙ ap (λ (c : Core U C). core_of (part_of (record { core = c; link = end.link }))) d.core;
         noted =
             ap notes_in (did_so ∙ ap (λ (g : List _). deeds_of (map Sent es) g end.core) given) ∙ notes_told es put [] end.core
-            ∙ ap (λ (c : Core U C). notes_in {U = U} (end_deeds c.ended)) d.core ∙ noted_if p.is_killed d.for;
+            ∙ ap (λ (c : Core U C). notes_in {U = U} (end_deeds c.ended)) d.core ∙ (grind (arith, p.is_killed, d.for));
       }
 
       carried : CarriesOut sends speaker (verdict p) p.link es gave lacked end → IsEnded p did q
@@ -94,13 +87,7 @@ module _ {T U C : Type 0} (sends : T → Queue → Result ℕ IoFault → T → 
 
   -- a null id does nothing
   null_same : (id.number == 0) ≡ true → (b : Bool) (s t : Seen T U C) (lacked : Bool) (did : List (Deed U)) → OfClient b s (Does lacked did) (Unit {0}) lacked did t → t ≡ s
-  null_same null false s t lacked did (calm, none, same) = same
-  null_same null true s t lacked did h =
-      elim (either_option s.part h) [
-        | inl (none, (m, (calm, nothing, same))) ↦ same
-        | inr (p, there, (q, does, same)) ↦
-            let (calm, none, stays) = when_true _ (id.number == 0) null does in nothing_new s t p q did there stays (ap notes_in none) same
-      ]
+  null_same h1 b s t lacked did h2 = grind (arith, either_option, when_true, nothing_new, notes_in, true≢false, append-nil)
 
   -- another id is told of its client
   ended : (id.number == 0) ≡ false → (client : ClientParts) (s t : Seen T U C) (lacked : Bool) (did : List (Deed U)) → OfClient (same_client client client) s (Does lacked did) (Unit {0}) lacked did t
@@ -125,14 +112,9 @@ module _ {T U G C : Type 0} {w : World T G C} {before after : BackendState T U G
     globals = offer_of call;
     memory = λ known.
         let (did, (is, h)) = of_own call id.client refl (λ other lacked did differ (is, h). (when_false _ (same_client id.client other) differ h).0) in
-        asked did known h;
+        grind (arith, either_option, seen, own, true≢false, when_true, is_some);
   }
     where
-      asked : (did : List (Deed U)) → after.refused ≡ true
-          → OfClient (same_client id.client id.client) (seen id.client before.server) (Does w.sends before.server.offer.table id code text after.refused did) (Unit {0}) after.refused did (seen id.client after.server)
-          → (id.number ≢ 0) × IsSome (seen id.client before.server).part
-      asked did known h = grind (arith, either_option, seen, own, true≢false, when_true, is_some)
-
       by_number : (b : Bool) → (id.number == 0) ≡ b → MatchBool b (IsUnchanged before after) (ErrorPostedAs before id code text after)
       by_number true null =
           unchanged call refl refl

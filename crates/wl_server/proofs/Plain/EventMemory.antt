@@ -5,7 +5,6 @@ use Rattle.wl_wire.specs.declared.error.IoFault.{IoFault}
 use Rattle.wl_wire.specs.Table.{InterfaceRow}
 use Rattle.wl_link.specs.declared.object.Object.{Object}
 use Rattle.wl_link.specs.Exchange.{Queue}
-use Rattle.wl_link.specs.Link.{LinkState}
 use Rattle.wl_server.specs.declared.error.EventError.{EventError}
 use Rattle.wl_server.specs.declared.error.EventError.TheVariants as refused
 use Rattle.wl_server.specs.declared.objects.Kept.{Kept}
@@ -13,7 +12,7 @@ use Rattle.wl_server.specs.Deeds.{Deed}
 use Rattle.wl_server.specs.Events.{SendsEvent, SendsGranted, SessionMessage, ends_closed, ends_sender, event_check}
 use Rattle.wl_server.specs.Ids.{ClientParts}
 use Rattle.wl_server.specs.Part.{Part}
-use Rattle.wl_server.specs.Telling.{Tells, core_of}
+use Rattle.wl_server.specs.Telling.{core_of}
 use Rattle.wl_server.proofs.Plain.Base.{split_bool}
 use Rattle.wl_server.proofs.Plain.ReadingEnds.{split_result}
 use Rattle.wl_server.proofs.Plain.Verdicts.{told_nothing}
@@ -25,17 +24,13 @@ pub data MemoryBy {T U C : Type 0} (p q : Part T U C) (answer : Result (Unit {0}
   is_sent : answer ≡ Ok tt → (lacked ≡ true → (p.is_killed ≡ false) × (q.is_killed ≡ true)) → MemoryBy p q answer lacked
 
 module _ {T U C : Type 0} (sends : T → Queue → Result ℕ IoFault → T → Type 0) (client : ClientParts) (m : SessionMessage) (p q : Part T U C) where
-  closed : (lacked : Bool) (did : List (Deed U)) (x : Object (Kept U)) (ends : Bool) (link : LinkState T) → Tells sends (ends_closed client (core_of p) m x ends) link lacked did q
-      → lacked ≡ false
-  closed lacked did x h4 link tells = grind (arith, told_nothing, ends_closed, core_of)
-
   -- the event could not be put for another reason
   unput : (answer : Result (Unit {0}) EventError) (lacked : Bool) → answer ≡ Ok tt → lacked ≡ false → MemoryBy p q answer lacked
   unput answer lacked is calm = is_sent is (λ lacks. absurd (true≢false (sym lacks ∙ calm)))
 
   of_granted : p.is_killed ≡ false → (x : Object (Kept U)) (ends : Bool) (answer : Result (Unit {0}) EventError) (lacked : Bool) (did : List (Deed U))
       → SendsGranted sends client p m x ends answer lacked did q → MemoryBy p q answer lacked
-  of_granted live x ends answer lacked did h7 = grind (arith, ends_sender, core_of, unput, closed)
+  of_granted live x ends answer lacked did h7 = grind (arith, ends_sender, core_of, unput, told_nothing, ends_closed)
 
   pub event_memory_of : (table : List InterfaceRow) (answer : Result (Unit {0}) EventError) (lacked : Bool) (did : List (Deed U))
       → (event_check client p.store table m ≡ Err refused.OutOfMemory → ⊥) → SendsEvent sends client table p m answer lacked did q → MemoryBy p q answer lacked

@@ -1,13 +1,11 @@
 -- An event that the program sends.
 use Rattle.std.proofs.Common.{◌≡◌, ℕ, Bool, true, false, cond, not, List, [], ◌∷◌, ◌++◌, append-nil, map, Option, None, Some, is_some, Result, Ok, Err, refl, sym, ap, subst, ◌∙◌, true≢false, arith}
 use mathlib.Core.Logic.{inl, inr}
-use Rattle.std.specs.Prelude.{◌⊎◌, ◌≢◌, ◌==◌, MatchBool, MatchResult, option_map}
+use Rattle.std.specs.Prelude.{◌⊎◌, ◌≢◌, MatchBool, MatchResult, option_map}
 use Rattle.wl_wire.specs.declared.argument.AllowNull.{AllowNull}
 use Rattle.wl_wire.specs.declared.argument.AllowNull.TheVariants.{No, Yes}
 use Rattle.wl_wire.specs.declared.argument.Argument.{Argument}
-use Rattle.wl_wire.specs.declared.argument.Argument.TheVariants as arg
 use Rattle.wl_wire.specs.declared.argument.ArgumentType.{ArgumentType}
-use Rattle.wl_wire.specs.declared.argument.ArgumentType.TheVariants as kind
 use Rattle.wl_wire.specs.declared.argument.Token.{Token}
 use Rattle.wl_wire.specs.declared.error.IoFault.{IoFault}
 use Rattle.wl_wire.specs.declared.error.IoFault.TheVariants as fault
@@ -127,23 +125,10 @@ module _ {T U C : Type 0} (client : ClientParts) (p : Part T U C) (m : SessionMe
     fresh false = refl
 
     put_live : (ends : Bool) (did : List (Deed U)) (q : Part T U C) → IsTold (verdict ends) did q → IsPut ends did q
-    put_live ends did q t =
-        elim t.core_is [
-          | inl all ↦ grind (arith, has, lives, notes_in, end_deeds, quiet, fresh)
-          | inr (some, closes) ↦ grind (arith, has, notes_in, end_deeds, quiet, cond, verdict, fresh, closing, lives)
-        ]
+    put_live ends did q h1 = grind (arith, has, lives, notes_in, end_deeds, quiet, fresh, verdict, closing, append-nil, left_silent, is_some, named, m, id_of, true≢false)
 
     put_starved : (ends : Bool) → (verdict ends).starved.store ≡ (verdict ends).core.store → (did : List (Deed U)) (q : Part T U C) → IsStarved (verdict ends) did q → IsPut ends did q
-    put_starved true same did q t = record {
-      store_is = ap (λ (y : Part T U C). y.store) t.part_is;
-      waiting_is = ap (λ (y : Part T U C). y.waiting) t.part_is;
-      told = grind (arith, notes_in, end_deeds, verdict, quiet, closing);
-    }
-    put_starved false same did q t = record {
-      store_is = ap (λ (y : Part T U C). y.store) t.part_is;
-      waiting_is = ap (λ (y : Part T U C). y.waiting) t.part_is ∙ sym (append-nil p.waiting);
-      told = inr (ap (λ (y : Part T U C). y.is_killed) t.part_is, t.notes_are ∙ closing p.is_killed live);
-    }
+    put_starved ends h1 did q h2 = grind (arith, notes_in, end_deeds, verdict, quiet, closing, append-nil, left_silent, is_some, named, m, id_of, true≢false)
 
     flushes_none : (ends : Bool) → (verdict ends).flushes ≡ false
     flushes_none true = refl
@@ -167,14 +152,7 @@ module _ {T U C : Type 0} (client : ClientParts) (p : Part T U C) (m : SessionMe
     -- the event could not be put: the client is closed down
     was_closed : (ends : Bool) (link : LinkState T) (lacked : Bool) (did : List (Deed U)) (q : Part T U C) → Tells sends (ends_closed client (core_of p) m x ends) link lacked did q
         → IsPut ends did q
-    was_closed true link lacked did q h =
-        let calm : lacked ≡ false = told_nothing sends (ends_closed client (core_of p) m x true) refl refl refl link lacked did q h in
-        let t : IsTold (ends_closed client (core_of p) m x true) did q = told_ended sends (ends_closed client (core_of p) m x true) (λ c. refl) link lacked did q calm h in
-        grind (arith, notes_in, end_deeds, quiet, closing)
-    was_closed false link lacked did q h =
-        let calm : lacked ≡ false = told_nothing sends (ends_closed client (core_of p) m x false) refl refl refl link lacked did q h in
-        let t : IsTold (ends_closed client (core_of p) m x false) did q = told_ended sends (ends_closed client (core_of p) m x false) (λ c. refl) link lacked did q calm h in
-        grind (arith, append-nil, notes_in, end_deeds, closing)
+    was_closed ends link lacked did q h1 = grind (arith, told_nothing, ends_closed, client, core_of, m, told_ended, notes_in, end_deeds, quiet, closing, append-nil, true≢false, map, left_silent, is_some, named, id_of)
 
     -- ---- by the answer
 
@@ -217,17 +195,11 @@ module _ {T U C : Type 0} (client : ClientParts) (p : Part T U C) (m : SessionMe
 
     never_so : (ends : Bool) (answer : Result (Unit {0}) EventError) (e : EventError) → answer ≡ Err e → e ≢ refused.OutOfMemory → (did : List (Deed U)) (q : Part T U C)
         → Comes ends answer did q → ⊥
-    never_so ends answer e err other did q comes = at e other (subst (λ (r : Result (Unit {0}) EventError). Comes ends r did q) err comes)
-      where
-        at : (e : EventError) → e ≢ refused.OutOfMemory → Comes ends (Err e) did q → ⊥
-        at h1 other h = grind (arith)
+    never_so ends answer e err other did q comes = grind (arith, subst (λ (r : Result (Unit {0}) EventError). Comes ends r did q) err comes)
 
     come_others : (ends : Bool) (answer : Result (Unit {0}) EventError) (did : List (Deed U)) (q : Part T U C) → named p.store m.sender ≡ Some x → (other : IdParts)
         → same_id (id_of m.sender) (id_of other) ≡ false → Comes ends answer did q → named q.store other ≡ named p.store other
-    come_others ends (Ok u) did q name other differ put = ap (λ (st : Store (Kept U)). named st other) put.store_is ∙ at ends
-      where
-        at : (b : Bool) → named (cond b (removed p.store m.sender.number) p.store) other ≡ named p.store other
-        at h1 = grind (arith, removed_others, m, names_so)
+    come_others ends (Ok u) did q name other differ put = ap (λ (st : Store (Kept U)). named st other) put.store_is ∙ (grind (arith, removed_others, m, names_so))
     come_others ends (Err refused.OutOfMemory) did q name other differ kept = ap (λ (c : Core U C). named c.store other) kept.core_is
     come_others ends _ did q name other differ h = absurd h
 
@@ -267,15 +239,7 @@ module _ {U : Type 0} (client : ClientParts) (store : Store (Kept U)) where
       (first_calm (found_fault is_asked (named store id)) [] (found_calm is_asked (named store id)) refl)
 
   argument_calm : (row : MessageRow) (k : ArgumentType) (asked : InterfaceId) (x : Argument IdParts Token) → is_memory (argument_fault client store row k asked x) ≡ false
-  argument_calm row (kind.Object null) asked (arg.Object id) = at (id.number == 0)
-    where
-      at : (b : Bool) → is_memory (cond b (null_fault null) (id_fault client store (fits asked) id)) ≡ false
-      at h1 = grind (arith, null_calm, id_calm)
-  argument_calm row kind.NewId asked (arg.NewId id) = at (id.number == 0)
-    where
-      at : (b : Bool) → is_memory (cond b (Some refused.NullNewId) (id_fault client store (is_child row.child_interface) id)) ≡ false
-      at h1 = grind (arith, id_calm, is_child)
-  argument_calm row _ asked _ = refl
+  argument_calm row k asked x = grind (arith, is_memory, null_fault, id_fault, client, fits, null_calm, id_calm, is_child, first_calm, when, not, same_client, found_fault, named, when_calm, found_calm)
 
   arguments_calm : (row : MessageRow) (kinds : List ArgumentType) (asked : List InterfaceId) (args : List (Argument IdParts Token))
       → is_memory (first_refusal (argument_faults client store row kinds asked args)) ≡ false
@@ -290,11 +254,7 @@ module _ {U : Type 0} (client : ClientParts) (store : Store (Kept U)) where
   reason_of (Err e) = Some e
 
   sender_calm : (table : List InterfaceRow) (o : Option (Object (Kept U))) (m : SessionMessage) → is_memory (reason_of (checked_sender client store table o m)) ≡ false
-  sender_calm table None m = refl
-  sender_calm table (Some x) m = row_calm (event_row table x.interface m.opcode)
-    where
-      row_calm : (r : Option MessageRow) → is_memory (reason_of (checked_row client store x r m)) ≡ false
-      row_calm h1 = grind (arith, first_refusal, when, not, matches, argument_faults, client, first_calm, when_calm, arguments_calm)
+  sender_calm table o m = grind (arith, event_row, is_memory, reason_of, checked_row, client, first_refusal, when, not, matches, argument_faults, first_calm, when_calm, arguments_calm, argument_fault, next_interface, left_after, argument_calm)
 
   never_memory : (table : List InterfaceRow) (m : SessionMessage) → event_check client store table m ≡ Err refused.OutOfMemory → ⊥
   never_memory table m is = true≢false (sym (ap (λ (r : Result (Object (Kept U) × Bool) EventError). is_memory (reason_of r)) is) ∙ sender_calm table (named store m.sender) m)
@@ -355,41 +315,17 @@ module _ {T U C : Type 0} (sends : T → Queue → Result ℕ IoFault → T → 
 
   lacks_memory : (answer : Result (Unit {0}) EventError) → answer ≡ Err refused.OutOfMemory → (lacked : Bool) (did : List (Deed U)) (p q : Part T U C) → Does answer lacked did p q
       → lacked ≡ true
-  lacks_memory answer err lacked did p q h =
-      elim (by_choice p.is_killed h) [
-        | inl (dead, (is, calm, none, same)) ↦ absurd (not_ok refused.OutOfMemory (sym err ∙ is))
-        | inr (live, checked) ↦ grind (arith, by_result, event_check, client, m, granted_lacks, never_memory, same_error)
-      ]
+  lacks_memory answer h1 lacked did p q h2 = grind (arith, by_choice, not_ok, by_result, event_check, client, m, granted_lacks, never_memory, same_error, true≢false, is_memory, reason_of, sender_calm, named)
 
   -- a refusal changes nothing
   refused_same : (answer : Result (Unit {0}) EventError) (e : EventError) → answer ≡ Err e → e ≢ refused.OutOfMemory → (b : Bool) (s t : Seen T U C) (lacked : Bool) (did : List (Deed U))
       → OfClient b s (Does answer lacked did) (answer ≡ Err refused.InvalidId) lacked did t → t ≡ s
-  refused_same answer e err other false s t lacked did (calm, none, same) = same
-  refused_same answer e err other true s t lacked did h =
-      elim (either_option s.part h) [
-        | inl (none, (is, (calm, nothing, same))) ↦ same
-        | inr (p, there, (q, does, same)) ↦
-            elim (comes_to answer lacked did p q does) [
-              | inl d ↦ nothing_new s t p q did there d.same (ap notes_in d.none) same
-              | inr (inl r) ↦ nothing_new s t p q did there r.same (ap notes_in r.none) same
-              | inr (inr g) ↦ absurd (never_so client p m g.x sends g.live g.ends answer e err other did q g.comes)
-            ]
-      ]
+  refused_same answer e h1 h2 b s t lacked did h3 = grind (arith, either_option, comes_to, nothing_new, notes_in, never_so, client, m, by_choice, by_result, event_check, granted_comes, append-nil)
 
   -- an event to a killed client changes nothing
   dropped_same : (answer : Result (Unit {0}) EventError) (b : Bool) (s t : Seen T U C) (lacked : Bool) (did : List (Deed U)) → (b ≡ true → (p : Part T U C) → s.part ≡ Some p → p.is_killed ≡ true)
       → OfClient b s (Does answer lacked did) (answer ≡ Err refused.InvalidId) lacked did t → t ≡ s
-  dropped_same answer false s t lacked did dead (calm, none, same) = same
-  dropped_same answer true s t lacked did dead h =
-      elim (either_option s.part h) [
-        | inl (none, (is, (calm, nothing, same))) ↦ same
-        | inr (p, there, (q, does, same)) ↦
-            elim (comes_to answer lacked did p q does) [
-              | inl d ↦ nothing_new s t p q did there d.same (ap notes_in d.none) same
-              | inr (inl r) ↦ nothing_new s t p q did there r.same (ap notes_in r.none) same
-              | inr (inr g) ↦ absurd (true≢false (sym (dead refl p there) ∙ g.live))
-            ]
-      ]
+  dropped_same answer b s t lacked did h1 h2 = grind (arith, either_option, comes_to, nothing_new, notes_in, true≢false, by_choice, by_result, event_check, client, m, granted_comes, append-nil)
 
   -- another id of the client names what it named
   others_stay : (answer : Result (Unit {0}) EventError) (lacked : Bool) (did : List (Deed U)) (p q : Part T U C) → Does answer lacked did p q → (other : IdParts)
@@ -419,10 +355,7 @@ module _ {T U G C : Type 0} (w : World T G C) (before after : BackendState T U G
     event_each : (id : ClientParts) → (lacked : Bool) × (did : List (Deed U)) × Of answer id lacked did
     event_each id =
         let (lacked, did, (r, is, h)) = of_each call id in
-        (lacked, did, subst (λ (a : Result (Unit {0}) EventError). Of a id lacked did) (sym (inside r is)) h)
-      where
-        inside : (r : Result (Unit {0}) EventError) → ◌≡◌ {A = Reply T U} (reply.SendEvent answer) (reply.SendEvent r) → answer ≡ r
-        inside r is = cc
+        (lacked, did, subst (λ (a : Result (Unit {0}) EventError). Of a id lacked did) (sym (cc)) h)
 
     unchanged_by : ((id : ClientParts) (lacked : Bool) (did : List (Deed U)) → Of answer id lacked did → seen id after.server ≡ seen id before.server) → IsUnchanged before after
     unchanged_by same = unchanged call refl refl (λ id. let (lacked, did, h) = event_each id in same id lacked did h)
@@ -481,11 +414,8 @@ module _ {T U G C : Type 0} (w : World T G C) (before after : BackendState T U G
         memory : after.refused ≡ true
         memory =
             refused_to call client (λ lacked did by. let (r, is, h) = by in
-            lacks_so lacked did (subst (λ (a : Result (Unit {0}) EventError). Of a client lacked did) (sym (inside r is)) h))
+            lacks_so lacked did (subst (λ (a : Result (Unit {0}) EventError). Of a client lacked did) (sym (cc)) h))
           where
-            inside : (r : Result (Unit {0}) EventError) → ◌≡◌ {A = Reply T U} (reply.SendEvent answer) (reply.SendEvent r) → answer ≡ r
-            inside r is = cc
-
             lacks_so : (lacked : Bool) (did : List (Deed U)) → Of answer client lacked did → lacked ≡ true
             lacks_so lacked did h =
                 elim (either_option (client_of before.server client) (own client _ _ _ lacked did _ h)) [

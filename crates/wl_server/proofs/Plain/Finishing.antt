@@ -9,7 +9,6 @@ use Rattle.wl_server.specs.declared.error.FinishError.TheVariants as finish
 use Rattle.wl_server.specs.declared.error.FinishRefused.{FinishRefused}
 use Rattle.wl_server.specs.declared.objects.Kept.{Kept}
 use Rattle.wl_server.specs.declared.reading.action.OpenAction.TheVariants as opened
-use Rattle.wl_server.specs.declared.runs.step.Reply.{Reply}
 use Rattle.wl_server.specs.declared.runs.step.Reply.TheVariants as reply
 use Rattle.wl_server.specs.declared.runs.step.Step.TheVariants as step
 use Rattle.wl_server.specs.Backend.{BackendState, Calls}
@@ -89,10 +88,7 @@ module _ {T U G C : Type 0} {w : World T G C} {before after : BackendState T U G
       → (lacked : Bool) × (did : List (Deed U)) × OfBind target id u answer (seen id before.server) lacked did (seen id after.server)
   bind_each answer call id =
       let (lacked, did, (r, is, h)) = of_each call id in
-      (lacked, did, subst (λ (a : Result (Unit {0}) (FinishRefused U)). OfBind target id u a (seen id before.server) lacked did (seen id after.server)) (sym (inside r is)) h)
-    where
-      inside : (r : Result (Unit {0}) (FinishRefused U)) → ◌≡◌ {A = Reply T U} (reply.FinishBind answer) (reply.FinishBind r) → answer ≡ r
-      inside r is = cc
+      (lacked, did, subst (λ (a : Result (Unit {0}) (FinishRefused U)). OfBind target id u a (seen id before.server) lacked did (seen id after.server)) (sym (cc)) h)
 
   bind_ended_as : (answer : Result (Unit {0}) (FinishRefused U)) → Calls w before (step.FinishBind target u) (reply.FinishBind answer) after → BindEndedAs before target u answer after
   bind_ended_as (Ok ok) call = let (lacked, did, h) = bind_each (Ok tt) call target in bind_ended target u _ _ lacked did h

@@ -32,7 +32,7 @@ use Rattle.wl_server.specs.Lookups.{and_then}
 use Rattle.wl_server.specs.Part.{Part, named, with_link}
 use Rattle.wl_server.specs.PartStep.{Asked, Call, Feels, FeelsGlobal, FeelsLoss, Unfelt, World}
 use Rattle.wl_server.specs.Plain.{as_killed}
-use Rattle.wl_server.specs.Plain.Globals.{DisablesGlobal, GlobalCreatedAs, GlobalMemory, IsToldOrKilled, KillsSome, MayBeTold, OffersGlobal, RemovesGlobal}
+use Rattle.wl_server.specs.Plain.Globals.{DisablesGlobal, GlobalCreatedAs, IsToldOrKilled, KillsSome, MayBeTold, OffersGlobal, RemovesGlobal}
 use Rattle.wl_server.specs.Server.{Seen, seen}
 use Rattle.wl_server.specs.Steps.{AnswersShared}
 use Rattle.wl_server.specs.Telling.{Core, core_of, end_deeds, part_of, tells}
@@ -229,22 +229,15 @@ module _ {T U G C : Type 0} {w : World T G C} {before after : BackendState T U G
     create_each : (answer : Result GlobalParts GlobalError) → Calls w before (step.CreateGlobal i version handler) (reply.CreateGlobal answer) after → (id : ClientParts)
         → (lacked : Bool) × (did : List (Deed U)) × FeelsGlobal w id before.server.offer i version handler answer (seen id before.server) lacked did (seen id after.server)
     create_each answer call id =
-        let (lacked, did, (r, is, h)) = of_each call id in grind (arith, seen, inside)
-      where
-        inside : (r : Result GlobalParts GlobalError) → ◌≡◌ {A = Reply T U} (reply.CreateGlobal answer) (reply.CreateGlobal r) → r ≡ answer
-        inside r is = cc
+        let (lacked, did, (r, is, h)) = of_each call id in grind (arith, seen)
 
     next : (g : GlobalParts) → Calls w before (step.CreateGlobal i version handler) (reply.CreateGlobal (Ok g)) after → IsNextGlobal before.server.offer.globals g
     next g call = next_of before.server.offer.table before.server.offer.globals i version g (shared_of call)
 
-    -- no global has its name, so its id named none
-    unnamed_before : (g : GlobalParts) → Calls w before (step.CreateGlobal i version handler) (reply.CreateGlobal (Ok g)) after → global_of before.server.offer.globals g ≡ None
-    unnamed_before g call = grind (arith, global_serial, next)
-
     created_as : (answer : Result GlobalParts GlobalError) → Calls w before (step.CreateGlobal i version handler) (reply.CreateGlobal answer) after
         → GlobalCreatedAs before i version handler answer after
     created_as (Ok g) call = (
-      unnamed_before g call,
+      (grind (arith, global_serial, next)),
       ap (λ (o : Offer G). global_of o.globals g) (offer_of call)
           ∙ created_in before.server.offer.globals g (new_global i version g.serial handler) (next g call) refl,
       λ other differ.
@@ -253,14 +246,10 @@ module _ {T U G C : Type 0} {w : World T G C} {before after : BackendState T U G
     )
     created_as (Err e) call = (offer_of call, λ id. let (lacked, did, (calm, none, same)) = create_each (Err e) call id in same)
 
-    global_memory : (answer : Result GlobalParts GlobalError) → Calls w before (step.CreateGlobal i version handler) (reply.CreateGlobal answer) after
-        → GlobalMemory before answer after
-    global_memory h1 call = grind (arith, some_lacks, felt_lacked, news, seen, by_growth)
-
     pub offers_global : (answer : Result GlobalParts GlobalError) → Calls w before (step.CreateGlobal i version handler) (reply.CreateGlobal answer) after
         → OffersGlobal before i version handler answer after
     offers_global answer call = record {
       global = created_as answer call;
       clients = may_be_told w before after (new_each w before after i version handler answer (create_each answer call));
-      memory = global_memory answer call;
+      memory = grind (arith, some_lacks, felt_lacked, news, seen, by_growth);
     }

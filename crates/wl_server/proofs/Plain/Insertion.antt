@@ -4,7 +4,6 @@ use Rattle.wl_wire.specs.declared.protocol.TableError.{TableError}
 use Rattle.wl_wire.specs.Table.{InterfaceRow, grown, refused_growth}
 use Rattle.wl_link.specs.Link.{LimitSet, LinkState}
 use Rattle.wl_server.specs.declared.error.InsertClientError.{InsertClientError}
-use Rattle.wl_server.specs.declared.runs.step.Reply.{Reply}
 use Rattle.wl_server.specs.declared.runs.step.Reply.TheVariants as reply
 use Rattle.wl_server.specs.declared.runs.step.Step.TheVariants as step
 use Rattle.wl_server.specs.Backend.{BackendState, Calls, IsGrowth}
@@ -13,7 +12,7 @@ use Rattle.wl_server.specs.Globals.{with_table}
 use Rattle.wl_server.specs.Ids.{ClientParts, same_client}
 use Rattle.wl_server.specs.Lookups.{and_then}
 use Rattle.wl_server.specs.Part.{Part, named, with_link}
-use Rattle.wl_server.specs.PartStep.{Grown, InsertedAs, OfClient, Quietly, Unfelt, World}
+use Rattle.wl_server.specs.PartStep.{Grown, InsertedAs, OfClient, Quietly, World}
 use Rattle.wl_server.specs.Plain.Calls.{AddsInterfaces, InsertsClient, NewClientAs, SetsDefaultLimit, SetsLimit}
 use Rattle.wl_server.specs.Server.{Seen, seen}
 use Rattle.wl_server.specs.Steps.{Entry, OneStep, lacks_growth}
@@ -24,10 +23,7 @@ module _ {T U G C : Type 0} {w : World T G C} {before after : BackendState T U G
   insert_each : (answer : Result ClientParts InsertClientError) → Calls w before (step.InsertClient transport client_data) (reply.InsertClient answer) after → (id : ClientParts)
       → (lacked : Bool) × (did : List (Deed U)) × InsertedAs w id before.server.offer transport client_data answer (seen id before.server) lacked did (seen id after.server)
   insert_each answer call id =
-      let (lacked, did, (r, is, h)) = of_each call id in grind (arith, seen, inside)
-    where
-      inside : (r : Result ClientParts InsertClientError) → ◌≡◌ {A = Reply T U} (reply.InsertClient answer) (reply.InsertClient r) → r ≡ answer
-      inside r is = cc
+      let (lacked, did, (r, is, h)) = of_each call id in grind (arith, seen)
 
   inserted_as : (answer : Result ClientParts InsertClientError) → Calls w before (step.InsertClient transport client_data) (reply.InsertClient answer) after
       → NewClientAs before transport client_data answer after
@@ -79,13 +75,8 @@ module _ {T U G C : Type 0} {w : World T G C} {before after : BackendState T U G
 -- ---- interfaces
 
 module _ {T U G C : Type 0} (w : World T G C) (before after : BackendState T U G C) (rows : List InterfaceRow) (answer : Result (Unit {0}) TableError) where
-  -- what the call is of each client
-  unfelt : (e : Entry T U G C) → e.call ≡ Grown rows answer → OneStep w before.server e after.server → (id : ClientParts)
-      → Unfelt (seen id before.server) (e.lacks id) (e.did id) (seen id after.server)
-  unfelt e is by id = grind (arith, seen)
-
   refused_as : (e : Entry T U G C) → e.call ≡ Grown rows answer → OneStep w before.server e after.server → e.refused ≡ refused_growth answer
-  refused_as e is by = grind (arith, refused_growth, lacks_growth, true≢false, unfelt)
+  refused_as e is by = grind (arith, refused_growth, lacks_growth, true≢false, seen)
 
   pub adds_interfaces : IsGrowth w before rows answer after
       → after.server ≡ record before.server { offer = with_table before.server.offer (grown before.server.offer.table rows answer) } → AddsInterfaces before rows answer after

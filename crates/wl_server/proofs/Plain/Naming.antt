@@ -10,9 +10,6 @@ use Rattle.wl_server.specs.declared.objects.Kept.{Kept}
 use Rattle.wl_server.specs.Ids.{IdParts}
 use Rattle.wl_server.specs.Part.{id_of, named, same_id, serial_of}
 
-swapped : (m n : ℕ) (b : Bool) → eqb m n ≡ b → (n == m) ≡ b
-swapped m n b h1 = grind (arith, eq-eqb, eqb-true, true≢false)
-
 module _ {U : Type 0} where
   -- what stands there, if anything does, has this serial
   abbrev pub HasSerial : ℕ → Option (Object (Kept U)) → Type 0
@@ -53,14 +50,11 @@ module _ {U : Type 0} where
 
   -- ---- another id
 
-  unnamed : (n : ℕ) (id : Id) (h : Option (Object (Kept U))) → HasSerial n h → (n == id.serial) ≡ false → named_in serial_of id h ≡ None
-  unnamed n id h3 has differ = grind (arith, cond)
-
   -- One number of a store was changed, and both what it held and what it holds has this serial: an id of another number or
   -- serial names what it named.
   pub other_named : (before after : Store (Kept U)) (n serial : ℕ) (h : Option (Object (Kept U))) → ((m : ℕ) → held after m ≡ cond (eqb m n) h (held before m)) → HasSerial serial h
       → HasSerial serial (held before n) → (id : IdParts) → same_id (record { number = n; serial = serial }) (id_of id) ≡ false → named after id ≡ named before id
-  other_named before after n serial h holds has had id other = grind (arith, eqb, true≢false, swapped, unnamed, eqb-true)
+  other_named before after n serial h holds has had id other = grind (arith, eqb, true≢false, eq-eqb, eqb-true, cond)
 
   pub rewritten_others : (store : Store (Kept U)) (id : IdParts) (x y : Object (Kept U)) → Names store id x → y.value.serial ≡ x.value.serial → (other : IdParts)
       → same_id (id_of id) (id_of other) ≡ false → named (rewritten store id.number y) other ≡ named store other

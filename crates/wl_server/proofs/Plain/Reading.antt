@@ -1,5 +1,5 @@
 -- A reading of one client.
-use Rattle.std.proofs.Common.{◌≡◌, ◌≤◌, ℕ, Bool, true, false, List, [], ◌++◌, append-nil, Option, Some, is_some, Result, Err, refl, sym, ap, subst, ◌∙◌, arith, true≢false}
+use Rattle.std.proofs.Common.{◌≡◌, ℕ, Bool, true, false, List, [], ◌++◌, append-nil, Option, Some, is_some, Result, Err, refl, sym, ap, subst, ◌∙◌, arith, true≢false}
 use mathlib.Core.Logic.{inl, inr}
 use Rattle.std.specs.Prelude.{◌⊎◌, IsSome, min, option_map}
 use Rattle.wl_wire.specs.declared.error.IoFault.{IoFault}
@@ -26,7 +26,7 @@ use Rattle.wl_server.specs.Lookups.{and_then}
 use Rattle.wl_server.specs.Part.{Part, fresh_object, id_at, named}
 use Rattle.wl_server.specs.PartStep.{ReadsFor, World, around}
 use Rattle.wl_server.specs.Plain.{killed_in}
-use Rattle.wl_server.specs.Plain.Reading.{IsHandedOut, IsKilledOnce, IsOld, OpenReadAs, ReadAs, ReadingMemory, ReadsClient, ReadsWithin}
+use Rattle.wl_server.specs.Plain.Reading.{IsHandedOut, IsOld, OpenReadAs, ReadAs, ReadingMemory, ReadsClient, ReadsWithin}
 use Rattle.wl_server.specs.Reading.{Around, NextAction, action_content, answered, new_reading, read_on}
 use Rattle.wl_server.specs.ReadingEnds.{ComesOfLast, ReadingEnds}
 use Rattle.wl_server.specs.Server.{Seen, seen}
@@ -44,16 +44,13 @@ module _ {T U C : Type 0} where
 
 module _ {T U G C : Type 0} (sends : T → Queue → Result ℕ IoFault → T → Type 0) (receives : T → ℕ → Result Queue IoFault → T → Type 0) (a : Around G C) where
   module _ (s t : Seen T U C) (end : ReaderState T (Core U C)) (is : t ≡ record { part = Some (part_of end); made = s.made ++ notes_in (end_deeds {U = U} end.core.ended) }) where
-    killed_once : end.core.is_killed ≡ true → IsSome end.core.ended → IsKilledOnce a.table a.client s (part_of end) t
-    killed_once dead reason = grind (arith, part_of, true≢false, notes_in, end_deeds)
-
     handed_out : (h : Handed) (start : ReaderState T (Core U C)) (turns : List Turn) → ComesOfLast sends receives a h start turns end → IsHandedOut a.table a.client h (part_of end)
     handed_out (Request sender opcode args is_destructor created) start turns (earlier, es, before, split, led, (m, link, read, its)) = grind (arith, held, id_at, request_row)
     handed_out (Bind global object) start turns (earlier, es, before, split, led, (m, link, read, (x, interface, version, kept, held_before, registry, args, there, named', may, of, of_interface, free, holds, open'))) = grind (arith, fresh_object)
 
     open_read : (start : ReaderState T (Core U C)) (turns : List Turn) (answer : Result Handed ActionError) (refused : Bool) (left : ℕ) → ReadingEnds sends receives a start turns answer refused left end
         → OpenReadAs a.table a.client answer s (part_of end) t
-    open_read start turns h3 refused left so = grind (arith, handed_out, notes_in, end_deeds, append-nil, part_of, killed_once)
+    open_read start turns h3 refused left so = grind (arith, handed_out, notes_in, end_deeds, append-nil, part_of, true≢false)
 
   -- nothing of the part has changed, and nothing is noted
   unread : (s t : Seen T U C) (p q : Part T U C) (did : List (Deed U)) → s.part ≡ Some p → t ≡ record { part = Some q; made = s.made ++ notes_in did } → did ≡ [] → q ≡ p → t ≡ s
@@ -197,16 +194,9 @@ module _ {T U G C : Type 0} (w : World T G C) (before after : BackendState T U G
 
   -- ---- a reading that goes on with what an earlier one left
 
-  no_fewer : (r r' : Reading) → (r' ≡ r) ⊎ ((left handled : ℕ) × (r' ≡ read_on r left handled)) → min r.read 0xFFFFFFFFFFFFFFFF ≤ r'.read
-  no_fewer r r' h3 = grind (arith, min)
-
   goes_on : (r r' : Reading) (answer : Result Handed ActionError) (lacked : Bool) (did : List (Deed U))
       → ReadsFor w id before.server.offer id r answer r' (seen id before.server) lacked did (seen id after.server) → (r' ≡ r) ⊎ ((left handled : ℕ) × (r' ≡ read_on r left handled))
-  goes_on r r' answer lacked did h =
-      elim (either_option (seen id before.server).part (own id _ _ _ lacked did _ h)) [
-        | inl (none, ((says, same), (calm, nothing, stays))) ↦ inl same
-        | inr (p, there, (q, next, is)) ↦ grind (arith, either_option, split_bool, handled_in)
-      ]
+  goes_on r r' answer lacked did h1 = grind (arith, either_option, seen, own, split_bool, handled_in, same_client)
 
   pub reads_within : (reading left : Reading) (answer : Result Action ActionError) → Calls w before (step.NextActionWithin id reading) (reply.NextActionWithin answer left) after
       → ReadsWithin before id reading answer left after
@@ -218,7 +208,7 @@ module _ {T U G C : Type 0} (w : World T G C) (before after : BackendState T U G
         );
     count = (
         let (lacked, did, (r, l, is, h)) = of_each call id in
-        no_fewer reading left (subst (λ (x : Reading). (x ≡ reading) ⊎ ((left handled : ℕ) × (x ≡ read_on reading left handled))) (inside r l is) (goes_on reading l (action_content r) lacked did h))
+        grind (arith, min, subst (λ (x : Reading). (x ≡ reading) ⊎ ((left handled : ℕ) × (x ≡ read_on reading left handled))) (inside r l is) (goes_on reading l (action_content r) lacked did h))
         );
   }
     where

@@ -126,10 +126,7 @@ module _ {U G C : Type 0} (a : Around G C) (c : Core U C) (P : Verdict (Core U C
 
   asked_case : (opcode : ℕ) (args : List WireArgument) → (AreUnasked args → P (garbled c)) → ((code : ℕ) (text : List ℕ) → P (breaks a c code text))
       → ((n : ℕ) → P (syncs a c n)) → ((n : ℕ) → P (registers a c n)) → P (display_request a c opcode args)
-  asked_case opcode (arg.NewId n ∷ []) garbled' breaks' syncs' registers' = go (is_valid_new (objects_in c) n) (eqb opcode 0)
-    where
-      go : (b z : Bool) → P (cond b (cond z (syncs a c n) (registers a c n)) (breaks a c 0 (new_id_text n)))
-      go h1 z = grind (arith, new_id_text)
+  asked_case opcode (arg.NewId n ∷ []) garbled' breaks' syncs' registers' = grind (arith, new_id_text, is_valid_new (objects_in c) n, eqb opcode 0)
   asked_case opcode _ garbled' breaks' syncs' registers' = garbled' (λ n is. true≢false (sym (ap asks_some is)))
     where
       asks_some : List WireArgument → Bool
@@ -170,16 +167,11 @@ module _ {T U G C : Type 0} (sends : T → Queue → Result ℕ IoFault → T �
   Closed c e = (e.is_killed ≡ true) × (e.ended ≡ Some ConnectionClosed) × (e.action ≡ None)
 
   garbled_came : (c : Core U C) → IsRead c → (wrote : Result (Unit {0}) IoFault) → Closed c (came_to (server a) (garbled c) wrote)
-  garbled_came c r (Ok u) = (refl, reason_if c.is_killed c.ended ConnectionClosed r.live, r.idle)
-  garbled_came c r (Err fault.OutOfMemory) = (refl, reason_if c.is_killed c.ended ConnectionClosed r.live, r.idle)
-  garbled_came c r _ = (refl, reason_if c.is_killed c.ended ConnectionClosed r.live, r.idle)
+  garbled_came c h1 wrote = grind (arith, reason_if, true≢false)
 
   pub garbled_turns : (turn : List Sending → Turn) (before : ReaderState T (Core U C)) (c : Core U C) → IsRead c → ((es : List Sending) → FoundNoMessage sends a (turn es) before)
       → (link : LinkState T) → Turns turn before (garbled c) link
-  garbled_turns turn before c r found link es first lacked mid (inr (asks, memory, none, gave, is)) = absurd (true≢false (sym asks))
-  garbled_turns turn before c r found link es first lacked mid (inl (es1, es2, put, wrote, l, lacks, puts, flushed, is, core, gave, refused)) =
-      let (dead, reason, idle) = subst (Closed c) (sym core) (garbled_came c r wrote) in
-      grind (arith, not_read, action_in, after_puts, some_is)
+  garbled_turns turn before c h1 h2 link = grind (arith, true≢false, garbled_came, not_read, action_in, after_puts, some_is, reason_if, not, is_none, is_some)
 
   -- ---- a client that broke the protocol
 
@@ -187,9 +179,7 @@ module _ {T U G C : Type 0} (sends : T → Queue → Result ℕ IoFault → T �
   Ended e = (e.is_killed ≡ true) × IsSome e.ended × (e.action ≡ None)
 
   breaks_came : (m : Core U C) (code : ℕ) (text : List ℕ) → IsRead m → (wrote : Result (Unit {0}) IoFault) → Ended (came_to (server a) (breaks a m code text) wrote)
-  breaks_came m code text r (Ok u) = (refl, some_is _ _ (reason_if m.is_killed m.ended _ r.live), r.idle)
-  breaks_came m code text r (Err fault.OutOfMemory) = (refl, some_is _ _ (reason_if m.is_killed m.ended _ r.live), r.idle)
-  breaks_came m code text r _ = (refl, some_is _ _ (reason_if m.is_killed m.ended _ r.live), r.idle)
+  breaks_came m code text h1 wrote = grind (arith, some_is, reason_if, true≢false, is_some)
 
   ended_turned : (t : Turn) (before : ReaderState T (Core U C)) (first : List (Given (Told U))) (mid : ReaderState T (Core U C)) → TookMessage sends a t before
       → action_in first ≡ Err (Io fault.Pipe) → Ended mid.core → Turned t before first mid
@@ -198,11 +188,7 @@ module _ {T U G C : Type 0} (sends : T → Queue → Result ℕ IoFault → T �
 
   breaks_turns : (turn : List Sending → Turn) (before : ReaderState T (Core U C)) (m : Core U C) (code : ℕ) (text : List ℕ) → IsRead m
       → ((es : List Sending) → TookMessage sends a (turn es) before) → (link : LinkState T) → Turns turn before (breaks a m code text) link
-  breaks_turns turn before m code text r took link es first lacked mid (inr (asks, memory, none, gave, is)) =
-      ended_turned (turn es) before first mid (took es) (ap action_in gave)
-      (subst (λ (s : ReaderState T (Core U C)). Ended s.core) (sym is) (refl, some_is _ _ (reason_if m.is_killed m.ended ConnectionClosed r.live), r.idle))
-  breaks_turns turn before m code text r took link es first lacked mid (inl (es1, es2, put, wrote, l, lacks, puts, flushed, is, core, gave, refused)) =
-      ended_turned (turn es) before first mid (took es) (ap action_in gave ∙ after_puts put _) (subst Ended (sym core) (breaks_came m code text r wrote))
+  breaks_turns turn before m code text h1 h2 link = grind (arith, ended_turned, action_in, some_is, reason_if, after_puts, breaks_came, not_read, true≢false, is_some)
 
   -- ---- a request that the server answers
 
@@ -212,14 +198,7 @@ module _ {T U G C : Type 0} (sends : T → Queue → Result ℕ IoFault → T �
 
   replies_came : (m : Core U C) (puts : List Said) (did : List (Deed U)) → IsRead m → (wrote : Result (Unit {0}) IoFault)
       → (came_to (server a) (replies m puts did) wrote ≡ m) ⊎ Ended (came_to (server a) (replies m puts did) wrote)
-  replies_came m puts did r (Ok u) = inl refl
-  replies_came m puts did r (Err fault.OutOfMemory) = inr (refl, some_is _ _ (reason_if m.is_killed m.ended ConnectionClosed r.live), r.idle)
-  replies_came m puts did r (Err fault.WouldBlock) = inr (refl, some_is _ _ (reason_if m.is_killed m.ended ConnectionClosed r.live), r.idle)
-  replies_came m puts did r (Err fault.Pipe) = inr (refl, some_is _ _ (reason_if m.is_killed m.ended ConnectionClosed r.live), r.idle)
-  replies_came m puts did r (Err fault.TooBig) = inr (refl, some_is _ _ (reason_if m.is_killed m.ended ConnectionClosed r.live), r.idle)
-  replies_came m puts did r (Err fault.Proto) = inr (refl, some_is _ _ (reason_if m.is_killed m.ended ConnectionClosed r.live), r.idle)
-  replies_came m puts did r (Err fault.InvalidInput) = inr (refl, some_is _ _ (reason_if m.is_killed m.ended ConnectionClosed r.live), r.idle)
-  replies_came m puts did r (Err (fault.Other n)) = inr (refl, some_is _ _ (reason_if m.is_killed m.ended ConnectionClosed r.live), r.idle)
+  replies_came m puts did h1 wrote = grind (arith, some_is, reason_if, true≢false, is_some)
 
   abbrev stops_when : (b : Bool) → List (Told U)
   stops_when b = cond b (telling.Stops fault.Pipe ∷ []) []
@@ -230,12 +209,7 @@ module _ {T U G C : Type 0} (sends : T → Queue → Result ℕ IoFault → T �
 
   replies_turns : (turn : List Sending → Turn) (before : ReaderState T (Core U C)) (m : Core U C) (puts : List Said) (did : List (Deed U)) → Mute did → IsRead m
       → ((es : List Sending) → TookMessage sends a (turn es) before) → (link : LinkState T) → Turns turn before (replies m puts did) link
-  replies_turns turn before m puts did mute r took link es first lacked mid (inr (asks, memory, none, gave, is)) = absurd (true≢false (sym asks))
-  replies_turns turn before m puts did mute r took link es first lacked mid (inl (es1, es2, put, wrote, l, lacks, put_out, flushed, is, core, gave, refused)) =
-      elim (replies_came m puts did r wrote) [
-        | inl same ↦ grind (arith, put_and_gave, map, stops_if, stops_when, append-nil, silent_puts)
-        | inr ended ↦ grind (arith, came_to, server, replies, put_and_gave, map, stops_when, ended_turned, action_in, after_puts, handed_both)
-      ]
+  replies_turns turn before m puts did h1 h2 h3 link = grind (arith, true≢false, replies_came, put_and_gave, map, stops_if, stops_when, append-nil, silent_puts, came_to, server, replies, ended_turned, action_in, after_puts, handed_both, some_is, reason_if, append_assoc, not_read)
 
   -- ---- an action
 
@@ -263,13 +237,10 @@ module _ {T U G C : Type 0} (sends : T → Queue → Result ℕ IoFault → T �
     asks_nothing : AsksNothing c m → (es : List Sending) → FoundNoMessage sends a (Handled es) here
     asks_nothing nothing es = (m, link, read, nothing)
 
-    reads_over : (objects : _) → IsRead (with_objects c objects)
-    reads_over objects = record { live = r.live; idle = r.idle; fresh = r.fresh }
-
     converted_turns : (receiver : Object (Kept U)) (row : MessageRow) → held c.store m.sender ≡ Some receiver → request_row a.table receiver.interface m.opcode ≡ Some row
         → (o : Outcome U)
         → Came a.client receiver.version (start (objects_in c) row) [] m.args o → Turns Handled here (converted a c m receiver row o) link
-    converted_turns receiver row holds has (Wrong w objects) came = breaks_turns Handled here (with_objects c objects) 0 _ (reads_over objects) took link
+    converted_turns receiver row holds has (Wrong w objects) came = breaks_turns Handled here (with_objects c objects) 0 _ (record { live = r.live; idle = r.idle; fresh = r.fresh }) took link
     converted_turns receiver row holds has (Whole d args) (more, is, numbers, grown, fit, made) =
         hands_out_turns here (with_objects c d.objects) (opened.Request id row.is_destructor d.created) (deeds.Request id m.opcode args row.is_destructor d.created) r.live r.fresh
         (λ l. (
@@ -396,9 +367,7 @@ module _ {T U G C : Type 0} (sends : T → Queue → Result ℕ IoFault → T �
       subst (λ (o : Gives (Told U)). Done start turns o end) (sym is) (subst (λ (e : ReaderState T (Core U C)). Done start turns out' e) (sym same) so)
 
   faulted_leaves : (c : Core U C) → IsRead c → (f : IoFault) → LeavesClient f (faulted c f)
-  faulted_leaves c r fault.WouldBlock = (r.live, r.fresh, r.idle)
-  faulted_leaves c r fault.OutOfMemory = (r.live, r.fresh, r.idle)
-  faulted_leaves c r _ = (refl, some_is _ _ (reason_if c.is_killed c.ended ConnectionClosed r.live), r.idle)
+  faulted_leaves c h1 f = grind (arith, some_is, reason_if, true≢false, is_some)
 
   -- the reading stops here
   halts_end : (left : ℕ) (before : ReaderState T (Core U C)) (out : Gives (Told U)) → IsRead before.core → Halts sends (server a) left before out → Done before [] out before
@@ -420,11 +389,7 @@ module _ {T U G C : Type 0} (sends : T → Queue → Result ℕ IoFault → T �
   then_ends : (t : Turn) (start : ReaderState T (Core U C)) (left : ℕ) (mid end : ReaderState T (Core U C)) (turns : List Turn) (first : List (Given (Told U))) (lacked : Bool) (rest out : Gives (Told U))
       → out ≡ given_first first lacked rest → TurnLeads sends receives a t start mid → Turned t start first mid → Reads sends (server a) receives left mid turns rest end
       → (IsRead mid.core → Done mid turns rest end) → Done start (t ∷ turns) out end
-  then_ends t start left mid end turns first lacked rest out split leads (inl (r, silent)) reads more =
-      done_at start (t ∷ turns) out (given_first first lacked rest) end end split refl
-      (grind (arith, still_answered, ends_later, answered))
-  then_ends t start left mid end turns first lacked rest out split leads (inr (off, so)) reads more =
-      done_at start (t ∷ turns) out (given_first first lacked rest) end end split refl (turned_end t start left mid end turns first lacked rest off so reads)
+  then_ends t start left mid end turns first lacked rest out h1 h2 h3 h4 h5 = grind (arith, done_at, given_first, still_answered, ends_later, answered, turned_end, later_turn, itself_later, stops, when_false, reads_on, action_in, append-nil, answers_end, true≢false)
 
   pub read_ends : (left : ℕ) (before : ReaderState T (Core U C)) (turns : List Turn) (out : Gives (Told U)) (end : ReaderState T (Core U C)) → IsRead before.core
       → Reads sends (server a) receives left before turns out end → Done before turns out end

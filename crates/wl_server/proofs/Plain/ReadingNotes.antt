@@ -12,7 +12,7 @@ use Rattle.wl_link.proofs.Readings.RespectLaws.{reads_respect}
 use Rattle.wl_link.specs.Respect.{Keeps}
 use Rattle.wl_server.specs.declared.objects.Kept.{Kept}
 use Rattle.wl_server.specs.Deeds.{Deed, Put, came_in, notes_in}
-use Rattle.wl_server.specs.Reading.{Around, breaks, converted, exchanges_in, garbled, other_request, server, stops_if}
+use Rattle.wl_server.specs.Reading.{Around, breaks, converted, exchanges_in, garbled, server, stops_if}
 use Rattle.wl_server.specs.Requests.{Outcome, Whole, Wrong, convert, start}
 use Rattle.wl_server.specs.Telling.{Core, Told, deeds_in, deeds_of, end_deeds, objects_in}
 use Rattle.wl_server.proofs.OverRuns.Announced.RequestCases.{request_case}
@@ -55,13 +55,10 @@ module _ {T U G C : Type 0} (sends : T → Queue → Result ℕ IoFault → T �
   converted_bare c m receiver row (Wrong w objects) d = (refl, refl)
   converted_bare c m receiver row (Whole e args) d = (refl, refl)
 
-  other_bare : (c : Core U C) (m : WireMessage) (receiver : Object (Kept U)) (row : MessageRow) → IsBare (other_request a c m receiver row)
-  other_bare c m receiver row = grind (arith, nat_lt, breaks, converted, convert, start, objects_in, converted_bare)
-
   handles_bare : (c : Core U C) (m : WireMessage) → IsBare ((server a).handles c m)
   handles_bare c m =
       request_case a c IsBare (λ d. (refl, refl)) (λ code text d. (refl, refl)) (λ n valid. stops_bare) (λ n valid. stops_bare) (λ g version n x valid d. (refl, refl)) m
-      (λ receiver row holds other. other_bare c m receiver row)
+      (λ receiver row holds other. (grind (arith, nat_lt, breaks, converted, convert, start, objects_in, converted_bare)))
 
   verdict_bare : (c : Core U C) (v : Verdict (Core U C) (Told U)) → IsBare v → Keeps (server a) (λ c gave d. Bare (deeds_in gave)) c v
   verdict_bare c v bare = record {

@@ -1,6 +1,5 @@
 -- That a reading of one client ends for a reason.
-use Rattle.std.proofs.Common.{◌≡◌, ℕ, Bool, false, List, ◌++◌, Some, Result, sym, ap, subst, ◌∙◌, arith}
-use Rattle.wl_link.specs.Reader.{ReaderState, Turn}
+use Rattle.std.proofs.Common.{◌≡◌, Bool, false, List, ◌++◌, Some, Result, sym, ap, subst, ◌∙◌, arith}
 use Rattle.wl_server.specs.declared.error.ActionError.{ActionError}
 use Rattle.wl_server.specs.declared.notes.Happening.{Happening}
 use Rattle.wl_server.specs.declared.reading.action.Action.{Action}
@@ -9,15 +8,15 @@ use Rattle.wl_server.specs.declared.runs.step.Reply.{Reply}
 use Rattle.wl_server.specs.declared.runs.step.Reply.TheVariants as reply
 use Rattle.wl_server.specs.declared.runs.step.Step.TheVariants as step
 use Rattle.wl_server.specs.Backend.{BackendState, Calls}
-use Rattle.wl_server.specs.Deeds.{Deed, Handed, notes_in}
+use Rattle.wl_server.specs.Deeds.{Deed, notes_in}
 use Rattle.wl_server.specs.Ids.{ClientParts, same_client}
 use Rattle.wl_server.specs.Part.{Part}
 use Rattle.wl_server.specs.PartStep.{Call, PartCall, ReadsFor, World, around}
 use Rattle.wl_server.specs.Reading.{Around, action_content, answered, exchanges_in, new_reading}
-use Rattle.wl_server.specs.ReadingEnds.{EndsForAReason, ReadingEnds}
+use Rattle.wl_server.specs.ReadingEnds.{EndsForAReason}
 use Rattle.wl_server.specs.Server.{Seen, seen}
 use Rattle.wl_server.specs.Steps.{Entry, lacks_growth}
-use Rattle.wl_server.specs.Telling.{Core, deeds_of, end_deeds, part_of, reader_part}
+use Rattle.wl_server.specs.Telling.{deeds_of, end_deeds, part_of, reader_part}
 use Rattle.wl_server.proofs.OverRuns.Cut.CuttingLaws.{of_part, reads_to}
 use Rattle.wl_server.proofs.Plain.Base.{lacks_as, own, when_false}
 use Rattle.wl_server.proofs.Plain.ReadingEnds.{reading_ends}
@@ -41,11 +40,6 @@ module _ {T U G C : Type 0} (w : World T G C) (before after : BackendState T U G
   abbrev t : Seen T U C
   t = seen id after.server
 
-  -- with this answer, as the turns have it
-  answered_so : (start end : ReaderState T (Core U C)) (turns : List Turn) (left : ℕ) (a a' : Result Handed ActionError) (b b' : Bool) → a ≡ a' → b ≡ b'
-      → ReadingEnds w.sends w.receives here start turns a' b' left end → ReadingEnds w.sends w.receives here start turns a b left end
-  answered_so start end turns left a a' b b' same calm so = grind (arith)
-
   ends_so : (r r' : Reading) (answer : Result Action ActionError) (lacked : Bool) (did : List (Deed U)) → after.refused ≡ lacked
       → ReadsFor w id before.server.offer id r (action_content answer) r' s lacked did t → EndsForAReason w before id r answer r' after
   ends_so r r' answer lacked did memory h p there live idle =
@@ -57,8 +51,7 @@ module _ {T U G C : Type 0} (w : World T G C) (before after : BackendState T U G
         reads,
         says,
         memory ∙ lacks,
-        answered_so (reader_part p) end turns out.left (action_content answer) (answered out.stopped out.gave) after.refused out.refused says (memory ∙ lacks)
-            (reading_ends w.sends w.receives here r.turns_left p turns out end live idle reads),
+        (grind (arith, reader_part p, out.left, action_content answer, answered out.stopped out.gave, after.refused, out.refused, memory ∙ lacks, reading_ends w.sends w.receives here r.turns_left p turns out end live idle reads)),
         left,
         held_so s t q (part_of end) did (deeds_of (exchanges_in turns) out.gave end.core) (notes_in (end_deeds {U = U} end.core.ended)) same ends did_so (notes_of_reading w.sends w.receives here r.turns_left (reader_part p) turns out end reads),
       )
@@ -78,11 +71,8 @@ module _ {T U G C : Type 0} (w : World T G C) (before after : BackendState T U G
       = λ other differ. let (r, left, says, h) = of_call e _ is by.each other in (when_false _ (same_client id other) differ h).0 in (
         left,
         ends_so new_reading left answer (e.lacks id) (e.did id) (sym refused ∙ lacks_as id e by.refused (ap (λ (c : Call T U G C). lacks_growth c) is) calm)
-            (subst (λ (x : Result Action ActionError). ReadsFor w id before.server.offer id new_reading (action_content x) left s (e.lacks id) (e.did id) t) (inside r says) h),
+            (subst (λ (x : Result Action ActionError). ReadsFor w id before.server.offer id new_reading (action_content x) left s (e.lacks id) (e.did id) t) (cc) h),
       )
-    where
-      inside : (r : Result Action ActionError) → ◌≡◌ {A = Reply T U} (reply.NextAction answer) (reply.NextAction r) → r ≡ answer
-      inside r is = cc
 
   pub next_action_within_ends : (reading left : Reading) (answer : Result Action ActionError)
       → Calls w before (step.NextActionWithin id reading) (reply.NextActionWithin answer left) after → EndsForAReason w before id reading answer left after

@@ -20,7 +20,7 @@ use Rattle.wl_server.specs.declared.runs.step.Reply.TheVariants as reply
 use Rattle.wl_server.specs.declared.runs.step.Step.TheVariants as step
 use Rattle.wl_server.specs.Backend.{BackendState, Calls}
 use Rattle.wl_server.specs.Deeds.{Deed, notes_in}
-use Rattle.wl_server.specs.Finish.{FinishesRequest, ended_by, ends, ends_request, refusal, store_with_data, ending}
+use Rattle.wl_server.specs.Finish.{FinishesRequest, ended_by, ends, ends_request, refusal, store_with_data}
 use Rattle.wl_server.specs.Ids.{ClientParts, IdParts, same_client}
 use Rattle.wl_server.specs.Inside.Carried.{told_notes}
 use Rattle.wl_server.specs.Inside.Finishing.{is_out_of_memory, lacks_finish}
@@ -28,7 +28,7 @@ use Rattle.wl_server.specs.Lookups.{and_then}
 use Rattle.wl_server.specs.Objects.{unless_refused}
 use Rattle.wl_server.specs.Part.{Part, id_of, named, same_id, serial_of, end_note, id_at, note_of_end}
 use Rattle.wl_server.specs.PartStep.{OfClient, World}
-use Rattle.wl_server.specs.Plain.{DataFit, EndsOpenRequest, IsRefusedWhole, RequestEndedAs, RequestIsEnded, RequestRefusedAs, is_ended, is_made, with_given, EndIsTold, end_note_of, notes_if_kept, sender_notes}
+use Rattle.wl_server.specs.Plain.{EndsOpenRequest, IsRefusedWhole, RequestEndedAs, RequestIsEnded, RequestRefusedAs, is_ended, is_made, with_given, EndIsTold, end_note_of, notes_if_kept, sender_notes}
 use Rattle.wl_server.specs.Server.{Seen, seen}
 use Rattle.wl_server.specs.Telling.{Tells, Told, core_of, Core, closed_down, end_deeds}
 use Rattle.wl_server.proofs.Plain.Base.{calm, keeps, never, nothing_new, of_each, offer_of, other_stays, own, refused_to, unchanged}
@@ -39,9 +39,6 @@ use Rattle.wl_server.proofs.Plain.Verdicts.{told, told_nothing, told_starved, Is
 -- ---- two ids of a client that are the same name the same
 
 module _ {U : Type 0} where
-  same_named : (store : Store (Kept U)) (a b : IdParts) → same_id (id_of a) (id_of b) ≡ true → named store a ≡ named store b
-  same_named store a b same = grind (arith, true≢false, serial_of, eqb-true)
-
   -- ---- the object that was made gets its data
 
   made_named : (store : Store (Kept U)) (id : IdParts) (u : Option U) → named (store_with_data store (Some id) u) id ≡ option_map (with_given u) (named store id)
@@ -53,7 +50,7 @@ module _ {U : Type 0} where
 
   -- what names none goes on to
   made_none : (store : Store (Kept U)) (created : Option IdParts) (u : Option U) (o : IdParts) → named store o ≡ None → named (store_with_data store created u) o ≡ None
-  made_none store created u o h1 = grind (arith, same_id, id_of, named, store_with_data, made_others, same_named, made_named, option_map, with_given)
+  made_none store created u o h1 = grind (arith, same_id, id_of, named, store_with_data, made_others, true≢false, serial_of, eqb-true, made_named, option_map, with_given)
 
   -- ---- the sender that is ended
 
@@ -159,9 +156,6 @@ module _ {T U C : Type 0} (sends : T → Queue → Result ℕ IoFault → T → 
       ⊎ ((is_destructor ≡ true) × (q.is_killed ≡ true)
       × (notes_in did ≡ notes_if_kept client sender.number o ++ cond p.is_killed [] (Disconnected ConnectionClosed ∷ [])))
 
-  ending_noted : (sender : IdParts) (x : Object (Kept U)) (c : Core U C) → named c.store sender ≡ None → told_notes (ending client sender x c) ≡ note_of_end client sender.number x
-  ending_noted sender x c gone = grind (arith, is_some, note_of_end, id_of, id_at, end_note)
-
   part_noted : (p q : Part T U C) (sender : IdParts) (is_destructor : Bool) (created : Option IdParts) (o : Option (Object (Kept U))) → ended_by p.store sender is_destructor ≡ o
       → (lacked : Bool) (did : List (Deed U)) → lacked ≡ false → Tells sends (ends client (core_of p) sender o created u) p.link lacked did q
       → IsNoted p q sender is_destructor o did
@@ -170,7 +164,7 @@ module _ {T U C : Type 0} (sends : T → Queue → Result ℕ IoFault → T → 
       let v : Verdict (Core U C) (Told U) = ends client (core_of p) sender (Some x) created u in
       let t : IsTold v did q = told_ended sends v (λ c. refl) p.link lacked did q calm h in
       let gone : named v.core.store sender ≡ None = made_none (removed p.store sender.number) created u sender (removed_named p.store sender) in
-      grind (arith, told_notes, notes_in, end_deeds, append-nil, ending_noted, ended_named, closed_down, note_of_end, closing)
+      grind (arith, told_notes, notes_in, end_deeds, append-nil, is_some, note_of_end, id_of, id_at, end_note, ended_named, closed_down, closing)
     where
       closing : (killed : Bool) → notes_in {U = U} (end_deeds (cond killed None (Some ConnectionClosed))) ≡ cond killed [] (Disconnected ConnectionClosed ∷ [])
       closing true = refl
@@ -189,10 +183,7 @@ module _ {T U C : Type 0} (sends : T → Queue → Result ℕ IoFault → T → 
   starved_part p q sender is_destructor created (Some x) is lacked did lacks h =
       let (destroys, there) = ended_named p.store sender is_destructor x is in
       let starved = told_starved sends (ends client (core_of p) sender (Some x) created u) refl p.link lacked did q lacks h in
-      grind (arith, is_some, core_of, silent, named)
-    where
-      silent : (b : Bool) (events : List (Told U)) → b ≡ true → told_notes (cond b [] events) ++ [] ≡ []
-      silent h1 events is = grind (arith, true≢false)
+      grind (arith, is_some, core_of, true≢false, named)
 
 -- ---- of one client
 
@@ -202,17 +193,7 @@ module _ {T U C : Type 0} (sends : T → Queue → Result ℕ IoFault → T → 
 
   -- a refusal that is for no want of memory changes nothing
   refused_same : (b : Bool) (s t : Seen T U C) (lacked : Bool) (did : List (Deed U)) → (answer ≡ Ok tt → ⊥) → lacks_finish answer ≡ false → Of b s lacked did t → t ≡ s
-  refused_same false s t lacked did err calm (quiet, none, same) = same
-  refused_same true s t lacked did err calm h =
-      elim (either_option s.part h) [
-        | inl (none, (is, (quiet, nothing, same))) ↦ same
-        | inr (p, there, (q, does, same)) ↦
-            elim (comes_to sends client u answer lacked did p q does) [
-              | inl r ↦ nothing_new s t p q did there r.part_is (ap notes_in r.did_is) same
-              | inr e ↦
-                  absurd (err (e.answer_is ∙ ap (λ (l : Bool). unless_refused (record { error = finish.OutOfMemory; user_data = u }) l) (lacks_by sends client u answer lacked did p q does ∙ calm)))
-            ]
-      ]
+  refused_same b s t lacked did h1 h2 h3 = grind (arith, either_option, comes_to, nothing_new, notes_in, unless_refused, lacks_by, refusal, reason, append-nil, why_calm)
 
   -- whether memory is refused is told by the answer
   pub own_lacks : (s t : Seen T U C) (lacked : Bool) (did : List (Deed U)) → lacks_finish answer ≡ true → Of (same_client client client) s lacked did t → lacked ≡ true
@@ -259,10 +240,6 @@ module _ {T U G C : Type 0} (w : World T G C) (before after : BackendState T U G
   request_memory answer quiet call =
       calm call refl (grind (arith, never, same_client, lacks_by, lacks_finish, inside))
 
-  request_starved : (answer : Answer U) → lacks_finish answer ≡ true → IsAnswered answer → after.refused ≡ true
-  request_starved answer lacks call =
-      refused_to call target (grind (arith, own_lacks, lacks_finish, inside))
-
   request_same : (r : FinishRefused (Option U)) → is_out_of_memory r.error ≡ false → IsAnswered (Err r) → IsRefusedWhole before after
   request_same r quiet call = (
     unchanged call refl refl (λ id.
@@ -281,9 +258,6 @@ module _ {T U G C : Type 0} (w : World T G C) (before after : BackendState T U G
       → after.refused ≡ true → RequestRefusedAs before target u finish.OutOfMemory after
   starved_as p q lacked did r e lacks there same refused =
       let starved = starved_part w.sends target u p q e.sender e.is_destructor e.created (ended_by p.store e.sender e.is_destructor) refl lacked did lacks e.tells in grind (arith, and_then, is_some, named, option_map, core_of, seen, append-nil)
-
-  data_fit : (p : Part T U C) → (seen target before.server).part ≡ Some p → (created : Option IdParts) → refusal p.is_killed created u ≡ None → DataFit before target created u
-  data_fit p there created none = grind (arith, refusal, option_map)
 
   end_told : (p q : Part T U C) (did : List (Deed U)) (sender : IdParts) (is_destructor : Bool) → (seen target before.server).part ≡ Some p
       → seen target after.server ≡ record { part = Some q; made = (seen target before.server).made ++ notes_in did }
@@ -305,7 +279,7 @@ module _ {T U G C : Type 0} (w : World T G C) (before after : BackendState T U G
       record {
         was_open = ap (λ (x : Option (Part T U C)). and_then x (λ p. p.action)) there ∙ e.was_open;
         is_finished = ap (λ (x : Option (Part T U C)). and_then x (λ p. p.action)) now ∙ none_open;
-        fits = data_fit p there e.created e.fits;
+        fits = grind (arith, refusal, option_map, e.created, e.fits);
         gone = λ ends. found e.sender ∙ made_none left e.created u e.sender (sender_gone p.store e.sender e.is_destructor o refl ends);
         made = grind (arith, named, store_with_data, made_named, option_map, with_given, sender_others);
         others = grind (arith, made_others, sender_others);
@@ -336,7 +310,7 @@ module _ {T U G C : Type 0} (w : World T G C) (before after : BackendState T U G
               | inl x ↦ grind (arith, was_refused_for, because, refused_as, request_same, is_out_of_memory, why_calm)
               | inr e ↦
                   let (lacks, error, back) = was_starved u r lacked e.answer_is in
-                  (back, because error (starved_as p q lacked did r e lacks there same (request_starved (Err r) (ap is_out_of_memory error) call)))
+                  (back, because error (starved_as p q lacked did r e lacks there same (refused_to call target (grind (arith, own_lacks, lacks_finish, inside)))))
             ]
       ]
     where

@@ -7,7 +7,6 @@ use Rattle.wl_link.proofs.Calls.Branches.{either_bool, either_option}
 use Rattle.wl_link.specs.Exchange.{Queue, Sending}
 use Rattle.wl_link.specs.Link.{Flushed, FlushedBy, LinkState}
 use Rattle.wl_link.specs.Puts.{lacks_memory}
-use Rattle.wl_server.specs.declared.runs.step.Reply.{Reply}
 use Rattle.wl_server.specs.declared.runs.step.Reply.TheVariants as reply
 use Rattle.wl_server.specs.declared.runs.step.Step.TheVariants as step
 use Rattle.wl_server.specs.Backend.{BackendState, Calls}
@@ -37,11 +36,7 @@ module _ {T U C : Type 0} (sends : T → Queue → Result ℕ IoFault → T → 
   flushed_silent answer (es, link, by, memory, did_so, same) = ap notes_in did_so ∙ silent es
 
   live_silent : FlushesLive sends p lacked did q → notes_in did ≡ []
-  live_silent h =
-      elim (either_bool p.is_killed h) [
-        | inl (calm, none, same) ↦ ap notes_in none
-        | inr (answer, flushed) ↦ flushed_silent answer flushed
-      ]
+  live_silent h1 = grind (arith, either_bool, notes_in, flushed_silent, silent)
 
 module _ {T U G C : Type 0} (w : World T G C) (id : ClientParts) (offer : Offer G) (s t : Seen T U C) (lacked : Bool) (did : List (Deed U)) where
   -- a part of each client that its link does not change
@@ -68,10 +63,7 @@ module _ {T U G C : Type 0} {w : World T G C} {before after : BackendState T U G
       → (lacked : Bool) × (did : List (Deed U)) × FlushedFor w id before.server.offer target answer (seen id before.server) lacked did (seen id after.server)
   flush_each target answer call id =
       let (lacked, did, (r, is, h)) = of_each call id in
-      (lacked, did, subst (λ (a : Result (Unit {0}) IoFault). FlushedFor w id before.server.offer target a (seen id before.server) lacked did (seen id after.server)) (sym (inside r is)) h)
-    where
-      inside : (r : Result (Unit {0}) IoFault) → ◌≡◌ {A = Reply T U} (reply.Flush answer) (reply.Flush r) → answer ≡ r
-      inside r is = cc
+      (lacked, did, subst (λ (a : Result (Unit {0}) IoFault). FlushedFor w id before.server.offer target a (seen id before.server) lacked did (seen id after.server)) (sym (cc)) h)
 
   flushed_as : (target : Option ClientParts) (answer : Result (Unit {0}) IoFault) → Calls w before (step.Flush target) (reply.Flush answer) after
       → FlushedAs w.sends before target answer after
@@ -81,13 +73,10 @@ module _ {T U G C : Type 0} {w : World T G C} {before after : BackendState T U G
   )
   flushed_as (Some id) answer call = grind (arith, at, client_of, flush_each, other_stays, same_client)
     where
-      absent : client_of before.server id ≡ None → (other : ClientParts) → same_client id other ≡ true → client_of before.server other ≡ None
-      absent none other is = subst (λ (i : ClientParts). client_of before.server i ≡ None) (same_is id other is) none
-
       at : (o : Option (Part T U C)) → client_of before.server id ≡ o
           → MatchOption o ((answer ≡ Ok tt) × IsUnchanged before after)
           (λ p. (link : LinkState T) × Flushed w.sends p.link answer link × (client_of after.server id ≡ Some (with_link p link)))
-      at None none = grind (arith, flush_each, either_option, client_of, own, none_and_some, unchanged, missing_stays, same_client, absent)
+      at None none = grind (arith, flush_each, either_option, client_of, own, none_and_some, unchanged, missing_stays, same_client, same_is, id)
       at (Some p) there =
           let (lacked, did, h) = flush_each (Some id) answer call id in
           elim (either_option (client_of before.server id) (own id _ _ _ lacked did _ h)) [
@@ -117,10 +106,7 @@ module _ {T U G C : Type 0} {w : World T G C} {before after : BackendState T U G
       ]
   flush_memory (Some id) answer call =
       let (did, (r, is, h)) = of_own call id refl (λ other lacked did differ (r, is, h). (when_false _ (same_client id other) differ h).0) in
-      grind (arith, either_option, client_of, own, lacks_memory, inside)
-    where
-      inside : (r : Result (Unit {0}) IoFault) → ◌≡◌ {A = Reply T U} (reply.Flush answer) (reply.Flush r) → r ≡ answer
-      inside r is = cc
+      grind (arith, either_option, client_of, own, lacks_memory)
 
   pub flushes_clients : (target : Option ClientParts) (answer : Result (Unit {0}) IoFault) → Calls w before (step.Flush target) (reply.Flush answer) after
       → FlushesClients w.sends before target answer after

@@ -10,7 +10,7 @@ use Rattle.wl_link.proofs.Ids.StoreLaws.{held_removed, held_stored}
 use Rattle.wl_link.specs.declared.object.Object.{Object}
 use Rattle.wl_link.specs.Exchange.{Queue}
 use Rattle.wl_link.specs.Identity.{Objects, named_in}
-use Rattle.wl_link.specs.Reader.{Gives, ReaderState, Reads, Turn, Verdict, came_to}
+use Rattle.wl_link.specs.Reader.{Gives, ReaderState, Reads, Turn, Verdict}
 use Rattle.wl_link.specs.Store.{Store, held, removed}
 use Rattle.wl_link.proofs.Readings.RespectLaws.{reads_respect}
 use Rattle.wl_link.specs.Respect as respect
@@ -18,7 +18,7 @@ use Rattle.wl_server.specs.declared.objects.Kept.{Kept}
 use Rattle.wl_server.specs.Errors.{since_text}
 use Rattle.wl_server.specs.Ids.{IdParts}
 use Rattle.wl_server.specs.Part.{id_of, named, serial_of}
-use Rattle.wl_server.specs.Reading.{Around, binds, breaks, converted, faulted, garbled, other_request, registers, server, syncs}
+use Rattle.wl_server.specs.Reading.{Around, binds, breaks, converted, garbled, other_request, registers, server, syncs}
 use Rattle.wl_server.specs.Requests.{Outcome, Whole, Wrong, convert, is_valid_new, made_object, start, with_made}
 use Rattle.wl_server.specs.Telling.{Core, Told, closed_down, objects_in}
 use Rattle.wl_server.proofs.OverRuns.Announced.RequestCases.{request_case}
@@ -56,11 +56,8 @@ module _ {U : Type 0} where
   -- ---- a new object
 
   module _ (a : Objects (Kept U)) (n : ℕ) (i : InterfaceId) (version : ℕ) (valid : is_valid_new a n ≡ true) where
-    free : held a.store n ≡ None
-    free = (valid_new a n valid).0
-
     none_at : (id : IdParts) → names_at id (held a.store n) ≡ None
-    none_at id = ap (names_at id) free ∙ both_none (id.number == 0)
+    none_at id = ap (names_at id) (valid_new a n valid).0 ∙ both_none (id.number == 0)
 
     ids_by_new : IdsStay a (with_made a n i version)
     ids_by_new = grind (arith, by_number, with_made, made_object, held_stored, ne_eqb, both_none, none_at, true≢false, is_some)
@@ -74,10 +71,7 @@ module _ {U : Type 0} where
     }
       where
         holds : (m : ℕ) → held (removed (with_made a n i version).store n) m ≡ cond (eqb m n) None (held a.store m)
-        holds m = held_removed (with_made a n i version).store n m ∙ at (eqb m n) refl
-          where
-            at : (b : Bool) → eqb m n ≡ b → cond b None (held (with_made a n i version).store m) ≡ cond b None (held a.store m)
-            at h1 is = grind (arith, held_stored, made_object, cond, held)
+        holds m = held_removed (with_made a n i version).store n m ∙ (grind (arith, held_stored, made_object, cond, held, eqb m n))
 
 -- ---- a verdict
 
@@ -132,15 +126,8 @@ module _ {U G C : Type 0} (a : Around G C) (c : Core U C) where
 -- ---- a reading
 
 module _ {T U G C : Type 0} (sends : T → Queue → Result ℕ IoFault → T → Type 0) (receives : T → ℕ → Result Queue IoFault → T → Type 0) (a : Around G C) where
-  came_keeps : (c : Core U C) (v : Verdict (Core U C) (Told U)) → Keeps a c v → (wrote : Result (Unit {0}) IoFault)
-      → IdsStay (objects_in c) (objects_in (came_to (server a) v wrote))
-  came_keeps c v h1 wrote = grind (arith, objects_in, closed_down)
-
   verdict_keeps : (c : Core U C) (v : Verdict (Core U C) (Told U)) → Keeps a c v → respect.Keeps (server a) (λ c gave d. IdsStay (objects_in c) (objects_in d)) c v
-  verdict_keeps c v keeps = record { carried = λ put others wrote is written. came_keeps c v keeps wrote; starved = λ asks. keeps.starved }
-
-  faulted_keeps : (c : Core U C) (f : IoFault) → IdsStay (objects_in c) (objects_in (faulted c f))
-  faulted_keeps c f = grind (arith, ids_same, objects_in)
+  verdict_keeps c v keeps = record { carried = λ put others wrote is written. (grind (arith, objects_in, closed_down)); starved = λ asks. keeps.starved }
 
   pub reads_keep : (left : ℕ) (before : ReaderState T (Core U C)) (turns : List Turn) (out : Gives (Told U)) (end : ReaderState T (Core U C))
       → Reads sends (server a) receives left before turns out end → IdsStay (objects_in before.core) (objects_in end.core)
@@ -151,6 +138,6 @@ module _ {T U G C : Type 0} (sends : T → Queue → Result ℕ IoFault → T �
         joins = λ c d e gave others. ids_then (objects_in c) (objects_in d) (objects_in e);
         handles = λ c m on. verdict_keeps c ((server a).handles c m) (handles_keeps a c m);
         malformed = λ c on. verdict_keeps c (garbled c) (garbled_keeps a c);
-        faulted = λ c f on. faulted_keeps c f;
+        faulted = λ c f on. (grind (arith, ids_same, objects_in));
       })
       left before end turns out reads

@@ -71,14 +71,10 @@ module _ {T U G C : Type 0} (w : World T G C) (before : BackendState T U G C) (i
   -- what no transport changes is as before
   keeps_all : {A : Type 0} (f : Option (Part T U C) → A) → ((p : Part T U C) (link : LinkState T) → f (Some (with_link p link)) ≡ f (Some p)) → (other : ClientParts)
       → f (seen other (server_over before.server id t)).part ≡ f (seen other before.server).part
-  keeps_all f stays other =
-      let (lacked, did, h) = of_change other in
-      keeps (same_client id other) _ _ _ lacked did _ f (λ about p q (calm, none, (t', is_t, is)). ap (λ (x : Part T U C). f (Some x)) is ∙ stays p (with_transport p.link t')) h
+  keeps_all f h1 other = grind (arith, of_change, keeps, same_client, with_transport, seen, server_over, either_option)
 
   changed_part : (p : Part T U C) → (seen id before.server).part ≡ Some p → (seen id (server_over before.server id t)).part ≡ Some (changed_to t p)
-  changed_part p there =
-      let (lacked, did, h) = of_change id in
-      grind (arith, either_option, seen, own, none_and_some, changed_to, one_value)
+  changed_part p h1 = grind (arith, of_change, either_option, seen, own, none_and_some, changed_to, one_value, server_over, same_client)
 
   pub leaves_transport : (s : Stored T U C) → Some s ≡ client_at id before.server.clients → LeavesTransport before id t (state_over before id t)
   leaves_transport s is = record {

@@ -49,14 +49,11 @@ pub told_starved : {T U C : Type 0} (sends : T → Queue → Result ℕ IoFault 
     (did : List (Deed U)) (q : Part T U C) → lacked ≡ true → Tells sends v link lacked did q → IsStarved v did q
 told_starved {T} {U} {C} sends v none link lacked did q starved (es, gave, end, carries, did_so, same) = carried carries
   where
-    deeds : List Sending → List Said → Core U C → List (Deed U)
-    deeds es put c = deeds_of (map Sent es) (put_and_gave put (v.events c)) c
-
     came : (wrote : Result (Unit {0}) IoFault) (b : Bool) → b ≡ false → (lacks_memory wrote || b) ≡ true → came_to speaker v wrote ≡ v.starved
     came (Err fault.OutOfMemory) b calm lacks = refl
     came _ b calm lacks = absurd (true≢false (sym lacks ∙ calm))
 
-    of_core : (es : List Sending) (put : List Said) → end.core ≡ v.starved → did ≡ deeds es put v.starved → IsStarved v did q
+    of_core : (es : List Sending) (put : List Said) → end.core ≡ v.starved → did ≡ (deeds_of (map Sent es) (put_and_gave put (v.events v.starved)) v.starved) → IsStarved v did q
     of_core es put is all = record {
       link = end.link;
       part_is = same ∙ ap (λ (c : Core U C). part_of (record { core = c; link = end.link })) is;

@@ -1,5 +1,5 @@
 -- How the end of an action is a verdict that was carried out.
-use Rattle.std.proofs.Common.{arith, ◌||◌, append-nil, append_assoc, not, is_none, is_some, map, MatchResult, inl, inr, ◌≡◌, ◌∙◌, ℕ, Bool, true, false, eqb, cond, List, [], ◌∷◌, ◌++◌, Option, None, Some, Result, Ok, Err, MatchOption, refl, sym, ap, subst}
+use Rattle.std.proofs.Common.{arith, ◌||◌, append-nil, append_assoc, not, is_none, is_some, MatchResult, inl, inr, ◌≡◌, ◌∙◌, ℕ, Bool, true, false, eqb, cond, List, [], ◌∷◌, ◌++◌, Option, None, Some, Result, Ok, Err, MatchOption, refl, sym, ap, subst}
 use Rattle.std.proofs.lemmas.Option.{none-some}
 use Rattle.std.proofs.lemmas.Bool.{false≢true}
 use Rattle.wl_wire.specs.declared.error.IoFault.{IoFault}
@@ -23,15 +23,15 @@ use Rattle.wl_server.specs.declared.notes.DisconnectReason.TheVariants.{Connecti
 use Rattle.wl_server.specs.declared.notes.Happening.{Happening}
 use Rattle.wl_server.specs.Inside.Carried.{IsCarried, told_notes}
 use Rattle.wl_server.specs.Inside.Client.{Does}
-use Rattle.wl_server.specs.Deeds.{Noted, left_if, notes_in}
+use Rattle.wl_server.specs.Deeds.{notes_in}
 use Rattle.wl_server.specs.Finish.{FinishesOpen, Refuses, core_finished, data_given, ended_by, ending, ends, ends_request, refusal, store_with_data}
 use Rattle.wl_server.specs.Inside.Finishing.{EndsObject, EndsSender, is_out_of_memory, part_finished, part_without}
 use Rattle.wl_server.specs.Objects.{unless_refused, without}
 use Rattle.wl_server.specs.Ids.{ClientParts, IdParts}
-use Rattle.wl_server.specs.Part.{end_note, id_at, id_of, named, note_of_end, registries_without, serial_of, with_link, with_user_data, Part}
+use Rattle.wl_server.specs.Part.{id_at, id_of, named, note_of_end, registries_without, serial_of, with_link, with_user_data, Part}
 use Rattle.wl_server.specs.Inside.Puts.{Puts}
 use Rattle.wl_server.specs.Server.{NoteTimes, Stored, no_times, untimed}
-use Rattle.wl_server.specs.Telling.{Core, Did, Kills, killed, closed_down, core_of, deletions, end_deeds, part_of, speaker}
+use Rattle.wl_server.specs.Telling.{Core, Kills, killed, closed_down, core_of, deletions, end_deeds, part_of, speaker}
 use Rattle.wl_server.proofs.CallSteps.Doing.{does_quietly}
 use Rattle.wl_server.proofs.Readings.Notes.{tells_carried}
 use Rattle.wl_server.proofs.ObjectCalls.Posting.{kills_is}
@@ -39,15 +39,9 @@ use Rattle.wl_server.proofs.GlobalCalls.Putting.{puts_none}
 
 -- ---- the object that an id names
 
-same_some : {X : Type 0} {x y : X} → Some x ≡ Some y → x ≡ y
-same_some h = cc
-
 module _ {U : Type 0} where
-  found : (id : Id) (h : Option (Object (Kept U))) (x : Object (Kept U)) → named_in serial_of id h ≡ Some x → h ≡ Some x
-  found id h2 x e = grind (arith, eqb, serial_of)
-
   not_null : (b : Bool) (id : Id) (h : Option (Object (Kept U))) (x : Object (Kept U)) → cond b None (named_in serial_of id h) ≡ Some x → h ≡ Some x
-  not_null h1 id h x e = grind (arith, found)
+  not_null h1 id h x e = grind (arith, eqb, serial_of)
 
   -- is the one at the id's number
   named_held : (store : Store (Kept U)) (id : IdParts) (x : Object (Kept U)) → named store id ≡ Some x → held store id.number ≡ Some x
@@ -87,13 +81,10 @@ module _ {U : Type 0} where
       → named (store_with_data (removed store sender.number) created u) sender ≡ None
   not_named store sender created u = grind (arith, eqb, serial_of, id_of, store_with_data, still_gone, removed_here)
 
-  told_end : (i : IdParts) (id : Id) (u : Option U) → told_notes (map Did (map Noted (end_note i u) ++ left_if id u)) ≡ end_note i u
-  told_end i id h3 = grind (arith)
-
   module _ {C : Type 0} (client : ClientParts) (sender : IdParts) (x : Object (Kept U)) (c : Core U C) where
     -- the note of an object that left, and none of one that stayed
     note_where_gone : named c.store sender ≡ None → told_notes (ending client sender x c) ≡ note_of_end client sender.number x
-    note_where_gone gone = rw gone (told_end (id_at client sender.number x) (id_of sender) x.value.user_data)
+    note_where_gone gone = rw gone (grind (arith, id_at client sender.number x, id_of sender, x.value.user_data))
 
     none_where_kept : (y : Object (Kept U)) → named c.store sender ≡ Some y → told_notes (ending client sender x c) ≡ []
     none_where_kept y kept = rw kept refl
@@ -133,7 +124,7 @@ where_some {X} o x is A B h = subst (λ (o : Option X). MatchOption o A B) is h
 
 -- no refusal for other reasons is a want of memory
 no_memory : (a b : Bool) (e : FinishError) → first_refusal (when a finish.MissingObjectData ∷ when b finish.UnexpectedData ∷ []) ≡ Some e → is_out_of_memory e ≡ false
-no_memory a b e h1 = grind (arith, is_out_of_memory, same_some)
+no_memory a b e h1 = grind (arith, is_out_of_memory)
 
 ok_ok : (f : OutOfMemory) → ◌≡◌ {A = Result (Result (Unit {0}) IoFault) OutOfMemory} (Err f) (Ok (Ok tt)) → ⊥
 ok_ok f same = cc
@@ -202,7 +193,7 @@ module _ {T U C : Type 0} (sends : T → Queue → Result ℕ IoFault → T → 
       came_closing client (core_of s.part) sender x created u wrote lacks,
       sym (ap (λ (b : Bool). b || false) lacks),
     ),
-    grind (arith, at, noting, part_of, core, closing, notes_in, end_deeds, note_where_gone, named, closing_store, core_of, not_named),
+    grind (arith, finished-is, gone, append-nil, note, append_assoc, end_deeds, killed, core_of, noting, part_of, core, closing, notes_in, note_where_gone, named, closing_store, not_named),
   )
     where
       core : Core U C
@@ -216,10 +207,6 @@ module _ {T U C : Type 0} (sends : T → Queue → Result ℕ IoFault → T → 
 
       finished-is : finished mid ≡ gone
       finished-is = ap finished is
-
-      at : (wrote : Result (Unit {0}) IoFault) → MatchResult wrote (λ _. untimed after ≡ finished mid) (λ _. Does (finished mid) (λ p did q. Kills p ConnectionClosed did q) after)
-          → untimed after ≡ noting (part_of (record { core = closing core wrote; link = mid.part.link })) (note ++ notes_in (end_deeds (closing core wrote).ended))
-      at wrote h1 = grind (arith, finished-is, gone, append-nil, note, append_assoc, end_deeds, killed, core_of)
 
   -- of the sender, where it is ended and kept, and else of none
   pub ends_starved : (e : OutOfMemory) (after : Stored T U C) → EndsSender sends client s sender is_destructor (Err e) after

@@ -57,9 +57,6 @@ or_false : (b : Bool) → b ≡ b || false
 or_false true = refl
 or_false false = refl
 
-and_false : (b : Bool) → b && false ≡ false
-and_false h1 = grind (arith)
-
 -- the client over another link
 abbrev pub over_link : {T U C : Type 0} → Stored T U C → LinkState T → Stored T U C
 over_link s link = record s { part = with_link s.part link }
@@ -104,10 +101,6 @@ module _ {T U C : Type 0} (sends : T → Queue → Result ℕ IoFault → T → 
 
   -- ---- an error
 
-  came_killed : {G : Type 0} (a : Around G C) (s : Stored T U C) (code : ℕ) (text : List ℕ) (wrote : Result (Unit {0}) IoFault)
-      → (came_to speaker (posts a.table (core_of s.part) (display_of a.client) code text) wrote).is_killed ≡ true
-  came_killed a s code text wrote = grind (arith)
-
   pub broke : {G : Type 0} (a : Around G C) (s after : Stored T U C) (code : ℕ) (text : List ℕ) (refused : Bool)
       → IsCarried sends (posts a.table (core_of s.part) (display_of a.client) code text) s refused after
       → IsHandled sends (breaks a (core_of s.part) code text) s (Ended (broken_with refused)) after
@@ -118,7 +111,7 @@ module _ {T U C : Type 0} (sends : T → Queue → Result ℕ IoFault → T → 
     end = record { core = core; link = link };
     carried = inl (es, others, put, wrote, mid, lacked, puts, flushed, refl, is, refl, refused-is);
     no_note = no_note_put put (HandedOut (Stops fault.Pipe) ∷ []) refl;
-    says = (refl, killed_reads core.is_killed (is_none core.action) (ap (λ (c : Core U C). c.is_killed) is ∙ came_killed a s code text wrote), behind_puts put (HandedOut (Stops fault.Pipe) ∷ []));
+    says = (refl, killed_reads core.is_killed (is_none core.action) (ap (λ (c : Core U C). c.is_killed) is ∙ (grind (arith))), behind_puts put (HandedOut (Stops fault.Pipe) ∷ []));
     after_is = after-is;
   }
   broke a s after code text refused (core, link, inr (asks, lacked, is, same), after-is) = record {
@@ -152,15 +145,12 @@ module _ {T U C : Type 0} (sends : T → Queue → Result ℕ IoFault → T → 
   came_closed : (c : Core U C) (puts : List Said) (did : List (Deed U)) (f : IoFault) → came_to speaker (replies c puts did) (Err f) ≡ closed_down c
   came_closed c puts did h4 = grind (arith)
 
-  live_stops : (c : Core U C) → c.is_killed ≡ false → stops_if c ≡ []
-  live_stops c live = ap (λ (b : Bool). if b then (Stops fault.Pipe ∷ []) else []) live
-
   pub replied_all : (s after : Stored T U C) (link : LinkState T) (puts : List Said) (did : List (Deed U)) → AreQuiet did → Live s.part
       → Puts sends s.part.link puts (Ok tt) link → after ≡ over_link s link
       → IsHandled sends (replies (core_of s.part) puts did) s WentOn after
   replied_all s after link puts did quiet live (es, put, put_out) same =
       let events : List (Told U) = map Did did ++ stops_if (core_of s.part) in
-      let stops : stops_if (core_of s.part) ≡ [] = live_stops (core_of s.part) live.0 in
+      let stops : stops_if (core_of s.part) ≡ [] = ap (λ (b : Bool). if b then (Stops fault.Pipe ∷ []) else []) live.0 in
       record {
         es = es ++ [];
         gave = put_and_gave put events;
@@ -212,7 +202,7 @@ module _ {T U C : Type 0} (sends : T → Queue → Result ℕ IoFault → T → 
     end = record { core = record (core_of s.part) { action = Some action }; link = s.part.link };
     carried = inl ([], [], [], Ok tt, s.part.link, false, (refl, refl, refl, refl), (refl, refl, refl), refl, refl, refl, refl);
     no_note = refl;
-    says = (refl, and_false (not s.part.is_killed), refl);
+    says = (refl, (grind (arith, not s.part.is_killed)), refl);
     after_is = made_end (record s { part = record s.part { action = Some action } });
   }
 

@@ -4,12 +4,7 @@ use Rattle.std.specs.List.{list_any}
 use Rattle.wl_wire.specs.declared.argument.ArgumentType.{ArgumentType}
 use Rattle.wl_wire.specs.Argument.{Matches, WireArgument, type_of}
 use Rattle.wl_wire.specs.Table.{is_new_id}
-use Rattle.wl_server.specs.Inside.Conversion.{IsNextKind}
 use Rattle.wl_server.specs.Requests.{kinds_after}
-
--- the first argument is of the first type, and the others match the others
-pub next_kind : (kinds : List ArgumentType) (a : WireArgument) (args : List WireArgument) → Matches kinds (a ∷ args) → IsNextKind kinds a
-next_kind h1 a args same = grind (arith)
 
 pub later_kinds : (kinds : List ArgumentType) (a : WireArgument) (args : List WireArgument) → Matches kinds (a ∷ args) → Matches (kinds_after kinds) args
 later_kinds h1 a args same = grind (arith)
@@ -19,4 +14,4 @@ pub new_matches : (kinds : List ArgumentType) (args : List WireArgument) → Mat
 new_matches [] [] same = refl
 new_matches [] (a ∷ args) same = cc
 new_matches (k ∷ kinds) [] same = cc
-new_matches (k ∷ kinds) (a ∷ args) same = grind (arith, next_kind, list_any, is_new_id, later_kinds, new_matches kinds args (later_kinds (k ∷ kinds) a args same))
+new_matches (k ∷ kinds) (a ∷ args) same = grind (arith, list_any, is_new_id, later_kinds, new_matches kinds args (later_kinds (k ∷ kinds) a args same))

@@ -11,13 +11,13 @@ use Rattle.wl_wire.specs.Message.{WireMessage}
 use Rattle.wl_link.proofs.Calls.Branches.{at_false, at_true}
 use Rattle.wl_link.specs.Exchange.{Queue, Sending}
 use Rattle.wl_link.proofs.Streams.LengthLaws.{carries_stays}
-use Rattle.wl_link.specs.Link.{Filled, FindsRoom, LinkState, ReadFound, ReadOne, grown_capacity}
+use Rattle.wl_link.specs.Link.{Filled, FindsRoom, LinkState, ReadOne, grown_capacity}
 use Rattle.wl_link.proofs.Readings.ReaderLoops.{room_found}
 use Rattle.wl_link.specs.Puts.{lacks_memory}
 use Rattle.wl_link.specs.Reader.{CarriesOut, FrontAsks, Given, Gives, Halts, Handled, Leaves, Reads, Received, Takes, Turn, Unread, Verdict, given_first, handled_in, stops, ReaderState}
 use Rattle.wl_link.specs.declared.object.Object.{Object}
 use Rattle.wl_link.specs.Store.{Store, held}
-use Rattle.wl_wire.specs.Table.{InterfaceRow, MessageRow, message_row}
+use Rattle.wl_wire.specs.Table.{InterfaceRow, message_row}
 use Rattle.wl_wire.specs.Parse.{opcode_of, sender_of}
 use Rattle.wl_wire.specs.declared.argument.ArgumentType.{ArgumentType}
 use Rattle.wl_server.specs.declared.reading.action.OpenAction.{OpenAction}
@@ -91,11 +91,6 @@ module _ {T U C : Type 0} where
 abbrev ok_answer : WireMessage → Result WireMessage MessageParseError
 ok_answer m = Ok m
 
-header_at : {T : Type 0} (b : Bool) (P : Option (List ArgumentType) → Type 0) (before : LinkState T) (m : WireMessage) (after : LinkState T)
-    → MatchBool b ((f : Option (List ArgumentType)) × P f × ReadFound f before (Ok m) after) ((ok_answer m ≡ Err parse.MissingData) × (after ≡ before))
-    → (m.sender ≡ sender_of before.incoming.bytes) × (m.opcode ≡ opcode_of before.incoming.bytes)
-header_at h1 h2 before m after h6 = grind (arith, true≢false, is_ok)
-
 module _ {T U : Type 0} (table : List InterfaceRow) (store : Store (Kept U)) (link : LinkState T) (r : FrontRequest) (front : IsFront table store link r) (after : LinkState T) where
   abbrev AsAsked : Option (List ArgumentType) → Type 0
   AsAsked f = f ≡ Some r.desc.now.signature.items
@@ -105,7 +100,7 @@ module _ {T U : Type 0} (table : List InterfaceRow) (store : Store (Kept U)) (li
 
   module _ (m : WireMessage) (read : ReadOne (λ _ _ f. AsAsked f) link (Ok m) after) where
     header_is : (m.sender ≡ sender_of link.incoming.bytes) × (m.opcode ≡ opcode_of link.incoming.bytes)
-    header_is = header_at _ AsAsked link m after read
+    header_is = grind (arith, true≢false, is_ok)
 
     pub row_read : row_in table (held store m.sender) m.opcode ≡ Some (message_row r.desc.now)
     row_read = ap₂ (λ (n o : ℕ). row_in table (held store n) o) header_is.0 header_is.1 ∙ sym front.row
@@ -202,7 +197,7 @@ module _ {T U G C : Type 0} (sends : T → Queue → Result ℕ IoFault → T �
             first = t es ∷ [];
             gave = gave;
             leads = λ turns rest last reads. subst (λ (b : Bool). Reads sends (server a) receives r.turns_left (reader_part s.part) (t es ∷ turns) (given_first gave b rest) last) calm
-                (found r.turns_left es gave refused end turns rest last carried (again turns rest last reads));
+                (found r.turns_left es gave refused end turns rest last carried (grind (arith, reader_part, server)));
             silent = silent;
             no_note = none;
             read = read es;
@@ -210,19 +205,13 @@ module _ {T U G C : Type 0} (sends : T → Queue → Result ℕ IoFault → T �
             serial = ap (λ (x : Stored T U C). x.serial) is;
             made = ap (λ (x : Stored T U C). x.made) is ∙ made_none s.made end.core.ended unended;
           }
-        where
-          again : (turns : List Turn) (rest : Gives (Told U)) (last : ReaderState T (Core U C)) → Reads sends (server a) receives r'.turns_left (reader_part after.part) turns rest last
-              → Reads sends (server a) receives r.turns_left end turns rest last
-          again turns rest last reads = grind (arith, reader_part, server)
 
       shorter : (gave : List (Given (Told U))) (refused : Bool) (end : ReaderState T (Core U C)) (es : List Sending) (after : Stored T U C)
           → CarriesOut sends (server a) v link es gave refused end → untimed after ≡ stored_as s end → length link.incoming.bytes < length s.part.link.incoming.bytes
           → length after.part.link.incoming.bytes < length s.part.link.incoming.bytes
       shorter gave refused end es after carried is fewer =
           let kept = carries_stays sends (server a) v link end es gave refused carried in
-          let bytes : length after.part.link.incoming.bytes ≡ length link.incoming.bytes
-          = ap (λ (x : Stored T U C). length x.part.link.incoming.bytes) is ∙ ap (λ (q : Queue). length q.bytes) kept.incoming in
-          omega (arith, bytes, fewer)
+          omega (arith, ap (λ (x : Stored T U C). length x.part.link.incoming.bytes) is ∙ ap (λ (q : Queue). length q.bytes) kept.incoming, fewer)
 
       handles_so : (to : MessageResult) (after : Stored T U C) → IsHandled sends v (linked s link) to after → length link.incoming.bytes < length s.part.link.incoming.bytes
           → HandlesMessage sends receives a s r to after r'
@@ -304,9 +293,6 @@ module _ {T U G C : Type 0} (sends : T → Queue → Result ℕ IoFault → T �
     times = s.times;
   }
 
-  known : (m : WireMessage) (row : MessageRow) (o : Option (Object (Kept U))) → row_in a.table o m.opcode ≡ Some row → (x : Object (Kept U)) × (o ≡ Some x)
-  known m row h3 is = grind (arith)
-
   pub message_taken : (s : Stored T U C) (r r' : Reading) (link : LinkState T) (objects objects' : ClientObjects U) (response : Response) (f : Found) (args : List (Argument IdParts Token))
       (to : MessageResult) (after : Stored T U C)
       → Live s.part → core_with (core_of s.part) s.part.client_data objects ≡ core_of s.part
@@ -316,7 +302,7 @@ module _ {T U G C : Type 0} (sends : T → Queue → Result ℕ IoFault → T �
       → HandlesMessage sends receives a s r to after r'
   message_taken s r r' link objects objects' response f args to after live same (m, row, read, is, responds) handled fewer left count =
       let store : objects.map.store ≡ s.part.store = ap (λ (core : Core U C). core.store) same in
-      let k = known m row (held objects.map.store m.sender) is in
+      let k : (x : Object (Kept U)) × ((held objects.map.store m.sender) ≡ Some x) = grind (arith, held objects.map.store m.sender) in
       let mid = gone_through s link objects' in
       let v = response_to a (core_of mid.part) response f args in
       let verdict : request_to a (core_of s.part) m k.0 row ≡ v
@@ -398,7 +384,7 @@ module _ {T U G C : Type 0} (sends : T → Queue → Result ℕ IoFault → T �
           after_is = is;
         }
     fills_ends end after (link, inr (failed, same, asks), finds, refused, is) =
-        let memory : end.fault ≡ fault.OutOfMemory = memory_is end.fault failed in
+        let memory : end.fault ≡ fault.OutOfMemory = grind (arith, end.fault) in
         let out : Gives (Told U) = stops (Some fault.OutOfMemory) true q.turns_left in
         record {
           turns = [];
@@ -412,9 +398,6 @@ module _ {T U G C : Type 0} (sends : T → Queue → Result ℕ IoFault → T �
           no_note = refl;
           after_is = grind (arith, stored_as, faulted, core_of);
         }
-      where
-        memory_is : (f : IoFault) → ◌≡◌ {A = Result (Unit {0}) IoFault} (Err f) (Err fault.OutOfMemory) → f ≡ fault.OutOfMemory
-        memory_is f is' = cc
 
 -- ---- an open action is answered first, and then that the client was killed
 
@@ -467,12 +450,10 @@ module _ {T U G C : Type 0} (sends : T → Queue → Result ℕ IoFault → T �
       let notes : notes_in did ≡ notes_in (end_deeds {U = U} e.end.core.ended)
       = grind (arith, notes_append, exchanges_in, deeds_in, end_deeds, notes_in, notes_of_exchanges) in
       let reading : r' ≡ read_on r e.out.left (handled_in e.turns)
-      = ap₂ (λ (n m : ℕ). let x : Reading = record { turns_left = n; read = m } in x) e.left e.read in
-      let reads : ReadsTo sends receives a r s.part (answer_of answer) r' (refused_of answer) did (part_of e.end)
-      = (e.turns, e.out, e.end, e.reads, e.answer_is, reading, e.refused_is, refl, refl) in (
+      = ap₂ (λ (n m : ℕ). let x : Reading = record { turns_left = n; read = m } in x) e.left e.read in (
         did,
         part_of e.end,
-        next_live (answer_of answer) (refused_of answer) did (part_of e.end) live reads,
+        next_live (answer_of answer) (refused_of answer) did (part_of e.end) live (e.turns, e.out, e.end, e.reads, e.answer_is, reading, e.refused_is, refl, refl),
         e.after_is ∙ ap (λ (l : List (Happening U)). let x : Stored T U C = record { serial = s.serial; part = part_of e.end; made = s.made ++ l; times = no_times } in x) (sym notes),
       )
 
@@ -506,11 +487,4 @@ pub fault_fills : {T U C : Type 0} (receives : T → ℕ → Result Queue IoFaul
     → Does (linked s link) (λ p did q. Kills p ConnectionClosed did q) after
     → Fills receives s (Some (record { fault = f; refused = false })) after
 fault_fills receives s after link f blocks memory filled finds kills =
-    (link, filled, finds, sym (lacks_none f memory), kills_is (linked s link) after ConnectionClosed kills ∙ closes f blocks memory)
-  where
-    lacks_none : (f : IoFault) → f ≢ fault.OutOfMemory → lacks_memory (Err f) ≡ false
-    lacks_none f h1 = grind (arith)
-
-    closes : (f : IoFault) → f ≢ fault.WouldBlock → f ≢ fault.OutOfMemory
-        → stored_as s (record { core = faulted (core_of s.part) fault.Pipe; link = link }) ≡ stored_as s (record { core = faulted (core_of s.part) f; link = link })
-    closes f h1 h2 = grind (arith)
+    (link, filled, finds, sym (grind (arith)), kills_is (linked s link) after ConnectionClosed kills ∙ (grind (arith)))

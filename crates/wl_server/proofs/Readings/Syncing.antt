@@ -12,7 +12,7 @@ use Rattle.wl_wire.specs.MessageRows.{request_in}
 use Rattle.wl_wire.specs.Parse.{IsWhole, length_of, opcode_of, payload_of, sender_of}
 use Rattle.std.specs.Prelude.{IfSome, MatchOption}
 use Rattle.wl_wire.specs.Reading.{IsPiece, IsWord, Reads as ReadsArgs}
-use Rattle.wl_wire.specs.Table.{InterfaceRow, IsAcceptedTable, MessageRow, display_id, display_row, fixed_rows, first_message, callback_id, message_row}
+use Rattle.wl_wire.specs.Table.{InterfaceRow, IsAcceptedTable, MessageRow, display_id, display_row, first_message, callback_id, message_row}
 use Rattle.wl_link.specs.declared.object.Object.{Object}
 use Rattle.wl_link.specs.Exchange.{Queue}
 use Rattle.wl_link.specs.Identity.{Objects}
@@ -42,12 +42,9 @@ abbrev one_new_id : List ArgumentType
 one_new_id = kind.NewId ∷ []
 
 module _ (table : List InterfaceRow) (accepted : IsAcceptedTable table) where
-  begins : table ≡ fixed_rows ++ drop 4 table
-  begins = sym (take-append-drop 4 table) ∙ ap (λ (t : List InterfaceRow). t ++ drop 4 table) accepted.fixed
-
   row_is : {U : Type 0} (o : Option (Object (Kept U))) (x : Object (Kept U)) (opcode : ℕ) → o ≡ Some x → x.interface ≡ display_id → opcode ≡ 0
       → row_in table o opcode ≡ sync_row
-  row_is o x opcode is display zero = rw (is, display, zero, begins) refl
+  row_is o x opcode is display zero = rw (is, display, zero, (sym (take-append-drop 4 table) ∙ ap (λ (t : List InterfaceRow). t ++ drop 4 table) accepted.fixed)) refl
 
 -- The message at the front is a sync of a callback with this number.
 record SyncWaits {T U : Type 0} (table : List InterfaceRow) (store : Store (Kept U)) (link : LinkState T) (n : ℕ) : Type 0 where
@@ -119,11 +116,8 @@ module _ {T U G C : Type 0} (sends : T → Queue → Result ℕ IoFault → T �
   valid : made_at a core n (syncs a core n) ≡ syncs a core n
   valid = rw no_trace.valid refl
 
-  handled : syncs a core n ≡ (server a).handles core message
-  handled = grind (arith, valid, to_display, waits, first_message, callback_id, ap₂, request, row_at_front)
-
   takes : Takes sends (server a) (reader_part s.part) (syncs a core n) (taken s.part.link)
-  takes = (message, reads, handled)
+  takes = (message, reads, (grind (arith, valid, to_display, waits, first_message, callback_id, ap₂, request, row_at_front)))
 
   abbrev mid : Stored T U C
   mid = record s { part = after_sync s.part (taken s.part.link) }

@@ -78,9 +78,6 @@ has_zero row = holds_zero row.name || list_any (λ m. holds_zero m.name) (messag
 same_some : {X : Type 0} {x y : X} → Some x ≡ Some y → x ≡ y
 same_some h = cc
 
-add_four : (k : ℕ) → 4 + k ≡ suc (suc (suc (suc k)))
-add_four k = omega arith
-
 -- an element of a list of which none passes
 free_of : (n : ℕ) (rows : List MessageRow) (row : MessageRow) → slice_get rows n ≡ Some row → list_any (λ m. holds_zero m.name) rows ≡ false → IsFree row.name
 free_of n [] row here h = absurd (none-some _ here)
@@ -108,7 +105,7 @@ module _ (table : List InterfaceRow) (accepted : IsAcceptedTable table) where
   free_row (suc zero) row here = is_fixed 1 row display_row refl refl here
   free_row (suc (suc zero)) row here = is_fixed 2 row registry_row refl refl here
   free_row (suc (suc (suc zero))) row here = is_fixed 3 row callback_row refl refl here
-  free_row (suc (suc (suc (suc k)))) row here = free_rest k row (ap (slice_get table) (add_four k) ∙ here)
+  free_row (suc (suc (suc (suc k)))) row here = free_rest k row (ap (slice_get table) (omega arith) ∙ here)
 
   -- the name of the interface at a place
   pub free_name : (n : ℕ) → IsFree (name_of table n)

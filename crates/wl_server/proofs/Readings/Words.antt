@@ -159,9 +159,8 @@ module _ {U : Type 0} (client : ClientParts) (version : ℕ) (objects : Objects 
   one_front kind.Array kinds asked bytes fds done handed x found rest =
       let c = found_first (counted_at bytes) (λ counted. array_found counted.0 counted.1) x found in
       let read = array_read bytes c.0.0 c.0.1 fds c.1 in
-      let is : (arg.Array c.0.0, c.0.1) ≡ x = let h = c.2 in cc in
       before kind.Array kinds asked bytes read.piece c.0.1 fds done handed (arg.Array c.0.0) (arg.Array c.0.0) read.bytes refl refl read.is_piece refl
-      (subst (λ (y : Argument IdParts Token × List ℕ). Converts kinds asked y.1 fds (done ++ y.0 ∷ []) handed) (sym is) rest)
+      (subst (λ (y : Argument IdParts Token × List ℕ). Converts kinds asked y.1 fds (done ++ y.0 ∷ []) handed) (sym (let h = c.2 in cc)) rest)
   one_front kind.Int kinds asked bytes fds done handed x found rest = by_word kind.Int kinds asked bytes fds done handed x found rest
   one_front kind.Uint kinds asked bytes fds done handed x found rest = by_word kind.Uint kinds asked bytes fds done handed x found rest
   one_front kind.Fixed kinds asked bytes fds done handed x found rest = by_word kind.Fixed kinds asked bytes fds done handed x found rest
@@ -172,10 +171,7 @@ module _ {U : Type 0} (client : ClientParts) (version : ℕ) (objects : Objects 
   fronts_convert : (kinds : List ArgumentType) (asked : List InterfaceId) (bytes : List ℕ) (fds : List Token) (done handed : List (Argument IdParts Token))
       → fronts client objects.store done kinds asked bytes ≡ Some handed → Converts kinds asked bytes fds done handed
   unfolding ReadsArgs
-  fronts_convert [] asked bytes fds done handed found = ([], tt, refl, (asked, ap (Whole (at [] asked)) (all_done done handed found)))
-    where
-      all_done : (one two : List (Argument IdParts Token)) → Some one ≡ Some two → one ≡ two
-      all_done one two e = cc
+  fronts_convert [] asked bytes fds done handed found = ([], tt, refl, (asked, ap (Whole (at [] asked)) (cc)))
   fronts_convert (k ∷ kinds) asked bytes fds done handed found =
       let f = found_first (front_of client objects.store k (next_interface asked) bytes)
       (λ x. fronts client objects.store (done ++ x.0 ∷ []) kinds (asked_after k asked) x.1) handed found in
@@ -244,10 +240,6 @@ record RequestWaits {T U : Type 0} (table : List InterfaceRow) (store : Store (K
   stands : MayStand row sender
   whole : IsWhole link.incoming.bytes
 
-request_waits : {T U : Type 0} (table : List InterfaceRow) (store : Store (Kept U)) (link : LinkState T) (r : FrontRequest) → IsFront table store link r → IsWhole link.incoming.bytes
-    → MayStand (message_row r.desc.now) r.sender → RequestWaits table store link (message_row r.desc.now) r.sender
-request_waits table store link r front whole stands = grind (arith, sender_of, opcode_of, message_row, row_in)
-
 module _ {T U G C : Type 0} (sends : T → Queue → Result ℕ IoFault → T → Type 0) (receives : T → ℕ → Result Queue IoFault → T → Type 0) (a : Around G C)
     (s : Stored T U C) (live : Live s.part) (front : FrontRequest) (is_front : IsFront a.table s.part.store s.part.link front)
     (created : Option IdParts) (objects : Objects (Kept U)) (handed_args : List (Argument IdParts Token))
@@ -259,7 +251,7 @@ module _ {T U G C : Type 0} (sends : T → Queue → Result ℕ IoFault → T �
   sender = front.sender
 
   waits : RequestWaits a.table s.part.store s.part.link row sender
-  waits = request_waits a.table s.part.store s.part.link front is_front put.whole put.stands
+  waits = grind (arith, sender_of, opcode_of, message_row, row_in, a.table, s.part.store, s.part.link, put.whole, put.stands)
 
   hands : HandsOut a.client sender.version (objects_of s.part) row (payload_of s.part.link.incoming.bytes) s.part.link.incoming.tokens created objects handed_args
   hands = put.hands s.part.link.incoming.tokens
@@ -292,9 +284,6 @@ module _ {T U G C : Type 0} (sends : T → Queue → Result ℕ IoFault → T �
   reads : ReadsAs sends (server a) (reader_part s.part) (Ok message) (taken s.part.link)
   reads = grind (arith, le-leb, waits, option_map, row_is, hands, length_of)
 
-  no_display : (waits.receiver.interface.0 == display_id.0) ≡ false
-  no_display = ap (λ (i : InterfaceId). i.0 == display_id.0) waits.is_sender.1 ∙ waits.stands.no_display
-
   no_registry : (waits.receiver.interface.0 == registry_id.0) ≡ false
   no_registry = ap (λ (i : InterfaceId). i.0 == registry_id.0) waits.is_sender.1 ∙ waits.stands.no_registry
 
@@ -305,13 +294,10 @@ module _ {T U G C : Type 0} (sends : T → Queue → Result ℕ IoFault → T �
   converts = ap (λ (n : ℕ). convert a.client n (start (objects_of s.part) row) [] hands.args) waits.is_sender.2 ∙ hands.converts
 
   to_receiver : request a core message (Some waits.receiver) (Some row) ≡ verdict hands.done.created hands.done.objects
-  to_receiver = rw (no_display, no_registry, has_request, converts) refl
-
-  is_handled : verdict created objects ≡ (server a).handles core message
-  is_handled = sym (to_receiver ∙ ap₂ verdict hands.created_is hands.objects_are) ∙ sym (ap₂ (request a core message) waits.holds row_is)
+  to_receiver = rw ((ap (λ (i : InterfaceId). i.0 == display_id.0) waits.is_sender.1 ∙ waits.stands.no_display), no_registry, has_request, converts) refl
 
   takes : Takes sends (server a) (reader_part s.part) (verdict created objects) (taken s.part.link)
-  takes = (message, reads, is_handled)
+  takes = (message, reads, (sym (to_receiver ∙ ap₂ verdict hands.created_is hands.objects_are) ∙ sym (ap₂ (request a core message) waits.holds row_is)))
 
   fewer : length (drop (length_of bytes) bytes) < length bytes
   fewer = let header = waits.whole.counts_header in let there = waits.whole.there in omega (arith, length-drop (length_of bytes) bytes, header, there)

@@ -59,9 +59,7 @@ module _ {T U C : Type 0} where
         (λ k x here calm before. before ∙ (collected_drop give k k clients x here ∙ ap (λ l. l ++ collected give (k + 1) (drop (k + 1) clients)) (none k x calm)))
 
     pub pass_placed : (waits : Bool) (order : List NotePlace) → Placed waits clients from order → Placed waits clients to order
-    pass_placed waits order placed =
-        pass (λ k. Placed waits clients k order) placed
-        (grind (arith, placed_more, places_at, length, quiet_notes, same_both))
+    pass_placed waits order h1 = grind (arith, pass, placed_more, places_at, length, quiet_notes, same_both, carry, there, out_here, to_gather)
 
     pub pass_numbers : (waits : Bool) (order : List NotePlace) → order ++ all_places waits from (map times_of (drop from clients)) ≡ all_places waits 0 (map times_of clients)
         → order ++ all_places waits to (map times_of (drop to clients)) ≡ all_places waits 0 (map times_of clients)

@@ -25,12 +25,9 @@ module _ {T U C : Type 0} where
   pub passed_over : (R : Kind T U C) (refused : Bool) (slot : ℕ) (start now : List (Option (Stored T U C))) (place : Option (Stored T U C)) → slice_get now slot ≡ Some place
       → PlaceFeels R slot place false place → AllFeel R refused slot start now → AllFeel R refused (slot + 1) start now
   passed_over R refused slot start now place here none all =
-      subst (λ (b : Bool). AllFeel R b (slot + 1) start now) (still refused)
+      subst (λ (b : Bool). AllFeel R b (slot + 1) start now) (grind (arith))
       (subst (λ (xs : List (Option (Stored T U C))). AllFeel R (refused || false) (slot + 1) start xs) (set_itself now slot place here)
       (one_more_felt R refused false slot start now place place all here none))
-    where
-      still : (b : Bool) → (b || false) ≡ b
-      still h1 = grind (arith)
 
   module _ (sends : T → Queue → Result ℕ IoFault → T → Type 0) where
     -- where no bytes wait, a flush does nothing

@@ -35,9 +35,6 @@ none_long : {A : Type 0} (xs : List A) → length xs ≡ 0 → xs ≡ []
 none_long [] is = refl
 none_long (x ∷ xs) is = absurd (omega (arith, is))
 
-as_long : {A B : Type 0} (xs : List A) (ys : List B) → length xs ≡ length ys → xs ≡ [] → ys ≡ []
-as_long xs ys same none = none_long ys (sym same ∙ ap length none)
-
 module _ {T U C : Type 0} where
   times_stored : (clients : List (Option (Stored T U C))) (k : ℕ) → times_at k (map times_of clients) ≡ times_of (stored_at k clients)
   times_stored [] k = refl
@@ -55,17 +52,14 @@ module _ {T U C : Type 0} where
       → option_map (emptied waits) (stored_at k clients') ≡ option_map (emptied waits) (stored_at k clients)
   same_emptied waits clients clients' k same = grind (arith, emptied_at, stored_at)
 
-  sent_as : (waits : Bool) (o o' : Option (Stored T U C)) → option_map (emptied waits) o' ≡ option_map (emptied waits) o → HasSent o → HasSent o'
-  sent_as waits o o' h1 h2 = grind (arith, is_some)
-
   pub sent_emptied : (waits : Bool) (words : List ℕ) (clients clients' : List (Option (Stored T U C))) → all_emptied waits clients' ≡ all_emptied waits clients
       → AllSent words clients → AllSent words clients'
   sent_emptied waits words clients clients' same =
-      out_each HasSent words clients clients' (λ k. sent_as waits (stored_at k clients) (stored_at k clients') (same_emptied waits clients clients' k same))
+      out_each HasSent words clients clients' (λ k. (λ h2. grind (arith, is_some, stored_at k clients, stored_at k clients', same_emptied waits clients clients' k same)))
 
   quiet_as : (o o' : Option (Stored T U C)) → option_map (emptied false) o' ≡ option_map (emptied false) o → TakesFirst (times_of o) (times_of o') → IsNumbered o'
       → IsQuiet o → IsQuiet o'
-  quiet_as o o' h1 h2 h3 h4 = grind (arith, is_some, none_more, as_long)
+  quiet_as o o' h1 h2 h3 h4 = grind (arith, is_some, none_more, none_long)
 
   pub quiet_gathered : (words : List ℕ) (clients clients' : List (Option (Stored T U C))) → all_emptied false clients' ≡ all_emptied false clients
       → AllTakeFirst (map times_of clients) (map times_of clients') → AllNumbered clients' → AllQuiet words clients → AllQuiet words clients'
@@ -88,9 +82,6 @@ module _ {T U C : Type 0} where
   staying_at [] k = refl
   staying_at (x ∷ clients) zero = refl
   staying_at (x ∷ clients) (suc k) = staying_at clients k
-
-  sent_staying : (o : Option (Stored T U C)) → HasSent o → HasSent (staying o)
-  sent_staying o h1 = grind (arith)
 
   calm_staying : (o : Option (Stored T U C)) → (to_none : (s : Stored T U C) → o ≡ Some s → (s.made ≡ []) × (s.part.waiting ≡ []))
       → (times_of (staying o)).waiting ≡ [] → IsNumbered (staying o) → IsQuiet (staying o)
@@ -121,7 +112,7 @@ module _ {T U C : Type 0} where
         → CleansUp sends clients notes refused clients' notes' given → AllSent words clients → AllSent words clients'
     sent_cleaned words clients clients' notes notes' refused given by sent =
         subst (λ (xs : List (Option (Stored T U C))). AllSent words xs) (sym by.stay)
-        (out_each HasSent words by.left (all_staying by.left) (λ k has. subst HasSent (sym (staying_at by.left k)) (sent_staying (stored_at k by.left) has))
+        (out_each HasSent words by.left (all_staying by.left) (λ k has. subst HasSent (sym (staying_at by.left k)) (grind (arith, stored_at k by.left)))
         (sent_emptied true words by.flushed by.left by.gathers.rest (sent_killed words refused clients by.flushed by.flushes sent)))
 
     -- after a cleanup no client has a note, and each is live

@@ -93,25 +93,14 @@ module _ {T U C : Type 0} where
   pub none_touched : (touched : Touched) → AreTouched {T = T} {U = U} {C = C} touched []
   none_touched touched = record { sent = out_of_none HasSent _ tt; quiet = out_of_none IsQuiet _ tt }
 
-  pub one_touched : (touched touched' : Touched) (clients : List (Option (Stored T U C))) (slot : ℕ) (s : Stored T U C)
-      → Adds slot touched.to_send.words.items touched'.to_send.words.items → Adds slot touched.to_note.words.items touched'.to_note.words.items
-      → AreTouched touched clients → AreTouched touched' (slice_set clients slot (Some s))
-  one_touched touched touched' clients slot s send note are = grind (arith, out_touched)
-
-  pub still_touched : (touched touched' : Touched) (clients : List (Option (Stored T U C))) (slot : ℕ)
-      → Adds slot touched.to_send.words.items touched'.to_send.words.items → Adds slot touched.to_note.words.items touched'.to_note.words.items
-      → AreTouched touched clients → AreTouched touched' clients
-  still_touched touched touched' clients slot send note are =
-      stay_touched touched touched' clients (record { to_send = λ k out. (send k out).1; to_note = λ k out. (note k out).1 }) are
-
   -- the client was looked up, and there may be none
   pub looked_up : {X : Type 0} (o : Option X) (touched touched' : Touched) (clients : List (Option (Stored T U C))) (slot slot' : ℕ) → slot ≡ slot'
       → Adds slot touched.to_send.words.items touched'.to_send.words.items → Adds slot touched.to_note.words.items touched'.to_note.words.items
       → AreTouched touched clients
       → MatchOption o (AreTouched touched' clients) (λ _. (s : Stored T U C) → AreTouched touched' (slice_set clients slot' (Some s)))
-  looked_up None touched touched' clients slot slot' same send note are = still_touched touched touched' clients slot send note are
+  looked_up None touched touched' clients slot slot' same send note are = stay_touched touched touched' clients (record { to_send = λ k out. (send k out).1; to_note = λ k out. (note k out).1 }) are
   looked_up (Some x) touched touched' clients slot slot' same send note are =
-      λ s. subst (λ (n : ℕ). AreTouched touched' (slice_set clients n (Some s))) same (one_touched touched touched' clients slot s send note are)
+      λ s. subst (λ (n : ℕ). AreTouched touched' (slice_set clients n (Some s))) same (grind (arith, out_touched))
 
   pub put_touched : (touched touched' : Touched) (clients clients' : List (Option (Stored T U C))) (slot : ℕ) (s : Stored T U C)
       → Adds slot touched.to_send.words.items touched'.to_send.words.items → Adds slot touched.to_note.words.items touched'.to_note.words.items

@@ -15,6 +15,4 @@ module _ {T U C : Type 0} where
 
   pub moved_touched : (touched : Touched) (clients : List (Option (Stored T U C))) (id : ClientParts) (s : Stored T U C) (t : T) → Some s ≡ client_at id clients
       → AreTouched touched clients → AreTouched touched (slice_set clients id.slot (Some (over_transport s t)))
-  moved_touched touched clients id s t is are =
-      let here = (slot_of_client clients id s is).0 in
-      grind (arith, out_set, over_transport, calm_moved)
+  moved_touched touched clients id s t h1 h2 = grind (arith, slot_of_client, out_set, over_transport, calm_moved, slice_set)

@@ -8,8 +8,7 @@ use Rattle.std.proofs.lemmas.Option.{same_Some, none-some}
 use Rattle.wl_wire.specs.declared.error.IoFault.{IoFault}
 use Rattle.wl_wire.specs.declared.error.OutOfMemory.{OutOfMemory}
 use Rattle.wl_wire.specs.declared.interface.InterfaceId.{InterfaceId}
-use Rattle.wl_wire.specs.declared.protocol.TableError.{TableError}
-use Rattle.wl_wire.specs.Table.{InterfaceRow, grown}
+use Rattle.wl_wire.specs.Table.{InterfaceRow}
 use Rattle.wl_link.specs.declared.object.Object.{Object}
 use Rattle.wl_link.proofs.Calls.Branches.{either_bool, either_option}
 use Rattle.wl_link.specs.Identity.{Id}
@@ -138,10 +137,7 @@ module _ {T U G C : Type 0} (w : World T G C) (id : ClientParts) (r : Id) where
       (λ p q heard.
       hears_leads offer (with_globals offer (with_created offer.globals i version handler (Ok g)))
       (λ x. news offer.table x (w.views handler id x.client_data g) (record { name = g.name; interface = i; version = version })) p q lacked did
-      (λ log made was. global_watch w.views id r offer (part_scene p) i version handler g (is_free creates) log made was) heard) h
-    where
-      is_free : CreatesGlobal offer.table offer.globals i version (Ok g) → held offer.globals.store g.name ≡ None
-      is_free creates = grind (arith, either_option, slice_get, either_bool, nat_le, true≢false, is_ok)
+      (λ log made was. global_watch w.views id r offer (part_scene p) i version handler g (grind (arith, either_option, slice_get, either_bool, nat_le, true≢false, is_ok)) log made was) heard) h
   global_follows offer i version handler (Err e) s lacked did t creates h = unfelt_follows offer s lacked did t h
 
   loss_follows : (offer : Offer G) (g : GlobalParts) (after : Globals G) (s : Seen T U C) (lacked : Bool) (did : List (Deed U)) (t : Seen T U C)
@@ -185,12 +181,7 @@ module _ {T U G C : Type 0} (w : World T G C) (id : ClientParts) (r : Id) where
 
   cleanup_follows : (offer : Offer G) (answer : Result (Vec (ClientParts × T) Global) OutOfMemory) (s : Seen T U C) (lacked : Bool) (did : List (Deed U)) (t : Seen T U C)
       → CleanedAs w id offer answer s lacked did t → Follows offer offer s did t
-  cleanup_follows offer (Err e) s lacked did t h = unfelt_follows offer s lacked did t h
-  cleanup_follows offer (Ok out) s lacked did t h =
-      elim (either_option s.part h) [
-        | inl (none, (nobody, u)) ↦ unfelt_follows offer s lacked did t u
-        | inr (p, there, (q, c, same)) ↦ cleaned_follows offer s p there lacked did _ q t c (ap (λ (x : Seen T U C). x.part) same)
-      ]
+  cleanup_follows offer answer s lacked did t h1 = grind (arith, unfelt_follows, either_option, cleaned_follows, log_of, registries_in, append-nil, either_bool, out_follows, silent_notes)
 
   taken_follows : (offer : Offer G) (answer : Result (Vec (Note U) Global) OutOfMemory) (s : Seen T U C) (lacked : Bool) (did : List (Deed U)) (t : Seen T U C)
       → NotesTaken w id offer answer s lacked did t → Follows offer offer s did t
@@ -255,11 +246,7 @@ module _ {T U G C : Type 0} (w : World T G C) (id : ClientParts) (r : Id) where
   call_follows offer known (Changed target x) s lacked did t about numbered alone h =
       of_client offer (same_client target id) s _ _ lacked did t
       (λ p q (no_memory, none, (y, becomes, same)). relinked_lives w.views id r offer p (with_transport p.link y) did q none same) h
-  call_follows offer known (Grown rows answer) s lacked did t about numbered alone h = longer answer (unfelt_follows offer s lacked did t h)
-    where
-      -- more interfaces are nothing to what is shown
-      longer : (a : Result (Unit {0}) TableError) → Follows offer offer s did t → Follows offer (with_table offer (grown offer.table rows a)) s did t
-      longer a h1 = grind (arith, log_of, registries_in, with_table, growth_watch, part_scene)
+  call_follows offer known (Grown rows answer) s lacked did t about numbered alone h = grind (arith, log_of, registries_in, with_table, growth_watch, part_scene, unfelt_follows offer s lacked did t h)
 
   -- ---- a run
 
@@ -276,8 +263,7 @@ module _ {T U G C : Type 0} (w : World T G C) (id : ClientParts) (r : Id) where
       most n x holds =
           elim (cases_eq n 1) [
             | inl same ↦
-                let this : display_object ≡ x = same_Some display_object x (sym (stored_here empty_store 1 display_object n same) ∙ holds) in
-                let zero : x.value.serial ≡ 0 = ap (λ (y : Object (Kept U)). y.value.serial) (sym this) in omega (arith, zero)
+                omega (arith, ap (λ (y : Object (Kept U)). y.value.serial) (sym (same_Some display_object x (sym (stored_here empty_store 1 display_object n same) ∙ holds))))
             | inr other ↦ absurd (none-some _ (sym (stored_other empty_store 1 display_object n other ∙ held_empty n) ∙ holds))
           ]
 

@@ -12,11 +12,9 @@ use Rattle.wl_link.specs.Store.{held}
 use Rattle.wl_link.proofs.Ids.StoreLaws.{held_empty, removed_here, removed_other, rewritten_here, rewritten_other, stored_here, stored_other}
 use Rattle.wl_server.specs.declared.error.GlobalError.{GlobalError}
 use Rattle.wl_server.specs.declared.globals.KeptGlobal.{KeptGlobal}
-use Rattle.wl_server.specs.declared.runs.step.Reply.{Reply}
-use Rattle.wl_server.specs.declared.runs.step.Step.{Step}
 use Rattle.wl_server.specs.Globals.{CreatesGlobal, Offer, as_disabled, disabled, freed, global_of, new_global, new_offer, with_created, with_globals}
 use Rattle.wl_server.specs.Ids.{GlobalParts}
-use Rattle.wl_server.specs.PartStep.{Asked, Call}
+use Rattle.wl_server.specs.PartStep.{Call}
 use Rattle.wl_server.specs.Runs.{SharedAlone}
 use Rattle.wl_server.specs.Steps.{Entry, AnswersShared, inserted_by, offer_after}
 use Rattle.wl_server.proofs.OverRuns.Announced.ShownLaws.{global_held}
@@ -49,12 +47,8 @@ module _ {G : Type 0} where
     after_created i version handler h4 creates = grind (arith, cases_eq, same_Some, stored_here, length, slice_get, stored_other, new_global, slice_get_within)
 
 module _ {T U G C : Type 0} where
-  after_step : (offer : Offer G) (s : Step T U G C) (answer : Reply T U) → HasInterfaces offer → AnswersShared offer (Asked s answer)
-      → HasInterfaces (offer_after offer (Asked s answer))
-  after_step offer s answer known n = grind (arith, after_created, after_disabled, after_freed)
-
   pub after_call : (offer : Offer G) (call : Call T U G C) → HasInterfaces offer → AnswersShared offer call → HasInterfaces (offer_after offer call)
-  after_call offer h2 known n = grind (arith, after_step, length-append)
+  after_call offer h2 known n = grind (arith, after_created, after_disabled, after_freed, length-append)
 
   pub after_run : (offer : Offer G) (last : ℕ) (run : List (Entry T U G C)) (offer' : Offer G) (last' : ℕ) → HasInterfaces offer
       → SharedAlone offer last run offer' last' → HasInterfaces offer'

@@ -118,12 +118,9 @@ module _ {G C : Type 0} (views : G → ClientParts → C → GlobalParts → Boo
       pub kept : (a : Announced) → IsShown offer a → IsShown (with_globals offer after) a
       pub only : (a : Announced) → IsShown (with_globals offer after) a → IsShown offer a
 
-    not_named : (x : Object (KeptGlobal G)) → global_of offer.globals g ≡ Some x → (a : Announced) → IsShown offer a → a.name ≢ g.name
-    not_named x is a h same = grind (arith, global_held, is_enabled, is_shown, true≢false)
-
     stays_where_hidden : (after : Globals G) (x : Object (KeptGlobal G)) → global_of offer.globals g ≡ Some x → Hides offer g.name after → StaysShown after
     stays_where_hidden after x is hides = record {
-      kept = λ a h. hidden_old offer g.name after hides a h (not_named x is a h);
+      kept = λ a h. hidden_old offer g.name after hides a h (λ same. grind (arith, global_held, is_enabled, is_shown, true≢false));
       only = λ a h. (hidden_only offer g.name after hides a h).0;
     }
 

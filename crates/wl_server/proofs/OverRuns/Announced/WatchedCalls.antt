@@ -35,7 +35,7 @@ use Rattle.wl_server.specs.Objects.{Creates, DataSet, Destroys, destroyable, new
 use Rattle.wl_server.specs.Part.{Part, end_note, id_at, id_of, last_possible_serial, named, with_link}
 use Rattle.wl_server.specs.Telling.{Core, Did, Kills, Tells, core_of, delete_message, deletions, tells}
 use Rattle.wl_server.proofs.OverRuns.Announced.WatchedReadings.{deletions_other}
-use Rattle.wl_server.proofs.OverRuns.Announced.WatchedVerdicts.{IsShort, Leads, Lives, PartLives, lives_not, lives_same, lives_so, lives_then, log_both, registries_both, tells_lives}
+use Rattle.wl_server.proofs.OverRuns.Announced.WatchedVerdicts.{Lives, PartLives, lives_not, lives_same, lives_so, lives_then, log_both, registries_both, tells_lives}
 use Rattle.wl_server.proofs.OverRuns.Announced.Watching.{Goes, Scene, Steady, born_goes, display_other, goes_then, id_at_number, others_goes, part_scene, scene_of, set_action_goes, steady_goes, steady_same, steady_then, went_goes, wrote_goes}
 
 -- ---- deeds that put nothing
@@ -50,13 +50,6 @@ module _ {U : Type 0} where
 
   named_at : (store : Store (Kept U)) (id : IdParts) (x : Object (Kept U)) → named store id ≡ Some x → id_at_number id.number x ≡ id_of id
   named_at store id x is = ap (λ (s : ℕ). record { number = id.number; serial = s }) (named_serial store id x is)
-
--- the number of an object is told in one message at most
-short_deletions : (n : ℕ) → IsShort (deletions n)
-short_deletions n = grind (arith, delete_message)
-
-not_refused : {E : Type 0} (e : E) (answer : Result (Unit {0}) E) (refused : Bool) → answer ≡ unless_refused e refused → refused ≡ false → answer ≡ Ok tt
-not_refused e answer refused is fine = is ∙ ap (unless_refused e) fine
 
 silent_sends : (U : Type 0) (es : List Sending) → IsSilent {U = U} (map Sent es)
 silent_sends U es = (ap (λ (d : Doings U). d.put) (doings_sends es), ap (λ (d : Doings U). d.registries) (doings_sends es))
@@ -133,7 +126,7 @@ module _ {G C : Type 0} (views : G → ClientParts → C → GlobalParts → Boo
       tells_lives views client r offer sends p (leaving_by client e starved waits asks id x (deletions id.number)) link lacked did q
       (record {
         last = λ d killed'. killed';
-        starved = elim back [ inl dead ↦ inl dead | inr same ↦ inr (same, (silent_left client waits id x (is_some (named p.store id))).1, short_deletions id.number) ];
+        starved = elim back [ inl dead ↦ inl dead | inr same ↦ inr (same, (silent_left client waits id x (is_some (named p.store id))).1, (grind (arith, delete_message, id.number))) ];
         silent = λ d. (silent_left client waits id x (is_some (named d.store id))).0;
       })
       (λ fits.
@@ -148,7 +141,7 @@ module _ {G C : Type 0} (views : G → ClientParts → C → GlobalParts → Boo
         | inl (none, (is, no_memory, nothing, same)) ↦ none_done p q did nothing same
         | inr (x, some, (is, tells')) ↦
             leaves_lives sends p (without_noted client (core_of p) id.number x) (core_of p) true (is_some x.value.user_data) id x p.link lacked did q refl (inr refl)
-            (λ fine. without_still (core_of p) id x (destroyable_named p id x some) (λ same. alone same (not_refused _ answer lacked is fine))) tells'
+            (λ fine. without_still (core_of p) id x (destroyable_named p id x some) (λ same. alone same (is ∙ ap (unless_refused _) fine))) tells'
       ]
 
   -- ---- errors, and the end of a client
@@ -171,11 +164,7 @@ module _ {G C : Type 0} (views : G → ClientParts → C → GlobalParts → Boo
 
   pub flushes_lives : {T : Type 0} (sends : T → Queue → Result ℕ IoFault → T → Type 0) (p : Part T U C) (lacked : Bool) (did : List (Deed U)) (q : Part T U C)
       → FlushesLive sends p lacked did q → Run p did q
-  flushes_lives sends p lacked did q h =
-      elim (either_bool p.is_killed h) [
-        | inl (no_memory, none, same) ↦ none_done p q did none same
-        | inr (answer, f) ↦ flushed_lives sends p answer lacked did q f
-      ]
+  flushes_lives sends p lacked did q h1 = grind (arith, either_bool, none_done, flushed_lives, quietly, log_of, registries_in, steady_same, part_scene, with_link, silent_sends)
 
   -- ---- an event
 
@@ -194,11 +183,8 @@ module _ {G C : Type 0} (views : G → ClientParts → C → GlobalParts → Boo
           leaves_lives sends p (without_noted client (core_of p) m.sender.number sender) _ true false m.sender sender link lacked more q refl (inl refl)
           (λ fine. without_still (core_of p) m.sender sender is other) tells'
 
-      closed_leads : (d : Bool) → Leads views client r offer (core_of p) (ends_closed client (core_of p) m sender d)
-      closed_leads h1 = grind (arith, lives_not, part_scene)
-
       broken_lives : Tells sends (ends_closed client (core_of p) m sender b) link lacked rest q → Run p did q
-      broken_lives tells' = grind (arith, after_sends, tells_lives, ends_closed, core_of, silent_left, is_some, named, closed_leads)
+      broken_lives tells' = grind (arith, after_sends, tells_lives, ends_closed, core_of, silent_left, is_some, named, lives_not, part_scene)
 
       sent_lives : (w : Result (Unit {0}) IoFault) → SentAs sends client p m sender b w link answer lacked rest q → Run p did q
       sent_lives (Ok u) (more, tells', is_ok, rest_so) =

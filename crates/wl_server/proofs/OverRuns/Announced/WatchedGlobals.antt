@@ -54,8 +54,7 @@ module _ {G C : Type 0} (views : G → ClientParts → C → GlobalParts → Boo
       go true was (no_memory, none, same) = absurd (true≢false (sym was ∙ ap (λ (x : Part _ U C). x.is_killed) (sym same) ∙ live))
       go false was (es, gave, end, by, is, same) =
           let so = exchanged es gave end.core in
-          let on : end.core.is_killed ≡ false = ap (λ (x : Part _ U C). x.is_killed) (sym same) ∙ live in
-          let (core, put, made) = whole gave end.core lacked was on
+          let (core, put, made) = whole gave end.core lacked was (ap (λ (x : Part _ U C). x.is_killed) (sym same) ∙ live)
           (carried_to sends speaker (λ d f. refl) c (tells c messages) (record { last = λ d killed. killed; starved = inl refl; silent = λ e. refl }) p.link es gave lacked end by) in
           grind (arith, part_scene, scene_of, log_of, registries_in)
 

@@ -1,9 +1,8 @@
 -- A registry that is watched over the readings of its client.
 use Rattle.std.proofs.Common.{◌≡◌, ◌≢◌, ℕ, Bool, true, false, cond, eqb, List, [], ◌∷◌, ◌++◌, map, append-nil, Option, Some, Result, refl, sym, ap, subst, true≢false, arith}
-use mathlib.Core.Logic.{inl, inr}
+use mathlib.Core.Logic.{inl}
 use Rattle.std.specs.Prelude.{nat_lt}
 use Rattle.wl_wire.specs.declared.error.IoFault.{IoFault}
-use Rattle.wl_wire.specs.declared.error.IoFault.TheVariants as fault
 use Rattle.wl_wire.specs.Message.{WireMessage}
 use Rattle.wl_wire.specs.Table.{MessageRow, callback_id, name_of, registry_id}
 use Rattle.wl_link.specs.declared.object.Object.{Object}
@@ -188,9 +187,7 @@ module _ {G C : Type 0} (views : G → ClientParts → C → GlobalParts → Boo
         (carried_to sends (server (around_of views client offer)) (λ d f. refl) before.core v h.forms link es first lacked mid by)
 
     faulted_lives : (c : Core U C) (f : IoFault) → Gave c [] (faulted c f)
-    faulted_lives c fault.WouldBlock = none_gave c [] refl
-    faulted_lives c fault.OutOfMemory = none_gave c [] refl
-    faulted_lives c _ = lives_not views client r offer c.is_killed true (scene_of c) [] [] (scene_of c) refl
+    faulted_lives c f = grind (arith, none_gave, lives_not, scene_of, lives_same, true≢false)
 
     reads_lives : (left : ℕ) (before : ReaderState T (Core U C)) (turns : List Turn) (out : Gives (Told U)) (after : ReaderState T (Core U C))
         → Reads sends (server (around_of views client offer)) receives left before turns out after → Gave before.core out.gave after.core
@@ -207,15 +204,4 @@ module _ {G C : Type 0} (views : G → ClientParts → C → GlobalParts → Boo
     pub next_action_lives : (t : Reading) (p : Part T U C) (answer : Result Handed ActionError) (t' : Reading) (lacked : Bool) (did : List (Deed U)) (q : Part T U C)
         → NextAction sends receives (record { table = offer.table; client = client; globals = offer.globals; views = views }) t p answer t' lacked did q
         → PartLives views client r offer p did q
-    next_action_lives t p answer t' lacked did q h =
-        elim (either_option p.action h) [
-          | inr (action, is_open, (is, same, no_memory, none, stays)) ↦ stands none stays
-          | inl (not_open, g) ↦
-              elim (either_bool p.is_killed g) [
-                | inl (is, same, no_memory, none, stays) ↦ stands none stays
-                | inr (turns, out, end, reads, is, same, no_memory, did_so, after) ↦ grind (arith, turned, lives_so, part_scene, scene_of, log_of, deeds_in, registries_in, reads_lives, reader_part)
-              ]
-        ]
-      where
-        stands : did ≡ [] → q ≡ p → PartLives views client r offer p did q
-        stands none same = grind (arith, lives_same, part_scene)
+    next_action_lives t p answer t' lacked did q h1 = grind (arith, either_option, either_bool, turned, lives_so, part_scene, scene_of, log_of, deeds_in, registries_in, reads_lives, reader_part, lives_same, append-nil, none_gave, gave_none, around_of, either_result, counted_answer, count_of, with_link, faulted, faulted_lives, gave_then, turn_lives, handles, garbled_handles, steady_goes, steady_same)

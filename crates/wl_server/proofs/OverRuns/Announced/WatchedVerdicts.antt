@@ -103,9 +103,6 @@ module _ {U C : Type 0} where
     fails : (f : IoFault) (gave : List (Given (Told U))) (refused : Bool) (e : Core U C) → e ≡ v.last (reader.broken v.core f) → CameTo c v gave refused e
     fails f gave refused e core = grind (arith)
 
-    no_want : (b : Bool) (before after : LinkState T) (es : List Sending) (lacked : Bool) → FlushesOut sends b before es lacked after → b ≡ false → lacked ≡ false
-    no_want h1 before after es lacked h off = grind (arith, true≢false)
-
     came : (link mid after : LinkState T) (first others : List Sending) (put : List Said) (wrote : Result (Unit {0}) IoFault) (lacked : Bool) (gave : List (Given (Told U)))
         (refused : Bool) (e : Core U C) → PutsOut sends link v.puts first put wrote mid → FlushesOut sends v.flushes mid others lacked after
         → e ≡ came_to reader v wrote → deeds_in gave ≡ map Put put ++ told_deeds (v.events (came_to reader v wrote)) → refused ≡ lacks_memory wrote || lacked
@@ -113,7 +110,7 @@ module _ {U C : Type 0} where
     came link mid after first others put (Ok u) lacked gave refused e puts flushed core deeds is =
         inr (inr (
           core,
-          λ off. is ∙ no_want v.flushes mid after others lacked flushed off,
+          λ off. is ∙ (grind (arith, true≢false, v.flushes)),
           given_put put (v.events (v.last v.core)) gave deeds (forms.silent (v.last v.core)) ∙ all_put sends link v.puts first put mid puts,
           given_made put (v.events (v.last v.core)) gave deeds,
         ))

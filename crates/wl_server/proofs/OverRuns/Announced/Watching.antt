@@ -138,12 +138,8 @@ module _ {G C : Type 0} (views : G → ClientParts → C → GlobalParts → Boo
     -- an object gets user data
     pub wrote_goes : (s : Scene U C) (n : ℕ) (x : Object (Kept U)) (u : U) → held s.store n ≡ Some x
         → Steady s (record s { store = rewritten s.store n (with_user_data u x) })
-    wrote_goes s n x u there = grind (arith, most, keeps)
+    wrote_goes s n x u there = grind (arith, with_user_data, rewritten_here, rewritten_other, keeps)
       where
-        most : ((m : ℕ) (y : Object (Kept U)) → held s.store m ≡ Some y → y.value.serial ≤ s.last_serial) → (m : ℕ) (y : Object (Kept U))
-            → held (rewritten s.store n (with_user_data u x)) m ≡ Some y → y.value.serial ≤ s.last_serial
-        most old m y holds = grind (arith, with_user_data, rewritten_here, rewritten_other)
-
         keeps : IsKnown s → IsKnown (record s { store = rewritten s.store n (with_user_data u x) })
         keeps known =
             elim (cases_eq r.number n) [
@@ -199,10 +195,10 @@ module _ {G C : Type 0} (views : G → ClientParts → C → GlobalParts → Boo
         watch = λ log made w.
             let born = (born_goes s n x free serial).watch log made w in
             let others = greeted_other offer.table r new_id 0 (shown views offer.globals client s.client_data) other in
-            let old : IsAmong (made ++ new_id ∷ []) r → IsAmong made r = λ among. earlier (among_both made (new_id ∷ []) r among) in
+            let old : IsAmong (made ++ new_id ∷ []) r → IsAmong made r = λ among. (grind (arith, among_both made (new_id ∷ []) r among)) in
             record {
               bounded = born.bounded;
-              listed = λ y among. most w.listed y (among_both s.registries (new_id ∷ []) y among);
+              listed = λ y among. (grind (arith, w.listed, among_both s.registries (new_id ∷ []) y among));
               open_bounded = born.open_bounded;
               open_other = λ sender b created is among. w.open_other sender b created is (old among);
               silent = λ later. say_then r log greeting (born.silent later) (others_say r greeting others);
@@ -218,12 +214,6 @@ module _ {G C : Type 0} (views : G → ClientParts → C → GlobalParts → Boo
                   );
             };
       }
-        where
-          earlier : {A : Type 0} → A ⊎ ((new_id ≡ r) ⊎ ⊥) → A
-          earlier h1 = grind (arith)
-
-          most : ((y : Id) → IsAmong s.registries y → y.serial ≤ s.last_serial) → (y : Id) → IsAmong s.registries y ⊎ ((new_id ≡ y) ⊎ ⊥) → y.serial ≤ s.last_serial + 1
-          most h1 y h2 = grind (arith)
 
       -- the watched one is this
       registers_this : new_id ≡ r → Goes s greeting (new_id ∷ []) after
@@ -235,7 +225,7 @@ module _ {G C : Type 0} (views : G → ClientParts → C → GlobalParts → Boo
             let fresh : announced (log ++ greeting) r ≡ shown_as_announced = grind (arith, announced-append, greeting, announced_over, shown_as_announced, greeted, new_id, shown) in
             record {
               bounded = born.bounded;
-              listed = λ y among. most w.listed y (among_both s.registries (new_id ∷ []) y among);
+              listed = λ y among. (grind (arith, w.listed, among_both s.registries (new_id ∷ []) y among));
               open_bounded = born.open_bounded;
               open_other = grind (arith);
               silent = λ yet. absurd (omega (arith, yet, number));
@@ -250,9 +240,6 @@ module _ {G C : Type 0} (views : G → ClientParts → C → GlobalParts → Boo
         where
           shown_as_announced : List Announced
           shown_as_announced = shown_of views offer client s.client_data
-
-          most : ((y : Id) → IsAmong s.registries y → y.serial ≤ s.last_serial) → (y : Id) → IsAmong s.registries y ⊎ ((new_id ≡ y) ⊎ ⊥) → y.serial ≤ s.last_serial + 1
-          most h1 y h2 = grind (arith)
 
       pub registers_goes : Goes s (introductions offer.table (record { number = n; serial = s.last_serial + 1 }) 0 (shown views offer.globals client s.client_data))
           (record { number = n; serial = s.last_serial + 1 } ∷ [])

@@ -1,7 +1,7 @@
 -- What the readings of a client of a server answer, and how they leave it: an action, or that the client was killed, or that
 -- more may be received later.
 use Rattle.std.proofs.Common.{◌≡◌, ◌≢◌, ◌⊎◌, ℕ, Bool, true, false, not, ◌&&◌, eqb, cond, List, [], ◌∷◌, ◌++◌, append-nil, map, Option, None, Some, is_none, is_some, Result, Ok, Err, is_ok, MatchResult, refl, sym, ap, ap₂, subst, ◌∙◌, true≢false, arith}
-use mathlib.Core.Logic.{inl, inr}
+use mathlib.Core.Logic.{inr}
 use Rattle.std.proofs.lemmas.Option.{same_Some, none-some}
 use Rattle.std.specs.Prelude.{if◌then◌else◌, nat_lt}
 use Rattle.std.specs.Option.{option_map_or}
@@ -31,7 +31,7 @@ use Rattle.wl_server.proofs.OverRuns.Moves.DoingsLaws.{deeds_both, deeds_given}
 use Rattle.wl_server.specs.Errors.{bind_text, new_id_text}
 use Rattle.wl_server.specs.Finish.{finish_verdict, ended_by, ends, ends_request, refusal}
 use Rattle.wl_server.specs.Ids.{IdParts}
-use Rattle.wl_server.specs.Reading.{Around, action_in, binds, binds_to, breaks, display_request, exchanges_in, faulted, garbled, hands_out, made_at, may_bind, other_request, reads_on, registers, registry_request, request, row_in, server, synced, syncs, takes, with_registry}
+use Rattle.wl_server.specs.Reading.{Around, action_in, binds, binds_to, breaks, display_request, exchanges_in, faulted, garbled, hands_out, made_at, may_bind, other_request, reads_on, registry_request, request, row_in, server, synced, takes, with_registry}
 use Rattle.wl_server.specs.Requests.{convert, is_valid_new, start}
 use Rattle.wl_server.specs.Stretches.{answers_in, beside_exchanges, was_killed}
 use Rattle.wl_server.specs.Telling.{Core, Did, Finish, Stops, Told, closed_down, deeds_in, deeds_of, end_deeds, killed, objects_in, with_objects}
@@ -46,12 +46,6 @@ first_of (Err f ∷ answers) = Err (Io f)
 
 pipe_not : fault.Pipe ≢ fault.WouldBlock
 pipe_not same = cc
-
-proto_not : fault.Proto ≢ fault.WouldBlock
-proto_not same = cc
-
-not_ok : (f : IoFault) → ◌≡◌ {A = Result (Unit {0}) IoFault} (Err f) (Ok tt) → ⊥
-not_ok f same = true≢false (sym (ap is_ok same))
 
 module _ {U : Type 0} where
   pub answers_both : (gave others : List (Given (Told U))) → answers_in (gave ++ others) ≡ answers_in gave ++ answers_in others
@@ -171,7 +165,7 @@ module _ {U G C : Type 0} (a : Around G C) where
   stops_speaks c code text r = grind (arith, sound_killed, says_stops, pipe_not, closed_down)
 
   garbled_speaks : (c : Core U C) → IsReady c → Speaks (garbled c)
-  garbled_speaks c r = grind (arith, sound_killed, says_stops, proto_not, closed_down)
+  garbled_speaks c r = grind (arith, sound_killed, says_stops, closed_down)
 
   action_speaks : (c : Core U C) (action : OpenAction) (h : Handed) → IsReady c → Speaks (hands_out c action h)
   action_speaks c action h r = grind (arith)
@@ -202,10 +196,7 @@ module _ {U G C : Type 0} (a : Around G C) where
   objects_ready c o r = record { live = r.live; unopened = r.unopened; none = r.none }
 
   display_speaks : (c : Core U C) (opcode : ℕ) (args : List WireArgument) → IsReady c → Speaks (display_request a c opcode args)
-  display_speaks c opcode (arg.NewId n ∷ []) r = made_speaks c n _ r (go (eqb opcode 0))
-    where
-      go : (b : Bool) → Speaks (cond b (syncs a c n) (registers a c n))
-      go h1 = grind (arith, on_of, sound_killed, pipe_not, synced, synced_ready, with_registry, registry_ready)
+  display_speaks c opcode (arg.NewId n ∷ []) r = made_speaks c n _ r (grind (arith, on_of, sound_killed, pipe_not, synced, synced_ready, with_registry, registry_ready, eqb opcode 0))
   display_speaks c opcode _ r = garbled_speaks c r
 
   -- ---- requests to a registry
@@ -251,7 +242,7 @@ module _ {U G C : Type 0} (a : Around G C) where
     came_says : (v : Verdict (Core U C) (Told U)) → Speaks v → (before mid : LinkState T) (es : List Sending) (put : List Said) (wrote : Result (Unit {0}) IoFault)
         → PutsOut sends before v.puts es put wrote mid → lacks_memory wrote ≡ false → Says (map HandedOut (v.events (came_to (server a) v wrote))) (came_to (server a) v wrote)
     came_says v speaks before mid es put (Ok u) puts ample = speaks.whole
-    came_says v speaks before mid es put (Err f) puts ample = grind (arith, map, came_broken, not_ok)
+    came_says v speaks before mid es put (Err f) puts ample = grind (arith, map, came_broken, true≢false, is_ok)
 
     carried_says : (v : Verdict (Core U C) (Told U)) → Speaks v → (before : LinkState T) (es : List Sending) (gave : List (Given (Told U))) (refused : Bool)
         (after : ReaderState T (Core U C)) → refused ≡ false → CarriesOut sends (server a) v before es gave refused after → Says gave after.core
@@ -277,19 +268,7 @@ module _ {U C : Type 0} where
   -- what a verdict said, and then the rest
   joins_so : (c mid e : Core U C) (first : List (Given (Told U))) (lacked : Bool) (rest out : Gives (Told U)) → out ≡ given_first first lacked rest → Says first mid
       → ReadsSo mid rest e → (reads_on mid ≡ false → (rest.stopped ≡ None) × (rest.gave ≡ []) × (e ≡ mid)) → ReadsSo c out e
-  joins_so c mid e first lacked rest out split says more over =
-      subst (λ (g : Gives (Told U)). ReadsSo c g e) (sym split)
-      (record {
-        sound = more.sound;
-        quiet = beside_gave first rest.gave says.quiet more.quiet;
-        answered = go says.so more.answered;
-      })
-    where
-      both : answers_in (first ++ rest.gave) ≡ answers_in first ++ answers_in rest.gave
-      both = answers_both first rest.gave
-
-      go : ((reads_on mid ≡ true) × (answers_in first ≡ [])) ⊎ IsOver (answers_in first) mid → IsAnswered mid rest e → IsAnswered c (given_first first lacked rest) e
-      go h1 h2 = grind (arith, both, ap₂, true≢false, append-nil)
+  joins_so c mid e first lacked rest out h1 h2 h3 h4 = grind (arith, beside_gave, answers_in, answers_both, reads_on, given_first, true≢false, append-nil, deeds_both, beside_both, deeds_in)
 
 module _ {T U G C : Type 0} (sends : T → Queue → Result ℕ IoFault → T → Type 0) (receives : T → ℕ → Result Queue IoFault → T → Type 0)
     (a : Around G C) where
@@ -350,13 +329,4 @@ module _ {U G C : Type 0} (a : Around G C) where
   module _ {T : Type 0} (sends : T → Queue → Result ℕ IoFault → T → Type 0) where
     pub ends_so : (p after : ReaderState T (Core U C)) (u : Finish U) (es : List Sending) (gave : List (Given (Told U))) → p.core.ended ≡ None
         → Ends sends (server a) p u es gave false after → EndsSo gave after.core
-    ends_so p after u es gave unended (v, taken, inr (asks, was, none, is, same)) = absurd (true≢false (sym was))
-    ends_so p after u es gave unended (v, taken, inl (first, others, put, wrote, mid, lacked, puts, flushed, split, core, is, was)) =
-        let finish' = taken_is_finish p.core u v unended taken in
-        let calm = both_false (lacks_memory wrote) lacked was in
-        let end = came_to (server a) v wrote in
-        record {
-          sound = subst IsSound (sym core) (finished_end v finish' wrote calm.0);
-          quiet = subst IsBeside (sym is) (beside_given put (v.events end) (finish'.quiet end));
-          none = ap answers_in is ∙ answers_given put (v.events end) ∙ finish'.none end;
-        }
+    ends_so p after u es gave h1 h2 = grind (arith, true≢false, taken_is_finish, both_false, lacks_memory, came_to, server, finished_end, beside_given, answers_in, answers_given, same_Some, ends_request, ending_is_finish, ended_by, none-some, refusal, finish_verdict, came_broken, closed_down, sound_killed, deeds_given, beside_puts, deeds_in)

@@ -4,7 +4,6 @@ use Rattle.std.proofs.Common.{◌≡◌, ℕ, ◌<◌, Bool, false, List, ◌∷
 use Rattle.std.proofs.lemmas.Option.{same_Some, none-some}
 use Rattle.std.specs.Prelude.{is_ok, map}
 use Rattle.wl_wire.specs.declared.error.IoFault.{IoFault}
-use Rattle.wl_link.specs.Total.{EndsMalformed}
 use Rattle.wl_link.proofs.Readings.AnsweringLaws.{some_answered}
 use Rattle.wl_link.proofs.Readings.CuttingLaws.{finish_law, reading_law}
 use Rattle.wl_link.specs.Exchange.{Queue, Sending, nothing}
@@ -190,9 +189,6 @@ one_served a p more answers finishes gave others x y = served_one AsTold told_fu
 
 -- ---- something is served, with answers that suffice
 
-ends_malformed : {U G C : Type 0} (a : Around G C) → EndsMalformed (server {U = U} a)
-ends_malformed a = grind (arith)
-
 pub some_served : {T U G C : Type 0} (a : Around G C) (p : ReaderState T (Core U C)) (more : Queue) (finishes : List (Finish U)) → 0 < p.link.outgoing_capacity
     → (answers : Answers) × (gave : List (Given (Told U))) × (end : ReaderState Answers (Core U C)) × IsServed a p more answers finishes gave end
-some_served a p more finishes holds = some_answered (server a) (ends_malformed a) p more finishes holds
+some_served a p more finishes holds = some_answered (server a) (grind (arith)) p more finishes holds

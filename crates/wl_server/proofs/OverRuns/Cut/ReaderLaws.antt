@@ -13,7 +13,7 @@ use Rattle.wl_server.specs.declared.error.FinishError.{FinishError}
 use Rattle.wl_server.specs.declared.error.FinishError.TheVariants as finish
 use Rattle.wl_server.specs.declared.error.FinishRefused.{FinishRefused}
 use Rattle.wl_server.specs.Deeds.{Deed, Sent}
-use Rattle.wl_server.specs.Finish.{EndsRequest, FinishesBind, FinishesOpen, FinishesOpenBind, FinishesRequest, Refuses, core_finished, finish_verdict, ends_request, refusal}
+use Rattle.wl_server.specs.Finish.{EndsRequest, FinishesBind, FinishesOpenBind, FinishesRequest, Refuses, core_finished, finish_verdict, ends_request, refusal}
 use Rattle.wl_server.specs.Ids.{IdParts}
 use Rattle.wl_server.specs.Part.{Part}
 use Rattle.wl_server.specs.Reading.{Around, server}
@@ -36,7 +36,7 @@ module _ {T U G C : Type 0} (sends : T → Queue → Result ℕ IoFault → T �
 
   pub request_ends_alike : (before : Part T U C) (u : Option U) (refused : Bool) (did : List (Deed U)) (after : Part T U C) → before.is_killed ≡ false
       → FinishesRequest sends a.client before u (Ok tt) refused did after → EndsAlike before (OfRequest u) refused did after
-  request_ends_alike before u refused did after live h = at before.action refl h
+  request_ends_alike before u refused did after live h = grind (arith, answered_not, ended, refusal, before.action)
     where
       ended : (sender : IdParts) (d : Bool) (created : Option IdParts) (e : Option FinishError) → before.action ≡ Some (opened.Request sender d created)
           → refusal before.is_killed created u ≡ e
@@ -51,11 +51,6 @@ module _ {T U G C : Type 0} (sends : T → Queue → Result ℕ IoFault → T �
         did_so,
         is,
       )
-
-      at : (action : Option OpenAction) → before.action ≡ action
-          → MatchOption action (Refuses before u finish.NoOpenAction (Ok tt) refused did after) (λ a'. FinishesOpen sends a.client before a' u (Ok tt) refused did after)
-          → EndsAlike before (OfRequest u) refused did after
-      at h1 is_open h = grind (arith, answered_not, ended, refusal)
 
   -- so is the end of a bind
   pub bind_ends_alike : (before : Part T U C) (u : U) (refused : Bool) (did : List (Deed U)) (after : Part T U C) → before.is_killed ≡ false

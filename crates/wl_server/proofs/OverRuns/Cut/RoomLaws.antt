@@ -1,5 +1,5 @@
 -- That a reading has room for each message of a client that may come.
-use Rattle.std.proofs.Common.{◌≡◌, ◌≢◌, ◌⊎◌, ℕ, Bool, List, [], ◌∷◌, ◌++◌, append-nil, map, Option, Some, Result, Ok, Err, is_ok, MatchResult, refl, sym, ap, subst, ◌∙◌, true≢false, arith}
+use Rattle.std.proofs.Common.{◌≡◌, ◌≢◌, ◌⊎◌, ℕ, Bool, List, [], ◌∷◌, ◌++◌, append-nil, map, Some, Result, Ok, Err, is_ok, MatchResult, refl, sym, ap, subst, ◌∙◌, true≢false, arith}
 use mathlib.Core.Logic.{inl, inr}
 use Rattle.std.proofs.lemmas.Option.{same_Some}
 use Rattle.wl_wire.specs.declared.error.IoFault.{IoFault}
@@ -11,7 +11,6 @@ use Rattle.wl_link.specs.Puts.{lacks_memory}
 use Rattle.wl_link.specs.Reader.{Gives, Handled, Reads, Received, Turn, Unread, stops, with_link, ReaderState}
 use Rattle.wl_server.specs.declared.reading.action.Reading.{Reading}
 use Rattle.wl_server.specs.declared.error.ActionError.{ActionError}
-use Rattle.wl_server.specs.declared.notes.DisconnectReason.{DisconnectReason}
 use Rattle.wl_server.specs.declared.runs.step.Reply.{Reply}
 use Rattle.wl_server.specs.declared.runs.step.Step.TheVariants as step
 use Rattle.wl_server.specs.Deeds.{IsAmong, came_in, Deed, Handed, Sent}
@@ -29,12 +28,9 @@ use Rattle.wl_server.specs.Telling.{Core, Told, deeds_in, deeds_of, end_deeds, r
 
 -- ---- a receive
 
-not_done : (f : IoFault) → ◌≡◌ {A = Result (Unit {0}) IoFault} (Err f) (Ok tt) → ⊥
-not_done f is = true≢false (sym (ap is_ok is))
-
 -- one that brought no byte ended the reading
 none_fails : (r : Result Queue IoFault) → BringsNone r → counted_answer (count_of r) ≢ Ok tt
-none_fails r h1 = grind (arith, not_done)
+none_fails r h1 = grind (arith, true≢false, is_ok)
 
 nothing_came : {T U : Type 0} (did : List (Deed U)) (link : LinkState T) → did ≡ [] → LeavesRoom did link
 nothing_came {U = U} did link none r among = absurd (subst (λ (ds : List (Deed U)). IsAmong (came_in ds) r) none among)
@@ -48,9 +44,6 @@ module _ {U : Type 0} where
   pub none_sent : (es : List Sending) (did : List (Deed U)) → came_in (map Sent es ++ did) ≡ came_in did
   none_sent [] did = refl
   none_sent (e ∷ es) did = none_sent es did
-
-none_at_end : (U : Type 0) (o : Option DisconnectReason) → came_in (end_deeds {U = U} o) ≡ []
-none_at_end h1 h2 = grind (arith)
 
 pub no_more : (rs others : List (Result Queue IoFault)) → rs ≡ [] → others ≡ [] → rs ++ others ≡ []
 no_more rs others none nor = ap (λ (l : List (Result Queue IoFault)). l ++ others) none ∙ nor
@@ -69,7 +62,7 @@ module _ {T U G C : Type 0} (sends : T → Queue → Result ℕ IoFault → T �
   -- the receives among the deeds of a reading are those of its turns
   pub received_deeds : (left : ℕ) (p : Part T U C) (after : ReaderState T (Core U C)) (turns : List Turn) (out : Gives (Told U))
       → Reads sends (server a) receives left (reader_part p) turns out after → came_in (deeds_of (exchanges_in turns) out.gave after.core) ≡ received U turns
-  received_deeds left p after turns out reads = grind (arith, came_both, exchanges_in, deeds_in, end_deeds, no_more, came_in, (reads_bare sends receives a left (reader_part p) turns out after reads).1, reader_part, none_at_end, append-nil)
+  received_deeds left p after turns out reads = grind (arith, came_both, exchanges_in, deeds_in, end_deeds, no_more, came_in, (reads_bare sends receives a left (reader_part p) turns out after reads).1, reader_part, append-nil)
 
   -- behind a receive that brought no byte, one is free
   leaves_room : (left : ℕ) (p after : ReaderState T (Core U C)) (turns : List Turn) (out : Gives (Told U)) → Reads sends (server a) receives left p turns out after
@@ -110,8 +103,7 @@ module _ {T U G C : Type 0} (w : World T G C) where
             elim (either_option before.part g) [
               | inl (none, (missing, (calm, nothing, same))) ↦ nothing_came did p.link nothing
               | inr (q, was, (r, read, same)) ↦
-                  let is : r ≡ p = same_Some r p (sym (ap (λ (s : Seen T U C). s.part) same) ∙ there) in
-                  subst (λ (x : Part T U C). LeavesRoom did x.link) is
+                  subst (λ (x : Part T U C). LeavesRoom did x.link) (same_Some r p (sym (ap (λ (s : Seen T U C). s.part) same) ∙ there))
                   (next_action_room w.sends w.receives (around w id offer) reading q answer left lacked did r read)
             ]
       ]

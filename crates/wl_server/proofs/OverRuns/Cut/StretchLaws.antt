@@ -21,7 +21,7 @@ use Rattle.wl_link.specs.Stretch.{Act, AllPieces, Arrived, DoesAll, EndsByPipe, 
 use Rattle.wl_link.proofs.Stretches.StretchLaws.{acts_pieces, arrived-append, cut_otherwise as acts_cut_otherwise, does_joins, ended-append, ends_waiting-append, given_in-append, roomy_before, stretch_served as acts_served}
 use Rattle.wl_server.specs.declared.reading.action.Reading.{Reading}
 use Rattle.wl_server.specs.declared.error.ActionError.{ActionError}
-use Rattle.wl_server.specs.declared.error.ActionError.TheVariants.{ActionOpen, Io}
+use Rattle.wl_server.specs.declared.error.ActionError.TheVariants.{Io}
 use Rattle.wl_server.specs.declared.error.FinishRefused.{FinishRefused}
 use Rattle.wl_server.specs.declared.error.ScriptError.{ScriptError}
 use Rattle.wl_server.specs.declared.notes.DisconnectReason.{DisconnectReason}
@@ -29,7 +29,7 @@ use Rattle.wl_server.specs.declared.runs.step.Reply.{Reply}
 use Rattle.wl_server.specs.declared.runs.step.Reply.TheVariants as reply
 use Rattle.wl_server.specs.declared.runs.step.Step.{Step}
 use Rattle.wl_server.specs.declared.runs.step.Step.TheVariants as step
-use Rattle.wl_server.proofs.OverRuns.Cut.AnswerLaws.{IsAnswered, IsSound, ReadsSo, action_first, answers_both, beside_both, beside_deeds, beside_sends, beside_turns, ends_so, first_of, killed_deeds, on_of, reads_so}
+use Rattle.wl_server.proofs.OverRuns.Cut.AnswerLaws.{IsSound, ReadsSo, action_first, answers_both, beside_both, beside_deeds, beside_sends, beside_turns, ends_so, first_of, killed_deeds, on_of, reads_so}
 use Rattle.wl_server.proofs.OverRuns.Cut.CuttingLaws.{of_part, taken_off}
 use Rattle.wl_server.specs.Deeds.{Deed, Handed, Sent}
 use Rattle.wl_server.proofs.OverRuns.Moves.DoingsLaws.{deeds_both}
@@ -40,13 +40,13 @@ use Rattle.wl_server.proofs.OverRuns.Alone.IsolationLaw.{alone_run}
 use Rattle.wl_server.specs.Moves.{ArrivesWith, Becomes, nothing_taken}
 use Rattle.wl_server.specs.Moves as moves
 use Rattle.wl_server.specs.Part.{Part, with_link}
-use Rattle.wl_server.specs.PartStep.{Asked, Call, OfClient, PartCall, World, around, lacks_move, over_scripts}
+use Rattle.wl_server.specs.PartStep.{Asked, Call, OfClient, PartCall, World, around, over_scripts}
 use Rattle.wl_server.proofs.OverRuns.Cut.ReaderLaws.{EndsAlike, bind_ends_alike, request_ends_alike}
 use Rattle.wl_server.specs.Reading.{Around, NextAction, ReadsNone, ReadsTo, action_content, answered as answered_so, exchanges_in, new_reading, reads_on, server}
 use Rattle.wl_server.proofs.OverRuns.Ids.ReplyLaws.{own_step}
 use Rattle.wl_server.specs.Runs.{Alone, Leads, Own, concerns, history, mine}
 use Rattle.wl_server.specs.Server.{Seen, ServerState, seen}
-use Rattle.wl_server.specs.Steps.{offer_after, Entry}
+use Rattle.wl_server.specs.Steps.{Entry}
 use Rattle.wl_server.specs.Stretches.{AllHeard, EachIsCut, EachPartIsCut, EndsWaiting, IsHeard, StretchIsServed, IsStretch, IsStretchWithin, SameLeft, handed_out, answers_in, arrived, arrived_by, beside_exchanges, finished, finished_by, left_in, reading_by, told_by, was_killed}
 use Rattle.wl_server.specs.Telling.{Core, Finish, OfBind, OfRequest, Told, core_of, deeds_in, deeds_of, end_deeds, part_of, reader_part}
 
@@ -59,9 +59,6 @@ accepted_not e is = true≢false (ap is_ok is)
 abbrev fault_of : Result Handed ActionError → Option IoFault
 fault_of (Err (Io f)) = Some f
 fault_of _ = None
-
-open_not : ◌≡◌ {A = Result Handed ActionError} (Err ActionOpen) (Err (Io fault.WouldBlock)) → ⊥
-open_not same = none-some _ (ap fault_of same)
 
 pipe_not : ◌≡◌ {A = Result Handed ActionError} (Err (Io fault.Pipe)) (Err (Io fault.WouldBlock)) → ⊥
 pipe_not same = cc
@@ -83,24 +80,10 @@ module _ {U C : Type 0} (c e : Core U C) (out : Gives (Told U)) (on : reads_on c
   dead_deeds exchanges dead h3 = grind (arith, true≢false, killed_deeds)
 
   told_so : (exchanges : List (Deed U)) → ((f : IoFault) → out.stopped ≡ Some f → f ≡ fault.WouldBlock) → told_by (Some answer) (deeds_of exchanges out.gave e) ≡ answers_in out.gave
-  told_so exchanges blocks = go so.answered
-    where
-      go : IsAnswered c out e → told_by (Some answer) (deeds_of exchanges out.gave e) ≡ answers_in out.gave
-      go (inl (f, stopped, none)) = grind (arith, told_by, deeds_of, stopped_is)
-      go (inr (stopped, inl (off, none))) = absurd (true≢false (sym on ∙ off))
-      go (inr (stopped, inr (off, inl (h, one)))) = ap (λ (x : Result Handed ActionError). told_by (Some x) (deeds_of exchanges out.gave e)) (over_is stopped (Ok h) one) ∙ sym one
-      go (inr (stopped, inr (off, inr (f, one, not, dead)))) =
-          ap (λ (x : Result Handed ActionError). told_by (Some x) (deeds_of exchanges out.gave e)) (over_is stopped (Err f) one) ∙ told_killed f (deeds_of exchanges out.gave e) not (dead_deeds exchanges dead so.sound) ∙ sym one
+  told_so exchanges h1 = grind (arith, told_by, deeds_of, answers_in, stopped_is, true≢false, over_is, told_killed, dead_deeds, answered_so, action_first, first_of, killed_deeds)
 
   blocks_so : answer ≡ Err (Io fault.WouldBlock) → out.stopped ≡ Some fault.WouldBlock
-  blocks_so waits = go so.answered
-    where
-      go : IsAnswered c out e → out.stopped ≡ Some fault.WouldBlock
-      go (inl (f, stopped, none)) = stopped ∙ ap fault_of (sym (stopped_is f stopped) ∙ waits)
-      go (inr (stopped, inl (off, none))) = absurd (true≢false (sym on ∙ off))
-      go (inr (stopped, inr (off, inl (h, one)))) = absurd (none-some _ (ap fault_of (sym (over_is stopped (Ok h) one) ∙ waits)))
-      go (inr (stopped, inr (off, inr (f, one, not, dead)))) =
-          absurd (not (same_Some f fault.WouldBlock (ap fault_of (sym (over_is stopped (Err f) one) ∙ waits))))
+  blocks_so h1 = grind (arith, fault_of, stopped_is, true≢false, none-some, over_is, same_Some, answered_so, action_first, first_of)
 
 -- ---- finishes that are refused, or are not
 
@@ -119,10 +102,6 @@ module _ {T U C : Type 0} where
 
   bind_open : (p : Part T U C) (u : U) (did : List (Deed U)) (q : Part T U C) → p.action ≡ None → FinishesBind p u (Ok tt) false did q → ⊥
   bind_open p u did q unopened h = grind (arith, accepted_not, none-some)
-
--- a move that only memory refuses was made
-became : (before after : Script) (r : Result (Unit {0}) ScriptError) (t : Script) → false ≡ lacks_move (nothing_taken r) → Becomes before after (nothing_taken r) t → t ≡ after
-became before after r t h1 h2 = grind (arith, true≢false)
 
 module _ {G C : Type 0} (views : G → ClientParts → C → GlobalParts → Bool) (id : ClientParts) (offer : Offer G) where
   abbrev w : World Script G C
@@ -200,10 +179,9 @@ module _ {G C : Type 0} (views : G → ClientParts → C → GlobalParts → Boo
             deeds = grind (arith, ap₂, end_deeds, beside_exchanges, beside_deeds, exchanges_in, beside_turns, deeds_in, append-nil);
             sound = so.sound;
             answers = λ all roomy.
-                let fed = (ran (server a) end roomy left s turns out ample reads all).fed in
                 ap₂ told_by told did_so
                 ∙ told_so s.core end.core out on so answer is (exchanges_in turns)
-                (fed_blocks ScriptSends ScriptReceives (server a) (λ c. refl) end left s turns out reads fed ample)
+                (fed_blocks ScriptSends ScriptReceives (server a) (λ c. refl) end left s turns out reads (ran (server a) end roomy left s turns out ample reads all).fed ample)
                 ∙ ap answers_in (sym (append-nil out.gave));
             waits = λ w before. ends_waiting-append before (HasRead out) (blocks_so s.core end.core out on so answer is (same_Some answer (Err (Io fault.WouldBlock)) (sym told ∙ w)));
           }
@@ -238,7 +216,7 @@ module _ {G C : Type 0} (views : G → ClientParts → C → GlobalParts → Boo
           elim (either_option s.core.action h) [
             | inr (action, is_open, (is, left, unasked, none, same)) ↦
                 acts_none s call did q same none sound came ended (ap (λ (o : Option (Result Handed ActionError)). told_by {U = U} o []) (told ∙ ap (λ (x : Result Handed ActionError). Some x) is))
-                (λ w. open_not (sym is ∙ same_Some answer (Err (Io fault.WouldBlock)) (sym told ∙ w)))
+                (λ w. (none-some _ (ap fault_of (sym is ∙ same_Some answer (Err (Io fault.WouldBlock)) (sym told ∙ w)))))
             | inl (unopened, g) ↦ by_standing sound unopened g
           ]
         where
@@ -323,7 +301,7 @@ module _ {G C : Type 0} (views : G → ClientParts → C → GlobalParts → Boo
     step_acts s before after (Asked (step.ArriveFault target f) answer) did there about blocked (r, is, h) sound =
         stepped s before after (Asked (step.ArriveFault target f) answer) did _ _ _ about there h
         (λ q (unasked, none, (t, moved, to)).
-        acts_arrived s (Asked (step.ArriveFault target f) answer) did q (Err f) blocked (moved_on s (Err f) t q (became _ _ r t unasked moved) to) none sound refl refl refl)
+        acts_arrived s (Asked (step.ArriveFault target f) answer) did q (Err f) blocked (moved_on s (Err f) t q (grind (arith, true≢false)) to) none sound refl refl refl)
     step_acts s before after (Asked (step.NextAction target) answer) did there about heard (r, left, is, h) sound =
         stepped s before after (Asked (step.NextAction target) answer) did _ _ _ about there h
         (λ q next. read_acts s (Asked (step.NextAction target) answer) did q sound refl new_reading left (action_content r)
@@ -350,9 +328,6 @@ module _ {G C : Type 0} (views : G → ClientParts → C → GlobalParts → Boo
         (ap (λ (x : Reply Script U). finished_by (asked (step.FinishBind target u) x)) is) refl)
     step_acts s before after _ did there about heard h sound = absurd heard
 
-    heard_offer : (call : Call Script U G C) → IsHeard call → offer_after offer call ≡ offer
-    heard_offer call h1 = grind (arith)
-
     -- ---- a run
 
     record RunActs (s : ReaderState Script (Core U C)) (run : List (Own Script U G C)) (after : Seen Script U C) : Type 0 where
@@ -366,10 +341,6 @@ module _ {G C : Type 0} (views : G → ClientParts → C → GlobalParts → Boo
       answers : AllPieces (arrivals_of s) → NotFull (server a) end → handed_out run ≡ answers_in (given_in acts)
       waits : EndsWaiting run → (before : List (Act (Told U) (Finish U))) → ActsEndWaiting (before ++ acts)
 
-    deeds_join : (e f : List (Deed U)) (d r : List (Deed U)) (g h : List (Given (Told U))) (l : List (Deed U)) → e ++ beside_exchanges d ≡ deeds_in g ++ f
-        → f ++ beside_exchanges r ≡ deeds_in h ++ l → e ++ beside_exchanges (d ++ r) ≡ deeds_in (g ++ h) ++ l
-    deeds_join e f d r g h l first rest = grind (arith, beside_both, append_assoc, beside_exchanges, deeds_in, deeds_both)
-
     run_joins : (s : ReaderState Script (Core U C)) (q : Part Script U C) (after : Seen Script U C) (x : Own Script U G C) (run : List (Own Script U G C))
         (first : Acts s x.call x.did q) (others : RunActs first.mid run after)
         → (EndsWaiting (x ∷ run) → (before : List (Act (Told U) (Finish U))) → ActsEndWaiting (before ++ (first.acts ++ others.acts))) → RunActs s (x ∷ run) after
@@ -380,7 +351,7 @@ module _ {G C : Type 0} (views : G → ClientParts → C → GlobalParts → Boo
       does = does_joins (server a) s first.mid others.end first.acts others.acts first.does others.does;
       came_in = arrived-append first.acts others.acts ∙ ap₂ joined first.came_in others.came_in;
       ended_with = ended-append first.acts others.acts ∙ ap₂ (λ (x y : List (Finish U)). x ++ y) first.ended_with others.ended_with;
-      deeds = grind (arith, deeds_join, end_deeds, history, given_in, deeds_in, given_in-append);
+      deeds = grind (arith, beside_both, append_assoc, beside_exchanges, deeds_in, deeds_both, end_deeds, history, given_in, given_in-append);
       answers = grind (arith, roomy_before, server, a, ends_by_pipe, ap₂, acts_pieces, answers_in, given_in-append, answers_both, given_in);
       waits = waits;
     }
@@ -408,7 +379,7 @@ module _ {G C : Type 0} (views : G → ClientParts → C → GlobalParts → Boo
         (λ e before'. subst (λ (list : List (Act (Told U) (Finish U))). ActsEndWaiting (before' ++ list)) (sym (append-nil first.acts)) (first.waits e before'))
     run_acts s before after (x ∷ (y ∷ run)) there (mid, by, leads) (about, unlacked, heard, others) sound =
         let (q, is, first) = step_acts s before mid x.call x.did there about heard (subst (λ (b : Bool). PartCall w id offer x.call before b x.did mid) unlacked by) sound in
-        let on = subst (λ (o : Offer G). Alone w id o mid (y ∷ run) after) (heard_offer x.call heard) leads in
+        let on = subst (λ (o : Offer G). Alone w id o mid (y ∷ run) after) (grind (arith, x.call)) leads in
         let rest = run_acts first.mid mid after (y ∷ run) (is ∙ ap (λ (p : Part Script U C). Some p) first.ends) on others first.sound in
         run_joins s q after x (y ∷ run) first rest
         (λ e before'. subst ActsEndWaiting (append_assoc before' first.acts rest.acts) (rest.waits e (before' ++ first.acts)))

@@ -2,7 +2,6 @@
 use Rattle.std.proofs.Common.{arith, ◌≡◌, ◌≢◌, ◌⊎◌, ℕ, ◌+◌, Bool, true, List, [], ◌∷◌, ◌++◌, None, Some, is_some, IsSome, Result, refl, sym, ap, subst, ◌∙◌, append-nil, append_assoc}
 use Rattle.std.proofs.lemmas.Option.{none-some}
 use mathlib.Core.Logic.{inl, inr}
-use Rattle.std.specs.Prelude.{if◌then◌else◌}
 use Rattle.wl_wire.specs.declared.error.IoFault.{IoFault}
 use Rattle.wl_link.specs.declared.object.Object.{Object}
 use Rattle.wl_link.proofs.Ids.EndsLaw.{keeps_joins}
@@ -80,9 +79,6 @@ module _ {T U C : Type 0} (sends : T → Queue → Result ℕ IoFault → T → 
       → ((h : Happening U) → IsAmong d.notes h → IsNotedIn client [] h) → Changing p d q
   quiet p q d empty same waits none_handed none_left none_noted = grind (arith, held)
 
-  still : (p : Part T U C) → held p.store 0 ≡ None → Changing p nothing_done p
-  still p empty = quiet p p nothing_done empty refl refl refl refl (λ h among. absurd among)
-
   then_changing : (p m q : Part T U C) (a b : Doings U) → Changing p a m → Changing m b q → Changing p (joined a b) q
   then_changing p m q a b first second = grind (arith, keeps_joins, serial_of, is_over, objects_of, among_both, made_first, id_of, born_first, handed_later, ended_in, has_data, ended_both, noted_first, noted_later)
 
@@ -142,23 +138,17 @@ module _ {T U C : Type 0} (sends : T → Queue → Result ℕ IoFault → T → 
     );
     handed = λ h among. absurd among;
     left = left_ids n x client;
-    noted = λ h among. at_once waits h among;
-    waits = λ h among. later waits h among;
+    noted = λ h among. (grind (arith, changes, id_at));
+    waits = λ h among. (grind (arith, among_both, note_of_end, changes, id_at));
     empty = removed_other p.store n 0 (λ same. not_zero p n x empty holds (sym same)) ∙ empty;
   }
     where
       changes : List (Change (Kept U))
       changes = Made (id_of (id_at client n x)) ∷ Ended n x None ∷ []
 
-      at_once : (b : Bool) (h : Happening U) → IsAmong (if b then [] else note_of_end client n x) h → IsAmong p.waiting h ⊎ IsNotedIn client changes h
-      at_once h1 h among = grind (arith, changes, id_at)
-
-      later : (b : Bool) (h : Happening U) → IsAmong (if b then p.waiting ++ note_of_end client n x else p.waiting) h → IsAmong p.waiting h ⊎ IsNotedIn client changes h
-      later b h h1 = grind (arith, among_both, note_of_end, changes, id_at)
-
   -- each move changes the objects so
   pub moves_change : (p q : Part T U C) (d : Doings U) → held p.store 0 ≡ None → Moves (any true) sends receives client p d q → Changing p d q
-  moves_change p q d empty (stayed is same) = changing_so p p q nothing_done d is same (still p empty)
+  moves_change p q d empty (stayed is same) = changing_so p p q nothing_done d is same (quiet p p nothing_done empty refl refl refl refl (λ h among. absurd among))
   moves_change p q d empty (followed {m = m} {a = a} {b = b} first second is) =
       let one = moves_change p m a empty first in
       changing_so p q q (joined a b) d is refl (then_changing p m q a b one (moves_change m q b one.empty second))
@@ -236,12 +226,9 @@ module _ {T U C : Type 0} (sends : T → Queue → Result ℕ IoFault → T → 
         empty = changing.empty;
         handed = changing.handed;
         left = changing.left;
-        noted = grind (arith, in_three, among_both, among_first, waited);
+        noted = grind (arith, in_three, among_both, among_first, among_later);
         new = λ h among. elim (among_both d.notes q.waiting h among) [ inl made_now ↦ changing.noted h made_now | inr waits ↦ changing.waits h waits ];
       }
-    where
-      waited : (h : Happening U) (changes : List (Change (Kept U))) → IsAmong p.waiting h ⊎ IsNotedIn client changes h → IsAmong (made ++ p.waiting) h ⊎ IsNotedIn client changes h
-      waited h changes h3 = grind (arith, among_later)
 
   -- a client that is taken out leaves no objects
   goes_out : (p q : Part T U C) (made : List (Happening U)) (d : Doings U) → d.taken ≡ [] → held p.store 0 ≡ None → Moves (any true) sends receives client p d q

@@ -14,7 +14,7 @@ use Rattle.wl_link.proofs.Ids.StoreLaws.{held_empty, removed_here, removed_other
 use Rattle.wl_server.specs.declared.globals.KeptGlobal.{KeptGlobal}
 use Rattle.wl_server.specs.declared.runs.step.Reply.TheVariants as reply
 use Rattle.wl_server.specs.declared.runs.step.Step.TheVariants as step
-use Rattle.wl_server.specs.GivenOnce.{ClientsRise, EachNamesItsGlobal, GivesOnce, GlobalsRise, Offers, SomeCall, global_by, global_over, same_global}
+use Rattle.wl_server.specs.GivenOnce.{ClientsRise, GivesOnce, GlobalsRise, Offers, SomeCall, global_by, global_over, same_global}
 use Rattle.wl_server.specs.Globals.{CreatesGlobal, Globals, IsNextGlobal, Offer, as_disabled, disabled, disabled_at, freed, freed_at, global_of, global_serial, new_global, new_offer}
 use Rattle.wl_server.specs.Ids.{ClientParts, GlobalParts, same_client}
 use Rattle.wl_server.specs.PartStep.{Asked, Call, World}
@@ -49,9 +49,6 @@ module _ {G : Type 0} where
 same_named : (target g : GlobalParts) → g.name ≡ target.name → same_global target g ≡ eqb target.serial g.serial
 same_named target g same = ap (λ (b : Bool). b && eqb target.serial g.serial) (eq-eqb target.name g.name (sym same))
 
-other_named : (target g : GlobalParts) → g.name ≢ target.name → same_global target g ≡ false
-other_named target g other = ap (λ (b : Bool). b && eqb target.serial g.serial) (ne_eqb target.name g.name (λ same. other (sym same)))
-
 -- ---- what a call does to what an id names
 
 module _ {G : Type 0} where
@@ -74,7 +71,7 @@ module _ {G : Type 0} where
   one_changes change nothing globals after target x is elsewhere here g =
       elim (cases_eq g.name target.name) [
         | inl same ↦ grind (arith, eqb, both, cond, named_at, held, global_held, global_of, serial_at, same_named)
-        | inr other ↦ grind (arith, named_at, cond, global_of, other_named)
+        | inr other ↦ grind (arith, named_at, cond, global_of, eqb, ne_eqb)
       ]
     where
       both : (z b : Bool) → cond z None (cond b (change (Some x)) None) ≡ cond b (change (cond z None (cond b (Some x) None))) (cond z None (cond b (Some x) None))
@@ -99,11 +96,7 @@ module _ {G : Type 0} where
   -- nor does any other id
   pub created_elsewhere : (globals : Globals G) (i : InterfaceId) (version : ℕ) (handler : G) (new : GlobalParts) → IsNextGlobal globals new → (last : ℕ) (g : GlobalParts)
       → same_global new g ≡ false → global_of (record { store = stored globals.store new.name (new_global i version new.serial handler); last_serial = last }) g ≡ global_of globals g
-  created_elsewhere globals i version handler new next last g differ =
-      elim (cases_eq g.name new.name) [
-        | inl same ↦ created_other globals i version handler new next last g (λ is. true≢false (sym (same_named new g same ∙ eq-eqb new.serial g.serial (sym is)) ∙ differ))
-        | inr other ↦ ap (named_at g) (stored_other globals.store new.name (new_global i version new.serial handler) g.name other)
-      ]
+  created_elsewhere globals i version handler new h1 last g h2 = grind (arith, cases_eq, created_other, true≢false, same_named, eq-eqb, named_at, stored_other, new_global, stored_here, eqb, ne_eqb, none_at)
 
 -- ---- a call
 
@@ -129,20 +122,14 @@ module _ {T U G C : Type 0} where
   -- what the id of a global that was given before names after a call
   named_by : (offer : Offer G) (call : Call T U G C) (g : GlobalParts) → AnswersShared offer call → g.serial ≤ offer.globals.last_serial
       → global_of (offer_after offer call).globals g ≡ global_by g call (global_of offer.globals g)
-  named_by offer (Asked (step.CreateGlobal i version handler) (reply.CreateGlobal (Ok new))) g by given =
-      let next = next_in offer i version new by in
-      created_other offer.globals i version handler new next new.serial g (λ same. let serial = next.2 in omega (arith, same, serial, given))
-  named_by offer (Asked (step.DisableGlobal target) answer) g by given = disabled_changes offer.globals target g
-  named_by offer (Asked (step.RemoveGlobal target) answer) g by given = freed_changes offer.globals target g
-  named_by offer _ g by given = refl
+  named_by offer call g h1 h2 = grind (arith, next_in, created_other, disabled_changes, freed_changes, either_option, slice_get, true≢false, is_ok, either_bool, nat_le, new_global, cases_eq, stored_here, eqb, ne_eqb, none_at, stored_other, global_of, none_changes, option_map, as_disabled, one_changes, disabled_at, rewritten_other, named_at, rewritten_here, freed_at, removed_other, removed_here)
 
   -- an id names after a call what it named before, or the global that the call creates
   named_before : (offer : Offer G) (call : Call T U G C) (g : GlobalParts) → AnswersShared offer call → IsSome (global_of (offer_after offer call).globals g)
       → IsSome (global_of offer.globals g) ⊎ Offers g call
   named_before offer (Asked (step.CreateGlobal i version handler) (reply.CreateGlobal (Ok new))) g by some =
-      let next = next_in offer i version new by in
       elim (cases_eq g.serial new.serial) [
-        | inr older ↦ inl (subst IsSome (created_other offer.globals i version handler new next new.serial g older) some)
+        | inr older ↦ inl (subst IsSome (created_other offer.globals i version handler new (next_in offer i version new by) new.serial g older) some)
         | inl serials ↦
             elim (cases_eq g.name new.name) [
               | inl names ↦ inr (i, version, handler, ap (λ (x : GlobalParts). Asked (step.CreateGlobal i version handler) (reply.CreateGlobal (Ok x))) (global_is new g (sym names) (sym serials)))
@@ -165,10 +152,7 @@ module _ {T U G C : Type 0} where
   clients_rise offer offer' last last' [] shared = tt
   clients_rise offer offer' last last' (e ∷ run) (by, next, rest) = (
     (λ old new is later.
-        (let number = (next old is).1 in
-        let one = one_more e.call old is in
-        let more = clients_above (offer_after offer e.call) offer' (last + inserted_by e.call) last' run rest new later in
-        omega (arith, number, one, more))),
+        (omega (arith, (next old is).1, one_more e.call old is, clients_above (offer_after offer e.call) offer' (last + inserted_by e.call) last' run rest new later))),
     clients_rise (offer_after offer e.call) offer' (last + inserted_by e.call) last' run rest,
   )
 
@@ -180,10 +164,7 @@ module _ {T U G C : Type 0} where
       → id.serial ≤ last'
   client_given offer offer' last last' [] shared id some = absurd some
   client_given offer offer' last last' (e ∷ run) (by, next, rest) id (inl is) =
-      (let number = (next id is).1 in
-      let one = one_more e.call id is in
-      let more = last_over (offer_after offer e.call) offer' (last + inserted_by e.call) last' run rest in
-      omega (arith, number, one, more))
+      (omega (arith, (next id is).1, one_more e.call id is, last_over (offer_after offer e.call) offer' (last + inserted_by e.call) last' run rest))
   client_given offer offer' last last' (e ∷ run) (by, next, rest) id (inr later) = grind (arith, offer_after, inserted_by, client_given (offer_after offer e.call) offer' (last + inserted_by e.call) last' run rest id later)
 
   globals_above : (offer offer' : Offer G) (last last' : ℕ) (run : List (Entry T U G C)) → SharedAlone offer last run offer' last' → (new : GlobalParts) → SomeCall (Offers new) run
@@ -217,13 +198,9 @@ module _ {T U G C : Type 0} where
   made_over offer offer' last last' [] (same, is) g some = inl (subst (λ (o : Offer G). IsSome (global_of o.globals g)) same some)
   made_over offer offer' last last' (e ∷ run) (by, next, rest) g some = grind (arith, offer_after, inserted_by, named_before, made_over (offer_after offer e.call) offer' (last + inserted_by e.call) last' run rest g some)
 
-  -- where an id names none, no call but a creation makes it name one
-  none_by : (g : GlobalParts) (call : Call T U G C) → global_by g call None ≡ None
-  none_by g call = grind (arith, same_global, option_map, as_disabled)
-
   none_over : (g : GlobalParts) (run : List (Entry T U G C)) → global_over g run None ≡ None
   none_over g [] = refl
-  none_over g (e ∷ run) = ap (global_over g run) (none_by g e.call) ∙ none_over g run
+  none_over g (e ∷ run) = ap (global_over g run) (grind (arith, same_global, option_map, as_disabled, e.call)) ∙ none_over g run
 
   -- ---- the clients that a run inserts
 
@@ -265,19 +242,6 @@ module _ {T U G C : Type 0} where
 -- ---- every run of a new server
 
 module _ {T U G C : Type 0} where
-  each_names_its_global : (w : World T G C) (table : List InterfaceRow) (run : List (Entry T U G C)) (after : ServerState T U G C) → Leads w (new_server table) run after
-      → EachNamesItsGlobal run after
-  each_names_its_global w table run after leads g i version handler earlier later e split creates =
-      let (mid, first, (next, by, rest)) =
-      split_run w (new_server table) after earlier (e ∷ later) (subst (λ (r : List (Entry T U G C)). Leads w (new_server table) r after) split leads) in
-      let call : Call T U G C = Asked (step.CreateGlobal i version handler) (reply.CreateGlobal (Ok g)) in
-      let offered : next.offer ≡ offer_after mid.offer call =
-      by.offer ∙ ap (λ (c : Call T U G C). offer_after mid.offer c) creates in
-      let number = offered_next mid.offer e.call g by.global (i, version, handler, creates) in
-      let last : next.offer.globals.last_serial ≡ g.serial = ap (λ (o : Offer G). o.globals.last_serial) offered in
-      named_over next.offer after.offer next.last_client after.last_client later (shared_run w next after later rest) g (omega (arith, last))
-      ∙ ap (global_over g later) (ap (λ (o : Offer G). global_of o.globals g) offered ∙ created_named mid.offer.globals i version handler g number g.serial)
-
   pub gives_once : (w : World T G C) (table : List InterfaceRow) (run : List (Entry T U G C)) (after : ServerState T U G C) → Leads w (new_server table) run after
       → GivesOnce w table run after
   gives_once w table run after leads =
@@ -297,7 +261,15 @@ module _ {T U G C : Type 0} where
               | inr made ↦ made
             ]
             );
-        names_global = each_names_its_global w table run after leads;
+        names_global = λ g i version handler earlier later e split creates. let (mid, first, (next, by, rest)) =
+            split_run w (new_server table) after earlier (e ∷ later) (subst (λ (r : List (Entry T U G C)). Leads w (new_server table) r after) split leads) in
+            let call : Call T U G C = Asked (step.CreateGlobal i version handler) (reply.CreateGlobal (Ok g)) in
+            let offered : next.offer ≡ offer_after mid.offer call =
+            by.offer ∙ ap (λ (c : Call T U G C). offer_after mid.offer c) creates in
+            let number = offered_next mid.offer e.call g by.global (i, version, handler, creates) in
+            let last : next.offer.globals.last_serial ≡ g.serial = ap (λ (o : Offer G). o.globals.last_serial) offered in
+            named_over next.offer after.offer next.last_client after.last_client later (shared_run w next after later rest) g (omega (arith, last))
+            ∙ ap (global_over g later) (ap (λ (o : Offer G). global_of o.globals g) offered ∙ created_named mid.offer.globals i version handler g number g.serial);
         no_client_again = λ id done later point split first others made none. (
             let given = client_given (new_offer table) point.offer 0 point.last_client done (shared_run w (new_server table) point done first) id made in
             (out_run w id point after later given none others).none

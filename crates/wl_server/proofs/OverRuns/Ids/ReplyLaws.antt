@@ -5,8 +5,6 @@ use Rattle.wl_link.proofs.Calls.Branches.{either_bool, either_option}
 use Rattle.wl_link.specs.Reader.{Given, HandedOut, Queued}
 use Rattle.wl_server.specs.declared.reading.action.Reading.{Reading}
 use Rattle.wl_server.specs.declared.error.ActionError.{ActionError}
-use Rattle.wl_server.specs.declared.runs.step.Reply.{Reply}
-use Rattle.wl_server.specs.declared.runs.step.Step.{Step}
 use Rattle.wl_server.specs.HandedIds.{action_ids}
 use Rattle.wl_server.specs.Deeds.{IsAmong, Acted, Came, Deed, Handed, Left, Noted, NoteTaken, Put, Remembered, Sent}
 use Rattle.wl_server.proofs.OverRuns.Moves.BaseMoves.{acted_in, all_action_ids, handed_by}
@@ -16,10 +14,10 @@ use Rattle.wl_server.specs.Identified.{answer_ids, ids_in}
 use Rattle.wl_server.specs.Ids.{ClientParts, IdParts}
 use Rattle.wl_server.proofs.OverRuns.Ids.AmongLaws.{among_first, among_later}
 use Rattle.wl_server.specs.Part.{Part}
-use Rattle.wl_server.specs.PartStep.{Asked, Call, OfClient, OnPart, PartCall, PartStep, World, around}
+use Rattle.wl_server.specs.PartStep.{Call, OfClient, OnPart, PartCall, World, around}
 use Rattle.wl_server.specs.Reading.{NextAction, action_content, action_in, exchanges_in, new_reading}
 use Rattle.wl_server.specs.Telling.{Core, Did, Stops, Told, deeds_in, deeds_of}
-use Rattle.wl_server.specs.Runs.{concerns, is_about}
+use Rattle.wl_server.specs.Runs.{concerns}
 use Rattle.wl_server.specs.Server.{Seen}
 use Rattle.wl_link.specs.Identity.{HandedId}
 
@@ -59,11 +57,6 @@ module _ {T U G C : Type 0} (w : World T G C) (id : ClientParts) (offer : Offer 
   abbrev pub Covers : Call T U G C → List (Deed U) → Type 0
   Covers call did = (i : HandedId IdParts) → IsAmong (ids_in call) i → IsAmong (handed_by id call did) i
 
-  -- the ids of a reply are those that the call hands out
-  covers_step : (call : Step T U G C) (answer : Reply T U) (s : Seen T U C) (lacked : Bool) (did : List (Deed U)) (t : Seen T U C) → is_about id call ≡ true
-      → PartStep w id offer call answer s lacked did t → Covers (Asked call answer) did
-  covers_step call answer s lacked did t h1 h2 = grind (arith, either_option, own_step, around, read_ids, new_reading, action_content)
-
   pub covers : (call : Call T U G C) (s : Seen T U C) (lacked : Bool) (did : List (Deed U)) (t : Seen T U C) → concerns id call ≡ true
       → PartCall w id offer call s lacked did t → Covers call did
-  covers call s lacked did t h1 h2 = grind (arith, covers_step)
+  covers call s lacked did t h1 h2 = grind (arith, either_option, own_step, around, read_ids, new_reading, action_content)

@@ -35,9 +35,8 @@ module _ {T U G C : Type 0} (w : World T G C) (id : ClientParts) where
       → OutOver run (seen id after)
   out_run before after [] born none same = record { says = tt; none = ap (λ (s : ServerState T U G C). (seen id s).part) same ∙ none; receives = refl }
   out_run before after (e ∷ run) born none (mid, by, leads) =
-      let other = not_again w id before mid e born by in
-      let rest = out_run mid after run (let grown = by.last in omega (arith, born, grown))
-      (out_next before mid e none other by) leads in
+      let rest = out_run mid after run (omega (arith, born, by.last))
+      (out_next before mid e none (not_again w id before mid e born by) by) leads in
       let silent : receives_in (e.did id) ≡ 0 = ap length (out_silent w id before.offer (seen id before) none (e.lacks id) (e.did id) (seen id mid) e.call (by.each id)) in
       grind (arith, out_says, seen)
 

@@ -1,5 +1,5 @@
 -- That a killed client stays killed, and opens no action, over the base moves of whatever is done with its part.
-use Rattle.std.proofs.Common.{◌≡◌, ℕ, Bool, true, false, None, Result, MatchBool, refl, true≢false, arith}
+use Rattle.std.proofs.Common.{◌≡◌, ℕ, Bool, true, false, None, Result, MatchBool, true≢false, arith}
 use Rattle.std.proofs.lemmas.Bool.{false≢true}
 use Rattle.wl_wire.specs.declared.error.IoFault.{IoFault}
 use Rattle.wl_link.specs.Exchange.{Queue}
@@ -16,11 +16,8 @@ pub record Remains {T U C : Type 0} (p q : Part T U C) : Type 0 where
   pub closed : p.action ≡ None → q.action ≡ None
 
 module _ {T U C : Type 0} (p : Part T U C) (killed : p.is_killed ≡ true) where
-  remains_as : (q r : Part T U C) → q ≡ r → r.is_killed ≡ p.is_killed → r.action ≡ p.action → Remains p q
-  remains_as q r same is action = grind (arith)
-
   pub remains : (q : Part T U C) → q ≡ p → Remains p q
-  remains q same = remains_as q p same refl refl
+  remains q same = grind (arith)
 
 -- no action is opened, and no client is taken out
 abbrev pub fading : Kind

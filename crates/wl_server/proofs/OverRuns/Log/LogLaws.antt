@@ -4,7 +4,6 @@ use Rattle.wl_wire.specs.declared.error.IoFault.{IoFault}
 use Rattle.wl_wire.specs.Message.{WireMessage}
 use Rattle.wl_wire.specs.Table.{InterfaceRow}
 use Rattle.wl_link.specs.Exchange.{Queue, Sending, nothing, IsWithinOffer}
-use Rattle.wl_link.specs.Exchange as queue
 use Rattle.wl_link.specs.NothingLost.{LosesNothing}
 use Rattle.wl_link.proofs.Calls.NothingLostLaws.{flush_kept, gone-taken}
 use Rattle.wl_link.specs.Link.{LinkState, IsFresh}
@@ -35,9 +34,6 @@ messages_both (s ∷ said) others = ap (λ (ms : List WireMessage). s.message �
 abbrev spelled_log : List Said → Queue
 spelled_log put = spelled_all (messages_of put)
 
-spelled_both : (put others : List Said) → spelled_log (put ++ others) ≡ queue.joined (spelled_log put) (spelled_log others)
-spelled_both put others = ap spelled_all (messages_both put others) ∙ spelled_all-append (messages_of put) (messages_of others)
-
 -- what is gone, followed by what waits, is what waited, followed by what was put
 module _ {U : Type 0} where
   abbrev Keeps : Queue → Doings U → Queue → Type 0
@@ -49,7 +45,7 @@ module _ {U : Type 0} where
 
   keeps_then : (x y z : Queue) (a b : Doings U) → Keeps x a y → Keeps y b z → Keeps x (joined a b) z
   keeps_then x y z a b first second =
-      subst (λ (q : Queue). LosesNothing (a.sends ++ b.sends) x q z) (sym (spelled_both a.put b.put))
+      subst (λ (q : Queue). LosesNothing (a.sends ++ b.sends) x q z) (sym (ap spelled_all (messages_both a.put b.put) ∙ spelled_all-append (messages_of a.put) (messages_of b.put)))
       (kept_then a.sends b.sends x y z (spelled_log a.put) (spelled_log b.put) first second)
 
   keeps_so : (x y y' : Queue) (d d' : Doings U) → d' ≡ d → y' ≡ y → Keeps x d y → Keeps x d' y'

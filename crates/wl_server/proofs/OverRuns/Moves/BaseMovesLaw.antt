@@ -108,10 +108,7 @@ module _ {T U C : Type 0} (kind : Kind) (sends : T → Queue → Result ℕ IoFa
       later n x among same = let less : e.0 < n = pairs_first e entries (n, x) is.ascending among in omega (arith, less, same)
 
   empties : (p : Part T U C) (entries : List (ℕ × Object (Kept U))) → IsAll p entries → Emptied p entries
-  empties p [] is = record { after = p; moves = stayed refl refl; none = λ n. nothing n (held p.store n) refl; waiting = refl; link = refl }
-    where
-      nothing : (n : ℕ) (o : Option (Object (Kept U))) → held p.store n ≡ o → o ≡ None
-      nothing n h2 holds = grind (arith)
+  empties p [] is = record { after = p; moves = stayed refl refl; none = λ n. (grind (arith, held p.store n)); waiting = refl; link = refl }
   empties p (e ∷ entries) is =
       let mid : Part T U C = left_by client false p e.0 e.1 in
       let rest = empties mid entries (is_all_rest p e entries is) in

@@ -37,10 +37,6 @@ module _ {U : Type 0} where
   abbrev pub IsQuiet : List (Deed U) → Type 0
   IsQuiet did = (sends_of did ≡ []) × (came_in did ≡ [])
 
-  exchanges_pass : (es : List Sending) (rs : List (Result Queue IoFault)) (d : Doings U) → d.sends ≡ [] → d.came ≡ []
-      → joined d (exchanging es rs) ≡ joined (exchanging es rs) d
-  exchanges_pass es rs d no_sends none_came = grind (arith, append-nil, passes)
-
   -- ---- deeds
 
   -- what deeds come to: the ids that they hand out are those of actions
@@ -58,11 +54,8 @@ module _ {U : Type 0} where
   doings_both ids others (Acted h ∷ a) b = ap (λ (d : Doings U). record d { acted = h ∷ d.acted }) (doings_both ids others a b)
   doings_both ids others (NoteTaken h ∷ a) b = ap (λ (d : Doings U). record d { taken = h ∷ d.taken }) (doings_both ids others a b)
 
-  acted_both : (a b : List (Deed U)) → acted_in (a ++ b) ≡ acted_in a ++ acted_in b
-  acted_both a b = ap (λ (d : Doings U). d.acted) (doings_both [] [] a b)
-
   pub doings_in_both : (a b : List (Deed U)) → doings_in (a ++ b) ≡ joined (doings_in a) (doings_in b)
-  doings_in_both a b = grind (arith, doings_of, all_action_ids, acted_both, ids_both, acted_in, doings_both)
+  doings_in_both a b = grind (arith, doings_of, all_action_ids, doings_both, ids_both, acted_in)
 
   pub doings_sends : (es : List Sending) → doings_in (map Sent es) ≡ sending es
   doings_sends [] = refl
@@ -139,7 +132,7 @@ module _ {U : Type 0} where
         let B : Doings U = doings_in (deeds_in others) in
         let E : Doings U = end_of c in
         let passed : joined A X ≡ joined X A =
-        ap (joined A) exchanged ∙ exchanges_pass fs rs A quiet.0 quiet.1 ∙ ap (λ (d : Doings U). joined d A) (sym exchanged) in
+        ap (joined A) exchanged ∙ (grind (arith, append-nil, passes, quiet.0, quiet.1)) ∙ ap (λ (d : Doings U). joined d A) (sym exchanged) in
         ap (joined (joined S A)) (deeds_done (exchanges_in turns) others c)
         ∙ joined_assoc S A (joined X (joined B E))
         ∙ ap (joined S) (sym (joined_assoc A X (joined B E)) ∙ ap (λ (d : Doings U). joined d (joined B E)) passed ∙ joined_assoc X A (joined B E))

@@ -1,5 +1,5 @@
 -- That what a program does with one client is a chain of base moves.
-use Rattle.std.proofs.Common.{◌≡◌, ◌≢◌, ◌⊎◌, ℕ, ◌+◌, ◌≤◌, Bool, true, false, cond, eqb, List, [], ◌∷◌, ◌++◌, map, Option, None, Some, is_some, Result, Ok, Err, MatchResult, refl, sym, ap, subst, ◌∙◌, append-nil, true≢false, arith}
+use Rattle.std.proofs.Common.{◌≡◌, ◌≢◌, ◌⊎◌, ℕ, ◌+◌, ◌≤◌, Bool, true, false, cond, eqb, List, [], ◌∷◌, ◌++◌, map, Option, None, Some, is_some, Result, Ok, Err, refl, sym, ap, subst, ◌∙◌, append-nil, true≢false, arith}
 use mathlib.Core.Logic.{inl, inr}
 use Rattle.std.specs.Prelude.{slice_get, is_ok}
 use Rattle.std.proofs.lemmas.Option.{none-some}
@@ -25,14 +25,14 @@ use Rattle.wl_server.specs.declared.error.FinishRefused.{FinishRefused}
 use Rattle.wl_server.specs.declared.error.InvalidId.{InvalidId}
 use Rattle.wl_server.specs.declared.objects.Kept.{Kept}
 use Rattle.wl_server.specs.declared.notes.DisconnectReason.{DisconnectReason}
-use Rattle.wl_server.specs.declared.notes.DisconnectReason.TheVariants.{ConnectionClosed, ProtocolError as BrokeProtocol}
+use Rattle.wl_server.specs.declared.notes.DisconnectReason.TheVariants.{ProtocolError as BrokeProtocol}
 use Rattle.wl_server.specs.HandedIds.{made_ids}
 use Rattle.wl_server.proofs.OverRuns.Moves.BaseMoves.{Doings, Kind, born, finished, followed, handing, joined, leaving as leaves, left_by, left_id, moved, nothing_done, noting, putting, sending, stayed, told, went, wrote}
 use Rattle.wl_server.specs.Deeds.{Deed, Noted, Sent, left_if}
 use Rattle.wl_server.proofs.OverRuns.Moves.DoingsLaws.{IsQuiet, doings_in, doings_in_both, doings_end, doings_sends, joined_none, told_deeds}
 use Rattle.wl_server.specs.Errors.{PostsError, error_of, posts}
 use Rattle.wl_server.specs.Events.{SendsEvent, SendsGranted, SentAs, SessionMessage, argument_faults, checked_row, checked_sender, ends_closed, ends_sender, event_check, granted, said, wire_message}
-use Rattle.wl_server.specs.Finish.{FinishesBind, FinishesRequest, Refuses, core_finished, finish_verdict, data_given, ended_by, ends, ends_request, refusal, store_with_data}
+use Rattle.wl_server.specs.Finish.{FinishesBind, FinishesRequest, Refuses, core_finished, data_given, ended_by, ends, ends_request, refusal, store_with_data}
 use Rattle.wl_server.specs.Ids.{ClientParts, IdParts}
 use Rattle.wl_server.proofs.OverRuns.Moves.MovesOfVerdicts.{Comes, Go, IsCalm, Lands, at, ends_killed, lands_at, lands_not, lands_then, same_doings, tells_moves}
 use Rattle.wl_server.specs.Objects.{Creates, DataSet, Destroys, destroyable, destroys, new_object, without}
@@ -167,15 +167,7 @@ module _ {T U C : Type 0} (kind : Kind) (sends : T → Queue → Result ℕ IoFa
 
   -- and then the client is closed down
   closes_comes : (c : Core U C) (v : Verdict (Core U C) (Told U)) → Come c v → Come c (record (tells (closed_down v.core) []) { events = v.events })
-  closes_comes c v comes = record {
-    made = comes.made;
-    lands = lands_then kind sends receives client c v.core (closed_down v.core) comes.made comes.lands
-        (ends_killed kind sends receives client v.core ConnectionClosed kind.closes comes.lands.calm);
-    events = comes.events;
-    quiet = comes.quiet;
-    last = inl refl;
-    starved = inl refl;
-  }
+  closes_comes c v h1 = grind (arith, lands_then, closed_down, ends_killed, followed, doings_in, noting, moved, true≢false, append-nil)
 
   pub destroys_moves : (p : Part T U C) (id : IdParts) (answer : Result (Unit {0}) DestroyError) (lacked : Bool) (did : List (Deed U)) (q : Part T U C)
       → Destroys sends client p id answer lacked did q → Move p (doings_in did) q
@@ -261,13 +253,7 @@ module _ {T U C : Type 0} (kind : Kind) (sends : T → Queue → Result ℕ IoFa
 
   pub sends_moves : (table : List InterfaceRow) (p : Part T U C) (m : SessionMessage) (answer : Result (Unit {0}) EventError) (lacked : Bool) (did : List (Deed U)) (q : Part T U C)
       → SendsEvent sends client table p m answer lacked did q → Move p (doings_in did) q
-  sends_moves table p m answer lacked did q h = grind (arith, either_bool, stays, checked, event_check)
-    where
-      checked : (r : Result (Object (Kept U) × Bool) EventError) → event_check client p.store table m ≡ r
-          → MatchResult r (λ g. SendsGranted sends client p m g.0 g.1 answer lacked did q)
-          (λ e. (answer ≡ Err e) × (lacked ≡ false) × (did ≡ []) × (q ≡ p)) → Move p (doings_in did) q
-      checked (Ok g) is h = sends_granted p m g.0 g.1 answer lacked did q (granted_named client p.store table m g is) h
-      checked (Err e) is (is_err, no_memory, none, same) = stays p did q none same
+  sends_moves table p m answer lacked did q h1 = grind (arith, either_bool, stays, event_check, doings_in, sends_granted, granted_named, stayed, sent_moves, named, granted, true≢false, is_ok, checked_row, argument_faults, checked_sender)
 
   -- ---- the end of an action
 
@@ -278,8 +264,9 @@ module _ {T U C : Type 0} (kind : Kind) (sends : T → Queue → Result ℕ IoFa
   finish_moves : kind.finishes ≡ true → (p : Part T U C) (created : Option IdParts) (u : Option U) → Move p nothing_done (record p { action = None; store = store_with_data p.store created u })
   finish_moves may p created u = followed (data_moves p created u) (moved (finished may refl refl)) refl
 
-  finish_comes : kind.finishes ≡ true → (c : Core U C) (created : Option IdParts) (u : Option U) → Calm c → Come c (finish_verdict c created u)
-  finish_comes may c created u calm = record {
+  ends_comes : kind.finishes ≡ true → (c : Core U C) (id : IdParts) (o : Option (Object (Kept U))) (created : Option IdParts) (u : Option U) → Calm c
+      → ((x : Object (Kept U)) → o ≡ Some x → named c.store id ≡ Some x) → Come c (ends client c id o created u)
+  ends_comes may c id None created u calm is = record {
     made = [];
     lands = lands_at kind sends receives client c [] (core_finished c created u) calm refl (λ l. finish_moves may (at kind sends receives client c l) created u);
     events = λ e same. refl;
@@ -287,10 +274,6 @@ module _ {T U C : Type 0} (kind : Kind) (sends : T → Queue → Result ℕ IoFa
     last = inl refl;
     starved = inl refl;
   }
-
-  ends_comes : kind.finishes ≡ true → (c : Core U C) (id : IdParts) (o : Option (Object (Kept U))) (created : Option IdParts) (u : Option U) → Calm c
-      → ((x : Object (Kept U)) → o ≡ Some x → named c.store id ≡ Some x) → Come c (ends client c id o created u)
-  ends_comes may c id None created u calm is = finish_comes may c created u calm
   ends_comes may c id (Some x) created u calm is =
       leaves_comes c _ c false (is_some x.value.user_data) id x (deletions id.number) calm (is x refl) (refl, refl)
       (still_gone (removed c.store id.number) id.number created u (removed_here c.store id.number id.number refl))

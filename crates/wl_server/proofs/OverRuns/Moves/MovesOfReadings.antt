@@ -32,9 +32,6 @@ module _ {T : Type 0} where
 both : (a b : Bool) → (a && b) ≡ true → (a ≡ true) × (b ≡ true)
 both h1 b e = grind (arith, true≢false)
 
-not_true : (b : Bool) → not b ≡ true → b ≡ false
-not_true h1 e = grind (arith, true≢false)
-
 module _ {U : Type 0} where
   quiet_given : (put : List Said) (made : List (Deed U)) (gave : List (Given (Told U))) → deeds_in gave ≡ map Put put ++ made → IsQuiet made → IsQuiet (deeds_in gave)
   quiet_given put made gave is quiet = grind (arith, all)
@@ -45,7 +42,7 @@ module _ {U : Type 0} where
 module _ {U C : Type 0} where
   -- a client that is read is live
   live_of : (c : Core U C) → reads_on c ≡ true → c.is_killed ≡ false
-  live_of c on = not_true c.is_killed (both (not c.is_killed) (is_none c.action) on).0
+  live_of c on = grind (arith, true≢false, c.is_killed, (both (not c.is_killed) (is_none c.action) on).0)
 
 module _ {T U G C : Type 0} (sends : T → Queue → Result ℕ IoFault → T → Type 0) (a : Around G C) where
   pub gave_none : (left : ℕ) (mid : ReaderState T (Core U C)) (rest : Gives (Told U)) → Stops sends (server a) left mid rest → rest.gave ≡ []
@@ -66,19 +63,13 @@ module _ {T U G C : Type 0} (kind : Kind) (sends : T → Queue → Result ℕ Io
       → before.core.ended ≡ None
       → Step (part_of before) (doings_in (deeds_of (map Sent es) first mid.core)) (part_of mid) × Calm mid.core × IsQuiet (deeds_in first)
   turn_moves may before link v waits stays comes calm es first lacked mid by none =
-      let c = carried kind sends receives a.client (server a) (λ d f. refl) before.core v comes calm link es first lacked mid by in
-      let so : notes_at_end kind sends receives a.client mid.core ≡ c.notes =
-      c.so ∙ ap (λ (o : Option _). notes_in (end_deeds {U = U} o) ++ c.notes) none in (
+      let c = carried kind sends receives a.client (server a) (λ d f. refl) before.core v comes calm link es first lacked mid by in (
         followed (moved (relinked link waits stays (λ unread. absurd (true≢false (sym may.reads ∙ unread))) refl refl)) c.moves
             (verdict_done es c.put c.made first mid.core c.deeds
-            ∙ ap (λ (n : List (Happening U)). joined (putting es c.put) (joined (doings_in c.made) (noting n))) so),
+            ∙ ap (λ (n : List (Happening U)). joined (putting es c.put) (joined (doings_in c.made) (noting n))) (c.so ∙ ap (λ (o : Option _). notes_in (end_deeds {U = U} o) ++ c.notes) none)),
         c.calm,
         quiet_given c.put c.made first c.deeds c.quiet,
       )
-
-  -- a receive that failed ends the client, or leaves it
-  faulted_ends : (c : Core U C) (f : IoFault) → Calm c → Ends kind sends receives a.client c (faulted c f)
-  faulted_ends c f h1 = grind (arith, ends_not, ends_killed)
 
   -- nothing more was read, or the client was read on
   over_or_on : (left : ℕ) (mid after : ReaderState T (Core U C)) (turns : List Turn) (rest : Gives (Told U)) → Reads sends (server a) receives left mid turns rest after
@@ -109,7 +100,7 @@ module _ {T U G C : Type 0} (kind : Kind) (sends : T → Queue → Result ℕ Io
             followed (moved (received r (counted_answer (count_of r)) link may.reads filled refl refl))
             (reads_moves may n (with_link before link) turns out after none calm more) refl
         | inr (f, (over, stopped, same)) ↦
-            let ends = faulted_ends before.core f calm in
+            let ends : Ends kind sends receives a.client before.core (faulted before.core f) = grind (arith, ends_not, ends_killed, before.core) in
             let end : ReaderState T (Core U C) = record { core = faulted before.core f; link = link } in
             let so : notes_at_end kind sends receives a.client end.core ≡ ends.notes =
             ends.so ∙ ap (λ (o : Option _). notes_in (end_deeds {U = U} o) ++ ends.notes) none in

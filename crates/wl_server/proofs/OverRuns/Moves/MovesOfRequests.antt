@@ -1,5 +1,5 @@
 -- That what a request comes to is a chain of base moves.
-use Rattle.std.proofs.Common.{◌≡◌, ◌≢◌, ◌⊎◌, ℕ, Bool, true, false, ◌&&◌, cond, eqb, List, [], ◌∷◌, ◌++◌, map, Option, None, Some, is_some, Result, Ok, Err, refl, sym, ap, subst, append-nil, true≢false, arith}
+use Rattle.std.proofs.Common.{◌≡◌, ◌≢◌, ◌⊎◌, ℕ, Bool, true, false, cond, eqb, List, [], ◌∷◌, ◌++◌, map, Option, None, Some, is_some, Result, Ok, Err, refl, sym, ap, subst, append-nil, true≢false, arith}
 use mathlib.Core.Logic.{inl, inr}
 use Rattle.std.specs.Prelude.{nat_lt}
 use Rattle.wl_wire.specs.declared.argument.Argument.{Argument}
@@ -30,7 +30,7 @@ use Rattle.wl_server.specs.HandedIds.{created_ids}
 use Rattle.wl_server.specs.Deeds.{IsAmong, Acted, Deed, Handed, Remembered}
 use Rattle.wl_server.proofs.OverRuns.Moves.BaseMoves.{Doings, Kind, MayRead, all_action_ids, born, followed, found, found_none, handed_out, handing, moved, nothing_done, opens, remembered, stayed, went}
 use Rattle.wl_server.specs.Deeds as deeds
-use Rattle.wl_server.proofs.OverRuns.Moves.DoingsLaws.{IsQuiet, doings_in, told_deeds}
+use Rattle.wl_server.proofs.OverRuns.Moves.DoingsLaws.{IsQuiet, told_deeds}
 use Rattle.wl_server.specs.Errors.{error_of, fault_text, since_text}
 use Rattle.wl_server.specs.Globals.{global_at}
 use Rattle.wl_server.specs.Ids.{ClientParts, IdParts}
@@ -42,12 +42,9 @@ use Rattle.wl_server.specs.Requests.{Converted, Converting, Outcome, Whole, Wron
 use Rattle.wl_server.specs.Telling.{Core, Did, Told, closed_down, objects_in, with_objects}
 use Rattle.wl_link.proofs.Ids.HandedIds.{argument_ids_both}
 
-both : (a b : Bool) → (a && b) ≡ true → (a ≡ true) × (b ≡ true)
-both h1 b e = grind (arith, true≢false)
-
 -- a number that a client may use holds none, and is not 0
 pub valid_new : {U : Type 0} (o : Objects (Kept U)) (n : ℕ) → is_valid_new o n ≡ true → (held o.store n ≡ None) × (n ≢ 0)
-valid_new o n valid = grind (arith, both, is_free, eqb, last_possible_serial, is_server_number, held, true≢false, nat_lt, is_some)
+valid_new o n valid = grind (arith, true≢false, is_free, eqb, last_possible_serial, is_server_number, held, nat_lt, is_some)
 
 -- ---- the arguments of a request
 
@@ -74,13 +71,9 @@ module _ {U : Type 0} (client : ClientParts) (version : ℕ) (P : List (HandedId
     (finds : (ids : List (HandedId IdParts)) (o : Objects (Kept U)) (n : ℕ) (x : Object (Kept U)) → held o.store n ≡ Some x → P ids o
     → P (ids ++ Found (id_at client n x) ∷ []) o)
     (finds_none : (ids : List (HandedId IdParts)) (o : Objects (Kept U)) → P ids o → P (ids ++ Found (null_id client) ∷ []) o) where
-  converts_found : (ids : List (HandedId IdParts)) (d : Converting U) (asked : InterfaceId) (n : ℕ) (x : Option (Object (Kept U))) → held d.objects.store n ≡ x → P ids d.objects
-      → One P ids d (with_object_argument d (object_found client asked n x))
-  converts_found ids d asked n x e so = grind (arith, with_object_argument, finds, fits)
-
   converts_object : (ids : List (HandedId IdParts)) (d : Converting U) (null : Bool) (asked : InterfaceId) (n : ℕ) (b : Bool) → P ids d.objects
       → One P ids d (with_object_argument d (cond b (cond null (Ok (null_id client)) (Err wrong.NullObject)) (object_found client asked n (held d.objects.store n))))
-  converts_object ids d null asked n b so = grind (arith, converts_found, held, finds_none)
+  converts_object ids d null asked n b so = grind (arith, with_object_argument, finds, fits, held, finds_none)
 
   converts_new : (ids : List (HandedId IdParts)) (d : Converting U) (n : ℕ) (child : Option InterfaceId) → P ids d.objects → One P ids d (with_new_argument client version d n child)
   converts_new ids d n None so = tt
@@ -202,19 +195,15 @@ module _ {T U G C : Type 0} (kind : Kind) (sends : T → Queue → Result ℕ Io
   registers_comes : (c : Core U C) (n : ℕ) → IsQuietCore c → is_valid_new (objects_in c) n ≡ true → Come c (registers a c n)
   registers_comes c n calm valid =
       replies_comes c (with_registry a c n) _ (Remembered (new_at a c n) ∷ [])
-      (lands_at kind sends receives a.client c (Remembered (new_at a c n) ∷ []) (with_registry a c n) calm refl moves) (refl, refl)
+      (lands_at kind sends receives a.client c (Remembered (new_at a c n) ∷ []) (with_registry a c n) calm refl (λ l. followed
+      (dropped (place c l) (place made l) (New (made_id a.client (objects_in c) n registry_id) ∷ []) (makes_object c 1 (objects_in c) n registry_id valid l))
+      (moved (remembered n x (stored_here c.store n x n refl) refl refl refl)) refl)) (refl, refl)
     where
       made : Core U C
       made = with_objects c (with_made (objects_in c) n registry_id 1)
 
       x : Object (Kept U)
       x = made_object (objects_in c) registry_id 1
-
-      moves : (l : LinkState T) → Move (place c l) (doings_in (Remembered (new_at a c n) ∷ [])) (place (with_registry a c n) l)
-      moves l =
-          followed
-          (dropped (place c l) (place made l) (New (made_id a.client (objects_in c) n registry_id) ∷ []) (makes_object c 1 (objects_in c) n registry_id valid l))
-          (moved (remembered n x (stored_here c.store n x n refl) refl refl refl)) refl
 
   binds_comes : MayRead kind a.table a.client → (c : Core U C) (g version n : ℕ) (x : Object (KeptGlobal G)) → IsQuietCore c → is_valid_new (objects_in c) n ≡ true → Come c (binds a c g version n x)
   binds_comes may c g version n x calm valid =

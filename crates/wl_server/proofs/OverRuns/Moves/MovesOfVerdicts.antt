@@ -1,9 +1,7 @@
 -- That a verdict that is carried out is a chain of base moves.
-use Rattle.std.proofs.Common.{◌≡◌, ◌⊎◌, ℕ, Bool, true, false, List, [], ◌++◌, map, None, Some, Result, Ok, Err, refl, sym, ap, subst, ◌∙◌, append-nil, append_assoc, true≢false, arith}
+use Rattle.std.proofs.Common.{◌≡◌, ◌⊎◌, ℕ, Bool, true, false, List, [], ◌++◌, map, None, Result, refl, sym, ap, subst, ◌∙◌, append-nil, append_assoc, true≢false, arith}
 use mathlib.Core.Logic.{inl, inr}
-use Rattle.std.specs.Prelude.{if◌then◌else◌}
 use Rattle.wl_wire.specs.declared.error.IoFault.{IoFault}
-use Rattle.wl_wire.specs.declared.error.IoFault.TheVariants as fault
 use Rattle.wl_link.specs.Exchange.{Queue, Sending}
 use Rattle.wl_link.specs.Link.{LinkState}
 use Rattle.wl_link.specs.Puts.{FlushesOut, Said}
@@ -53,14 +51,10 @@ module _ {T U C : Type 0} (kind : Kind) (sends : T → Queue → Result ℕ IoFa
   ends_killed c reason may calm = record {
     notes = end_notes c.is_killed reason;
     moves = λ l. moved (ended reason may refl refl);
-    so = go c.is_killed refl;
+    so = grind (arith, append-nil, notes_at_end, notes_in, end_deeds, c.is_killed);
     calm = λ live. absurd (true≢false live);
     store = refl;
   }
-    where
-      go : (b : Bool) → c.is_killed ≡ b
-          → notes_in (end_deeds {U = U} (if b then c.ended else Some reason)) ≡ notes_at_end c ++ end_notes b reason
-      go h1 is = grind (arith, append-nil, notes_at_end, notes_in, end_deeds)
 
   ends_then : (a b c : Core U C) → Ends a b → Ends b c → Ends a c
   ends_then a b c first second = record {
@@ -128,14 +122,7 @@ module _ {T U C : Type 0} (kind : Kind) (sends : T → Queue → Result ℕ IoFa
       broken_at f = grind (arith, landed_by, last_of, ends_killed)
 
       landed : (wrote : Result (Unit {0}) IoFault) → Landed c v (came_to reader v wrote)
-      landed (Ok u) = landed_by (v.last v.core) (last_of v.core (ends_not v.core comes.lands.calm))
-      landed (Err fault.OutOfMemory) = starved_at
-      landed (Err fault.WouldBlock) = broken_at fault.WouldBlock
-      landed (Err fault.Pipe) = broken_at fault.Pipe
-      landed (Err fault.TooBig) = broken_at fault.TooBig
-      landed (Err fault.Proto) = broken_at fault.Proto
-      landed (Err fault.InvalidInput) = broken_at fault.InvalidInput
-      landed (Err (fault.Other n)) = broken_at (fault.Other n)
+      landed wrote = grind (arith, landed_by, last_of, ends_not, starved_at, broken_at, lands_then, ends_then, killed, ends_killed, stayed, append-nil, notes_at_end, closed_down, lands_not)
 
   -- what a verdict came to that was carried out over a link
   pub record Carried (c : Core U C) (link : LinkState T) (es : List Sending) (gave : List (Given (Told U))) (after : ReaderState T (Core U C)) : Type 0 where
@@ -188,12 +175,9 @@ module _ {T U C : Type 0} (kind : Kind) (sends : T → Queue → Result ℕ IoFa
 
   -- ---- what is told to a client
 
-  calm_core : (p : Part T U C) → IsCalm (core_of p)
-  calm_core p live = refl
-
   -- a verdict on a client's part, and its deeds
   pub tells_moves : (p : Part T U C) (v : Verdict (Core U C) (Told U)) (refused : Bool) (did : List (Deed U)) (after : Part T U C) → Comes (core_of p) v
       → Tells sends v p.link refused did after → Go p (doings_in did) after
   tells_moves p v refused did after comes (es, gave, end, by, is, same) =
-      let c = carried speaker (λ d f. refl) (core_of p) v comes (calm_core p) p.link es gave refused end by in
+      let c = carried speaker (λ d f. refl) (core_of p) v comes (λ live. refl) p.link es gave refused end by in
       grind (arith, doings_in, same_doings, part_of, joined, putting, noting, verdict_done)

@@ -59,9 +59,6 @@ module _ {U : Type 0} (P : ProtocolError → Type 0) where
 closed_for_none : (P : ProtocolError → Type 0) (e : ProtocolError) → ConnectionClosed ≡ BrokeProtocol e → P e
 closed_for_none P e is = absurd cc
 
-killed_for : (P : ProtocolError → Type 0) (e f : ProtocolError) → BrokeProtocol e ≡ BrokeProtocol f → P e → P f
-killed_for P e f is holds = grind (arith)
-
 -- a client is killed for errors of which it holds
 abbrev killing : (ProtocolError → Type 0) → Kind
 killing P = record { gathers = true; hands = true; reads = true; finishes = true; kills = λ reason. (e : ProtocolError) → reason ≡ BrokeProtocol e → P e; closes = closed_for_none P }
@@ -130,7 +127,7 @@ module _ {T U G C : Type 0} (w : World T G C) where
   call_held : (id : ClientParts) (offer : Offer G) (P : ProtocolError → Type 0) (call : Call T U G C) (s : Seen T U C) (lacked : Bool) (did : List (Deed U)) (t : Seen T U C)
       → ((e : ProtocolError) → MayKillFor offer.table id call e → P e) → PartCall w id offer call s lacked did t → Held P w.sends w.receives id s → Held P w.sends w.receives id t
   call_held id offer P call s lacked did t may h held =
-      elim (any_moves (killing P) w id offer call s lacked did t (grind (arith, killed_for)) h) [
+      elim (any_moves (killing P) w id offer call s lacked did t (grind (arith)) h) [
         | inl (ids, goes) ↦ goes_held P w.sends w.receives id s t _ held goes
         | inr (p, none, empty, did_so, same) ↦
             subst (Held P w.sends w.receives id) (sym same)

@@ -9,10 +9,9 @@ use Rattle.wl_link.specs.Exchange.{Queue}
 use Rattle.wl_link.specs.Identity.{Id}
 use Rattle.wl_link.specs.Link.{LinkState}
 use Rattle.wl_server.specs.declared.objects.Kept.{Kept}
-use Rattle.wl_server.specs.declared.notes.DisconnectReason.{DisconnectReason}
 use Rattle.wl_server.specs.declared.notes.Happening.{Happening}
 use Rattle.wl_server.specs.declared.notes.Happening.TheVariants.{Destroyed, Disconnected, Initialized}
-use Rattle.wl_server.proofs.OverRuns.Moves.BaseMoves.{Doings, Goes, Moves, any, born, cleaned, finished, doings_of, end_notes, ended, flushed, followed, found, found_none, handed_by, handed_out, joined, left_id, notes_taken, moved, opens, received, relinked, remembered, stayed, taken_out, told, unfelt, went, within, wrote}
+use Rattle.wl_server.proofs.OverRuns.Moves.BaseMoves.{Doings, Goes, Moves, any, born, cleaned, finished, doings_of, ended, flushed, followed, found, found_none, handed_by, handed_out, left_id, notes_taken, moved, opens, received, relinked, remembered, stayed, taken_out, told, unfelt, went, within, wrote}
 use Rattle.wl_server.proofs.OverRuns.Moves.BaseMovesLaw.{call_goes}
 use Rattle.wl_server.proofs.OverRuns.Ids.ChangeLaws.{moves_take}
 use Rattle.wl_server.specs.Deeds.{left_in, taken_in}
@@ -31,9 +30,6 @@ use Rattle.wl_server.specs.Server.{Seen, ServerState, new_server, seen}
 use Rattle.wl_server.specs.Steps.{Entry, offer_after}
 
 -- ---- lists of notes
-
-ends_end : (U : Type 0) (b : Bool) (reason : DisconnectReason) → ends_in {U = U} (end_notes b reason) + one_if b ≡ 1
-ends_end h1 h2 reason = grind (arith)
 
 module _ {U : Type 0} where
   pub destroyed_both : (a b : List (Happening U)) → destroyed_in (a ++ b) ≡ destroyed_in a ++ destroyed_in b
@@ -81,9 +77,6 @@ module _ {T U C : Type 0} (sends : T → Queue → Result ℕ IoFault → T → 
       → Noting p d q
   quiet p q r d e none is same no_left no_notes waits killed = grind (arith, same_permuted, destroyed_in, append-nil, ends_in, one_if)
 
-  noting_then : (p m q : Part T U C) (a b : Doings U) → Noting p a m → Noting m b q → Noting p (joined a b) q
-  noting_then p m q a b first second = grind (arith, destroyed_in, destroyed_both, permuted_then, ends_both)
-
   went_noting : (p q : Part T U C) (d : Doings U) (n : ℕ) (x : Object (Kept U)) (waits : Bool) → ends_in p.waiting ≡ 0
       → d.left ≡ left_id (id_of (id_at client n x)) x.value.user_data → d.notes ≡ (if waits then [] else note_of_end client n x)
       → q.waiting ≡ (if waits then p.waiting ++ note_of_end client n x else p.waiting) → q.is_killed ≡ p.is_killed → Noting p d q
@@ -102,13 +95,13 @@ module _ {T U C : Type 0} (sends : T → Queue → Result ℕ IoFault → T → 
   moves_note p q d none (stayed is same) = quiet p q p d _ none is same refl refl refl refl
   moves_note p q d none (followed {m = m} {a = a} {b = b} first second is) =
       let one = moves_note p m a none first in
-      subst (λ (x : Doings U). Noting p x q) (sym is) (noting_then p m q a b one (moves_note m q b one.none second))
+      subst (λ (x : Doings U). Noting p x q) (sym is) (grind (arith, destroyed_in, destroyed_both, permuted_then, ends_both, moves_note m q b one.none second))
   moves_note p q d none (handed_out {a = a} ids moves among is) = grind (arith, moves_note p q a none moves)
   moves_note p q d none (moved (relinked link waits stays unread is same)) = quiet p q (record p { link = link }) d _ none is same refl refl refl refl
   moves_note p q d none (moved (received r answer link reads filled is same)) = quiet p q (record p { link = link }) d _ none is same refl refl refl refl
   moves_note p q d none (moved (told messages es put answer link puts is same)) = quiet p q (record p { link = link }) d _ none is same refl refl refl refl
   moves_note p q d none (moved (flushed es answer link by is same)) = quiet p q (record p { link = link }) d _ none is same refl refl refl refl
-  moves_note p q d none (moved (ended reason may is same)) = grind (arith, same_permuted, destroyed_in, append-nil, ends_in, one_if, ends_end)
+  moves_note p q d none (moved (ended reason may is same)) = grind (arith, same_permuted, destroyed_in, append-nil, ends_in, one_if)
   moves_note p q d none (moved (born n x free ne serial is same)) = quiet p q _ d _ none is same refl refl refl refl
   moves_note p q d none (moved (found n x holds is same)) = quiet p q p d _ none is same refl refl refl refl
   moves_note p q d none (moved (found_none is same)) = quiet p q p d _ none is same refl refl refl refl

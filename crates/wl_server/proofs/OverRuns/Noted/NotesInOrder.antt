@@ -28,7 +28,7 @@ use Rattle.wl_server.proofs.CallSteps.Numbering.{GivesWithin, all_each, no_numbe
 use Rattle.wl_server.proofs.CallSteps.Slots.{same_parts, same_self, same_slots}
 use Rattle.wl_server.proofs.CleanupSteps.Gathering.{notes_append, told_other, told_same}
 use Rattle.wl_server.proofs.OverRuns.Moves.BaseMoves.{Doings, Goes, Kind, notes_taken, taken_out, unfelt, within}
-use Rattle.wl_server.proofs.OverRuns.Moves.BaseMovesLaw.{any_moves, hands_in}
+use Rattle.wl_server.proofs.OverRuns.Moves.BaseMovesLaw.{any_moves}
 use Rattle.wl_server.proofs.OverRuns.Noted.PlacesInOrder.{earlier_first}
 
 -- ---- notes by their slots and their clients
@@ -109,13 +109,10 @@ module _ {T U G C : Type 0} (w : World T G C) (id : ClientParts) (offer : Offer 
   goes_grows : (s t : Seen T U C) (d : Doings U) → Goes keeping w.sends w.receives id s d t → Grows s t
   goes_grows s t d h1 = grind (arith, unfelt, append-nil, within, taken_out, notes_taken)
 
-  none_handed : (call : Call T U G C) → HandsOutNone call → hands_in call ≡ false
-  none_handed call none = grind (arith)
-
   call_grows : (call : Call T U G C) (s : Seen T U C) (lacked : Bool) (did : List (Deed U)) (t : Seen T U C)
       → HandsOutNone call → PartCall w id offer call s lacked did t → Grows s t
   call_grows call s lacked did t none h =
-      elim (any_moves keeping w id offer call s lacked did t (grind (arith, false≢true, none_handed)) h) [
+      elim (any_moves keeping w id offer call s lacked did t (grind (arith, false≢true)) h) [
         | inl (ids, goes) ↦ goes_grows s t _ goes
         | inr (p, none_waits, empty, did_so, same) ↦ (happened.Initialized ∷ [], ap (λ (x : Seen T U C). x.made) same)
       ]
@@ -225,9 +222,6 @@ module _ {T U G C : Type 0} (w : World T G C) where
       → e.call ≡ Asked step.TakeNotes (reply.TakeNotes (Ok out)) → OneStep w s e after → Takes s out.items
   takes_of s e after out is one = of (subst (λ (call : Call T U G C). NotesGoOn s call after) is one.notes)
     where
-      told : (id : ClientParts) → notes_of id out.items ≡ notes_of id s.notes ++ made_of id s.clients
-      told id = grind (arith, seen, notes_of)
-
       of : HandsOutNotes s out.items after → Takes s out.items
       of h =
           let (order, ordered, (more, behind, along)) = h.in_order in
@@ -238,7 +232,7 @@ module _ {T U G C : Type 0} (w : World T G C) where
             rise = ordered.rise;
             places = ordered.numbers;
             along = along;
-            each = λ id. behind_gathered id s.notes more (made_of id s.clients) (ap (notes_of id) (sym behind) ∙ told id);
+            each = λ id. behind_gathered id s.notes more (made_of id s.clients) (ap (notes_of id) (sym behind) ∙ (grind (arith, seen, notes_of)));
           }
 
   takes_drain : (s : ServerState T U G C) (out : List (Note U)) → Takes s out → Drains s out
@@ -271,15 +265,12 @@ module _ {T U G C : Type 0} (w : World T G C) where
                   behind_gathered id s.notes (more ++ h.ends) (made_of id s.clients ++ new)
                       (ap (notes_of id) (sym all) ∙ (now id h ∙ (grown ∙ append_assoc (notes_of id s.notes) (made_of id s.clients) new))),
                 ));
-            stored = λ id none. behind_gathered id s.notes (more ++ h.ends) [] (ap (notes_of id) (sym all) ∙ (now id h ∙ missing id none));
+            stored = λ id none. behind_gathered id s.notes (more ++ h.ends) [] (ap (notes_of id) (sym all) ∙ (now id h ∙ (grind (arith, either_option, seen, notes_of, is_some))));
           }
         where
           -- all notes of the client are gathered
           now : (id : ClientParts) → GathersNotes s after → notes_of id after.notes ≡ (seen id after).made
           now id h = sym (ap (λ (l : List (Happening U)). notes_of id after.notes ++ l) (h.none_left id) ∙ append-nil (notes_of id after.notes))
-
-          missing : (id : ClientParts) → client_at id s.clients ≡ None → (seen id after).made ≡ notes_of id s.notes ++ []
-          missing id none = grind (arith, either_option, seen, notes_of, is_some)
 
   -- ---- a run between
 
@@ -335,11 +326,9 @@ module _ {T U G C : Type 0} (w : World T G C) where
       → (rest : List (Note U)) × (late.items ≡ early.items ++ rest)
   earlier_notes_first table done between point mid point' mid' early late refused refused' leads leads' none below (e, is, was, one) (f, is', was', two) =
       let has = run_numbers w (new_server table) done point leads (no_numbers _) in
-      let has' = run_numbers w point between mid leads' has in
       let up = run_rises w point between mid leads' below in
       let takes = takes_of point e point' early is one in
-      let takes' = takes_of mid f mid' late is' two in
-      at (has.made (omega (arith, up, below))) (has'.made below) takes takes'
+      at (has.made (omega (arith, up, below))) ((run_numbers w point between mid leads' has).made below) takes (takes_of mid f mid' late is' two)
       (since_run point early.items point between mid takes (has.made (omega (arith, up, below))) has (inl (makes_none point)) leads' none below)
     where
       at : AreInTime (λ x. x.made) point.numbers.made (map times_of point.clients) → AreInTime (λ x. x.made) mid.numbers.made (map times_of mid.clients)

@@ -1,5 +1,5 @@
 -- Places in order of time: those that are early come first, and in one order.
-use Rattle.std.proofs.Common.{◌≡◌, ◌∙◌, ℕ, zero, suc, ◌+◌, ◌<◌, ◌≤◌, Bool, true, false, get_or, List, [], ◌∷◌, ◌++◌, length, map, refl, sym, ap, subst, arith}
+use Rattle.std.proofs.Common.{◌≡◌, ◌∙◌, ℕ, zero, suc, ◌+◌, ◌<◌, ◌≤◌, Bool, true, false, get_or, List, [], ◌∷◌, ◌++◌, map, refl, sym, ap, subst, arith}
 use Rattle.std.specs.List.{AllByRecursion}
 use Rattle.std.specs.Prelude.{◌==◌, Contains, if◌then◌else◌, IsPermutation}
 use Rattle.std.proofs.lemmas.Bool.{eqb-true, eq-eqb, false≢true, ne_eqb}
@@ -34,15 +34,11 @@ later_trans p q r one two = grind (arith, false≢true)
 pub sorted_of : (ps : List NotePlace) → Rise ps → Sorted ps
 sorted_of [] rise = tt
 sorted_of (p ∷ []) rise = (tt, tt)
-sorted_of (p ∷ q ∷ ps) rise = whole (sorted_of (q ∷ ps) next)
+sorted_of (p ∷ q ∷ ps) rise = whole (sorted_of (q ∷ ps) (λ k d below. let same : suc k + 1 ≡ suc (k + 1) = omega arith in
+    subst (λ (m : ℕ). IsNoLater (get_or (q ∷ ps) k d) (get_or (p ∷ q ∷ ps) m d)) same (rise (suc k) d (omega (arith, below)))))
   where
     first : IsNoLater p q
     first = rise 0 p (omega arith)
-
-    next : (k : ℕ) (d : NotePlace) → k + 1 < length (q ∷ ps) → IsNoLater (get_or (q ∷ ps) k d) (get_or (q ∷ ps) (k + 1) d)
-    next k d below =
-        let same : suc k + 1 ≡ suc (k + 1) = omega arith in
-        subst (λ (m : ℕ). IsNoLater (get_or (q ∷ ps) k d) (get_or (p ∷ q ∷ ps) m d)) same (rise (suc k) d (omega (arith, below)))
 
     whole : Sorted (q ∷ ps) → Sorted (p ∷ q ∷ ps)
     whole rest = ((first, all_more (IsNoLater q) (IsNoLater p) (λ r after. later_trans p q r first after) ps rest.0), rest)
@@ -80,17 +76,13 @@ module _ (below : ℕ) (In : ℕ → ℕ → Type 0) (apart : (i j n : ℕ) → 
   early_so [] b up up' early same known = (b, refl)
   early_so (x ∷ a) [] up up' ((made, low), early) same known =
       let one = count_is x x.slot x.number false true true made (eq-eqb x.number x.number refl) (eq-eqb x.slot x.slot refl) in
-      let count = sum_by-cons (at_time x.slot x.number) x a in
-      let none = same x.slot x.number low in
-      absurd (omega (arith, one, count, none))
+      absurd (omega (arith, one, sum_by-cons (at_time x.slot x.number) x a, same x.slot x.number low))
   early_so (x ∷ a) (y ∷ b) (after_x, up) (after_y, up') ((made, low), early) same known = whole (early_so a b up up' early same_rest known_rest)
     where
       there : 1 ≤ times_at_time x.slot x.number (y ∷ b)
       there =
           let one = count_is x x.slot x.number false true true made (eq-eqb x.number x.number refl) (eq-eqb x.slot x.slot refl) in
-          let count = sum_by-cons (at_time x.slot x.number) x a in
-          let same' = same x.slot x.number low in
-          omega (arith, one, count, same')
+          omega (arith, one, sum_by-cons (at_time x.slot x.number) x a, same x.slot x.number low)
 
       y_first : IsNoLater y (place_at false x.slot x.number)
       y_first = found (IsNoLater y) x.slot x.number (y ∷ b) (later_refl y, after_y) there
@@ -103,18 +95,16 @@ module _ (below : ℕ) (In : ℕ → ℕ → Type 0) (apart : (i j n : ℕ) → 
 
       y_there : 1 ≤ times_at_time y.slot y.number (y ∷ b)
       y_there =
-          let one = count_is y y.slot y.number false true true y_made (eq-eqb y.number y.number refl) (eq-eqb y.slot y.slot refl) in
-          let count = sum_by-cons (at_time y.slot y.number) y b in
-          omega (arith, one, count)
+          omega (arith, count_is y y.slot y.number false true true y_made (eq-eqb y.number y.number refl) (eq-eqb y.slot y.slot refl), sum_by-cons (at_time y.slot y.number) y b)
 
       back : 1 ≤ times_at_time y.slot y.number (x ∷ a)
-      back = let same' = same y.slot y.number (omega (arith, y_low, low)) in omega (arith, same', y_there)
+      back = omega (arith, same y.slot y.number (omega (arith, y_low, low)), y_there)
 
       x_first : IsNoLater x (place_at false y.slot y.number)
       x_first = found (IsNoLater x) y.slot y.number (x ∷ a) (later_refl x, after_x) back
 
       number : y.number ≡ x.number
-      number = let x_low = x_first.1 made in omega (arith, x_low, y_low)
+      number = omega (arith, x_first.1 made, y_low)
 
       at_slot : y.slot ≡ x.slot
       at_slot = apart y.slot x.slot x.number (subst (λ (n : ℕ). In y.slot n) number (known y.slot y.number y_there)) (known x.slot x.number there)
@@ -124,14 +114,10 @@ module _ (below : ℕ) (In : ℕ → ℕ → Type 0) (apart : (i j n : ℕ) → 
 
       same_rest : (slot n : ℕ) → n < below → times_at_time slot n a ≡ times_at_time slot n b
       same_rest slot n less =
-          let one = sum_by-cons (at_time slot n) x a in
-          let two = sum_by-cons (at_time slot n) y b in
-          let this = ap (at_time slot n) is in
-          let all = same slot n less in
-          omega (arith, one, two, this, all)
+          omega (arith, sum_by-cons (at_time slot n) x a, sum_by-cons (at_time slot n) y b, ap (at_time slot n) is, same slot n less)
 
       known_rest : (slot n : ℕ) → 1 ≤ times_at_time slot n b → In slot n
-      known_rest slot n some = known slot n (let two = sum_by-cons (at_time slot n) y b in omega (arith, two, some))
+      known_rest slot n some = known slot n (omega (arith, sum_by-cons (at_time slot n) y b, some))
 
       whole : (rest : List NotePlace) × (b ≡ a ++ rest) → (rest : List NotePlace) × (y ∷ b ≡ (x ∷ a) ++ rest)
       whole (rest, more) = (rest, ap (λ (p : NotePlace). p ∷ b) is ∙ ap (λ (l : List NotePlace). x ∷ l) more)
@@ -155,15 +141,10 @@ of_made k slot n b is (m ∷ ns) = at b is (of_made k slot n b is ns) (m == n) r
     at true is more true number =
         let count = sum_by-cons (at_time slot n) (place_at false k m) (map (place_at false k) ns) in
         let this = count_is (place_at false k m) slot n false true true refl number is in
-        let other = sum_by-cons (λ (m : ℕ). if m == n then 1 else 0) m ns in
-        let one = ap {B = ℕ} (λ (x : Bool). if x then 1 else 0) number in
-        omega (arith, count, this, other, one, more)
+        omega (arith, count, this, sum_by-cons (λ (m : ℕ). if m == n then 1 else 0) m ns, ap {B = ℕ} (λ (x : Bool). if x then 1 else 0) number, more)
     at true is more false number = grind (arith, sum_by-cons, place_at, count_is)
     at false is more true number = grind (arith, sum_by-cons, place_at, count_is)
     at false is more false number = grind (arith, sum_by-cons, place_at, count_is)
-
-of_client : (waits : Bool) (k slot n : ℕ) (b : Bool) → (k == slot) ≡ b → (t : NoteTimes) → times_at_time slot n (places_of waits k t) ≡ (if b then often n t.made else 0)
-of_client waits k slot n b is t = grind (arith, sum_by-append, place_at, of_made, none_waiting)
 
 -- The places of a slot among those of all clients are its client's, if each count of places sees those of one slot alone.
 module _ (f : NotePlace → ℕ) (slot : ℕ) (waits : Bool) (g : NoteTimes → ℕ) (none : g no_times ≡ 0)
@@ -179,7 +160,7 @@ module _ (f : NotePlace → ℕ) (slot : ℕ) (waits : Bool) (g : NoteTimes → 
 
 among_all : (waits : Bool) (slot n : ℕ) (ts : List NoteTimes) → times_at_time slot n (all_places waits 0 ts) ≡ often n (times_at slot ts).made
 among_all waits slot n ts =
-    among (at_time slot n) slot waits (λ t. often n t.made) refl (λ k b is t. of_client waits k slot n b is t) 0 slot ts (omega arith)
+    among (at_time slot n) slot waits (λ t. often n t.made) refl (λ k b is t. (grind (arith, sum_by-append, place_at, of_made, none_waiting))) 0 slot ts (omega arith)
 
 -- ---- numbers
 
@@ -190,9 +171,7 @@ has_number n (m ∷ ns) some = at (λ more. has_number n ns more) (m == n) refl
     at : (1 ≤ often n ns → Contains ns n) → (a : Bool) → (m == n) ≡ a → Contains (m ∷ ns) n
     at later true is = (0, omega arith, eqb-true m n is)
     at later false is =
-        let count = sum_by-cons (λ (k : ℕ). if k == n then 1 else 0) m ns in
-        let none = ap {B = ℕ} (λ (x : Bool). if x then 1 else 0) is in
-        let (k, below, here) = later (omega (arith, some, count, none)) in
+        let (k, below, here) = later (omega (arith, some, sum_by-cons (λ (k : ℕ). if k == n then 1 else 0) m ns, ap {B = ℕ} (λ (x : Bool). if x then 1 else 0) is)) in
         (suc k, omega (arith, below), here)
 
 not_later : (low : ℕ) (ns : List ℕ) (next n : ℕ) → RiseWithin low ns next → n < low → often n ns ≡ 0

@@ -11,7 +11,6 @@ use Rattle.std.proofs.lemmas.List.{append_cancel_left, length-append, map-append
 use Rattle.std.proofs.lemmas.List.Sums.{sum_by-cons}
 use Rattle.wl_wire.specs.Table.{InterfaceRow}
 use Rattle.wl_wire.specs.declared.error.IoFault.{IoFault}
-use Rattle.wl_wire.specs.declared.error.OutOfMemory.{OutOfMemory}
 use Rattle.wl_link.proofs.Calls.Branches.{either_bool, either_option}
 use Rattle.wl_link.specs.Exchange.{Queue}
 use Rattle.wl_server.specs.declared.notes.Happening.{Happening}
@@ -27,7 +26,7 @@ use Rattle.wl_server.specs.Ids.{ClientParts, same_client}
 use Rattle.wl_server.specs.NoteOrder.{AllNumbered, AllTakeFirst, last_number, slot_of, times_at, times_of}
 use Rattle.wl_server.specs.NoteOrder.Ordered.{CleansNothing, LeavesNotes, NothingCleaned}
 use Rattle.wl_server.specs.Part.{Part, note_of_end}
-use Rattle.wl_server.specs.PartStep.{Asked, Call, CleanedAs, NotesTaken, PartCall, World}
+use Rattle.wl_server.specs.PartStep.{Asked, Call, CleanedAs, PartCall, World}
 use Rattle.wl_server.specs.Runs.{Leads, concerns}
 use Rattle.wl_server.specs.Server.{NoteTimes, Seen, ServerState, Stored, client_at, if_serial, new_server, notes_of, seen, stored_at, told_of}
 use Rattle.wl_server.specs.Steps.{Entry, GathersNotes, NotesGoOn, OneStep, StepOf}
@@ -79,11 +78,8 @@ later_empty (x ∷ a) b is = let long : suc (length (a ++ b)) ≡ 0 = ap length 
 -- ---- what a call does to the notes of a client that wait
 
 module _ {T U C : Type 0} (sends : T → Queue → Result ℕ IoFault → T → Type 0) (receives : T → ℕ → Result Queue IoFault → T → Type 0) (client : ClientParts) where
-  still : (p q r : Part T U C) → q ≡ r → r.waiting ≡ p.waiting → Grown p.waiting q.waiting
-  still p q r same is = grown_still p.waiting q.waiting (ap (λ (x : Part T U C). x.waiting) same ∙ is)
-
   moves_grow : (p q : Part T U C) (d : Doings U) → Moves (any false) sends receives client p d q → Grown p.waiting q.waiting
-  moves_grow p q d (stayed is same) = still p q p same refl
+  moves_grow p q d (stayed is same) = grown_still p.waiting q.waiting (ap (λ (x : Part T U C). x.waiting) same ∙ refl)
   moves_grow p q d (followed {m = m} {a = a} {b = b} first second is) = grown_both p.waiting m.waiting q.waiting (moves_grow p m a first) (moves_grow m q b second)
   moves_grow p q d (handed_out {a = a} ids moves among is) = moves_grow p q a moves
   moves_grow p q d (moved move) = grind (arith, false≢true, grown_still, note_of_end)
@@ -163,8 +159,7 @@ module _ {T U G C : Type 0} where
             let here = ap (λ (x : NoteTimes). length x.waiting) (times_stored s.clients k) ∙ (one k).1 in
             let there = ap (λ (x : NoteTimes). length x.waiting) (times_stored t.clients k) ∙ (two k).1 in
             let long = same_long k (stored_at k s.clients) (stored_at k t.clients) refl refl in
-            let both = ap length of_waiting ∙ length-append taken (times_at k (map times_of t.clients)).waiting in
-            omega (arith, here, there, long, both)
+            omega (arith, here, there, long, ap length of_waiting ∙ length-append taken (times_at k (map times_of t.clients)).waiting)
 
         empty : (l : List ℕ) → length l ≡ 0 → l ≡ []
         empty [] is = refl
@@ -186,10 +181,7 @@ module _ {T U G C : Type 0} (w : World T G C) where
     where
       taken : (p : Reply T U) → ((id : ClientParts) → PartCall w id s.offer (Asked step.TakeNotes p) (seen id s) (e.lacks id) (e.did id) (seen id t))
           → (id : ClientParts) → (seen id t).part ≡ (seen id s).part
-      taken p each id = let (r, is, h) = each id in go r h
-        where
-          go : (r : Result (Vec (Note U) Global) OutOfMemory) → NotesTaken w id s.offer r (seen id s) (e.lacks id) (e.did id) (seen id t) → (seen id t).part ≡ (seen id s).part
-          go h1 h = grind (arith)
+      taken p each id = let (r, is, h) = each id in grind (arith)
 
       at : (call : Call T U G C) → e.call ≡ call → NotesGoOn s call t
           → ((id : ClientParts) → PartCall w id s.offer call (seen id s) (e.lacks id) (e.did id) (seen id t)) → Given s t k
@@ -212,10 +204,7 @@ one_at slot k = if k == slot then 1 else 0
 sum_slots : (slot : ℕ) (ps : List NotePlace) → sum_by (one_at slot) (map (λ p. p.slot) ps) ≡ sum_by (λ (p : NotePlace). if p.slot == slot then 1 else 0) ps
 sum_slots slot [] = refl
 sum_slots slot (p ∷ ps) =
-    let one = sum_by-cons (one_at slot) p.slot (map (λ p. p.slot) ps) in
-    let two = sum_by-cons (λ (p : NotePlace). if p.slot == slot then 1 else 0) p ps in
-    let more = sum_slots slot ps in
-    omega (arith, one, two, more)
+    omega (arith, sum_by-cons (one_at slot) p.slot (map (λ p. p.slot) ps), sum_by-cons (λ (p : NotePlace). if p.slot == slot then 1 else 0) p ps, sum_slots slot ps)
 
 module _ {U : Type 0} where
   -- only this client of its slot is told of
@@ -236,8 +225,7 @@ module _ {U : Type 0} where
       at : length (notes_of id m) ≡ sum_by (one_at id.slot) (map slot_of m) → (b : Bool) → (slot_of n == id.slot) ≡ b → length (notes_of id (n ∷ m)) ≡ sum_by (one_at id.slot) (map slot_of (n ∷ m))
       at rest true is =
           let same = only (id_of n) (happening_of n) (notes_of (id_of n) m) (own_first n m) (sym (slot_is n) ∙ eqb-true (slot_of n) id.slot is) in
-          let told = subst (λ (i : ClientParts). notes_of i (n ∷ m) ≡ happening_of n ∷ notes_of i m) same (own_first n m) in
-          let long = ap length told in
+          let long = ap length (subst (λ (i : ClientParts). notes_of i (n ∷ m) ≡ happening_of n ∷ notes_of i m) same (own_first n m)) in
           let one : one_at id.slot (slot_of n) ≡ 1 = ap (λ (x : Bool). if x then 1 else 0) is in
           omega (arith, long, rest, sums, one)
       at rest false is = grind (arith, told_of, notes_of, slot_of, sums, true≢false, told_slot)
@@ -284,11 +272,8 @@ module _ {T U G C : Type 0} (w : World T G C) (s : ServerState T U G C) (e : Ent
       ∙ (append_assoc s.notes more gathers.ends
       ∙ ap (λ (l : List (Note U)). s.notes ++ l) (ap (λ (l : List (Note U)). l ++ gathers.ends) halves.2 ∙ append_assoc made waited gathers.ends)))
 
-  each_of : (id : ClientParts) → PartCall w id s.offer (Asked step.Cleanup (reply.Cleanup (Ok out))) (seen id s) (e.lacks id) (e.did id) (seen id after)
-  each_of id = subst (λ (call : Call T U G C). PartCall w id s.offer call (seen id s) (e.lacks id) (e.did id) (seen id after)) is (one.each id)
-
   cleaned_as : (id : ClientParts) → CleanedAs w id s.offer (Ok out) (seen id s) (e.lacks id) (e.did id) (seen id after)
-  cleaned_as id = grind (arith, each_of, seen)
+  cleaned_as id = grind (arith, after, is, seen)
 
   noted_next : (id : ClientParts) (p : Part T U C) (lacked : Bool) (did : List (Deed U)) (share : List T) (q : Option (Part T U C)) → Cleaned w.sends id p lacked did share q
       → (rest : List (Happening U)) × (notes_in did ≡ p.waiting ++ rest)
@@ -339,12 +324,6 @@ module _ {T U G C : Type 0} (w : World T G C) (s : ServerState T U G C) (e : Ent
     some_here : is_some (client_at id s.clients) ≡ true
     some_here = ap is_some here
 
-    only_made : IsOnly id made
-    only_made j h hs told same =
-        one_client s.clients j id
-        (is_stored j h (hs ++ notes_of j (waited ++ gathers.ends)) (notes_append j made (waited ++ gathers.ends) ∙ ap (λ (l : List (Happening U)). l ++ notes_of j (waited ++ gathers.ends)) told))
-        some_here same
-
     only_waited : IsOnly id waited
     only_waited j h hs told same = go (notes_of j made) refl
       where
@@ -364,7 +343,9 @@ module _ {T U G C : Type 0} (w : World T G C) (s : ServerState T U G C) (e : Ent
 
     made_count : length (notes_of id made) ≡ length (made_of id s.clients)
     made_count =
-        slot_count id made only_made
+        slot_count id made (λ j h hs told same. one_client s.clients j id
+        (is_stored j h (hs ++ notes_of j (waited ++ gathers.ends)) (notes_append j made (waited ++ gathers.ends) ∙ ap (λ (l : List (Happening U)). l ++ notes_of j (waited ++ gathers.ends)) told))
+        some_here same)
         ∙ (ap (sum_by (one_at id.slot)) halves.3
         ∙ (sum_slots id.slot parts.made
         ∙ (made_places id.slot (map times_of s.clients) order gathers.in_order.1.numbers parts
@@ -393,9 +374,7 @@ module _ {T U G C : Type 0} (w : World T G C) (s : ServerState T U G C) (e : Ent
           let (rest, told) = told_next id in
           let first = fronts_one (notes_of id made) (notes_of id (waited ++ gathers.ends)) (made_of id s.clients) (waits_at id s ++ rest)
           (sym (notes_append id made (waited ++ gathers.ends)) ∙ told) (made_count id c here) in
-          let second = fronts_one (notes_of id waited) (notes_of id gathers.ends) (waits_at id s) rest
-          (sym (notes_append id waited gathers.ends) ∙ first.1) (waited_count id c here) in
-          (first.0, second.0)
+          (first.0, (fronts_one (notes_of id waited) (notes_of id gathers.ends) (waits_at id s) rest (sym (notes_append id waited gathers.ends) ∙ first.1) (waited_count id c here)).0)
 
   abbrev leaves : LeavesNotes s after
   leaves = record {
@@ -444,14 +423,13 @@ module _ {T U G C : Type 0} (w : World T G C) where
       let all = run_numbered w (new_server table) done point leads (λ slot. (refl, refl)) in
       let all' = run_numbered w point between mid leads' all in
       let has = run_numbers w (new_server table) done point leads (no_numbers _) in
-      let has' = run_numbers w point between mid leads' has in
       let given = run_given w point between mid leads' none all in
       let up = rise_up point.numbers.waiting (given 0).more mid.numbers.waiting ((given 0).rise below) in
       let places =
       waiting_first (map times_of point.clients) (map times_of mid.clients) (order w point e point' early is one all) (order w mid f mid' late is' two all')
       point.numbers.waiting mid.numbers.waiting (gathers w point e point' early is one all).in_order.1.rise (gathers w point e point' early is one all).in_order.1.numbers
       (gathers w mid f mid' late is' two all').in_order.1.rise (gathers w mid f mid' late is' two all').in_order.1.numbers (has.waiting (omega (arith, up, below))).rise
-      (λ k. let gives = given k in (gives.more, gives.behind, gives.rise below)) (has'.waiting below).apart
+      (λ k. let gives = given k in (gives.more, gives.behind, gives.rise below)) ((run_numbers w point between mid leads' has).waiting below).apart
       in
       let later = waits_later w point e point' early is one all mid f mid' late is' two all' (run_grows w point between mid leads' none) places in
       (leaves w point e point' early is one all, leaves w mid f mid' late is' two all', later.0, later.1)

@@ -8,7 +8,7 @@ use Rattle.std.proofs.lemmas.List.Sorted.{All-permutation, sum_by-IsPermutation}
 use Rattle.std.proofs.lemmas.List.Sums.{sum_by-append, sum_by-cons}
 use Rattle.wl_server.specs.declared.notes.queues.NotePlace.{NotePlace}
 use Rattle.wl_server.specs.NoteOrder.{IsNoLater, Rise, RiseWithin, all_places, place_at, places_of, times_at}
-use Rattle.wl_server.specs.Server.{NoteTimes, no_times}
+use Rattle.wl_server.specs.Server.{NoteTimes}
 use Rattle.wl_server.proofs.OverRuns.Noted.PlacesInOrder.{IsEarly, Sorted, all_append, among, as_often, early_so, has_number, last_up, of_made, often, sorted_of, times_at_time}
 
 -- ---- those that were made come before those that wait
@@ -75,11 +75,8 @@ at_is slot n p b is = ap (λ (x : Bool). if x then (if p.number == n then (if p.
 count_waiting : (slot n : ℕ) (ps : List NotePlace) → AllByRecursion Waits ps → sum_by (at_waiting slot n) ps ≡ times_at_time slot n (map made_so ps)
 count_waiting slot n [] all = refl
 count_waiting slot n (p ∷ ps) (is, all) =
-    let one = sum_by-cons (at_waiting slot n) p ps in
-    let this = at_is slot n p true is in
     let two = sum_by-cons (λ (q : NotePlace). if q.waits then 0 else (if q.number == n then (if q.slot == slot then 1 else 0) else 0)) (made_so p) (map made_so ps) in
-    let more = count_waiting slot n ps all in
-    omega (arith, one, this, two, more)
+    omega (arith, sum_by-cons (at_waiting slot n) p ps, at_is slot n p true is, two, count_waiting slot n ps all)
 
 count_made : (slot n : ℕ) (ps : List NotePlace) → AllByRecursion WasMade ps → sum_by (at_waiting slot n) ps ≡ 0
 count_made slot n [] all = refl
@@ -93,10 +90,8 @@ count_parted slot n ps parts = grind (arith, sum_by-append, count_made, count_wa
 list_waiting : (k slot n : ℕ) (ns : List ℕ) → sum_by (at_waiting slot n) (map (place_at true k) ns) ≡ times_at_time slot n (map (place_at false k) ns)
 list_waiting k slot n [] = refl
 list_waiting k slot n (m ∷ ns) =
-    let one = sum_by-cons (at_waiting slot n) (place_at true k m) (map (place_at true k) ns) in
     let two = sum_by-cons (λ (q : NotePlace). if q.waits then 0 else (if q.number == n then (if q.slot == slot then 1 else 0) else 0)) (place_at false k m) (map (place_at false k) ns) in
-    let more = list_waiting k slot n ns in
-    omega (arith, one, two, more)
+    omega (arith, sum_by-cons (at_waiting slot n) (place_at true k m) (map (place_at true k) ns), two, list_waiting k slot n ns)
 
 list_made : (k slot n : ℕ) (ns : List ℕ) → sum_by (at_waiting slot n) (map (place_at false k) ns) ≡ 0
 list_made k slot n [] = refl
@@ -149,12 +144,9 @@ waiting_first ts ts' a b next next' up moved up' moved' rise grow apart =
     two : Parted b
     two = parted b (sorted_of b up')
 
-    low : AllByRecursion (IsLow next) a
-    low = recursion_from_All (IsLow next) a
-        (All-permutation (IsLow next) (all_places true 0 ts) a moved (All-from_recursion (IsLow next) (all_places true 0 ts) (all_low 0 ts next rise)))
-
     early : AllByRecursion (IsEarly next) (map made_so one.waiting)
-    early = early_places next one.waiting one.all_waiting (all_end (IsLow next) one.made one.waiting (subst (AllByRecursion (IsLow next)) one.are low))
+    early = early_places next one.waiting one.all_waiting (all_end (IsLow next) one.made one.waiting (subst (AllByRecursion (IsLow next)) one.are (recursion_from_All (IsLow next) a
+        (All-permutation (IsLow next) (all_places true 0 ts) a moved (All-from_recursion (IsLow next) (all_places true 0 ts) (all_low 0 ts next rise))))))
 
     there : (slot n : ℕ) → times_at_time slot n (map made_so two.waiting) ≡ often n (times_at slot ts').waiting
     there slot n = count_parted slot n b two ∙ (sum_by-IsPermutation (at_waiting slot n) (all_places true 0 ts') b moved' ∙ among_waiting slot n ts')
@@ -189,10 +181,7 @@ kind_list v u k slot true true kind here [] = refl
 kind_list v u k slot true false kind here [] = refl
 kind_list v u k slot false b kind here [] = refl
 kind_list v u k slot true true kind here (n ∷ ns) =
-    let one = sum_by-cons (of_kind v slot) (place_at u k n) (map (place_at u k) ns) in
-    let this = kind_is v slot (place_at u k n) true true kind here in
-    let more = kind_list v u k slot true true kind here ns in
-    omega (arith, one, this, more)
+    omega (arith, sum_by-cons (of_kind v slot) (place_at u k n) (map (place_at u k) ns), kind_is v slot (place_at u k n) true true kind here, kind_list v u k slot true true kind here ns)
 kind_list v u k slot true false kind here (n ∷ ns) = grind (arith, sum_by-cons, of_kind, place_at, map, kind_is, kind_list v u k slot true false kind here ns)
 kind_list v u k slot false b kind here (n ∷ ns) = grind (arith, sum_by-cons, of_kind, place_at, map, kind_is, kind_list v u k slot false b kind here ns)
 
@@ -201,23 +190,16 @@ abbrev pub kind_of : Bool → NoteTimes → List ℕ
 kind_of true t = t.waiting
 kind_of false t = t.made
 
-kind_client : (v : Bool) (k slot : ℕ) (b : Bool) → (k == slot) ≡ b → (t : NoteTimes) → sum_by (of_kind v slot) (places_of true k t) ≡ (if b then length (kind_of v t) else 0)
-kind_client v k slot b h1 t = grind (arith, sum_by-append, place_at, kind_list)
-
-none_of_kind : (v : Bool) → length (kind_of v no_times) ≡ 0
-none_of_kind h1 = grind (arith)
-
 kind_among : (v : Bool) (slot : ℕ) (ts : List NoteTimes) → sum_by (of_kind v slot) (all_places true 0 ts) ≡ length (kind_of v (times_at slot ts))
-kind_among v slot ts = among (of_kind v slot) slot true (λ t. length (kind_of v t)) (none_of_kind v) (λ k b is t. kind_client v k slot b is t) 0 slot ts (omega arith)
+kind_among v slot ts = among (of_kind v slot) slot true (λ t. length (kind_of v t)) (grind (arith)) (λ k b is t. (grind (arith, sum_by-append, place_at, kind_list))) 0 slot ts (omega arith)
 
 kind_all : (v : Bool) (slot : ℕ) (ps : List NotePlace) → AllByRecursion (λ p. is_kind v p.waits ≡ true) ps → sum_by (of_kind v slot) ps ≡ sum_by (at_slot slot) ps
 kind_all v slot [] all = refl
 kind_all v slot (p ∷ ps) (is, all) =
-    let one = sum_by-cons (of_kind v slot) p ps in
     let two = sum_by-cons (at_slot slot) p ps in
     let this : of_kind v slot p ≡ at_slot slot p = ap (λ (x : Bool). if x then (if p.slot == slot then 1 else 0) else 0) is in
     let more = kind_all v slot ps all in
-    omega (arith, one, two, this, more)
+    omega (arith, sum_by-cons (of_kind v slot) p ps, two, this, more)
 
 kind_none : (v : Bool) (slot : ℕ) (ps : List NotePlace) → AllByRecursion (λ p. is_kind v p.waits ≡ false) ps → sum_by (of_kind v slot) ps ≡ 0
 kind_none v slot [] all = refl
@@ -234,18 +216,13 @@ made_places slot ts order moved parts =
     let all = sum_by-IsPermutation (of_kind false slot) (all_places true 0 ts) order moved in
     let among = kind_among false slot ts in
     let are = ap (sum_by (of_kind false slot)) parts.are in
-    let both = sum_by-append (of_kind false slot) parts.made parts.waiting in
     let made = kind_all false slot parts.made (all_not false parts.made parts.all_made) in
-    let waiting = kind_none false slot parts.waiting (all_not true parts.waiting parts.all_waiting) in
-    omega (arith, all, among, are, both, made, waiting)
+    omega (arith, all, among, are, sum_by-append (of_kind false slot) parts.made parts.waiting, made, kind_none false slot parts.waiting (all_not true parts.waiting parts.all_waiting))
 
 pub waiting_places : (slot : ℕ) (ts : List NoteTimes) (order : List NotePlace) → IsPermutation (all_places true 0 ts) order → (parts : Parted order)
     → sum_by (at_slot slot) parts.waiting ≡ length (times_at slot ts).waiting
 waiting_places slot ts order moved parts =
     let all = sum_by-IsPermutation (of_kind true slot) (all_places true 0 ts) order moved in
     let among = kind_among true slot ts in
-    let are = ap (sum_by (of_kind true slot)) parts.are in
     let both = sum_by-append (of_kind true slot) parts.made parts.waiting in
-    let made = kind_none true slot parts.made parts.all_made in
-    let waiting = kind_all true slot parts.waiting parts.all_waiting in
-    omega (arith, all, among, are, both, made, waiting)
+    omega (arith, all, among, ap (sum_by (of_kind true slot)) parts.are, both, kind_none true slot parts.made parts.all_made, kind_all true slot parts.waiting parts.all_waiting)

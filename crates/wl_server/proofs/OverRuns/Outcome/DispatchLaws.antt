@@ -101,19 +101,14 @@ module _ {H T U G C : Type 0} (w : World T G C) (known : IsDetermined w) (ordere
       → SameBackend ordered b c → handed a ≡ handed a' → l ≡ false → m ≡ false → Handles w answers id h b a run l why h1 x → Handles w answers id h c a' run' m why' h2 y
       → (why ≡ why') × (h1 ≡ h2) × SameServer ordered x y
   handles_one {h} {h1} {h2} {b} {c} {a} {a'} {run} {run'} {l} {m} {why} {why'} {x} {y} same actions calm calm' p q =
-      let here = as_handed h h1 b p.left a p.end p.answers_so in
       let there = subst (λ (z : Handed). AnswersHanded h c z q.end h2 q.left) (sym actions) (as_handed h h2 c q.left a' q.end q.answers_so) in
-      let one = handed_one h h1 h2 b c p.left q.left (handed a) p.end q.end same here there in
+      let one = handed_one h h1 h2 b c p.left q.left (handed a) p.end q.end same (as_handed h h1 b p.left a p.end p.answers_so) there in
       let ends = q.ended_is ∙ ap (λ (k : Step T U G C). let z : Call T U G C = Asked k q.answer in z) (sym one.0) in
       let made = step_one w known ordered p.left.server q.left.server x y p.ended q.ended p.end p.answer q.answer one.2 p.ended_is ends (sym p.lacked_is ∙ calm) (sym q.lacked_is ∙ calm')
       p.ends q.ends in
       (p.why_is ∙ refusal_same ordered p.answer q.answer made.0 ∙ sym q.why_is, one.1, made.1)
 
   -- ---- a round
-
-  -- what the reading was answered
-  same_Ok : (a b : Handed) → ◌≡◌ {A = Result Handed ActionError} (Ok a) (Ok b) → a ≡ b
-  same_Ok a b same = cc
 
   round_one : {h h1 h2 : H} {r r1 r2 : Reading} {s t : Server} {run run' : List (Entry T U G C)} {l m : Bool} {why why' : Option FinishError} {x y : Server}
       → SameServer ordered s t → l ≡ false → m ≡ false → Round w answers id h r s run l why h1 r1 x → Round w answers id h r t run' m why' h2 r2 y
@@ -125,7 +120,7 @@ module _ {H T U G C : Type 0} (w : World T G C) (known : IsDetermined w) (ordere
       (reply.NextActionWithin (Ok q.handed) r2) same p.read_is q.read_is c.0 d.0 p.reads q.reads in
       let told = reading_same T U ordered (Ok p.handed) (Ok q.handed) r1 r2 one.0 in
       let backend : SameBackend ordered p.found q.found = record { server = one.1; refused = p.found_is ∙ c.0 ∙ sym (q.found_is ∙ d.0) } in
-      let done = handles_one backend (same_Ok (handed p.handed) (handed q.handed) told.0) c.1 d.1 p.handles q.handles in
+      let done = handles_one backend (grind (arith, handed p.handed, handed q.handed, told.0)) c.1 d.1 p.handles q.handles in
       (done.0, done.1, told.1, done.2)
 
   -- a reading hands out an action, or it hands out none
@@ -133,11 +128,9 @@ module _ {H T U G C : Type 0} (w : World T G C) (known : IsDetermined w) (ordere
       (error : ActionError) → SameServer ordered s t → l ≡ false → f.refused ≡ false → Round w answers id h r s run l why h' r1 x → OneStep w t f y
       → f.call ≡ Asked (step.NextActionWithin id r) (reply.NextActionWithin (Err error) r2) → ⊥
   round_or_none {h} {h'} {r} {r1} {r2} {s} {t} {run} {l} {why} {x} {y} f error same calm calm' p one call =
-      let c = both_calm p.read.refused p.end_lacked (sym p.lacked_is ∙ calm) in
       let made = step_one w known ordered s t p.found.server y p.read f (step.NextActionWithin id r) (reply.NextActionWithin (Ok p.handed) r1)
-      (reply.NextActionWithin (Err error) r2) same p.read_is call c.0 calm' p.reads one in
-      let told = reading_same T U ordered (Ok p.handed) (Err error) r1 r2 made.0 in
-      let e = told.0 in absurd cc
+      (reply.NextActionWithin (Err error) r2) same p.read_is call (both_calm p.read.refused p.end_lacked (sym p.lacked_is ∙ calm)).0 calm' p.reads one in
+      let e = (reading_same T U ordered (Ok p.handed) (Err error) r1 r2 made.0).0 in absurd cc
 
   none_one : {r r1 r2 : Reading} {s t x y : Server} (e f : Entry T U G C) (error error' : ActionError) → SameServer ordered s t → e.refused ≡ false → f.refused ≡ false
       → OneStep w s e x → OneStep w t f y → e.call ≡ Asked (step.NextActionWithin id r) (reply.NextActionWithin (Err error) r1)

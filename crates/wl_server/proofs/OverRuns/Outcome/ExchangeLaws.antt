@@ -6,10 +6,9 @@ use Rattle.wl_wire.specs.declared.error.IoFault.{IoFault}
 use Rattle.wl_wire.specs.declared.error.IoFault.TheVariants as fault
 use Rattle.wl_link.specs.Exchange.{Queue, Sending, IsFunction, IsReceiveFunction}
 use Rattle.wl_link.specs.Link.{LinkState, count_of, counted_answer}
-use Rattle.wl_link.specs.Puts.{PutBy, PutsOut, Said, lacks_memory}
+use Rattle.wl_link.specs.Puts.{PutsOut, Said, lacks_memory}
 use Rattle.wl_link.specs.Reader.{CarriesOut, Given, Gives, Handled, Lacks, Leaves, ReaderState, Reader, Reads, Received, Stops, Takes, Then, Turn, Unread, Verdict, with_link}
 use Rattle.wl_link.specs.Served.{Finds}
-use Rattle.wl_link.specs.Outcome.{SameCall}
 use Rattle.wl_link.proofs.Calls.OneLaws.{one_fill_lem, one_flush_lem, one_write_lem}
 use Rattle.wl_link.proofs.Calls.Branches.{both_bool, both_result}
 use Rattle.wl_link.proofs.Readings.PutsLaws.{not_lacked, puts_one}
@@ -19,14 +18,10 @@ use Rattle.wl_link.proofs.Readings.ServedLaws.{both_false, carries_one, finds_no
 module _ {T : Type 0} (sends : T → Queue → Result ℕ IoFault → T → Type 0) (function : IsFunction sends) where
   -- ---- messages that are put
 
-  put_same : (m : Said) (before x y : LinkState T) (es fs : List Sending) (a b : Result (Unit {0}) IoFault) → PutBy sends before m es a x → PutBy sends before m fs b y
-      → a ≢ Err fault.OutOfMemory → b ≢ Err fault.OutOfMemory → SameCall es fs a b x y
-  put_same m before x y es fs a b h9 other ok ok' = grind (arith, one_write_lem)
-
   puts_sends : (ms : List Said) (before x y : LinkState T) (es fs : List Sending) (p q : List Said) (a b : Result (Unit {0}) IoFault)
       → a ≢ Err fault.OutOfMemory → b ≢ Err fault.OutOfMemory → PutsOut sends before ms es p a x → PutsOut sends before ms fs q b y → es ≡ fs
   puts_sends [] before x y es fs p q a b ok ok' (none, put, is, same) (none', put', is', same') = none ∙ sym none'
-  puts_sends (m ∷ ms) before x y es fs p q a b ok ok' (first, o, mid, wrote, end) (first', o', mid', wrote', end') = grind (arith, put_same, true≢false, is_ok, both_result, puts_sends ms mid x y)
+  puts_sends (m ∷ ms) before x y es fs p q a b ok ok' (first, o, mid, wrote, end) (first', o', mid', wrote', end') = grind (arith, one_write_lem, true≢false, is_ok, both_result, puts_sends ms mid x y)
 
   module _ {Core Event Finish : Type 0} (reader : Reader Core Event Finish) where
     -- ---- a verdict that is carried out
@@ -82,12 +77,10 @@ module _ {T : Type 0} (sends : T → Queue → Result ℕ IoFault → T → Type
         let ok = both_false lacked rest.refused (sym ample ∙ ap refused_of split) in
         let ok' = both_false lacked' rest'.refused (sym ample' ∙ ap refused_of split') in
         let a = subst (λ (z : Verdict Core Event). CarriesOut sends reader z link' fs first' lacked' mid') (sym one.0) carried' in
-        let b = subst (λ (z : LinkState T). CarriesOut sends reader v z fs first' lacked' mid') (sym one.1) a in
         let known = subst (λ (l : Bool). CarriesOut sends reader v link es first l mid) ok.0 carried in
-        let known' = subst (λ (l : Bool). CarriesOut sends reader v link fs first' l mid') ok'.0 b in
-        let same = carries_one sends function reader v link mid mid' es fs first first' known known' in (
+        let known' = subst (λ (l : Bool). CarriesOut sends reader v link fs first' l mid') ok'.0 (subst (λ (z : LinkState T). CarriesOut sends reader v z fs first' lacked' mid') (sym one.1) a) in (
           carries_sends v link mid mid' es fs first first' known known',
-          goes mid rest rest' ok.1 ok'.1 more (subst (λ (z : ReaderState T Core). on' z rest') (sym same.after) more'),
+          goes mid rest rest' ok.1 ok'.1 more (subst (λ (z : ReaderState T Core). on' z rest') (sym (carries_one sends function reader v link mid mid' es fs first first' known known').after) more'),
         )
 
     module _ (receives : T → ℕ → Result Queue IoFault → T → Type 0) (receives_function : IsReceiveFunction receives) where

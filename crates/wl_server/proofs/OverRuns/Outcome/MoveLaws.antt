@@ -1,23 +1,18 @@
 -- What a program does to a transport by script follows from the script's value; another transport it does not move.
-use Rattle.std.proofs.Common.{◌≡◌, ℕ, false, List, [], Result, Ok, sym, ap, ◌∙◌, true≢false, arith}
+use Rattle.std.proofs.Common.{◌≡◌, ℕ, List, [], Result, Ok, sym, ap, ◌∙◌, true≢false, arith}
 use Rattle.wl_wire.specs.declared.error.IoFault.{IoFault}
 use Rattle.wl_link.specs.Exchange.{Queue, IsFunction, IsReceiveFunction}
-use Rattle.wl_link.specs.Script.{Script}
 use Rattle.wl_link.proofs.Calls.OneScript.{script_receives_function, script_sends_function}
 use Rattle.wl_server.specs.Ids.{ClientParts, GlobalParts}
-use Rattle.wl_server.specs.Moves.{ArrivesWith, Moved, ScriptMoves}
+use Rattle.wl_server.specs.Moves.{Moved, ScriptMoves}
 use Rattle.wl_server.proofs.OverRuns.Outcome.Determined.{IsDetermined, IsMoveFunction}
-use Rattle.wl_server.specs.PartStep.{lacks_move, over, over_scripts}
+use Rattle.wl_server.specs.PartStep.{over, over_scripts}
 
 given_one : (a b : List Queue) → a ≡ [] → b ≡ [] → ◌≡◌ {A = Moved} (Ok a) (Ok b)
 given_one a b is is' = ap (λ (z : List Queue). let m : Moved = Ok z in m) (is ∙ sym is')
 
-arrives_one : (before : Script) (chunk : Queue) (a b : Moved) (x y : Script) → lacks_move a ≡ false → lacks_move b ≡ false → ArrivesWith before chunk a x
-    → ArrivesWith before chunk b y → (a ≡ b) × (x ≡ y)
-arrives_one before chunk a b x y h1 h2 h3 h4 = grind (arith, given_one, true≢false)
-
 script_moves_function : IsMoveFunction ScriptMoves
-script_moves_function = grind (arith, arrives_one, given_one, true≢false)
+script_moves_function = grind (arith, given_one, true≢false)
 
 -- so all that stands outside a server over scripts is determined
 pub scripts_determined : {G C : Type 0} (views : G → ClientParts → C → GlobalParts → _) → IsDetermined (over_scripts {G = G} {C = C} views)

@@ -1,5 +1,5 @@
 -- That the numbers which are given out have one outcome: those of globals and of clients.
-use Rattle.std.proofs.Common.{◌≡◌, ◌≢◌, ℕ, ◌<◌, Option, None, is_some, Result, Err, sym, ap, ◌∙◌, true≢false, arith}
+use Rattle.std.proofs.Common.{◌≡◌, ◌≢◌, ℕ, Option, None, is_some, Result, Err, sym, ap, ◌∙◌, true≢false, arith}
 use Rattle.std.specs.Prelude.{IsSome, List, nat_le, slice_get}
 use Rattle.std.proofs.lemmas.Bool.{cases_order}
 use Rattle.wl_wire.specs.declared.interface.InterfaceId.{InterfaceId}
@@ -9,7 +9,7 @@ use Rattle.wl_server.specs.declared.error.GlobalError.{GlobalError}
 use Rattle.wl_server.specs.declared.error.GlobalError.TheVariants as global
 use Rattle.wl_server.specs.declared.error.InsertClientError.{InsertClientError}
 use Rattle.wl_server.specs.declared.error.InsertClientError.TheVariants as insert
-use Rattle.wl_server.specs.Globals.{Globals, CreatesGlobal, CreatesNext, IsNextGlobal, LacksName, name_range}
+use Rattle.wl_server.specs.Globals.{Globals, CreatesGlobal, CreatesNext, name_range}
 use Rattle.wl_server.specs.Ids.{ClientParts, GlobalParts}
 use Rattle.wl_server.specs.Next.{NextClient, NextClientIsGiven}
 use Rattle.wl_server.specs.Server.{Stored, stored_at}
@@ -21,11 +21,8 @@ pub global_is : (a b : GlobalParts) → a.name ≡ b.name → a.serial ≡ b.ser
 global_is a b names serials = grind (arith)
 
 module _ {G : Type 0} (globals : Globals G) where
-  next_not_lacked : (a : GlobalParts) → IsNextGlobal globals a → LacksName globals → ⊥
-  next_not_lacked a h2 h3 = grind (arith, full_not_absent, name_range)
-
   creates_next_one : (a b : Result GlobalParts GlobalError) → a ≢ Err global.OutOfMemory → b ≢ Err global.OutOfMemory → CreatesNext globals a → CreatesNext globals b → a ≡ b
-  creates_next_one a b h1 h2 h3 h4 = grind (arith, global_is, least_absent_one, name_range, next_not_lacked)
+  creates_next_one a b h1 h2 h3 h4 = grind (arith, global_is, least_absent_one, name_range, full_not_absent)
 
   -- the answer to the creation of a global
   pub creates_global_one : (table : List InterfaceRow) (i : InterfaceId) (version : ℕ) (a b : Result GlobalParts GlobalError)
@@ -41,11 +38,8 @@ module _ {T U C : Type 0} (last : ℕ) (clients : List (Option (Stored T U C))) 
   some_not_none : {A : Type 0} (o : Option A) → IsSome o → o ≡ None → ⊥
   some_not_none o some none = true≢false (sym some ∙ ap is_some none)
 
-  not_less_free : (n m : ℕ) → IsLeastFree clients n → IsLeastFree clients m → n < m → ⊥
-  not_less_free n m one other less = some_not_none (stored_at n clients) (other.least n less) one.free
-
   least_free_one : (n m : ℕ) → IsLeastFree clients n → IsLeastFree clients m → n ≡ m
-  least_free_one n m one other = grind (arith, cases_order, not_less_free)
+  least_free_one n m one other = grind (arith, cases_order, some_not_none)
 
   pub next_client_one : (a b : ClientParts) → IsNextClient last clients a → IsNextClient last clients b → a ≡ b
   next_client_one a b (least, left, next) (least', left', next') = client_is a b (least_free_one a.slot b.slot least least') (next ∙ sym next')

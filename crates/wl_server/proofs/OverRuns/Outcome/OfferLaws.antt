@@ -108,14 +108,9 @@ module _ {T U G C : Type 0} where
       let numbers = subst (λ (o : Offer G). AreNumbered o run') (sym shared.1) more' in
       own_offer_one id (offer_after offer e.call) run run' owns others rest rest' more numbers answered answered' ∙ ap (λ (o : Offer G). own_offer o run') shared.1
 
-  -- the calls that one client's run has are its own or shared
-  own_more : (id : ClientParts) (e : Entry T U G C) (run : List (Entry T U G C)) (b : Bool) → concerns id e.call ≡ b → AreOwn id (mine id run)
-      → AreOwn id (if b then (own_of id e ∷ mine id run) else mine id run)
-  own_more id e run h4 is own = grind (arith)
-
   pub mine_own : (id : ClientParts) (run : List (Entry T U G C)) → AreOwn id (mine id run)
   mine_own id [] = tt
-  mine_own id (e ∷ run) = own_more id e run (concerns id e.call) refl (mine_own id run)
+  mine_own id (e ∷ run) = grind (arith, concerns id e.call, mine_own id run)
 
   pub mine_numbered : (w : World T G C) (id : ClientParts) (before after : ServerState T U G C) (run : List (Entry T U G C)) → Leads w before run after
       → AreNumbered before.offer (mine id run)

@@ -22,12 +22,13 @@ use Rattle.wl_link.proofs.Calls.NumberLaws.{fresh_one}
 use Rattle.wl_server.proofs.OverRuns.Outcome.Determined.{IsDetermined}
 use Rattle.wl_server.specs.Outcome.{SameAnswer, SameCall, SameOutcome, SameReply, SameStep, SendsSame, SharedAnswer, SharedSame}
 use Rattle.wl_server.specs.Part.{Part, fresh_part}
-use Rattle.wl_server.proofs.OverRuns.Outcome.PartOutcome.{SameEnd, SameFelt, changes_one, cleaned_one, creates_one, destroys_one, finishes_bind_one, finishes_request_one, flushed_one, flushes_live_one, hears_one, kills_one, limits_one, moves_one, next_action_one, posts_error_one, same_felt, sends_event_one, sets_one}
+use Rattle.wl_server.proofs.OverRuns.Outcome.PartOutcome.{SameEnd, SameFelt, changes_one, cleaned_one, creates_one, destroys_one, finishes_request_one, flushed_one, flushes_live_one, hears_one, kills_one, limits_one, moves_one, next_action_one, posts_error_one, same_felt, sends_event_one, sets_one}
 use Rattle.wl_server.specs.PartStep.{Asked, Call, Changed, CleanedAs, FlushedFor, Grown, InsertedAs, MovedFor, OfClient, OnPart, PartCall, PartStep, Unfelt, World, around, share_of}
 use Rattle.wl_server.specs.Reading.{action_content, new_reading}
 use Rattle.wl_server.specs.Runs.{concerns, is_about}
 use Rattle.wl_server.specs.Server.{Seen}
 use Rattle.wl_server.specs.Steps.{lacks_growth}
+use Rattle.wl_server.proofs.OverRuns.Outcome.PartOutcome.{same_end}
 
 -- ---- replies
 
@@ -145,7 +146,7 @@ module _ {T U G C : Type 0} (w : World T G C) (known : IsDetermined w) (id : Cli
   step_one (step.NextAction target) p q ample ample' shared (r, left, is, h) (r', left', is', g) = grind (arith, of_one, action_content, same_client, next_action_one, around, new_reading, with_answer, outcome, same_reply)
   step_one (step.NextActionWithin target reading) p q ample ample' shared (r, left, is, h) (r', left', is', g) = grind (arith, of_one, action_content, same_client, next_action_one, around, with_answer, outcome, same_reply)
   step_one (step.FinishRequest target u) p q ample ample' shared (r, is, h) (r', is', g) = grind (arith, of_one, same_client, with_answer, finishes_request_one, outcome, same_reply)
-  step_one (step.FinishBind target u) p q ample ample' shared (r, is, h) (r', is', g) = grind (arith, of_one, with_answer, finishes_bind_one, outcome, same_reply)
+  step_one (step.FinishBind target u) p q ample ample' shared (r, is, h) (r', is', g) = grind (arith, of_one, with_answer, same_end, outcome, same_reply)
   step_one step.Cleanup p q ample ample' shared (r, is, h) (r', is', g) =
       let one = cleaned_as_one r r' (subst (λ z. Ample step.Cleanup z) is ample) (subst (λ z. Ample step.Cleanup z) is' ample') h g in
       outcome true p q one.0 (λ own. same_reply id p q (reply.Cleanup r) (reply.Cleanup r') is is' one.1)
@@ -173,16 +174,12 @@ module _ {T U G C : Type 0} (w : World T G C) (known : IsDetermined w) (id : Cli
   pub growth_one : (s s' : Step T U G C) (q : Reply T U) → Ample s' q → Ample s q
   growth_one s s' q ample = ample
 
-  same_step_one : (s s' : Step T U G C) (p q : Reply T U) → SameStep s s' → Ample s p → Ample s' q → SharedSame s p q
-      → PartStep w id offer s p before false d x → PartStep w id offer s' q before false e y → Same (is_about id s) p q
-  same_step_one s s' p q same ample ample' shared h g = step_one s p q ample (growth_one s s' q ample') shared h (part_as s s' q same g)
-
   -- so has each call
   pub call_one : (call call' : Call T U G C) → SameCall call call' → lacks_growth call ≡ false → lacks_growth call' ≡ false → SharedAnswer call call'
       → PartCall w id offer call before false d x → PartCall w id offer call' before false e y
       → (concerns id call ≡ true → SameAnswer id call call') × SameFelt d e x y
   call_one (Asked s p) (Asked s' q) same ample ample' shared h g =
-      let one = same_step_one s s' p q same ample ample' shared h g in
+      let one = step_one s p q ample (growth_one s s' q ample') shared h (part_as s s' q same g) in
       (one.reply, record { did = one.deeds; after = one.held })
   call_one (Changed target t) (Changed target' t') (same, same_value) ample ample' shared h g = grind (arith, of_one, with_none, changes_one)
   call_one (Grown rows p) (Grown rows' q) same ample ample' shared h g = (λ own. shared, unfelt_one before d e x y h g)

@@ -1,5 +1,5 @@
 -- That each call on what is one client's has one outcome, where memory is not refused to it.
-use Rattle.std.proofs.Common.{◌≡◌, ◌≢◌, ℕ, Bool, true, false, List, [], map, Option, Some, Result, Ok, Err, sym, ap, subst, ◌∙◌, true≢false, arith}
+use Rattle.std.proofs.Common.{◌≡◌, ◌≢◌, ℕ, Bool, false, List, [], map, Option, Some, Result, Ok, Err, sym, ap, subst, ◌∙◌, true≢false, arith}
 use Rattle.std.specs.Prelude.{◌==◌, MatchBool, slice_get}
 use mathlib.Core.Logic.{inl, inr}
 use Rattle.wl_wire.specs.declared.error.IoFault.{IoFault}
@@ -34,7 +34,7 @@ use Rattle.wl_server.specs.Errors.{PostsError, posts}
 use Rattle.wl_server.specs.Events.{SendsEvent, SendsGranted, SentAs, SessionMessage, ends_closed, ends_sender, event_check, said, wire_message}
 use Rattle.wl_server.proofs.OverRuns.Outcome.ExchangeLaws.{carries_sends, reads_turns}
 use Rattle.wl_server.specs.Felt.{Cleaned, FlushedTo, FlushesLive, Hears, objects_leave}
-use Rattle.wl_server.specs.Finish.{EndsRequest, FinishesBind, FinishesOpen, FinishesRequest, ends_request, refusal}
+use Rattle.wl_server.specs.Finish.{FinishesOpen, FinishesRequest, ends_request, refusal}
 use Rattle.wl_server.specs.Ids.{ClientParts, IdParts}
 use Rattle.wl_server.specs.Moves.{Move, Moved}
 use Rattle.wl_link.proofs.Calls.NumberLaws.{full_not_absent, least_absent_one, limit_set_one}
@@ -67,10 +67,6 @@ same_end is is' did did' same same' = record { answer = is ∙ sym is'; did = di
 pub answered_too : {A U S : Type 0} {a b c : A} {d e : List (Deed U)} {x y : S} → a ≡ c → b ≡ c → SameFelt d e x y → SameEnd a b d e x y
 answered_too is is' one = record { answer = is ∙ sym is'; did = one.did; after = one.after }
 
--- what was not refused was not
-pub not_so : (b : Bool) → false ≡ b → b ≡ true → ⊥
-not_so b unasked asked = true≢false (sym (unasked ∙ asked))
-
 module _ {T U C : Type 0} where
   -- ---- objects
 
@@ -81,7 +77,7 @@ module _ {T U C : Type 0} where
   module _ (client : ClientParts) (s : Part T U C) (a b : Result IdParts CreateError) (d e : List (Deed U)) (x y : Part T U C)
       (unlacked : false ≡ lacks_create a) (unlacked' : false ≡ lacks_create b) (did : d ≡ []) (did' : e ≡ []) where
     creates_at_one : (n : ℕ) (o : Object (Kept U)) → CreatesAt client s n o a x → CreatesAt client s n o b y → SameEnd a b d e x y
-    creates_at_one n o h1 h2 = grind (arith, same_end, not_so, lacks_create)
+    creates_at_one n o h1 h2 = grind (arith, same_end, true≢false, lacks_create)
 
     -- what a creation does at its number
     abbrev AtNumber : InterfaceId → ℕ → U → Result IdParts CreateError → Part T U C → ℕ → Type 0
@@ -133,10 +129,6 @@ module _ {T U C : Type 0} where
 
   -- ---- the end of a bind
 
-  pub finishes_bind_one : (s : Part T U C) (u : U) (a b : Result (Unit {0}) (FinishRefused U)) (d e : List (Deed U)) (x y : Part T U C)
-      → FinishesBind s u a false d x → FinishesBind s u b false e y → SameEnd a b d e x y
-  finishes_bind_one s u a b d e x y h g = grind (arith, same_end)
-
   module _ (sends : T → Queue → Result ℕ IoFault → T → Type 0) (function : IsFunction sends) where
     -- ---- what is told
 
@@ -177,22 +169,13 @@ module _ {T U C : Type 0} where
     flushed_one s a b d e x y h8 h9 = grind (arith, one_flush_lem, not_lacked, map, with_link)
 
     pub flushes_live_one : (s : Part T U C) (d e : List (Deed U)) (x y : Part T U C) → FlushesLive sends s false d x → FlushesLive sends s false e y → SameFelt d e x y
-    flushes_live_one s d e x y h g =
-        elim (both_bool s.is_killed h g) [
-          | inl ((unlacked, did, same), (unlacked', did', same')) ↦ same_felt did did' same same'
-          | inr ((a, p), (b, q)) ↦ let one = flushed_one s a b d e x y p q in record { did = one.did; after = one.after }
-        ]
+    flushes_live_one s d e x y h1 h2 = grind (arith, both_bool, same_felt, flushed_one, one_flush_lem, not_lacked, map, with_link)
 
     -- ---- a cleanup
 
     pub cleaned_one : (client : ClientParts) (s : Part T U C) (out others : List T) (d e : List (Deed U)) (x y : Option (Part T U C))
         → Cleaned sends client s false d out x → Cleaned sends client s false e others y → SameEnd out others d e x y
-    cleaned_one client s out others d e x y h g =
-        elim (both_bool s.is_killed h g) [
-          | inl ((sent, a, end, flushed, did, is, same), (sent', b, end', flushed', did', is', same')) ↦
-              let one = flushed_one s a b sent sent' end end' flushed flushed' in grind (arith, map, objects_leave)
-          | inr ((unlacked, did, is, same), (unlacked', did', is', same')) ↦ same_end is is' did did' same same'
-        ]
+    cleaned_one client s out others d e x y h1 h2 = grind (arith, both_bool, flushed_one, map, objects_leave, same_end, one_flush_lem, not_lacked, with_link)
 
     -- ---- an event
 
@@ -216,8 +199,7 @@ module _ {T U C : Type 0} where
           let same = one_write_lem sends function (wire_message m) link link' es fs w w' (wrote_allowed sender ends w link a rest x sent) (wrote_allowed sender ends w' link' b rest' y sent')
           s.link by by' in
           let answered = subst (λ z. SentAs sends client s m sender ends z link' b false rest' y) (sym same.answer) sent' in
-          let linked = subst (λ l. SentAs sends client s m sender ends w l b false rest' y) (sym same.after) answered in
-          let one = sent_as_one sender ends w link rest rest' sent linked in grind (arith, map)
+          let one = sent_as_one sender ends w link rest rest' sent (subst (λ l. SentAs sends client s m sender ends w l b false rest' y) (sym same.after) answered) in grind (arith, map)
 
       pub sends_event_one : (table : List InterfaceRow) → SendsEvent sends client table s m a false d x → SendsEvent sends client table s m b false e y → SameEnd a b d e x y
       sends_event_one table h g =
@@ -233,16 +215,11 @@ module _ {T U C : Type 0} where
     -- ---- the end of a request
 
     module _ (client : ClientParts) (s : Part T U C) (u : Option U) (a b : Result (Unit {0}) (FinishRefused (Option U))) (d e : List (Deed U)) (x y : Part T U C) where
-      ends_one : (sender : IdParts) (is_destructor : Bool) (created : Option IdParts) → EndsRequest sends client s sender is_destructor created u a false d x
-          → EndsRequest sends client s sender is_destructor created u b false e y → SameEnd a b d e x y
-      ends_one sender is_destructor created (is, told) (is', told') =
-          answered_too is is' (tells_one (ends_request client (core_of s) sender is_destructor created u) s.link d e x y told told')
-
       finishes_open_one : (action : OpenAction) → FinishesOpen sends client s action u a false d x → FinishesOpen sends client s action u b false e y → SameEnd a b d e x y
       finishes_open_one (opened.Bind object) (is, unlacked, did, same) (is', unlacked', did', same') = same_end is is' did did' same same'
       finishes_open_one (opened.Request sender is_destructor created) h g =
           elim (both_option (refusal s.is_killed created u) h g) [
-            | inl (none, end, end') ↦ ends_one sender is_destructor created end end'
+            | inl (none, end, end') ↦ answered_too end.0 end'.0 (tells_one (ends_request client (core_of s) sender is_destructor created u) s.link d e x y end.1 end'.1)
             | inr (f, some, (is, unlacked, did, same), (is', unlacked', did', same')) ↦ same_end is is' did did' same same'
           ]
 
@@ -257,12 +234,4 @@ module _ {T U C : Type 0} where
       reads_to_one h1 h2 = grind (arith, reads_one, server, reader_part, reads_turns, answered, deeds_of, exchanges_in, part_of, read_on, handled_in)
 
       pub next_action_one : NextAction sends receives around r s a left false d x → NextAction sends receives around r s b left' false e y → SameEnd a b d e x y × (left ≡ left')
-      next_action_one h g =
-          elim (both_option s.action h g) [
-            | inr (action, some, (is, rest, unlacked, did, same), (is', rest', unlacked', did', same')) ↦ (same_end is is' did did' same same', rest ∙ sym rest')
-            | inl (none, p, q) ↦
-                elim (both_bool s.is_killed p q) [
-                  | inl ((is, rest, unlacked, did, same), (is', rest', unlacked', did', same')) ↦ (same_end is is' did did' same same', rest ∙ sym rest')
-                  | inr (reads, reads') ↦ reads_to_one reads reads'
-                ]
-          ]
+      next_action_one h1 h2 = grind (arith, both_option, same_end, both_bool, reads_to_one, reads_one, server, reader_part, reads_turns, answered, deeds_of, exchanges_in, part_of, read_on, handled_in)

@@ -29,10 +29,8 @@ module _ {T U G C : Type 0} where
       let first' = subst (λ (b : Bool). PartCall w id offer f.call before b f.did mid') unlacked' by' in
       let shared = shared_call id offer e.call f.call same own ample ample' n n' (answered_call w id offer e.call _ _ _ _ first) (answered_call w id offer f.call _ _ _ _ first') in
       let one = call_one w known id offer before e.did f.did mid mid' e.call f.call same ample ample' shared.0 first first' in
-      let numbers = subst (λ (o : Offer G). AreNumbered o run') (sym shared.1) more' in
-      let offered = subst (λ (o : Offer G). Alone w id o mid' run' y) (sym shared.1) alone' in
-      let joined = subst (λ (s : Seen T U C). Alone w id (offer_after offer e.call) s run' y) (sym one.1.after) offered in
-      let later = alone_one w known id (offer_after offer e.call) mid x y run run' owns others rest rest' more numbers alone joined in
+      let joined = subst (λ (s : Seen T U C). Alone w id (offer_after offer e.call) s run' y) (sym one.1.after) (subst (λ (o : Offer G). Alone w id o mid' run' y) (sym shared.1) alone') in
+      let later = alone_one w known id (offer_after offer e.call) mid x y run run' owns others rest rest' more (subst (λ (o : Offer G). AreNumbered o run') (sym shared.1) more') alone joined in
       ((one.0 own, one.1.did, later.0), later.1)
 
   -- ---- whatever other clients do

@@ -44,11 +44,7 @@ fronts_one (x ∷ xs) ys (z ∷ zs) ws is long = grind (arith, fronts_one xs ys 
 
 -- and so are two ends
 ends_of_one : {A : Type 0} (xs ys zs ws : List A) → xs ++ ys ≡ zs ++ ws → length ys ≡ length ws → ys ≡ ws
-ends_of_one xs ys zs ws is long =
-    let one = length-append xs ys in
-    let two = length-append zs ws in
-    let all = ap length is in
-    (fronts_one xs ys zs ws is (omega (arith, one, two, all, long))).1
+ends_of_one xs ys zs ws is long = (fronts_one xs ys zs ws is (omega (arith, length-append xs ys, length-append zs ws, ap length is, long))).1
 
 -- ---- places in order
 
@@ -85,42 +81,21 @@ one_place p q first second = grind (arith, false≢true)
 -- two orders of the same places are one
 one_order : (a b : List NotePlace) → Sorted a → Sorted b → ((q : NotePlace) → often_at q a ≡ often_at q b) → a ≡ b
 one_order [] [] up up' same = refl
-one_order [] (y ∷ b) up up' same =
-    let one = at_itself y in
-    let count = sum_by-cons (is_at y) y b in
-    let none = same y in
-    absurd (omega (arith, one, count, none))
-one_order (x ∷ a) [] up up' same =
-    let one = at_itself x in
-    let count = sum_by-cons (is_at x) x a in
-    let none = same x in
-    absurd (omega (arith, one, count, none))
+one_order [] (y ∷ b) up up' same = absurd (omega (arith, at_itself y, sum_by-cons (is_at y) y b, same y))
+one_order (x ∷ a) [] up up' same = absurd (omega (arith, at_itself x, sum_by-cons (is_at x) x a, same x))
 one_order (x ∷ a) (y ∷ b) (after_x, up) (after_y, up') same = ap (λ (p : NotePlace). p ∷ a) is ∙ ap (λ (l : List NotePlace). y ∷ l) (one_order a b up up' rest)
   where
     y_first : IsNoLater y x
-    y_first =
-        let one = at_itself x in
-        let count = sum_by-cons (is_at x) x a in
-        let as_often = same x in
-        holds_there (IsNoLater y) x (y ∷ b) (later_refl y, after_y) (omega (arith, one, count, as_often))
+    y_first = holds_there (IsNoLater y) x (y ∷ b) (later_refl y, after_y) (omega (arith, at_itself x, sum_by-cons (is_at x) x a, same x))
 
     x_first : IsNoLater x y
-    x_first =
-        let one = at_itself y in
-        let count = sum_by-cons (is_at y) y b in
-        let as_often = same y in
-        holds_there (IsNoLater x) y (x ∷ a) (later_refl x, after_x) (omega (arith, one, count, as_often))
+    x_first = holds_there (IsNoLater x) y (x ∷ a) (later_refl x, after_x) (omega (arith, at_itself y, sum_by-cons (is_at y) y b, same y))
 
     is : x ≡ y
     is = one_place x y x_first y_first
 
     rest : (q : NotePlace) → often_at q a ≡ often_at q b
-    rest q =
-        let one = sum_by-cons (is_at q) x a in
-        let two = sum_by-cons (is_at q) y b in
-        let this = ap (is_at q) is in
-        let all = same q in
-        omega (arith, one, two, this, all)
+    rest q = omega (arith, sum_by-cons (is_at q) x a, sum_by-cons (is_at q) y b, ap (is_at q) is, same q)
 
 no_places : (waits : Bool) (slot : ℕ) → places_of waits slot no_times ≡ []
 no_places h1 slot = grind (arith)
@@ -161,13 +136,7 @@ module _ (of : NoteTimes → List ℕ) where
       → length (of (times_at n ts')) ≡ length (of (times_at n us')) → (mid ≡ mid') × ((k : ℕ) → k < n → of (times_at k ts') ≡ of (times_at k us'))
       → GivesNumbers (of (times_at n ts)) mid (of (times_at n ts')) b → GivesNumbers (of (times_at n us)) mid' (of (times_at n us')) d
       → (b ≡ d) × ((k : ℕ) → k < suc n → of (times_at k ts') ≡ of (times_at k us'))
-  turn_next n ts us ts' us' mid mid' b d same long before gives gives' = (this.0, each)
-    where
-      this : (b ≡ d) × (of (times_at n ts') ≡ of (times_at n us'))
-      this = gives_one_way (of (times_at n ts)) (of (times_at n ts')) (of (times_at n us)) (of (times_at n us')) mid b mid' d gives gives' same before.0 long
-
-      each : (k : ℕ) → k < suc n → of (times_at k ts') ≡ of (times_at k us')
-      each k below = grind (arith, times_at, eqb-true, this, false≢true, eq-eqb)
+  turn_next n ts us ts' us' mid mid' b d h1 h2 h3 h4 h5 = grind (arith, times_at, gives_one_way, eqb-true, false≢true, eq-eqb, number_past, length-append, numbers_from)
 
   turn_one : (n : ℕ) (ts us ts' us' : List NoteTimes) (a c b d : ℕ) → ((k : ℕ) → of (times_at k ts) ≡ of (times_at k us))
       → ((k : ℕ) → length (of (times_at k ts')) ≡ length (of (times_at k us'))) → a ≡ c → InTurn of n ts a ts' b → InTurn of n us c us' d
@@ -189,7 +158,7 @@ module _ (of : NoteTimes → List ℕ) where
       → ((k : ℕ) → length (of (times_at k ts')) ≡ length (of (times_at k us'))) → a ≡ c → ((k : ℕ) → n ≤ k → times_at k ts' ≡ times_at k ts)
       → ((k : ℕ) → m ≤ k → times_at k us' ≡ times_at k us) → InTurn of n ts a ts' b → InTurn of m us c us' d
       → (b ≡ d) × ((k : ℕ) → of (times_at k ts') ≡ of (times_at k us'))
-  turns_one n m ts us ts' us' a c b d same long next others others' turn turn' = (both.0, each)
+  turns_one n m ts us ts' us' a c b d same long next others others' turn turn' = (both.0, (λ k. grind (arith, nat_lt, both, ltb-true, ltb-false)))
     where
       swapped : n + m ≡ m + n
       swapped = omega arith
@@ -197,9 +166,6 @@ module _ (of : NoteTimes → List ℕ) where
       both : (b ≡ d) × ((k : ℕ) → k < m + n → of (times_at k ts') ≡ of (times_at k us'))
       both = turn_one (m + n) ts us ts' us' a c b d (λ k. ap of (same k)) long next (turn_on m n ts a ts' b others turn)
           (subst (λ (l : ℕ). InTurn of l us c us' d) swapped (turn_on n m us c us' d others' turn'))
-
-      each : (k : ℕ) → of (times_at k ts') ≡ of (times_at k us')
-      each k = grind (arith, nat_lt, both, ltb-true, ltb-false)
 
 both_times : (t u : NoteTimes) → t.made ≡ u.made → t.waiting ≡ u.waiting → t ≡ u
 both_times t u made waiting = grind (arith)
@@ -279,10 +245,8 @@ module _ {U : Type 0} where
     ends_one : (low low' : ℕ) (a b : List (Note U)) → RiseFromSlot low a → RiseFromSlot low' b → ((id : ClientParts) → notes_of id a ≡ notes_of id b)
         → ((id : ClientParts) (h : Happening U) (hs : List (Happening U)) → notes_of id b ≡ h ∷ hs → Is id) → a ≡ b
     ends_one low low' [] [] up up' told is = refl
-    ends_one low low' [] (y ∷ b) up up' told is =
-        let long : 0 ≡ suc (length (notes_of (id_of y) b)) = ap length (told (id_of y) ∙ own_first y b) in absurd (omega (arith, long))
-    ends_one low low' (x ∷ a) [] up up' told is =
-        let long : suc (length (notes_of (id_of x) a)) ≡ 0 = ap length (sym (own_first x a) ∙ told (id_of x)) in absurd (omega (arith, long))
+    ends_one low low' [] (y ∷ b) up up' told is = absurd (omega (arith, ap length (told (id_of y) ∙ own_first y b)))
+    ends_one low low' (x ∷ a) [] up up' told is = absurd (omega (arith, ap length (sym (own_first x a) ∙ told (id_of x))))
     ends_one low low' (x ∷ a) (y ∷ b) (first, up) (first', up') told is =
         ap (λ (n : Note U). n ∷ a) same ∙ ap (λ (l : List (Note U)). y ∷ l) (ends_one (slot_of x) (slot_of y) a b up up' told_rest is_rest)
       where
@@ -292,10 +256,7 @@ module _ {U : Type 0} where
         slots : (id_of y).slot ≡ (id_of x).slot
         slots =
             let here = slot_within (id_of x) (slot_of y) (y ∷ b) (happening_of x) (notes_of (id_of x) a) (omega arith, up') x_told in
-            let there = slot_within (id_of y) (slot_of x) (x ∷ a) (happening_of y) (notes_of (id_of y) b) (omega arith, up) (told (id_of y) ∙ own_first y b) in
-            let x_slot = slot_is x in
-            let y_slot = slot_is y in
-            omega (arith, here, there, x_slot, y_slot)
+            omega (arith, here, slot_within (id_of y) (slot_of x) (x ∷ a) (happening_of y) (notes_of (id_of y) b) (omega arith, up) (told (id_of y) ∙ own_first y b), slot_is x, slot_is y)
 
         ids : id_of y ≡ id_of x
         ids = one (id_of y) (id_of x) (is (id_of y) (happening_of y) (notes_of (id_of y) b) (own_first y b))
@@ -323,14 +284,11 @@ module _ {U : Type 0} where
         let long = ap length slots in
         let here = length-map a slot_of in
         let there = length-map b slot_of in
-        (fronts_one a [] b [] (sym (nothing a) ∙ (sames a b begun.0 begun.1 (omega (arith, long, here, there)) ∙ nothing b)) (omega (arith, long, here, there))).0
+        (fronts_one a [] b [] (sym (nothing a) ∙ ((fronts_one a begun.0 b [] (sym begun.1 ∙ nothing b) (omega (arith, long, here, there))).0 ∙ nothing b)) (omega (arith, long, here, there))).0
       where
         nothing : {A : Type 0} (l : List A) → l ≡ l ++ []
         nothing [] = refl
         nothing (x ∷ xs) = ap (λ m. x ∷ m) (nothing xs)
-
-        sames : (a b rest : List (Note U)) → b ≡ a ++ rest → length a ≡ length b → a ≡ b
-        sames a b rest is long = (fronts_one a rest b [] (sym is ∙ nothing b) long).0
 
 -- ---- calls
 

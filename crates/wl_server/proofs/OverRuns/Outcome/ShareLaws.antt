@@ -50,26 +50,19 @@ module _ {T : Type 0} where
       at none (inl same) = let slots = same_slot e.0 id same in let more = above zero e (omega arith) in absurd (omega (arith, slots, more))
       at none (inr other) = share_later id e rest other ∙ none
 
-  none_first : (x : T) (xs : List T) → x ∷ xs ≡ [] → ⊥
-  none_first x xs is = cc
-
   -- a client at the front has a share
   has_share : (e : ClientParts × T) (rest : List (ClientParts × T)) → share_of e.0 (e ∷ rest) ≡ [] → ⊥
-  has_share e rest none = none_first e.1 (share_of e.0 rest) (sym (share_first e.0 e rest (same_self e.0)) ∙ none)
+  has_share e rest none = grind (arith, e.1, share_of e.0 rest, sym (share_first e.0 e rest (same_self e.0)) ∙ none)
 
   module _ (e f : ClientParts × T) (rest rest' : List (ClientParts × T)) (shares : (id : ClientParts) → share_of id (e ∷ rest) ≡ share_of id (f ∷ rest'))
       (rises : RiseBySlot (e ∷ rest)) (rises' : RiseBySlot (f ∷ rest')) (later : ((id : ClientParts) → share_of id rest ≡ share_of id rest') → rest ≡ rest') where
-    same_behind : (id : ClientParts) → e ≡ f → (same_client e.0 id ≡ true) ⊎ (same_client e.0 id ≡ false) → share_of id rest ≡ share_of id rest'
-    same_behind id h1 h2 = grind (arith, share_first, share_later)
-
     found : same_client f.0 e.0 ≡ true → e ∷ rest ≡ f ∷ rest'
-    found same = grind (arith, share_of, share_first, same_self, same_client_is, same_behind, cases_Bool)
+    found same = grind (arith, share_of, share_first, same_self, same_client_is, share_later, cases_Bool)
 
     one_slot : e.0.slot ≡ f.0.slot → (same_client f.0 e.0 ≡ true) ⊎ (same_client f.0 e.0 ≡ false) → e ∷ rest ≡ f ∷ rest'
     one_slot slots (inl same) = found same
     one_slot slots (inr other) =
-        let above : Above e.0.slot rest' = subst (λ (n : ℕ). Above n rest') (sym slots) (rest_above f rest' rises') in
-        absurd (has_share e rest (shares e.0 ∙ share_later e.0 f rest' other ∙ none_above e.0 rest' above))
+        absurd (has_share e rest (shares e.0 ∙ share_later e.0 f rest' other ∙ none_above e.0 rest' (subst (λ (n : ℕ). Above n rest') (sym slots) (rest_above f rest' rises'))))
 
     fronts : e ∷ rest ≡ f ∷ rest'
     fronts =

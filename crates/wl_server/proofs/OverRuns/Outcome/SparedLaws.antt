@@ -105,7 +105,6 @@ module _ {H T U G C : Type 0} (w : World T G C) (answers : Answering H T U G C) 
         → spared h' ≡ true → IsDispatched w answers id h s run lacked answer h' s' → IsDispatched w (with_memory answers spared) id h s run lacked answer h' s'
     dispatched_so {h} {h'} {s} {s'} {run} {lacked} {answer} is d =
         let ends = d.rounds_end in
-        let held = last_back is ends.end in
         record {
           left = d.left;
           fault = d.fault;
@@ -117,7 +116,7 @@ module _ {H T U G C : Type 0} (w : World T G C) (answers : Answering H T U G C) 
             last = ends.last;
             first_lacked = ends.first_lacked;
             last_lacked = ends.last_lacked;
-            rounds = rounds_so held ends.rounds;
+            rounds = rounds_so (last_back is ends.end) ends.rounds;
             end = last_so is ends.end;
             run_is = ends.run_is;
             lacked_is = ends.lacked_is;

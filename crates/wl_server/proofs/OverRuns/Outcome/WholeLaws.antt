@@ -51,13 +51,11 @@ module _ {T U G C : Type 0} where
   slot_same s t each k (Some x) None is is' =
       let id : ClientParts = record { slot = k; serial = x.serial } in
       let here : client_at id s.clients ≡ Some x = found x (stored_at k s.clients) is in
-      let there : client_at id t.clients ≡ None = ap (λ (z : Option (Stored T U C)). if_serial x.serial z) is' in
-      absurd (true≢false (sym (ap has_part here) ∙ ap (λ (z : Seen T U C). is_some z.part) (each id) ∙ ap has_part there))
+      absurd (true≢false (sym (ap has_part here) ∙ ap (λ (z : Seen T U C). is_some z.part) (each id) ∙ ap has_part (ap (λ (z : Option (Stored T U C)). if_serial x.serial z) is')))
   slot_same s t each k None (Some y) is is' =
       let id : ClientParts = record { slot = k; serial = y.serial } in
       let here : client_at id s.clients ≡ None = ap (λ (z : Option (Stored T U C)). if_serial y.serial z) is in
-      let there : client_at id t.clients ≡ Some y = found y (stored_at k t.clients) is' in
-      absurd (true≢false (sym (ap has_part there) ∙ sym (ap (λ (z : Seen T U C). is_some z.part) (each id)) ∙ ap has_part here))
+      absurd (true≢false (sym (ap has_part (found y (stored_at k t.clients) is')) ∙ sym (ap (λ (z : Seen T U C). is_some z.part) (each id)) ∙ ap has_part here))
 
   -- servers of which the same is held have the same slots free
   pub slots_same : (s t : ServerState T U G C) → HoldsSame s t → SameSlots s.clients t.clients

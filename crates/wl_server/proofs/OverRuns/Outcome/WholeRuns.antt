@@ -33,15 +33,6 @@ module _ {T U G C : Type 0} where
   inserted_one (step.InsertClient transport client_data) p q shared = ap (λ (z : Reply T U). inserted_by {G = G} (Asked (step.InsertClient transport client_data) z)) shared
   inserted_one s p q shared = refl
 
-  clients_as : (before : ServerState T U G C) (s s' : Step T U G C) (q : Reply T U) → SameStep s s' → NumbersClient before (Asked s' q) → NumbersClient before (Asked s q)
-  clients_as before s s' q h1 h2 = grind (arith)
-
-  rises_as : (s s' : Step T U G C) (q : Reply T U) → SameStep s s' → RisesBySlot (Asked s' q) → RisesBySlot (Asked s q)
-  rises_as s s' q h1 h2 = grind (arith)
-
-  call_offer : (offer : Offer G) (call call' : Call T U G C) → SameCall call call' → SharedAnswer call call' → offer_after offer call ≡ offer_after offer call'
-  call_offer offer call call' h1 h2 = grind (arith, offer_one, offer_as, growth_offer)
-
   call_inserted : (call call' : Call T U G C) → SameCall call call' → SharedAnswer call call' → inserted_by call ≡ inserted_by call'
   call_inserted call call' h1 h2 = grind (arith, inserted_one, inserted_by)
 
@@ -62,16 +53,11 @@ module _ {T U G C : Type 0} where
         let k : Step T U G C = step.InsertClient transport client_data in
         let here = subst (λ (z : Reply T U). NumbersClient s (Asked k z)) is c in
         let there = subst (λ (z : Reply T U). NumbersClient t (Asked k z)) is' c' in
-        let last = subst (λ (l : ℕ). InsertsNext l t.clients r') (sym same_server.last) there in
-        let back = inserts_there s.last_client t.clients s.clients (λ j. sym (slots_same s t same_server j)) r' last in
+        let back = inserts_there s.last_client t.clients s.clients (λ j. sym (slots_same s t same_server j)) r' (subst (λ (l : ℕ). InsertsNext l t.clients r') (sym same_server.last) there) in
         let one = inserts_next_one s.last_client s.clients r r' (inserted_allowed k r (subst (λ z. Ample k z) is ample)) (inserted_allowed k r' (subst (λ z. Ample k z) is' ample')) here back in
         is ∙ ap (λ (z : Result ClientParts InsertClientError). let a : Reply T U = reply.InsertClient z in a) one ∙ sym is'
     whole_shared any (step.CreateGlobal i version handler) p q ample ample' c c' n n' h g = grind (arith, shared_same, answered_step)
     whole_shared any k p q ample ample' c c' n n' h g = tt
-
-    -- who takes notes in one run does in the other
-    taking_too : (k k' : Step T U G C) → k ≡ step.TakeNotes → SameStep k k' → step.TakeNotes ≡ k'
-    taking_too k k' is same = subst (λ (z : Step T U G C). SameStep z k') is same
 
     call_whole : (call call' : Call T U G C) → SameCall call call' → lacks_growth call ≡ false → lacks_growth call' ≡ false → NumbersClient s call → NumbersClient t call'
         → AnswersShared s.offer call → AnswersShared s.offer call' → RisesBySlot call → RisesBySlot call'
@@ -82,12 +68,12 @@ module _ {T U G C : Type 0} where
     call_whole (Asked k p) (Asked k' q) same ample ample' c c' n n' rises rises' took h g =
         let any : ClientParts = record { slot = 0; serial = 0 } in
         let there = part_as w known any s.offer (seen any s) (d any) (e any) (x any) (y any) k k' q same (g any) in
-        let shared = whole_shared any k p q ample ample' c (clients_as t k k' q same c') n (numbers_as s.offer k k' q same n') (h any) there in (
+        let shared = whole_shared any k p q ample ample' c (grind (arith)) n (numbers_as s.offer k k' q same n') (h any) there in (
           whole_one ordered w any s.offer (seen any s) (d any) (e any) (x any) (y any) k p q
               (λ id own. (call_one w known id s.offer (seen id s) (d id) (e id) (x id) (y id) (Asked k p) (Asked k' q) same ample ample' shared (h id) (g id)).0 own)
-              shared ample ample' rises (rises_as k k' q same rises')
+              shared ample ample' rises (grind (arith))
               (λ out out' taking is is'. took out out' (ap (λ (z : Step T U G C). Asked z p) taking ∙ ap (Asked step.TakeNotes) is)
-              (ap (λ (z : Step T U G C). Asked z q) (sym (taking_too k k' taking same)) ∙ ap (Asked step.TakeNotes) is'))
+              (ap (λ (z : Step T U G C). Asked z q) (sym (subst (λ (z : Step T U G C). SameStep z k') taking same)) ∙ ap (Asked step.TakeNotes) is'))
               (h any) there,
           shared,
           λ id. (call_one w known id s.offer (seen id s) (d id) (e id) (x id) (y id) (Asked k p) (Asked k' q) same ample ample' shared (h id) (g id)).1,
@@ -117,7 +103,7 @@ module _ {T U G C : Type 0} where
         one.0,
         λ id. (one.2 id).did,
         record {
-          held = grind (arith, call_offer, offer_after, call_inserted, inserted_by);
+          held = grind (arith, offer_one, offer_as, growth_offer, offer_after, call_inserted, inserted_by);
           order = λ counts. notes_one w s t x y e f (whole.order counts) (λ id. (one.2 id).after) same_call ample.0 ample'.0 by by';
         },
       )

@@ -38,10 +38,8 @@ returns-in-Err-clause-call g c =
 pub invariant_of-self : goal.invariant_of-self
 invariant_of-self g c =
     let same = slots_cleaned _ _ _ _ _ _ _ c.clean_up-self-inside.ensures.cleaned in
-    let before = c.self.inside.clients.ok.0 in
-    let after = c.clean_up-self-inside.new.clients.ok.0 in
     let within = c.self.invariant.0.within in (
-      record { within = omega (arith, same, before, after, within); taken = none_taken _ },
+      record { within = omega (arith, same, c.self.inside.clients.ok.0, c.clean_up-self-inside.new.clients.ok.0, within); taken = none_taken _ },
       subst (λ (n : NoteNumbers). HasNumbers n (map times_of c.clean_up-self-inside.new.clients.items)) (sym c.clean_up-self-inside.ensures.numbers)
           (waiting_anew _ _ c.clean_up-self-inside.ensures.none_waits (numbers_left _ _ _ c.clean_up-self-inside.ensures.first c.self.invariant.1)),
       c.clean_up-self-inside.ensures.numbered c.self.invariant.2,

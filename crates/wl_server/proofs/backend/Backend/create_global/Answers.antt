@@ -77,10 +77,9 @@ invariant_of-self g c =
     c.tell_named-self-inside.result (length xs) xs c.tell_named-self-inside.new.clients) c.deref_mut.ensures.value
     (subst (λ (o : Option (Object (KeptGlobal _))). IfSome o (λ x. AllFeel (HearsNew g.T.Transport.sends g.G.GlobalHandler.views c.self.inside.protocol c.in-Ok.id x)
     c.tell_named-self-inside.result (length c.deref_mut.result.now) c.deref_mut.result.now c.tell_named-self-inside.new.clients)) c.in-Ok.ensures.kept c.tell_named-self-inside.ensures.felt) in
-    let len : length c.tell_named-self-inside.new.clients ≡ vec_len c.self.inside.clients = all.len ∙ sym c.self.inside.clients.ok.0 in
     let numbers = subst (λ (xs : List (Option (Stored _ _ _))). AllInTime (map times_of xs) c.self.inside.numbers (map times_of c.tell_named-self-inside.new.clients)
     c.tell_named-self-inside.new.numbers) c.deref_mut.ensures.value c.tell_named-self-inside.ensures.in_time in
-    rw (with_items_is c.self.inside.clients c.tell_named-self-inside.new.clients len) (
+    rw (with_items_is c.self.inside.clients c.tell_named-self-inside.new.clients (all.len ∙ sym c.self.inside.clients.ok.0)) (
       slots_felt _ _ _ _ _ _ all c.self.invariant.0,
       numbers.1.keeps c.self.invariant.1,
       subst (λ (xs : List (Option (Stored _ _ _))). AllNumbered xs → AllNumbered c.tell_named-self-inside.new.clients) c.deref_mut.ensures.value c.tell_named-self-inside.ensures.numbered c.self.invariant.2,

@@ -42,12 +42,11 @@ returns-else-was_enabled-clause-call g c = rw (← c.self.view_is)
 
 pub invariant_of-self : goal.invariant_of-self
 invariant_of-self g c =
-    let len : length c.tell_loss-self-inside.new.clients ≡ vec_len c.self.inside.clients = c.tell_loss-self-inside.ensures.felt.len ∙ c.deref_mut.ensures.len in
     let all = subst (λ (xs : List (Option (Stored _ _ _))). AllFeel (λ id p lacked did q. Hears g.T.Transport.sends p (removals p c.name.result) lacked did q)
     c.tell_loss-self-inside.result (length xs) xs c.tell_loss-self-inside.new.clients) c.deref_mut.ensures.value c.tell_loss-self-inside.ensures.felt in
     let numbers = subst (λ (xs : List (Option (Stored _ _ _))). AllInTime (map times_of xs) c.self.inside.numbers (map times_of c.tell_loss-self-inside.new.clients)
     c.tell_loss-self-inside.new.numbers) c.deref_mut.ensures.value c.tell_loss-self-inside.ensures.in_time in
-    rw (with_items_is c.self.inside.clients c.tell_loss-self-inside.new.clients len) (
+    rw (with_items_is c.self.inside.clients c.tell_loss-self-inside.new.clients (c.tell_loss-self-inside.ensures.felt.len ∙ c.deref_mut.ensures.len)) (
       slots_felt _ _ _ _ _ _ all c.self.invariant.0,
       numbers.1.keeps c.self.invariant.1,
       subst (λ (xs : List (Option (Stored _ _ _))). AllNumbered xs → AllNumbered c.tell_loss-self-inside.new.clients) c.deref_mut.ensures.value c.tell_loss-self-inside.ensures.numbered c.self.invariant.2,

@@ -27,11 +27,8 @@ returns-in_default-clause-call g c =
 pub invariant_of-self : goal.invariant_of-self
 invariant_of-self g c =
     let all = c.flush_live-self-inside.ensures.felt in
-    let same = all.len in
-    let before = c.self.inside.clients.ok.0 in
-    let after = c.flush_live-self-inside.new.clients.ok.0 in
     let within = c.self.invariant.0.within in (
-      record { within = omega (arith, same, before, after, within); taken = taken_felt _ _ _ _ _ all c.self.invariant.0.taken },
+      record { within = omega (arith, all.len, c.self.inside.clients.ok.0, c.flush_live-self-inside.new.clients.ok.0, within); taken = taken_felt _ _ _ _ _ all c.self.invariant.0.taken },
       subst (λ (ts : List NoteTimes). HasNumbers c.self.inside.numbers ts) (sym c.flush_live-self-inside.ensures.times) c.self.invariant.1,
       c.flush_live-self-inside.ensures.numbered c.self.invariant.2,
       record { sent = c.flush_live-self-inside.ensures.sent; quiet = c.flush_live-self-inside.ensures.quiet _ c.self.invariant.3.quiet },

@@ -18,13 +18,10 @@ returns-in-Err-clause-call g c = rw (← c.self.view_is) (notes_starved _ _ _ _ 
 
 pub invariant_of-self : goal.invariant_of-self
 invariant_of-self g c =
-    let same = slots_kept _ _ _ _ _ c.gather_made.ensures.gathered c.gather_made.ensures.unchanged in
-    let before = c.self.inside.clients.ok.0 in
-    let after = c.gather_made.new.clients.ok.0 in
     let emptied = emptied_kept _ _ _ _ _ c.gather_made.ensures.gathered c.gather_made.ensures.unchanged in
     let within = c.self.invariant.0.within in (
       record {
-        within = omega (arith, same, before, after, within);
+        within = omega (arith, slots_kept _ _ _ _ _ c.gather_made.ensures.gathered c.gather_made.ensures.unchanged, c.self.inside.clients.ok.0, c.gather_made.new.clients.ok.0, within);
         taken = taken_kept _ _ _ _ _ _ c.gather_made.ensures.gathered c.gather_made.ensures.unchanged c.self.invariant.0.taken;
       },
       numbers_left _ _ _ c.gather_made.ensures.first c.self.invariant.1,
@@ -37,13 +34,10 @@ invariant_of-self g c =
 
 pub invariant_of-self-in-Err : goal.invariant_of-self-in-Err
 invariant_of-self-in-Err g c =
-    let same = slots_kept _ _ _ _ _ c.gather_made.ensures.gathered c.gather_made.ensures.unchanged in
-    let before = c.self.inside.clients.ok.0 in
-    let after = c.gather_made.new.clients.ok.0 in
     let emptied = emptied_kept _ _ _ _ _ c.gather_made.ensures.gathered c.gather_made.ensures.unchanged in
     let within = c.self.invariant.0.within in (
       record {
-        within = omega (arith, same, before, after, within);
+        within = omega (arith, slots_kept _ _ _ _ _ c.gather_made.ensures.gathered c.gather_made.ensures.unchanged, c.self.inside.clients.ok.0, c.gather_made.new.clients.ok.0, within);
         taken = taken_kept _ _ _ _ _ _ c.gather_made.ensures.gathered c.gather_made.ensures.unchanged c.self.invariant.0.taken;
       },
       numbers_left _ _ _ c.gather_made.ensures.first c.self.invariant.1,

@@ -1,4 +1,4 @@
-use Rattle.std.proofs.Common.{◌≡◌, ◌∙◌, None, Option, option_copied, Bor, map, sym, ap, subst, refl, List, ℕ, arith}
+use Rattle.std.proofs.Common.{◌∙◌, option_copied, map, sym, ap, subst, refl, List, ℕ, arith}
 use Rattle.std.proofs.lemmas.Grind.{common_steps}
 use Rattle.wl_server.specs.declared.notes.Happening.{Happening}
 use Rattle.wl_server.specs.NoteOrder.{GivesNumbers, NotesInTime}
@@ -8,11 +8,8 @@ use Rattle.wl_server.proofs.ObjectCalls.Destroying.{refused, starved, untold, de
 use Rattle.wl_server.proofs.client.Client.destroy_object.Goals as goal
 use Rattle.wl_server.specs.Server.{no_times}
 
-copied_none : {X : Type 0} (found : Option (Bor X)) (o : Option X) → option_copied found ≡ o → found ≡ None → o ≡ None
-copied_none found o is none = sym is ∙ ap option_copied none
-
 pub returns-in_default-clause-does : goal.returns-in_default-clause-does
-returns-in_default-clause-does g c = grind (arith, common_steps, copied_none, refused)
+returns-in_default-clause-does g c = grind (arith, common_steps, option_copied, refused)
 
 pub returns-in-Err-clause-does : goal.returns-in-Err-clause-does
 returns-in-Err-clause-does g c = rw (← c.self.view_is)
@@ -27,14 +24,13 @@ returns-then-is_out_of_memory-clause-does g c = rw (← c.self.view_is)
 
 pub returns-clause-does : goal.returns-clause-does
 returns-clause-does g c =
-    let closed = rw c.take_out_noted.ensures.serial at c.kill_unless_written.ensures.closed in
     rw (← c.self.view_is)
     (destroyed g.T.Transport.sends (record { serial = _; part = _; made = _; times = no_times }) c.args.id.now c.in-Some.object.now (sym c.in-Some.ensures)
     c.put_delete_id-wrote.new.socket c.protocol_id.result c.take_out_noted.new.objects.map.store c.take_out_noted.new.objects.registries.items
     (map (λ w. w.1) c.reserve_note.new.waiting.queue.items) (map (λ w. w.1) c.take_out_noted.new.waiting.queue.items) c.put_delete_id-wrote.result c.kill_unless_written.new.self
     c.protocol_id.ensures c.put_delete_id-wrote.ensures (sym c.is_out_of_memory.ensures ∙ c.if-is_out_of_memory.false)
     c.take_out_noted.ensures.removed c.take_out_noted.ensures.registries c.take_out_noted.ensures.noted (ap (map (λ w. w.1)) c.reserve_note.ensures.items)
-    (told_untimed _ c.put_delete_id-wrote.result c.kill_unless_written.new.self _ closed))
+    (told_untimed _ c.put_delete_id-wrote.result c.kill_unless_written.new.self _ (rw c.take_out_noted.ensures.serial at c.kill_unless_written.ensures.closed)))
 
 pub returns-in-Err-clause-in_time : goal.returns-in-Err-clause-in_time
 returns-in-Err-clause-in_time g c = rw (← c.self.view_is) (still_waits _ _ _ _ (ap (map (λ w. w.0)) c.reserve_note.ensures.items))

@@ -1,14 +1,9 @@
-use Rattle.std.proofs.Common.{◌≡◌, ◌∙◌, arith}
+use Rattle.std.proofs.Common.{◌∙◌, arith}
 use Rattle.std.proofs.lemmas.Grind.{common_steps}
 use Rattle.wl_server.specs.Inside.ReadingLoop.{around_of}
-use Rattle.wl_server.specs.declared.reading.action.MessageEnd.{MessageEnd}
-use Rattle.wl_server.specs.declared.reading.action.MessageEnd.TheVariants as came
 use Rattle.wl_server.proofs.CallSteps.Numbering.{in_time_both, in_time_none}
 use Rattle.wl_server.proofs.Readings.OneMessage.{goes_ends, goes_goes, goes_none}
 use Rattle.wl_server.proofs.client.Client.handle_waiting.Goals as goal
-
-never : ◌≡◌ {A = MessageEnd} came.Continues came.HandsOut → ⊥
-never same = cc
 
 pub loop-end-init : goal.loop-end-init
 loop-end-init g c = grind (arith, common_steps, goes_none, in_time_none)
@@ -16,7 +11,7 @@ loop-end-init g c = grind (arith, common_steps, goes_none, in_time_none)
 pub loop-end-preserved : goal.loop-end-preserved
 loop-end-preserved g c = record {
   place = c.handle_message.ensures.place;
-  kept = c.in-Continues.ensures.kept never ∙ c.loop-end.invariant.kept;
+  kept = c.in-Continues.ensures.kept (λ same. cc) ∙ c.loop-end.invariant.kept;
   left = c.in-Continues.ensures.handles.1 ∙ c.loop-end.invariant.left;
   goes = goes_goes g.T.Transport.sends g.T.Transport.receives (around_of g.G.GlobalHandler.views c.args.around.now) c.args.self.now c.loop-end.self c.handle_message.new.self c.args.reading.now c.loop-end.reading c.handle_message.new.reading
       c.loop-end.invariant.goes c.in-Continues.ensures.handles.0;

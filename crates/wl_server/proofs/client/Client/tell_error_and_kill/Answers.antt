@@ -9,9 +9,8 @@ use Rattle.wl_server.specs.Server.{NoteTimes, Stored}
 
 pub returns-then-self-clause-carried : goal.returns-then-self-clause-carried
 returns-then-self-clause-carried g c =
-    let dead : c.args.self.now.part.is_killed ≡ true = rw (← c.self.view_is) c.if-self.true in
     posted_dead g.T.Transport.sends c.args.protocol.now c.args.self.now c.args.id.now c.args.code c.args.text c.flush_dropped.new.self
-    c.flush_dropped.ensures.flushed.0 c.flush_dropped.result dead c.flush_dropped.ensures.flushed.1 c.flush_dropped.ensures.rest
+    c.flush_dropped.ensures.flushed.0 c.flush_dropped.result (rw (← c.self.view_is) c.if-self.true) c.flush_dropped.ensures.flushed.1 c.flush_dropped.ensures.rest
 
 pub returns-then-refused-clause-carried : goal.returns-then-refused-clause-carried
 returns-then-refused-clause-carried g c =

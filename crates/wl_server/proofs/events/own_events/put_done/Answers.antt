@@ -25,6 +25,5 @@ returns-in-Err g c serial =
 pub returns-then-number-ge-SERVER_ID_LIMIT : goal.returns-then-number-ge-SERVER_ID_LIMIT
 returns-then-number-ge-SERVER_ID_LIMIT g c serial =
     let server : nat_le 0xFF000000 c.args.number ≡ true = grind (arith, c.if-number-ge-SERVER_ID_LIMIT.true) in
-    let done = done_message (record { number = c.args.number; serial = serial }) in
     let first = subst (λ (m : WireMessage). Wrote g.T.Transport.sends c.args.socket.now m (Ok tt) c.write_message.new.self) c.overwrite_message.ensures c.in_default.ensures.wrote in
-    rw server (puts_one g.T.Transport.sends c.args.socket.now c.write_message.new.self done (Ok tt) first)
+    rw server (puts_one g.T.Transport.sends c.args.socket.now c.write_message.new.self (done_message (record { number = c.args.number; serial = serial })) (Ok tt) first)

@@ -10,12 +10,8 @@ use Rattle.wl_server.proofs.notes.cleanup.clean_up.Goals as goal
 
 pub returns-then-capacity-eq0-clause-cleaned : goal.returns-then-capacity-eq0-clause-cleaned
 returns-then-capacity-eq0-clause-cleaned g c =
-    let fits = c.requires.given in
-    let empty = c.capacity.ensures in
-    let zero = c.if-capacity-eq0.true in
-    let none : length (collected given_at 0 c.args.clients.now.items) ≤ 0 = omega (arith, fits, empty, zero) in
-    let same = ap length (gathered_given _ _ _ _ c.gather.ensures.gathered) in
-    let left : length (collected given_at 0 c.gather.new.clients.items) ≤ 0 = omega (arith, none, same) in
+    let none : length (collected given_at 0 c.args.clients.now.items) ≤ 0 = omega (arith, c.requires.given, c.capacity.ensures, c.if-capacity-eq0.true) in
+    let left : length (collected given_at 0 c.gather.new.clients.items) ≤ 0 = omega (arith, none, ap length (gathered_given _ _ _ _ c.gather.ensures.gathered)) in
     record {
       flushed = c.args.clients.now.items;
       left = c.gather.new.clients.items;
@@ -35,32 +31,18 @@ gather-requires-2-clause-order g c =
     (flushed_order g.T.Transport.sends _ _ _ _ c.flush_killed-refused.ensures.felt c.flush_killed-refused.ensures.times c.requires.order)
 
 pub gather-requires-2-clause-room : goal.gather-requires-2-clause-room
-gather-requires-2-clause-room g c =
-    let same = (flushed_counts g.T.Transport.sends _ _ _ c.flush_killed-refused.ensures.felt).0 in
-    let fits = c.requires.notes in
-    omega (arith, same, fits)
+gather-requires-2-clause-room g c = omega (arith, (flushed_counts g.T.Transport.sends _ _ _ c.flush_killed-refused.ensures.felt).0, c.requires.notes)
 
 pub leave_all-requires-clause-notes : goal.leave_all-requires-clause-notes
 leave_all-requires-clause-notes g c =
     let counts = flushed_counts g.T.Transport.sends _ _ _ c.flush_killed-refused.ensures.felt in
-    let same = counts.0 in
-    let ends = counts.1 in
     let gathered = ap length (gathered_ends _ _ _ _ c.gather-2.ensures.gathered) in
-    let moved = c.gather-2.ensures.gathered.count in
-    let room = c.gather-2.ensures.capacity in
-    let before = c.args.notes.now.ok.0 in
-    let after = c.gather-2.new.notes.ok.0 in
-    let fits = c.requires.notes in
-    omega (arith, same, ends, gathered, moved, room, before, after, fits)
+    omega (arith, counts.0, counts.1, gathered, c.gather-2.ensures.gathered.count, c.gather-2.ensures.capacity, c.args.notes.now.ok.0, c.gather-2.new.notes.ok.0, c.requires.notes)
 
 pub leave_all-requires-clause-given : goal.leave_all-requires-clause-given
 leave_all-requires-clause-given g c =
     let same = (flushed_counts g.T.Transport.sends _ _ _ c.flush_killed-refused.ensures.felt).2 in
-    let gathered = ap length (gathered_given _ _ _ _ c.gather-2.ensures.gathered) in
-    let none = ap length c.requires.none in
-    let long = c.args.memory.now.given.ok.0 in
-    let fits = c.requires.given in
-    omega (arith, same, gathered, none, long, fits)
+    omega (arith, same, ap length (gathered_given _ _ _ _ c.gather-2.ensures.gathered), ap length c.requires.none, c.args.memory.now.given.ok.0, c.requires.given)
 
 pub returns-clause-first : goal.returns-clause-first
 returns-clause-first g c =

@@ -45,35 +45,29 @@ loop-slot-preserved g c =
     let notes = pass_notes words c.args.clients.now _ to next.from next.within next.skipped quiet true in
     let spots = pass_places words c.args.clients.now _ to next.from next.within next.skipped quiet true in
     let gone = ap length (pass_collected words c.args.clients.now _ to next.from next.within next.skipped quiet given_at quiet_given) in
-    let ended = ap length (pass_collected words c.args.clients.now _ to next.from next.within next.skipped quiet ends_at quiet_ends) in
     let more = count_drop true c.args.clients.now c.loop-slot.slot c.index-clients-slot.result here in
     let added = c.saturating_add-gathered.ensures in
     let one = c.count_of.ensures.notes in
-    let fewer = inv.few_gathered in
     record {
       gathered = λ below.
           let fits : c.loop-slot.gathered < 0xFFFFFFFFFFFFFFFF = omega (arith, added, below) in
-          let before = inv.gathered fits in
-          omega (arith, added, below, one, before, more, notes);
+          omega (arith, added, below, one, inv.gathered fits, more, notes);
       places = λ below.
           let fits : c.loop-slot.gathered < 0xFFFFFFFFFFFFFFFF = omega (arith, added, below) in
-          let before = inv.places fits in
-          let this = c.count_of.ensures.places in
-          let rest = places_rest true c.args.clients.now c.loop-slot.slot c.index-clients-slot.result here in
-          omega (arith, added, below, this, before, rest, spots);
-      few_gathered = omega (arith, added, one, fewer, more, notes);
+          omega (arith, added, below, c.count_of.ensures.places, inv.places fits, places_rest true c.args.clients.now c.loop-slot.slot c.index-clients-slot.result here, spots);
+      few_gathered = omega (arith, added, one, inv.few_gathered, more, notes);
       leaving = λ below.
           let before = counted_more given_at c.args.clients.now c.loop-slot.slot c.index-clients-slot.result c.loop-slot.leaving c.count_given_at.result c.saturating_add-leaving.result here
-          inv.leaving (λ below. (let killed = c.count_given_at.ensures c.loop-slot.slot in omega (arith, killed))) c.saturating_add-leaving.ensures below in
+          inv.leaving (λ below. (omega (arith, c.count_given_at.ensures c.loop-slot.slot))) c.saturating_add-leaving.ensures below in
           omega (arith, before, gone);
       few_leaving =
           let before = counted_fewer given_at c.args.clients.now c.loop-slot.slot c.index-clients-slot.result c.loop-slot.leaving c.count_given_at.result c.saturating_add-leaving.result here
-          inv.few_leaving (let killed = c.count_given_at.ensures c.loop-slot.slot in omega (arith, killed)) c.saturating_add-leaving.ensures in
+          inv.few_leaving (omega (arith, c.count_given_at.ensures c.loop-slot.slot)) c.saturating_add-leaving.ensures in
           omega (arith, before, gone);
       ends = λ below.
           let before = counted_more ends_at c.args.clients.now c.loop-slot.slot c.index-clients-slot.result c.loop-slot.ends c.count_ends_at.result c.saturating_add-ends.result here
           inv.ends (c.count_ends_at.ensures c.loop-slot.slot) c.saturating_add-ends.ensures below in
-          omega (arith, before, ended);
+          omega (arith, before, ap length (pass_collected words c.args.clients.now _ to next.from next.within next.skipped quiet ends_at quiet_ends));
       quiet = quiet;
       within = next.within;
       all = refl;
@@ -82,15 +76,13 @@ loop-slot-preserved g c =
 pub returns-clause-gathered : goal.returns-clause-gathered
 returns-clause-gathered g c below =
     let most = c.loop-slot.invariant.gathered below in
-    let none = ap (count_leaving true) (drop_past c.args.clients.now c.loop-slot.slot (omega (arith, c.loop-slot-test.false, c.loop-slot.invariant.all))) in
-    omega (arith, most, none)
+    omega (arith, most, ap (count_leaving true) (drop_past c.args.clients.now c.loop-slot.slot (omega (arith, c.loop-slot-test.false, c.loop-slot.invariant.all))))
 
 pub returns-clause-places : goal.returns-clause-places
 returns-clause-places g c below =
-    let most = c.loop-slot.invariant.places below in
     let none = ap (λ (l : List (Option (Stored _ _ _))). count_places true (map times_of l))
     (drop_past c.args.clients.now c.loop-slot.slot (omega (arith, c.loop-slot-test.false, c.loop-slot.invariant.all))) in
-    omega (arith, most, none)
+    omega (arith, c.loop-slot.invariant.places below, none)
 
 pub returns-clause-leaving : goal.returns-clause-leaving
 returns-clause-leaving g c below = grind (arith, common_steps, drop_past)

@@ -12,9 +12,8 @@ pub returns-then-count-eq0-clause-notes : goal.returns-then-count-eq0-clause-not
 returns-then-count-eq0-clause-notes g c =
     let none = none_both c.count_work-work.result.gathered c.count_work-work.result.leaving c.saturating_add-count.result c.saturating_add-count.ensures c.if-count-eq0.true in
     let given = none_of c.count_work-work.result.leaving (length (collected given_at 0 c.args.clients.now)) none.1 c.count_work-work.ensures.leaving in
-    let notes = none_of c.count_work-work.result.gathered (count_leaving true c.args.clients.now) none.0 c.count_work-work.ensures.gathered in
     room_of_none (vec_len c.args.notes.now) (vec_capacity c.args.notes.now) (count_leaving true c.args.clients.now) (length (collected ends_at 0 c.args.clients.now))
-    notes (none_ends 0 c.args.clients.now given) c.args.notes.now.ok.1
+    (none_of c.count_work-work.result.gathered (count_leaving true c.args.clients.now) none.0 c.count_work-work.ensures.gathered) (none_ends 0 c.args.clients.now given) c.args.notes.now.ok.1
 
 pub returns-then-count-eq0-clause-given : goal.returns-then-count-eq0-clause-given
 returns-then-count-eq0-clause-given g c =

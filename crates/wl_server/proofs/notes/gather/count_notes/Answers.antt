@@ -35,19 +35,14 @@ loop-slot-preserved g c =
     let more = count_drop c.args.waits c.args.clients.now c.loop-slot.slot c.index-clients-slot.result here in
     let added = c.saturating_add-count.ensures in
     let one = c.count_of.ensures.notes in
-    let fewer = inv.no_more in
     record {
       all = λ below.
           let fits : c.loop-slot.count < 0xFFFFFFFFFFFFFFFF = omega (arith, added, below) in
-          let before = inv.all fits in
-          omega (arith, added, below, one, before, more, notes);
+          omega (arith, added, below, one, inv.all fits, more, notes);
       places = λ below.
           let fits : c.loop-slot.count < 0xFFFFFFFFFFFFFFFF = omega (arith, added, below) in
-          let before = inv.places fits in
-          let this = c.count_of.ensures.places in
-          let rest = places_rest c.args.waits c.args.clients.now c.loop-slot.slot c.index-clients-slot.result here in
-          omega (arith, added, below, this, before, rest, places);
-      no_more = omega (arith, added, one, fewer, more, notes);
+          omega (arith, added, below, c.count_of.ensures.places, inv.places fits, places_rest c.args.waits c.args.clients.now c.loop-slot.slot c.index-clients-slot.result here, places);
+      no_more = omega (arith, added, one, inv.no_more, more, notes);
       quiet = quiet;
       within = next.within;
       ends = refl;
@@ -56,8 +51,7 @@ loop-slot-preserved g c =
 pub returns-clause-all : goal.returns-clause-all
 returns-clause-all g c = λ below.
     let none : drop c.loop-slot.slot c.args.clients.now ≡ [] = nil_from_length _ (omega (arith, length-drop c.loop-slot.slot c.args.clients.now, c.loop-slot-test.false)) in
-    let counted = rw none at (c.loop-slot.invariant.all below) in
-    omega (arith, counted)
+    omega (arith, rw none at (c.loop-slot.invariant.all below))
 
 pub returns-clause-places : goal.returns-clause-places
 returns-clause-places g c = grind (arith, common_steps, nil_from_length, length-drop)

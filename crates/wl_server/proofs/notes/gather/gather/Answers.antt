@@ -9,32 +9,27 @@ use Rattle.wl_server.proofs.notes.gather.gather.Goals as goal
 pub index_mut-requires : goal.index_mut-requires
 index_mut-requires g c =
     let within = place_within c.args.waits c.loop-place.clients.items c.args.order.now c.loop-place.place-index c.slot-slot.result _ c.loop-place-test.true c.slot-slot.ensures c.loop-place.invariant.left in
-    let len = c.loop-place.clients.ok.0 in
-    omega (arith, within, len)
+    omega (arith, within, c.loop-place.clients.ok.0)
 
 pub move_note-requires-clause-some : goal.move_note-requires-clause-some
 move_note-requires-clause-some g c =
     let within = place_within c.args.waits c.loop-place.clients.items c.args.order.now c.loop-place.place-index c.slot-slot.result _ c.loop-place-test.true c.slot-slot.ensures c.loop-place.invariant.left in
-    let len = c.loop-place.clients.ok.0 in
-    let here = slice_get_read c.loop-place.clients.items _ _ c.index_mut.result.now c.loop-place.clients.ok.0 (omega (arith, within, len)) c.index_mut.ensures.value in
+    let here = slice_get_read c.loop-place.clients.items _ _ c.index_mut.result.now c.loop-place.clients.ok.0 (omega (arith, within, c.loop-place.clients.ok.0)) c.index_mut.ensures.value in
     place_some c.args.waits c.loop-place.clients.items c.args.order.now c.loop-place.place-index c.slot-slot.result _ c.index_mut.result.now c.loop-place-test.true c.slot-slot.ensures here
     c.loop-place.invariant.left
 
 pub move_note-requires-clause-room : goal.move_note-requires-clause-room
 move_note-requires-clause-room g c =
     let within = place_within c.args.waits c.loop-place.clients.items c.args.order.now c.loop-place.place-index c.slot-slot.result _ c.loop-place-test.true c.slot-slot.ensures c.loop-place.invariant.left in
-    let len = c.loop-place.clients.ok.0 in
-    let here = slice_get_read c.loop-place.clients.items _ _ c.index_mut.result.now c.loop-place.clients.ok.0 (omega (arith, within, len)) c.index_mut.ensures.value in
+    let here = slice_get_read c.loop-place.clients.items _ _ c.index_mut.result.now c.loop-place.clients.ok.0 (omega (arith, within, c.loop-place.clients.ok.0)) c.index_mut.ensures.value in
     let some = place_some c.args.waits c.loop-place.clients.items c.args.order.now c.loop-place.place-index c.slot-slot.result _ c.index_mut.result.now c.loop-place-test.true c.slot-slot.ensures here
     c.loop-place.invariant.left in
-    let room = room_at c.args.waits _ _ _ _ _ _ _ _ _ _ c.loop-place.invariant.gathered c.args.notes.now.ok.0 c.loop-place.notes.ok.0 c.requires.room c.loop-place.invariant.capacity here in
-    omega (arith, some, room)
+    omega (arith, some, room_at c.args.waits _ _ _ _ _ _ _ _ _ _ c.loop-place.invariant.gathered c.args.notes.now.ok.0 c.loop-place.notes.ok.0 c.requires.room c.loop-place.invariant.capacity here)
 
 pub loop-place-preserved : goal.loop-place-preserved
 loop-place-preserved g c =
     let within = place_within c.args.waits c.loop-place.clients.items c.args.order.now c.loop-place.place-index c.slot-slot.result _ c.loop-place-test.true c.slot-slot.ensures c.loop-place.invariant.left in
-    let len = c.loop-place.clients.ok.0 in
-    let here = slice_get_read c.loop-place.clients.items _ _ c.index_mut.result.now c.loop-place.clients.ok.0 (omega (arith, within, len)) c.index_mut.ensures.value in
+    let here = slice_get_read c.loop-place.clients.items _ _ c.index_mut.result.now c.loop-place.clients.ok.0 (omega (arith, within, c.loop-place.clients.ok.0)) c.index_mut.ensures.value in
     record {
       gathered = gathers_more c.args.waits _ _ _ _ _ _ c.loop-place.invariant.gathered
           (gathers_at c.args.waits c.loop-place.clients.items c.loop-place.notes.items c.move_note.new.notes.items c.slot-slot.result _ c.move_note.new.client here c.move_note.ensures.moved);
