@@ -63,12 +63,9 @@ module _ {T U C : Type 0} where
 
   -- ---- transports
 
-  other_given : (id : ClientParts) (n : ℕ) (x : Option (Stored T U C)) → (n == id.slot) ≡ false → share_of id (given_at n x) ≡ []
-  other_given id n x h1 = grind (arith, id_in, same_slots)
-
   pub given_for : (id : ClientParts) (clients : List (Option (Stored T U C))) → share_of id (collected given_at 0 clients) ≡ given_in (client_at id clients)
   given_for id clients =
-      collected_at (share_of id) given_at id.slot refl (share_append id) (other_given id) 0 id.slot clients (omega arith) ∙ at (slice_get clients id.slot)
+      collected_at (share_of id) given_at id.slot refl (share_append id) (λ n x h1. grind (arith, id_in, same_slots)) 0 id.slot clients (omega arith) ∙ at (slice_get clients id.slot)
     where
       at : (o : Option (Option (Stored T U C))) → option_map_or (λ x. share_of id (given_at id.slot x)) o [] ≡ given_in (if_serial id.serial (option_map_or (λ s. s) o None))
       at h1 = grind (arith, id_in, given_in, same_parts, same_self, same_serials)

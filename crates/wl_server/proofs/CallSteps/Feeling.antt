@@ -50,7 +50,7 @@ module _ {T U C : Type 0} (R : Kind T U C) where
       → AllFeel R refused slot start now → slice_get now slot ≡ Some place → PlaceFeels R slot place lacked place'
       → AllFeel R (refused || lacked) (slot + 1) start (slice_set now slot place')
   one_more_felt refused lacked slot start now place place' all here feels = record {
-    lacks = now_lacks;
+    lacks = λ k. if k == slot then lacked else all.lacks k;
     len = length-set now slot place' ∙ all.len;
     felt = λ k below. (grind (arith, slice_get, slice_set, eqb-true, get_set_same, get_set_other, other_of, less, k == slot));
     rest = λ k above. get_set_other now slot k place' (λ e. absurd (omega (arith, e, above))) ∙ all.rest k (omega (arith, above));
@@ -58,13 +58,10 @@ module _ {T U C : Type 0} (R : Kind T U C) where
     blame = λ is. blames refused lacked refl refl is;
   }
     where
-      now_lacks : ℕ → Bool
-      now_lacks k = if k == slot then lacked else all.lacks k
-
       less : (k : ℕ) → (k == slot) ≡ false → k < slot + 1 → k < slot
       less k is below = let other : k ≢ slot = other_of k slot is in omega (arith, below, other)
 
-      blames : (r l : Bool) → refused ≡ r → lacked ≡ l → (r || l) ≡ true → (k : ℕ) × (k < slot + 1) × (now_lacks k ≡ true)
+      blames : (r l : Bool) → refused ≡ r → lacked ≡ l → (r || l) ≡ true → (k : ℕ) × (k < slot + 1) × ((if k == slot then lacked else all.lacks k) ≡ true)
       blames true l was is h = grind (arith, eqb-true)
       blames false true was is h = (slot, omega arith, (grind (arith, other_of, slot == slot)))
       blames false false was is h = absurd (false≢true h)
@@ -98,16 +95,13 @@ module _ {T U C : Type 0} (R : Kind T U C) where
   felt_by id gathered lacked (Some (Some s)) after (place', (s', (did, q, feels, made), now), is) =
       subst (λ (x : Option (Option (Stored T U C))). FeltBy id gathered lacked (Some (Some s)) x) (sym (is ∙ ap Some now)) (at (s.serial == id.serial) refl)
     where
-      serial' : s'.serial ≡ s.serial
-      serial' = ap (λ (x : Stored T U C). x.serial) made
-
       at : (b : Bool) → (s.serial == id.serial) ≡ b → FeltIf id gathered lacked s s' b (s'.serial == id.serial)
       at true same =
           let here : R id s.part lacked did q =
           subst (λ (i : ClientParts). R i s.part lacked did q) (same_parts (record { slot = id.slot; serial = s.serial }) id refl (eqb-true s.serial id.serial same)) feels in
-          let as_now : (s'.serial == id.serial) ≡ true = rw serial' same in
+          let as_now : (s'.serial == id.serial) ≡ true = rw (ap (λ (x : Stored T U C). x.serial) made) same in
           subst (λ (b : Bool). FeltIf id gathered lacked s s' true b) (sym as_now) (did, on_part gathered s s' (λ p d r. R id p lacked d r) (Unit {0}) lacked did q here made)
-      at false other = grind (arith, serial')
+      at false other = grind (arith, made)
 
   module _ (refused : Bool) (start now : List (Option (Stored T U C))) (all : AllFeel R refused (length start) start now) where
     -- whether memory was refused to the client of an id

@@ -143,15 +143,12 @@ module _ (of : NoteTimes → List ℕ) where
   changed : (ts ts' : List NoteTimes) (i next next' : ℕ) → ((k : ℕ) → k ≢ i → times_at k ts' ≡ times_at k ts)
       → GivesWithin (of (times_at i ts)) next (of (times_at i ts')) next' → next' < last_number → AreInTime of next ts → AreInTime of next' ts'
   changed ts ts' i next next' others gives below is = record {
-    rise = λ k. rise_at k (k == i) refl;
+    rise = λ k. (grind (arith, times_at, rise_append, other_of, rise_higher, rise_up, next, more, k == i));
     apart = λ j k n a b. differ j k n (old_or_new j n (j == i) refl a) (old_or_new k n (k == i) refl b);
   }
     where
       more : RiseWithin next gives.more next'
       more = gives.rise below
-
-      rise_at : (k : ℕ) (b : Bool) → (k == i) ≡ b → RiseWithin 0 (of (times_at k ts')) next'
-      rise_at k h2 same = grind (arith, times_at, rise_append, other_of, rise_higher, rise_up, next, more)
 
       -- a number that is there was there, or is new
       old_or_new : (k n : ℕ) (b : Bool) → (k == i) ≡ b → Contains (of (times_at k ts')) n → Contains (of (times_at k ts)) n ⊎ ((k ≡ i) × (next ≤ n))
@@ -208,8 +205,7 @@ module _ (of : NoteTimes → List ℕ) where
   turn_up (suc n) ts next ts' next' (mid, turn, gives) below =
       let more = within (of (times_at n ts)) mid (of (times_at n ts')) next' gives in
       let up = rise_up mid more.more next' (more.rise below) in
-      let first = turn_up n ts next ts' mid turn (omega (arith, up, below)) in
-      omega (arith, up, first)
+      omega (arith, up, turn_up n ts next ts' mid turn (omega (arith, up, below)))
 
   turn_each : (n k : ℕ) (ts : List NoteTimes) (next : ℕ) (ts' : List NoteTimes) (next' : ℕ) → k < n → InTurn of n ts next ts' next'
       → GivesWithin (of (times_at k ts)) next (of (times_at k ts')) next'
@@ -258,7 +254,7 @@ all_but ts ts' i a b others gives = (
     waiting = (a.waiting, turn_still (λ t. t.waiting) i ts ts' a.waiting (λ k below. others k (λ e. omega (arith, e, below))), gives.waiting);
     others = λ k past. others k (λ e. omega (arith, e, past));
     keeps = λ has. record {
-      made = λ below. changed (λ t. t.made) ts ts' i a.made b.made others made below (has.made (let up = up_made below in omega (arith, up, below)));
+      made = λ below. changed (λ t. t.made) ts ts' i a.made b.made others made below (has.made (let up = rise_up a.made made.more b.made (made.rise below) in omega (arith, up, below)));
       waiting = λ below. changed (λ t. t.waiting) ts ts' i a.waiting b.waiting others waiting below (has.waiting (let up = up_waiting below in omega (arith, up, below)));
     };
   },
@@ -269,9 +265,6 @@ all_but ts ts' i a b others gives = (
 
     waiting : GivesWithin (times_at i ts).waiting a.waiting (times_at i ts').waiting b.waiting
     waiting = within (times_at i ts).waiting a.waiting (times_at i ts').waiting b.waiting gives.waiting
-
-    up_made : b.made < last_number → a.made ≤ b.made
-    up_made below = rise_up a.made made.more b.made (made.rise below)
 
     up_waiting : b.waiting < last_number → a.waiting ≤ b.waiting
     up_waiting below = rise_up a.waiting waiting.more b.waiting (waiting.rise below)

@@ -22,7 +22,14 @@ use Rattle.wl_server.specs.PartStep.{Asked, Call, OfClient, PartStep, World}
 use Rattle.wl_server.specs.Server.{Seen, ServerState, Stored, client_at}
 use Rattle.wl_server.specs.Steps.{AsksForRoom, MakesNotes, NotesGoOn, NumbersClient, AnswersShared, RisesBySlot, StepOf, inserted_by, lacks_growth, offer_after}
 use Rattle.wl_server.proofs.CallSteps.Numbering.{all_none, numbered_set, set_in_time}
-use Rattle.wl_server.proofs.CallSteps.Slots.{Kind, did_at, each_missing, each_set, lacks_at, same_self, slot_of_client}
+use Rattle.wl_server.proofs.CallSteps.Slots.{Kind, did_at, each_set, lacks_at, same_self, slot_of_client}
+use Rattle.std.proofs.Common.{true≢false}
+use Rattle.wl_server.proofs.CallSteps.Slots.{compare}
+use Rattle.wl_server.proofs.CallSteps.Slots.{same_parts}
+use Rattle.wl_server.proofs.CallSteps.Slots.{same_serials}
+use Rattle.wl_server.proofs.CallSteps.Slots.{same_slots}
+use Rattle.wl_server.specs.Server.{notes_of}
+use Rattle.wl_server.specs.Server.{seen_as}
 
 -- a call that is about one client: nothing changes that all share, and no memory is wanted but for that client
 record IsOwn {T U G C : Type 0} (call : Call T U G C) : Type 0 where
@@ -46,9 +53,6 @@ is_own step.Cleanup answer = false
 is_own step.TakeNotes answer = false
 is_own s answer = not (lacks_growth (Asked s answer))
 
-own_of : {T U G C : Type 0} (s : Step T U G C) (answer : Reply T U) → is_own s answer ≡ true → IsOwn (Asked s answer)
-own_of s answer h = grind (arith, false≢true, lacks_growth)
-
 -- a server of these values
 abbrev pub held_by : {T U G C : Type 0} → List InterfaceRow → Store (KeptGlobal G) → ℕ → ℕ → ℕ → List (Option (Stored T U C)) → List (Note U) → NoteNumbers → ServerState T U G C
 held_by table globals last_global default_limit last_client clients notes numbers = record {
@@ -64,7 +68,7 @@ module _ {T U G C : Type 0} (w : World T G C) (before : ServerState T U G C) (s 
     (to : (id : ClientParts) (lacked : Bool) (did : List (Deed U)) (b a : Seen T U C) → OfClient (same_client target id) b (λ p q. R id p lacked did q) missing lacked did a
     → PartStep w id before.offer s answer b lacked did a) where
   own : IsOwn (Asked s answer)
-  own = own_of s answer is_one
+  own = grind (arith, false≢true, lacks_growth)
 
   abbrev with_clients : List (Option (Stored T U C)) → NoteNumbers → ServerState T U G C
   with_clients clients numbers = record before { clients = clients; numbers = numbers }
@@ -120,7 +124,7 @@ module _ {T U G C : Type 0} (w : World T G C) (before : ServerState T U G C) (s 
       room = own.room before;
       refused = (λ h. absurd (false≢true h), λ h. was_refused h);
       notes = own.notes before before (record { gathered = refl; times = all_none _ _; numbered = all });
-      each = λ id. to id _ _ _ _ (each_missing before.clients before.notes target R missing none is id);
+      each = λ id. to id _ _ _ _ (grind (arith, compare, same_parts, same_slots, same_serials, false≢true, same_self, seen_as, notes_of, true≢false, before.clients, before.notes));
     },
   )
     where

@@ -87,11 +87,6 @@ module _ {T U C : Type 0} where
 
   -- ---- a step of one client
 
-  as_other : (b : Bool) (id : ClientParts) (before after : Seen T U C) (R : Kind T U C) (missing : Type 0) (lacked : Bool) (did : List (Deed U))
-      → b ≡ false → after ≡ before
-      → OfClient b before (λ p q. R id p (lacks_at b lacked) (did_at b did) q) missing (lacks_at b lacked) (did_at b did) after
-  as_other h1 id before after h5 missing lacked did other same = grind (arith, true≢false)
-
   as_meant : (b : Bool) (id : ClientParts) (before after : Seen T U C) (R : Kind T U C) (missing : Type 0) (lacked : Bool) (did : List (Deed U))
       → b ≡ true → OnPart before (λ p q. R id p lacked did q) missing lacked did after
       → OfClient b before (λ p q. R id p (lacks_at b lacked) (did_at b did) q) missing (lacks_at b lacked) (did_at b did) after
@@ -127,8 +122,8 @@ module _ {T U C : Type 0} where
       elim (compare target id) [
         | Are slot serial ↦ subst (λ (i : ClientParts). DoneFor target R missing lacked did i (held_of notes clients i) (held_of notes (slice_set clients target.slot (Some s')) i))
             (same_parts target id slot serial) meant
-        | Slots slot ↦ grind (arith, as_other, same_client, same_slots, seen_as, notes_of, if_serial, option_map_or, get_set_other, other_of)
-        | Serials slot differ ↦ grind (arith, as_other, same_client, same_serials, seen_as, notes_of, client_absent, at_slot, after, serial')
+        | Slots slot ↦ grind (arith, true≢false, same_client, same_slots, seen_as, notes_of, if_serial, option_map_or, get_set_other, other_of)
+        | Serials slot differ ↦ grind (arith, true≢false, same_client, same_serials, seen_as, notes_of, client_absent, at_slot, after, serial')
       ]
     where
       after : slice_get (slice_set clients target.slot (Some s')) target.slot ≡ Some (Some s')
@@ -151,11 +146,6 @@ module _ {T U C : Type 0} where
 
   abbrev Missing : ClientParts → Kind T U C → Type 0 → ClientParts → Bool → Seen T U C → Type 0
   Missing target R missing id b held = OfClient b held (λ p q. R id p false [] q) missing false [] held
-
-  -- no client of that id is stored: so no client makes anything of it
-  pub each_missing : (clients : List (Option (Stored T U C))) (notes : List (Note U)) (target : ClientParts) (R : Kind T U C) (missing : Type 0)
-      → client_at target clients ≡ None → missing → (id : ClientParts) → Missing target R missing id (same_client target id) (held_of notes clients id)
-  each_missing clients notes target R missing none is id = grind (arith, compare, same_parts, same_slots, same_serials, false≢true, same_self, seen_as, notes_of, true≢false)
 
 -- ---- a client that is looked up
 

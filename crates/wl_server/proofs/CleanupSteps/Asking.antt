@@ -62,9 +62,7 @@ module _ {T U C : Type 0} where
     where
       at : (told : List (Happening U)) → to_gather waits (Some s) ≡ told → (0 < count_leaving waits clients → SomeClient clients (λ s. to_gather waits (Some s) ≢ []))
           → SomeClient (Some s ∷ clients) (λ s. to_gather waits (Some s) ≢ [])
-      at [] none rest =
-          let long : length (to_gather waits (Some s)) ≡ 0 = ap length none in
-          later (Some s) clients (rest (omega (arith, more, long)))
+      at [] none rest = later (Some s) clients (rest (omega (arith, more, ap length none)))
       at (h ∷ told) is rest = (0, s, refl, λ none. (grind (arith, sym is ∙ none)))
 
   one_is_killed : (n : ℕ) (clients : List (Option (Stored T U C))) → 0 < length (collected given_at n clients) → SomeClient clients (λ s. s.part.is_killed ≡ true)

@@ -78,9 +78,6 @@ module _ {T U G C : Type 0} (w : World T G C) (id : ClientParts) (offer : Offer 
       → CleanedBy (Some s) n lacked (staying (Some (emptied true s1))) n3
   cleaned_from s s1 lacked sent n n2 n3 flushes made gathered noted given = at s.part.is_killed refl flushes
     where
-      gathered_so : notes_in sent ≡ [] → s1.part.waiting ≡ s.part.waiting → n2 ≡ n ++ (s.made ++ s.part.waiting)
-      gathered_so quiet waits = grind (arith, append-nil, made)
-
       at : (b : Bool) → s.part.is_killed ≡ b
           → MatchBool b ((answer : Result (Unit {0}) IoFault) × FlushedTo w.sends s.part answer lacked sent s1.part) ((lacked ≡ false) × (sent ≡ []) × (s1.part ≡ s.part))
           → CleanedBy (Some s) n lacked (staying (Some (emptied true s1))) n3
@@ -88,7 +85,7 @@ module _ {T U G C : Type 0} (w : World T G C) (id : ClientParts) (offer : Offer 
           let killed1 : s1.part.is_killed ≡ true = ap (λ (p : Part T U C). p.is_killed) is ∙ killed in
           let quiet : notes_in sent ≡ [] = ap notes_in sends ∙ notes_of_sends es in
           subst (λ (b : Bool). CleanedBy (Some s) n lacked (if b then None else Some (emptied true s1)) n3) (sym killed1)
-          (killed_cleaned s link answer lacked sent n n2 n3 killed (es, link, by, lack, sends, refl) quiet (gathered_so quiet (ap (λ (p : Part T U C). p.waiting) is))
+          (killed_cleaned s link answer lacked sent n n2 n3 killed (es, link, by, lack, sends, refl) quiet (grind (arith, append-nil, made, ap (λ (p : Part T U C). p.waiting) is))
           (noted ∙ (ap (λ (b : Bool). n2 ++ (if b then ends_of id (entries s1.part.store.objects) else [])) killed1 ∙ ap (λ (p : Part T U C). n2 ++ ends_of id (entries p.store.objects)) is))
           (given ∙ (ap (λ (b : Bool). if b then (s1.part.link.transport ∷ []) else []) killed1 ∙ ap (λ (p : Part T U C). p.link.transport ∷ []) is)))
       at false live (not, none, same) =
@@ -96,12 +93,9 @@ module _ {T U G C : Type 0} (w : World T G C) (id : ClientParts) (offer : Offer 
           let quiet : notes_in sent ≡ [] = ap notes_in none in
           subst (λ (l : Bool). CleanedBy (Some s) n l (staying (Some (emptied true s1))) n3) (sym not)
           (subst (λ (b : Bool). CleanedBy (Some s) n false (if b then None else Some (emptied true s1)) n3) (sym live1)
-          (live_cleaned s (emptied true s1) n n2 n3 live (ap (λ (p : Part T U C). record p { waiting = [] }) same) refl (gathered_so quiet (ap (λ (p : Part T U C). p.waiting) same))
+          (live_cleaned s (emptied true s1) n n2 n3 live (ap (λ (p : Part T U C). record p { waiting = [] }) same) refl (grind (arith, append-nil, made, ap (λ (p : Part T U C). p.waiting) same))
           (noted ∙ ap (λ (b : Bool). n2 ++ (if b then ends_of id (entries s1.part.store.objects) else [])) live1)
           (given ∙ ap (λ (b : Bool). if b then (s1.part.link.transport ∷ []) else []) live1)))
-
-  ends_untimed : (x : Option (Stored T U C)) → ends_in id x ≡ ends_in id (option_map untimed x)
-  ends_untimed h1 = grind (arith)
 
   given_untimed : (x : Option (Stored T U C)) → given_in x ≡ given_in (option_map untimed x)
   given_untimed h1 = grind (arith)
@@ -120,7 +114,7 @@ module _ {T U G C : Type 0} (w : World T G C) (id : ClientParts) (offer : Offer 
       told1 = ap (λ (l : List (Happening U)). n2 ++ l) (sym none) ∙ told
 
       noted1 : n3 ≡ n2 ++ ends_in id (option_map (emptied true) x1)
-      noted1 = noted ∙ ap (λ (l : List (Happening U)). n2 ++ l) (ends_untimed x2) ∙ ap (λ (x : Option (Stored T U C)). n2 ++ ends_in id x) is
+      noted1 = noted ∙ ap (λ (l : List (Happening U)). n2 ++ l) (grind (arith)) ∙ ap (λ (x : Option (Stored T U C)). n2 ++ ends_in id x) is
 
       given1 : share_of id out.items ≡ given_in (option_map (emptied true) x1)
       given1 = given ∙ given_untimed x2 ∙ ap given_in is

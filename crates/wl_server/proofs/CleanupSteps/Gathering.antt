@@ -125,11 +125,11 @@ module _ {T U C : Type 0} (waits : Bool) where
             ∙ (ap (λ (l : List (Happening U)). l ++ to_gather waits (Some s'))
             (ap (notes_of id) is ∙ (notes_append id notes (map (note_of target) told)
             ∙ ap (λ (l : List (Happening U)). notes_of id notes ++ l) (notes_same target id told (is_same at same))))
-            ∙ (grind (arith, append_assoc, notes_of, told, to_gather, client_present, before)))
+            ∙ (grind (arith, append_assoc, notes_of, told, to_gather, client_present, here)))
         | Slots at ↦ told_if clients clients' notes notes' target told id (same_slots target id at) is
             (ap (λ (o : Option (Option (Stored T U C))). if_serial id.serial (option_map_or (λ s. s) o None)) (get_set_other clients slot id.slot (Some s') (other_of slot id.slot at)))
         | Serials at differ ↦ told_if clients clients' notes notes' target told id (same_serials target id at differ) is
-            (client_absent id clients' s' (after at) (rw serial' differ) ∙ sym (client_absent id clients s (before at) differ))
+            (client_absent id clients' s' (after at) (rw serial' differ) ∙ sym (client_absent id clients s (subst (λ (n : ℕ). slice_get clients n ≡ Some (Some s)) at here) differ))
       ]
     where
       told : List (Happening U)
@@ -143,9 +143,6 @@ module _ {T U C : Type 0} (waits : Bool) where
 
       serial' : s'.serial ≡ s.serial
       serial' = ap (λ (e : Stored T U C). e.serial) (same_Some (emptied waits s') (emptied waits s) rest)
-
-      before : slot ≡ id.slot → slice_get clients id.slot ≡ Some (Some s)
-      before at = subst (λ (n : ℕ). slice_get clients n ≡ Some (Some s)) at here
 
       after : slot ≡ id.slot → slice_get clients' id.slot ≡ Some (Some s')
       after at = subst (λ (n : ℕ). slice_get clients' n ≡ Some (Some s')) at (get_set_same clients slot (Some s) (Some s') here)

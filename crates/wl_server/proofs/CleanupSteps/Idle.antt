@@ -45,8 +45,5 @@ module _ {T U C : Type 0} where
   none_leaves n (None ∷ clients) none = ap (λ (l : List (Option (Stored T U C))). None ∷ l) (none_leaves (n + 1) clients none)
   none_leaves n (Some s ∷ clients) none = grind (arith, length-append, given_at, collected, live_one, id_in, all_staying, none_leaves (n + 1) clients)
 
-  pub none_given : (clients : List (Option (Stored T U C))) → length (collected given_at 0 clients) ≤ 0 → collected given_at 0 clients ≡ []
-  none_given clients none = nil_from_length (collected given_at 0 clients) (omega (arith, none))
-
   pub none_noted : (clients : List (Option (Stored T U C))) → length (collected given_at 0 clients) ≤ 0 → collected ends_at 0 clients ≡ []
   none_noted clients none = nil_from_length (collected ends_at 0 clients) (omega (arith, none_ends 0 clients none))

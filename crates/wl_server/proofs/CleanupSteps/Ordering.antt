@@ -183,9 +183,7 @@ module _ {T U C : Type 0} (waits : Bool) where
       at : (p.slot < length clients) ⊎ (length clients ≤ p.slot) → p.slot < length clients
       at (inl within) = within
       at (inr past) =
-          let some = next_some clients order i p here left in
-          let none : length (to_gather waits (stored_at p.slot clients)) ≡ 0 = ap (λ (o : Option (Stored T U C)). length (to_gather waits o)) (none_stored clients p.slot past) in
-          absurd (omega (arith, some, none))
+          absurd (omega (arith, next_some clients order i p here left, ap (λ (o : Option (Stored T U C)). length (to_gather waits o)) (none_stored clients p.slot past)))
 
   pub left_after : (clients : List (Option (Stored T U C))) (notes notes' : List (Note U)) (order : List NotePlace) (i : ℕ) (p : NotePlace) (x x' : Option (Stored T U C))
       → slice_get order i ≡ Some p → slice_get clients p.slot ≡ Some x → MovesNote waits p.slot x notes x' notes' → Left clients (drop i order)

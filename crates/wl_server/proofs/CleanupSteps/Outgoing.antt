@@ -83,9 +83,6 @@ module _ {T U C : Type 0} where
 
   -- ---- slot by slot
 
-  staying_stays : (x : Option (Stored T U C)) → staying (staying x) ≡ staying x
-  staying_stays x = grind (arith, staying)
-
   collected_rest : {A : Type 0} (give : ℕ → Option (Stored T U C) → List A) (n k : ℕ) (clients : List (Option (Stored T U C))) (x : Option (Stored T U C)) → slice_get clients k ≡ Some x
       → collected give n (drop k clients) ≡ give n x ++ collected give (n + 1) (drop (suc k) clients)
   collected_rest give n k [] x here = absurd (none-some x here)
@@ -117,19 +114,16 @@ module _ {T U C : Type 0} where
       → Leave slot start now notes notes' given given' → slice_get now slot ≡ Some x → x' ≡ staying x → notes'' ≡ notes' ++ ends_at slot x → given'' ≡ given' ++ given_at slot x
       → Leave (slot + 1) start (slice_set now slot x') notes notes'' given given''
   leave_one slot start now notes notes' notes'' given given' given'' x x' before here stays noted gave = record {
-    same = map_set staying now slot x x' here (ap staying stays ∙ staying_stays x) ∙ before.same;
+    same = map_set staying now slot x x' here (ap staying stays ∙ (grind (arith, staying))) ∙ before.same;
     rest = λ k above. get_set_other now slot k x' (λ e. absurd (omega (arith, above, e))) ∙ before.rest k (omega (arith, above));
-    left = λ k y below get. (grind (arith, same_Some, get_set_same, slice_get, slice_set, staying, staying_stays, other_of, get_set_other, k == slot));
+    left = λ k y below get. (grind (arith, same_Some, get_set_same, slice_get, slice_set, staying, other_of, get_set_other, k == slot));
     noted = ap (λ (l : List (Note U)). l ++ collected ends_at (slot + 1) (drop (slot + 1) start)) noted
         ∙ (append_assoc notes' (ends_at slot x) (collected ends_at (slot + 1) (drop (slot + 1) start))
-        ∙ (ap (λ (l : List (Note U)). notes' ++ l) (sym (collected_drop ends_at slot slot start x there)) ∙ before.noted));
+        ∙ (ap (λ (l : List (Note U)). notes' ++ l) (sym (collected_drop ends_at slot slot start x (sym (before.rest slot (omega arith)) ∙ here))) ∙ before.noted));
     gave = ap (λ (l : List (ClientParts × T)). l ++ collected given_at (slot + 1) (drop (slot + 1) start)) gave
         ∙ (append_assoc given' (given_at slot x) (collected given_at (slot + 1) (drop (slot + 1) start))
-        ∙ (ap (λ (l : List (ClientParts × T)). given' ++ l) (sym (collected_drop given_at slot slot start x there)) ∙ before.gave));
+        ∙ (ap (λ (l : List (ClientParts × T)). given' ++ l) (sym (collected_drop given_at slot slot start x (sym (before.rest slot (omega arith)) ∙ here))) ∙ before.gave));
   }
-    where
-      there : slice_get start slot ≡ Some x
-      there = sym (before.rest slot (omega arith)) ∙ here
 
   -- there is room for what the next one leaves
   pub leave_room : {A : Type 0} (give : ℕ → Option (Stored T U C) → List A) (slot : ℕ) (start : List (Option (Stored T U C))) (has has' : List A) (x : Option (Stored T U C)) (n n' room room' : ℕ)

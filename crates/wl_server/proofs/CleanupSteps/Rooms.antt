@@ -42,18 +42,12 @@ module _ {T U C : Type 0} where
   same_place : (sends : T → Queue → Result ℕ IoFault → T → Type 0) (slot : ℕ) (x y : Option (Stored T U C)) (lacked : Bool)
       → PlaceFeels (λ id p lacked did q. FlushesKilled sends p lacked did q) slot x lacked y → SamePlace slot x y
   same_place sends slot None y lacked (not, is) = subst (λ (o : Option (Stored T U C)). SamePlace slot None o) (sym is) (refl, refl, refl)
-  same_place sends slot (Some s) y lacked (s', (did, q, flushes, made), is) =
-      subst (λ (o : Option (Stored T U C)). SamePlace slot (Some s) o) (sym is)
-      (subst (λ (x : Stored T U C). SamePlace slot (Some s) (Some x)) (sym made) (grind (arith, no_times, append-nil, notes_in, notes_of_sends, with_link)))
+  same_place sends slot (Some s) y lacked (s', (did, q, flushes, made), is) = grind (arith, no_times, append-nil, notes_in, notes_of_sends, with_link)
 
   pub flushed_counts : (sends : T → Queue → Result ℕ IoFault → T → Type 0) (refused : Bool) (start now : List (Option (Stored T U C)))
       → AllFeel (λ id p lacked did q. FlushesKilled sends p lacked did q) refused (length start) start now → SameCounts 0 start now
-  flushed_counts sends refused start now all = same_counts 0 start now all.len (λ slot k x y at is is'. place slot k x y at is is')
-    where
-      place : (slot k : ℕ) (x y : Option (Stored T U C)) → slot ≡ 0 + k → slice_get start k ≡ Some x → slice_get now k ≡ Some y → SamePlace slot x y
-      place slot k x y at is is' =
-          let same : slot ≡ k = omega (arith, at) in
-          subst (λ (n : ℕ). SamePlace n x y) (sym same) (grind (arith, is_some, same_place, slice_get start k, slice_get now k, all.felt k (slice_get_within start k x is)))
+  flushed_counts sends refused start now all = same_counts 0 start now all.len (λ slot k x y at is is'. (let same : slot ≡ k = omega (arith, at) in
+      subst (λ (n : ℕ). SamePlace n x y) (sym same) (grind (arith, is_some, same_place, slice_get start k, slice_get now k, all.felt k (slice_get_within start k x is)))))
 
   -- ---- the places of notes
 

@@ -1,5 +1,5 @@
 -- The notes that were gathered are handed out, as a step of the server.
-use Rattle.std.proofs.Common.{◌≡◌, ◌≢◌, ℕ, ◌<◌, Bool, true, false, List, [], ◌++◌, map, Option, None, Ok, Err, Vec, refl, sym, ap, subst, ◌∙◌, append-nil, arith}
+use Rattle.std.proofs.Common.{◌≡◌, ◌≢◌, ◌<◌, Bool, true, false, List, [], ◌++◌, map, Option, Ok, Err, Vec, refl, sym, ap, subst, ◌∙◌, append-nil, arith}
 use mathlib.Core.Logic.{inl, inr}
 use Rattle.std.specs.Global.{Global}
 use Rattle.std.specs.Option.{option_map, option_map_or}
@@ -26,12 +26,8 @@ use Rattle.wl_server.proofs.CleanupSteps.Asking.{notes_ask}
 module _ {T U C : Type 0} where
   -- ---- what is left of each client
 
-  emptied_at : (waits : Bool) (serial : ℕ) (x : Option (Option (Stored T U C)))
-      → if_serial serial (option_map_or (λ s. s) (option_map (option_map (emptied waits)) x) None) ≡ option_map (emptied waits) (if_serial serial (option_map_or (λ s. s) x None))
-  emptied_at waits serial h3 = grind (arith, emptied)
-
   pub client_emptied : (waits : Bool) (clients : List (Option (Stored T U C))) (id : ClientParts) → client_at id (all_emptied waits clients) ≡ option_map (emptied waits) (client_at id clients)
-  client_emptied waits clients id = grind (arith, if_serial, option_map_or, slice_get-map, option_map, emptied, emptied_at, slice_get)
+  client_emptied waits clients id = grind (arith, if_serial, option_map_or, slice_get-map, option_map, emptied, slice_get)
 
   -- of each id the same client is left
   pub same_left : (waits : Bool) (clients : List (Option (Stored T U C))) (notes : List (Note U)) (clients' : List (Option (Stored T U C))) (notes' : List (Note U))
@@ -42,9 +38,6 @@ module _ {T U C : Type 0} where
   none_left waits clients all id = grind (arith, to_gather, if_serial)
 
   -- ---- the notes that were made
-
-  part_of_left : (x : Option (Stored T U C)) → option_map (λ s. s.part) (option_map (emptied false) x) ≡ option_map (λ s. s.part) x
-  part_of_left h1 = grind (arith)
 
   -- what is held of the id, once all notes are gathered and taken
   each_taken : {G : Type 0} (w : World T G C) (offer : Offer G) (clients : List (Option (Stored T U C))) (notes : List (Note U)) (clients' : List (Option (Stored T U C))) (out : Vec (Note U) Global)
@@ -60,8 +53,8 @@ module _ {T U C : Type 0} where
       told = grind (arith, append-nil, notes_of, none, client_at)
 
       parts : option_map (λ s. s.part) (client_at id clients') ≡ option_map (λ s. s.part) (client_at id clients)
-      parts = sym (part_of_left (client_at id clients'))
-          ∙ (ap (option_map (λ (s : Stored T U C). s.part)) (same_left false clients notes clients' out.items by id) ∙ part_of_left (client_at id clients))
+      parts = sym (grind (arith, client_at id clients'))
+          ∙ (ap (option_map (λ (s : Stored T U C). s.part)) (same_left false clients notes clients' out.items by id) ∙ (grind (arith, client_at id clients)))
 
       held : seen_as [] (client_at id clients') ≡ record { part = option_map (λ s. s.part) (client_at id clients); made = [] }
       held = grind (arith, option_map_or, client_at, parts, option_map, append-nil, none)

@@ -1,7 +1,7 @@
 -- How often calls receive from a client: only readings do, and each at most as often as it is allowed.
 --
 -- A call that does not read a client is the same over a transport that never receives, and over that no base move does.
-use Rattle.std.proofs.Common.{◌≡◌, ℕ, ◌+◌, ◌≤◌, Bool, false, List, [], ◌∷◌, ◌++◌, append_assoc, append-nil, length, Option, None, Some, Result, Ok, Err, MatchBool, refl, ap, ◌∙◌, true≢false, arith}
+use Rattle.std.proofs.Common.{◌≡◌, ℕ, ◌+◌, ◌≤◌, Bool, false, List, [], ◌∷◌, ◌++◌, append_assoc, append-nil, length, Option, None, Some, Result, Ok, Err, refl, ap, ◌∙◌, true≢false, arith}
 use Rattle.wl_wire.specs.declared.error.IoFault.{IoFault}
 use Rattle.wl_link.proofs.Calls.Branches.{either_bool, either_option, either_result}
 use Rattle.wl_link.specs.Exchange.{Queue}
@@ -11,7 +11,6 @@ use Rattle.wl_server.specs.declared.error.ActionError.{ActionError}
 use Rattle.wl_server.specs.declared.error.FinishError.{FinishError}
 use Rattle.wl_server.specs.declared.reading.action.Action.{Action}
 use Rattle.wl_server.specs.declared.reading.action.Reading.{Reading}
-use Rattle.wl_server.specs.declared.runs.step.Reply.{Reply}
 use Rattle.wl_server.specs.declared.runs.step.Reply.TheVariants as reply
 use Rattle.wl_server.specs.declared.runs.step.Step.TheVariants as step
 use Rattle.wl_server.specs.Backend.{BackendState}
@@ -21,7 +20,7 @@ use Rattle.wl_server.specs.Dispatch.{Answering, EndsDispatch, Handles, Last, Rou
 use Rattle.wl_server.specs.Globals.{Offer}
 use Rattle.wl_server.specs.Ids.{ClientParts, same_client}
 use Rattle.wl_server.specs.Part.{Part}
-use Rattle.wl_server.specs.PartStep.{Asked, Call, PartCall, ReadsFor, World, around}
+use Rattle.wl_server.specs.PartStep.{Asked, Call, PartCall, World, around}
 use Rattle.wl_server.specs.Reached.{AllSpare}
 use Rattle.wl_server.specs.Reading.{Around, NextAction, action_content, new_reading, server}
 use Rattle.wl_server.specs.Runs.{Leads}
@@ -73,21 +72,11 @@ module _ {T U G C : Type 0} (sends : T → Queue → Result ℕ IoFault → T �
 -- ---- a call
 
 module _ {T U G C : Type 0} (w : World T G C) (id : ClientParts) (offer : Offer G) (before after : Seen T U C) (lacked : Bool) (did : List (Deed U)) where
-  -- one that may read this client
-  reads_bounded : (target : ClientParts) (r : Reading) (answer : Result Handed ActionError) (r' : Reading) → ReadsFor w id offer target r answer r' before lacked did after
-      → MatchBool (same_client target id) (receives_in did + r'.turns_left ≤ r.turns_left) (receives_in did ≡ 0)
-  reads_bounded target r answer r' h = grind (arith, same_client, receives_in, either_option, around, part_bounded)
-
-  of_reply : (target : ClientParts) (reading r' : Reading) (r : Result Action ActionError) (answer : Reply T U) → answer ≡ reply.NextActionWithin r r'
-      → MatchBool (same_client target id) (receives_in did + r'.turns_left ≤ reading.turns_left) (receives_in did ≡ 0)
-      → KeepsTo {T = T} {U = U} {G = G} {C = C} id (Asked (step.NextActionWithin target reading) answer) (receives_in did)
-  of_reply target reading r' r answer is h = grind (arith, receives_in)
-
   nothing : (call : Call T U G C) → reads_of id call ≡ false → PartCall w id offer call before lacked did after → receives_in did ≡ 0
   nothing call other h = ap length (call_quiet w id offer before after lacked did call other h)
 
   keeps_to : (call : Call T U G C) → PartCall w id offer call before lacked did after → KeepsTo id call (receives_in did)
-  keeps_to call h1 = grind (arith, same_client, receives_in, reads_bounded, new_reading, action_content, of_reply, nothing, either_option, around, part_bounded, length, call_quiet)
+  keeps_to call h1 = grind (arith, same_client, receives_in, either_option, around, part_bounded, new_reading, action_content, nothing, length, call_quiet)
 
 -- so each call does of each client
 pub each_bounded : {T U G C : Type 0} (w : World T G C) (before after : ServerState T U G C) (e : Entry T U G C) → OneStep w before e after → EachIsBounded e

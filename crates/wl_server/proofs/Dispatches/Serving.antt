@@ -15,7 +15,7 @@ use Rattle.wl_server.specs.declared.runs.step.Reply.TheVariants as reply
 use Rattle.wl_server.specs.declared.runs.step.Step.{Step}
 use Rattle.wl_server.specs.declared.runs.step.Step.TheVariants as step
 use Rattle.wl_server.specs.Backend.{BackendState, Calls}
-use Rattle.wl_server.specs.Dispatch.{Answering, Answers, AreCut, DispatchesAll, DispatchesClient, EndsDispatch, Handles, Last, IsDispatched, EachIsDispatched, StayAccountedFor, Round, Rounds, RoundsEnd, after_cleanup, dispatched, fault_of_end, fault_of_reading, more, no_action, none, not_ended, refusal_in, total_with}
+use Rattle.wl_server.specs.Dispatch.{Answering, Answers, DispatchesAll, DispatchesClient, EndsDispatch, Handles, Last, IsDispatched, EachIsDispatched, StayAccountedFor, Round, Rounds, RoundsEnd, after_cleanup, dispatched, fault_of_end, fault_of_reading, more, no_action, none, not_ended, refusal_in, total_with}
 use Rattle.wl_server.specs.Ids.{ClientParts}
 use Rattle.wl_server.specs.Inside.Dispatching.{CleansUp, Fewer, RoundsSoFar, ClientsSoFar, MakesAllRounds, MakesRound, MakesRounds, waiting_of}
 use Rattle.wl_server.specs.PartStep.{World}
@@ -287,9 +287,6 @@ module _ {H T U G C : Type 0} (w : World T G C) (answers : Answering H T U G C) 
 -- ---- its end
 
 module _ {T U G C : Type 0} (w : World T G C) where
-  cuts : (before after : ServerState T U G C) (run : List (Entry T U G C)) → AreCut w before run after
-  cuts before after run earlier later e found left is led one leads = histories_cut w found left e.call e refl one
-
   stay_accounted : IsWithinOffer w.sends → (before after : ServerState T U G C) (run : List (Entry T U G C)) → Leads w before run after → StayAccountedFor w before run after
   stay_accounted within before after run leads table earlier led =
       let longer = join_runs w (new_server table) before after earlier run led leads in (longer, is_accounted_for w within table (earlier ++ run) after longer)
@@ -312,7 +309,7 @@ module _ {T U G C : Type 0} (w : World T G C) where
         refused = ends.refused ∙ ap (λ (b : Bool). b || ends.cleanup.refused) refused;
         leads = whole;
         accounted = λ within. stay_accounted within before after.server (calls ++ (ends.cleanup ∷ [])) whole;
-        cut = cuts before after.server (calls ++ (ends.cleanup ∷ []));
+        cut = λ earlier later e found left is led one leads. histories_cut w found left e.call e refl one;
       }
 
 module _ {H T U G C : Type 0} (w : World T G C) (answers : Answering H T U G C) where

@@ -215,16 +215,7 @@ module _ {T U G C : Type 0} (w : World T G C) (id : ClientParts) where
         where
           at : (lacked : Bool) (did : List (Deed U)) → ReadsFor w id before.server.offer id r (Ok (handed a)) r' (seen id before.server) lacked did (seen id found.server)
               → Fewer id r before.server r' found.server
-          at lacked did reads =
-              elim (either_option (seen id before.server).part (own_step (same_client id id) (seen id before.server) _ _ lacked did (seen id found.server) (same_self id) reads)) [
-                | inl (none, ((is, same), nothing_felt)) ↦ absurd cc
-                | inr (p, there, (q, next, same)) ↦ of_part p q there (ap (λ (s : Seen T U C). waits s) same) (part_less before.server.offer r r' p q (handed a) lacked did next)
-              ]
-            where
-              of_part : (p q : Part T U C) → (seen id before.server).part ≡ Some p → waiting_of id found.server ≡ length q.link.incoming.bytes
-                  → (r'.turns_left < r.turns_left) ⊎ ((r'.turns_left ≡ r.turns_left) × (length q.link.incoming.bytes < length p.link.incoming.bytes))
-                  → Fewer id r before.server r' found.server
-              of_part p q there now h5 = grind (arith, waiting_of, length, waits_in)
+          at lacked did reads = grind (arith, either_option, seen, own_step, same_client, same_self, waits, part_less, handed, waiting_of, length, waits_in)
 
   -- a round whose end was accepted leaves less to do
   pub round_fewer : {H : Type 0} (answers : Answering H T U G C) (h h' : H) (r r' : Reading) (before found : BackendState T U G C) (after : ServerState T U G C) (a : Action)

@@ -16,7 +16,7 @@ use Rattle.wl_server.specs.Inside.Client.{Does}
 use Rattle.wl_server.specs.Inside.Creation.{LacksSerial}
 use Rattle.wl_server.specs.Deeds.{Deed}
 use Rattle.wl_server.specs.Ids.{ClientParts, IdParts}
-use Rattle.wl_server.specs.Objects.{Creates, new_object, with_new_at}
+use Rattle.wl_server.specs.Objects.{Creates}
 use Rattle.wl_server.specs.Part.{Part, fresh_object, last_possible_serial}
 use Rattle.wl_server.specs.Server.{Stored, no_times}
 use Rattle.wl_server.proofs.CallSteps.Doing.{does_quietly}
@@ -74,14 +74,11 @@ module _ {T U C : Type 0} (table : List InterfaceRow) (client : ClientParts) (s 
     created n serial x store next is (least, put) =
         does_quietly s (Created (Ok (id serial))) (with_both store serial) (
           refl,
-          grind (arith, known, slice_get, with_serial, last_possible_serial, serial_left, id, becomes),
+          grind (arith, known, slice_get, with_serial, last_possible_serial, serial_left, id, stored, is, next),
         )
       where
         id : ℕ → IdParts
         id k = record { number = n; serial = k; client = client; interface = i }
-
-        becomes : with_both store serial ≡ with_new_at s.part n (new_object s.part i version u)
-        becomes = grind (arith, stored, is, next)
 
     pub exhausted : (e : NewError) (x : Object (Kept U)) (store : Store (Kept U)) → e ≡ new.IdsExhausted → InsertsNew server_range s.part.store x (Err e) store
         → Refused create.IdsExhausted store

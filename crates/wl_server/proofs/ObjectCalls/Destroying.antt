@@ -1,11 +1,11 @@
 -- How what was done to an object that the program destroys is its destruction.
-use Rattle.std.proofs.Common.{◌≡◌, ◌∙◌, ℕ, Bool, true, false, eqb, cond, List, [], ◌++◌, append-nil, Option, None, Some, is_some, IfSome, Result, Ok, Err, MatchResult, refl, sym, ap, subst, inl, inr, arith}
+use Rattle.std.proofs.Common.{◌≡◌, ◌∙◌, ℕ, true, false, eqb, List, [], ◌++◌, append-nil, Option, None, Some, is_some, IfSome, Result, Ok, Err, MatchResult, refl, sym, ap, subst, inl, inr, arith}
 use Rattle.std.proofs.lemmas.Bool.{false≢true}
 use Rattle.wl_wire.specs.declared.error.IoFault.{IoFault}
 use Rattle.wl_wire.specs.declared.error.IoFault.TheVariants as fault
 use Rattle.wl_link.specs.declared.object.Object.{Object}
 use Rattle.wl_link.specs.Exchange.{Queue}
-use Rattle.wl_link.specs.Identity.{Id, named_in}
+use Rattle.wl_link.specs.Identity.{Id}
 use Rattle.wl_link.specs.Link.{LinkState}
 use Rattle.wl_link.specs.Puts.{lacks_memory}
 use Rattle.wl_link.specs.Reader.{Verdict, came_to}
@@ -32,12 +32,9 @@ use Rattle.wl_server.proofs.ObjectCalls.Posting.{arrived, kills_is, linked}
 -- ---- what an id names
 
 module _ {U : Type 0} where
-  not_null : (b : Bool) (id : Id) (h : Option (Object (Kept U))) (x : Object (Kept U)) → cond b None (named_in serial_of id h) ≡ Some x → h ≡ Some x
-  not_null h1 id h x e = grind (arith, eqb, serial_of)
-
   -- an object that an id names is the one at the id's number
   pub named_is_held : (store : Store (Kept U)) (id : IdParts) (x : Object (Kept U)) → named store id ≡ Some x → held store id.number ≡ Some x
-  named_is_held store id x e = not_null (eqb id.number 0) (id_of id) (held store id.number) x e
+  named_is_held store id x e = grind (arith, eqb, serial_of, eqb id.number 0, id_of id, held store id.number)
 
   -- nothing that an object leaves behind is a note
   pub leaves_no_note : {C : Type 0} (id : IdParts) (u : Option U) (c : Core U C) → told_notes (told_of_removed id u c) ≡ []

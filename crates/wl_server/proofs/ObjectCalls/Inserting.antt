@@ -90,10 +90,6 @@ module _ {T U G C : Type 0} (w : World T G C) where
   )
   as_new id offer transport client_data gathered link false x y s is fresh none some new = absurd (false≢true is)
 
-  as_unfelt : (id : ClientParts) (offer : Offer G) (transport : T) (client_data : C) (b : Bool) (before after : Seen T U C) → b ≡ false → after ≡ before
-      → InsertedAt id offer transport client_data b before after
-  as_unfelt id offer transport client_data h5 before after is same = grind (arith, true≢false)
-
   each_inserted : (offer : Offer G) (transport : T) (client_data : C) (clients clients' : List (Option (Stored T U C))) (notes : List (Note U)) (new : ClientParts) (s : Stored T U C)
       → stored_at new.slot clients ≡ None → IsPut clients new.slot s clients' → IsInserted new.serial transport (Some offer.default_limit) client_data s → (id : ClientParts)
       → InsertedAt id offer transport client_data (same_client new id) (held_of notes clients id) (held_of notes clients' id)
@@ -102,13 +98,10 @@ module _ {T U G C : Type 0} (w : World T G C) where
         | Are slot serial ↦ subst (λ (i : ClientParts). InsertedAt i offer transport client_data (same_client new i) (held_of notes clients i) (held_of notes clients' i))
             (same_parts new id slot serial)
             (as_new new offer transport client_data (notes_of new notes) link (same_client new new) (client_at new clients) (client_at new clients') s (same_self new) fresh
-            (ap (if_serial new.serial) free) (client_present new clients' s here serial') is)
-        | Slots slot ↦ grind (arith, as_unfelt, same_client, same_slots, seen_as, notes_of, if_serial, option_map_or, other_of)
-        | Serials slot differ ↦ grind (arith, as_unfelt, same_client, same_serials, seen_as, notes_of, client_absent, slice_get, serial', if_serial, stored_at)
+            (ap (if_serial new.serial) free) (client_present new clients' s here (ap (λ (x : Stored T U C). x.serial) is)) is)
+        | Slots slot ↦ grind (arith, true≢false, same_client, same_slots, seen_as, notes_of, if_serial, option_map_or, other_of)
+        | Serials slot differ ↦ grind (arith, true≢false, same_client, same_serials, seen_as, notes_of, client_absent, slice_get, is, if_serial, stored_at)
       ]
-    where
-      serial' : s.serial ≡ new.serial
-      serial' = ap (λ (x : Stored T U C). x.serial) is
 
   -- ---- the step
 

@@ -1,5 +1,5 @@
 -- What an event that is sent does, from the steps of its sending.
-use Rattle.std.proofs.Common.{◌≡◌, ◌∙◌, ℕ, Bool, true, false, List, [], ◌∷◌, ◌++◌, append-nil, map, Option, None, Some, IfSome, Result, Ok, Err, MatchBool, MatchResult, refl, sym, ap, subst, inl, inr, arith}
+use Rattle.std.proofs.Common.{◌≡◌, ◌∙◌, ℕ, Bool, true, false, List, [], ◌∷◌, ◌++◌, append-nil, map, Option, Some, IfSome, Result, Ok, Err, MatchBool, MatchResult, refl, sym, ap, subst, inl, inr, arith}
 use Rattle.std.proofs.lemmas.Bool.{false≢true}
 use Rattle.wl_wire.specs.declared.error.IoFault.{IoFault}
 use Rattle.wl_wire.specs.declared.argument.Argument.{Argument}
@@ -111,9 +111,6 @@ module _ {T U C : Type 0} (client : ClientParts) (m : SessionMessage) (sender : 
         c : Core U C
         c = (ends_sender client (core_of s.part) m sender ends).core
 
-        none_ended : (ends : Bool) → (ends_sender client (core_of s.part) m sender ends).core.ended ≡ None
-        none_ended h1 = grind (arith)
-
         after-is : (did : List (Deed U)) → notes_in did ≡ notes_in (end_deeds (closing c told).ended)
             → untimed s2 ≡ record { serial = s.serial; part = part_of (record { core = closing c told; link = after }); made = s.made ++ notes_in did; times = no_times }
         after-is did notes =
@@ -123,7 +120,6 @@ module _ {T U C : Type 0} (client : ClientParts) (m : SessionMessage) (sender : 
               closed_down,
               s.serial,
               s.made,
-              none_ended ends,
               subst (λ (x : Stored T U C). MatchResult told (λ _. untimed s2 ≡ x) (λ _. Does x (λ p did q. Kills p ConnectionClosed did q) s2))
                   (ap (λ (x : Stored T U C). let y : Stored T U C = record x { part = with_link x.part after } in y) ended ∙ after_end_is s ends after) (told_untimed _ told s2 (record s1 { part = with_link s1.part after }) closed),
             )

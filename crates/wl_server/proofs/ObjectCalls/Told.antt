@@ -30,8 +30,7 @@ module _ {T U C : Type 0} where
       → refused ≡ lacks_memory wrote → MatchResult wrote (λ _. told ≡ flushed) (λ _. Does flushed (λ p did q. Kills p ConnectionClosed did q) told)
       → Does told (λ p did q. Kills p reason did q) after → TellsOrLacks sends before n code text (refused || lacked) after.part.link
   told_exactly sends before put flushed told after reason n code text wrote es refused lacked wrote-is flushes refused-is tells kills =
-      let same : after.part.link ≡ flushed.part.link = kills_link told after reason kills ∙ (grind (arith, kills_link)) in
-      subst (λ (l : LinkState T). TellsOrLacks sends before n code text (refused || lacked) l) (sym same)
+      subst (λ (l : LinkState T). TellsOrLacks sends before n code text (refused || lacked) l) (sym (kills_link told after reason kills ∙ (grind (arith, kills_link))))
       (inl (wrote, put.part.link, es, lacked, wrote-is, flushes, ap (λ (b : Bool). b || lacked) refused-is))
 
   -- there was no memory for the texts

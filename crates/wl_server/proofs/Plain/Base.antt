@@ -110,13 +110,7 @@ module _ {T U G C : Type 0} {w : World T G C} {before after : BackendState T U G
   -- to some client, if not for what the call makes of its own
   pub some_lacks : lacks_growth (Asked s answer) ≡ false → after.refused ≡ true
       → (id : ClientParts) × (did : List (Deed U)) × PartStep w id before.server.offer s answer (seen id before.server) true did (seen id after.server)
-  some_lacks growth known =
-      let (e, is, refused, by) = call.step in
-      elim (by.refused.0 (refused ∙ known)) [
-        | inl grows ↦ absurd (true≢false (sym (subst (λ (c : Call T U G C). lacks_growth c ≡ true) is grows) ∙ growth))
-        | inr (id, lacks) ↦
-            (id, e.did id, subst (λ (b : Bool). PartStep w id before.server.offer s answer (seen id before.server) b (e.did id) (seen id after.server)) lacks (each_in id e is by))
-      ]
+  some_lacks growth known = grind (arith, true≢false, lacks_growth, seen, each_in)
 
   -- to this client
   pub refused_to : (id : ClientParts)

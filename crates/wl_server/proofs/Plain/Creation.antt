@@ -12,7 +12,6 @@ use Rattle.wl_link.specs.Store.{IsLeastAbsent, held, server_range, stored}
 use Rattle.wl_server.specs.declared.error.CreateError.{CreateError}
 use Rattle.wl_server.specs.declared.error.CreateError.TheVariants as create
 use Rattle.wl_server.specs.declared.objects.Kept.{Kept}
-use Rattle.wl_server.specs.declared.runs.step.Reply.{Reply}
 use Rattle.wl_server.specs.declared.runs.step.Reply.TheVariants as reply
 use Rattle.wl_server.specs.declared.runs.step.Step.TheVariants as step
 use Rattle.wl_server.specs.Backend.{BackendState, Calls}
@@ -94,11 +93,8 @@ module _ {T U G C : Type 0} {w : World T G C} {before after : BackendState T U G
       let (lacked, did, (r, is, h)) = of_each call id in (
         lacked,
         did,
-        subst (λ (a : Result IdParts CreateError). Of before.server.offer.table target id i version u a (seen id before.server) lacked did (seen id after.server)) (sym (inside r is)) h,
+        subst (λ (a : Result IdParts CreateError). Of before.server.offer.table target id i version u a (seen id before.server) lacked did (seen id after.server)) (sym (cc)) h,
       )
-    where
-      inside : (r : Result IdParts CreateError) → ◌≡◌ {A = Reply T U} (reply.CreateObject answer) (reply.CreateObject r) → answer ≡ r
-      inside r is = cc
 
   created_as : (answer : Result IdParts CreateError) → Calls w before (step.CreateObject target i version u) (reply.CreateObject answer) after
       → CreatedAs before target i version u answer after
@@ -129,9 +125,6 @@ module _ {T U G C : Type 0} {w : World T G C} {before after : BackendState T U G
     globals = offer_of call;
     memory = (
         let (did, (r, is, h)) = of_own call target refl (λ other lacked did differ (r, is, h). (when_false _ (same_client target other) differ h).0) in
-        grind (arith, either_option, seen, own, lacks_create, after.refused, inside r is)
+        grind (arith, either_option, seen, own, lacks_create, after.refused)
         );
   }
-    where
-      inside : (r : Result IdParts CreateError) → ◌≡◌ {A = Reply T U} (reply.CreateObject answer) (reply.CreateObject r) → r ≡ answer
-      inside r is = cc

@@ -31,9 +31,6 @@ use Rattle.wl_server.proofs.Plain.Verdicts.{told}
 abbrev Refused : Result (Unit {0}) DestroyError → Type 0
 Refused answer = answer ≡ Err destroy.InvalidId
 
-ok_refused : {answer : Result (Unit {0}) DestroyError} → answer ≡ Ok tt → Refused answer → ⊥
-ok_refused ok refused = absurd cc
-
 starved_refused : {answer : Result (Unit {0}) DestroyError} → answer ≡ Err destroy.OutOfMemory → Refused answer → ⊥
 starved_refused starved refused = absurd cc
 
@@ -100,10 +97,10 @@ module _ {T U C : Type 0} (sends : T → Queue → Result ℕ IoFault → T → 
       → (x : Object (Kept U)) × (named_of s o ≡ Some x) × (named_of t o ≡ None) × (waiting_of t.part ≡ waiting_of s.part ++ note_of_end o.client o.number x)
   destroyed_ok h =
       elim (either_option s.part (own o.client s (Does sends o o.client (Ok tt) lacked did) (Refused (Ok tt)) lacked did t h)) [
-        | inl (none, (is, rest)) ↦ absurd (ok_refused refl is)
+        | inl (none, (is, rest)) ↦ absurd (absurd cc)
         | inr (p, there, (q, r, same)) ↦
             elim (either_option (destroyable p o) r) [
-              | inl (unknown, (is, calm, nothing, stays)) ↦ absurd (ok_refused refl is)
+              | inl (unknown, (is, calm, nothing, stays)) ↦ absurd (absurd cc)
               | inr (x, is, (answered, tells)) ↦ (
                 x,
                 in_part (λ p. named p.store o) p there ∙ destroyable_named p o x is,

@@ -27,7 +27,7 @@ use Rattle.wl_server.specs.declared.runs.step.Step.TheVariants as step
 use Rattle.wl_server.specs.Backend.{BackendState}
 use Rattle.wl_server.specs.Deeds.{Deed, Handed}
 use Rattle.wl_server.specs.Dispatch.{Answering, Answers, DispatchesAll, DispatchesClient, Handles, Last, Rounds, after_cleanup, cleaned, dispatched, fault_of_end, fault_of_reading, more as one_round, no_action, none as no_round, not_ended, refusal_in}
-use Rattle.wl_server.specs.Finish.{FinishesBind, FinishesRequest, refusal}
+use Rattle.wl_server.specs.Finish.{FinishesBind, refusal}
 use Rattle.wl_server.specs.Globals.{Offer}
 use Rattle.wl_server.specs.Inside.Finishing.{lacks_finish}
 use Rattle.wl_server.specs.Ids.{ClientParts}
@@ -258,17 +258,13 @@ module _ {H T U G C : Type 0} (w : World T G C) (answers : Answering H T U G C) 
       inside given left is = cc
 
   module _ (why : FinishError) (is_not : why ≡ finish.OutOfMemory → ⊥) where
-    request_same : (p q : Part T U C) (u : Option U) (r : Result (Unit {0}) (FinishRefused (Option U))) (lacked : Bool) (did : List (Deed U))
-        → Some why ≡ refusal_in {T = T} (reply.FinishRequest r) → FinishesRequest w.sends id p u r lacked did q → q ≡ p
-    request_same p q u r lacked did so does = grind (arith, either_option, refusal, refusal_in)
-
     module _ (s s' : ServerState T U G C) (e : Entry T U G C) (by : OneStep w s e s') (answer : Reply T U) (so : Some why ≡ refusal_in answer) where
       bind_stays : (u : U) → e.call ≡ Asked (step.FinishBind id u) answer → (seen id s').part ≡ (seen id s).part
       bind_stays u is = grind (arith, seen, either_option, own, refusal_in)
 
     end_stays : {h h' : H} {before : BackendState T U G C} {a : Action} {run : List (Entry T U G C)} {lacked : Bool} {after : ServerState T U G C}
         → (x : Handles w answers id h before a run lacked (Some why) h' after) → (seen id after).part ≡ (seen id x.left.server).part
-    end_stays {h} {h'} {before} {a} {after = after} x = grind (arith, seen, either_option, own, request_same, refusal_in, bind_stays)
+    end_stays {h} {h'} {before} {a} {after = after} x = grind (arith, seen, either_option, own, refusal, refusal_in, bind_stays)
 
   born_rounds : {h h' : H} {r r' : Reading} {s s' : ServerState T U G C} {run : List (Entry T U G C)} {lacked : Bool}
       → Rounds w answers id h r s run lacked h' r' s' → id.serial ≤ s.last_client → id.serial ≤ s'.last_client
@@ -282,12 +278,11 @@ module _ {H T U G C : Type 0} (w : World T G C) (answers : Answering H T U G C) 
   last_shut {r = r} {r' = r'} {s = s} {s' = s'} (no_action e error by run_is call_is lacked_is f_is same) born so =
       read_shut s.offer.table id (seen id s) (seen id s') error (read_as r r' s s' e (Err error) by run_is) (sym f_is ∙ so)
   last_shut {r = r} {r' = r'} {s = s} {s' = s'} (not_ended why round f_is) born so =
-      let read = round.reads.last in
       let stands = read_stands s.offer.table id (seen id s) (seen id round.found.server) _
       (read_as r r' s round.found.server round.read (Ok round.handed) round.reads round.read_is) in
       stands_shut (seen id s').part
       (subst Stands (sym (end_stays why is_not round.handles))
-      (run_stands w id round.found.server round.handles.left.server round.handles.calls (omega (arith, born, read)) round.handles.leads round.handles.spared stands))
+      (run_stands w id round.found.server round.handles.left.server round.handles.calls (omega (arith, born, round.reads.last)) round.handles.leads round.handles.spared stands))
     where
       is_not : why ≡ finish.OutOfMemory → ⊥
       is_not is = absurd cc
@@ -356,8 +351,7 @@ module _ {H T U G C : Type 0} (w : World T G C) (answers : Answering H T U G C) 
       → DispatchOfOneLeaves answers before id result after
   dispatch_leaves h h' before result after (calls, lacked, answer, mid, rounds, ends) =
       let c = of_client w mid after ends.cleanup ends.out ends.cleans ends.cleanup_is id in
-      let was : EndedBy rounds.fault (seen id mid).part = last_leaves rounds.rounds_end.end in
-      at c.r c.answer_is c.cleans was
+      at c.r c.answer_is c.cleans (last_leaves rounds.rounds_end.end)
     where
       result_as : (r : Result (Vec (ClientParts × T) Global) OutOfMemory) → ends.out ≡ reply.Cleanup r → result ≡ after_cleanup r (dispatched rounds.fault rounds.left.read)
       result_as r is = ends.result_is ∙ ap (λ (o : Reply T U). cleaned o answer) is ∙ ap (λ (a : Result ℕ IoFault). after_cleanup r a) rounds.answer_is
@@ -417,8 +411,4 @@ module _ {H T U G C : Type 0} (w : World T G C) (answers : Answering H T U G C) 
       at : (r : Result (Vec (ClientParts × T) Global) OutOfMemory) → ends.out ≡ reply.Cleanup r → DispatchOfSeveralLeaves answers before result after
       at (Ok out) is = subst (λ (a : Result ℕ IoFault). DispatchOfSeveralLeaves answers before a after) (sym (result_as (Ok out) is))
           (record { all = all_live w mid after ends.cleanup ends.out ends.cleans ends.cleanup_is out is; globals = kept })
-      at (Err l) is = subst (λ (a : Result ℕ IoFault). DispatchOfSeveralLeaves answers before a after) (sym (result_as (Err l) is))
-          (record {
-            all = grind (arith, or_then, refused_as);
-            globals = kept;
-          })
+      at (Err l) is = grind (arith, result_as, or_then, refused_as, kept, cleaned, lacks_growth, dispatches_keep)

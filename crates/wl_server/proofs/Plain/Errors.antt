@@ -116,8 +116,6 @@ module _ {T U G C : Type 0} {w : World T G C} {before after : BackendState T U G
   }
     where
       by_number : (b : Bool) → (id.number == 0) ≡ b → MatchBool b (IsUnchanged before after) (ErrorPostedAs before id code text after)
-      by_number true null =
-          unchanged call refl refl
-          (λ other. let (lacked, did, (is, h)) = of_each call other in null_same w.sends before.server.offer.table id code text null (same_client id.client other) _ _ lacked did h)
+      by_number true null = grind (arith, unchanged, of_each, null_same, same_client, offer_of, either_option, when_true, nothing_new, notes_in, true≢false, append-nil)
       by_number false some =
           let (lacked, did, (is, h)) = of_each call id.client in ended w.sends before.server.offer.table id code text some id.client _ _ lacked did h

@@ -9,7 +9,7 @@ use Rattle.wl_server.specs.declared.error.EventError.{EventError}
 use Rattle.wl_server.specs.declared.error.EventError.TheVariants as refused
 use Rattle.wl_server.specs.declared.objects.Kept.{Kept}
 use Rattle.wl_server.specs.Deeds.{Deed}
-use Rattle.wl_server.specs.Events.{SendsEvent, SendsGranted, SessionMessage, ends_closed, ends_sender, event_check}
+use Rattle.wl_server.specs.Events.{SendsEvent, SessionMessage, ends_closed, ends_sender, event_check}
 use Rattle.wl_server.specs.Ids.{ClientParts}
 use Rattle.wl_server.specs.Part.{Part}
 use Rattle.wl_server.specs.Telling.{core_of}
@@ -28,10 +28,6 @@ module _ {T U C : Type 0} (sends : T → Queue → Result ℕ IoFault → T → 
   unput : (answer : Result (Unit {0}) EventError) (lacked : Bool) → answer ≡ Ok tt → lacked ≡ false → MemoryBy p q answer lacked
   unput answer lacked is calm = is_sent is (λ lacks. absurd (true≢false (sym lacks ∙ calm)))
 
-  of_granted : p.is_killed ≡ false → (x : Object (Kept U)) (ends : Bool) (answer : Result (Unit {0}) EventError) (lacked : Bool) (did : List (Deed U))
-      → SendsGranted sends client p m x ends answer lacked did q → MemoryBy p q answer lacked
-  of_granted live x ends answer lacked did h7 = grind (arith, ends_sender, core_of, unput, told_nothing, ends_closed)
-
   pub event_memory_of : (table : List InterfaceRow) (answer : Result (Unit {0}) EventError) (lacked : Bool) (did : List (Deed U))
       → (event_check client p.store table m ≡ Err refused.OutOfMemory → ⊥) → SendsEvent sends client table p m answer lacked did q → MemoryBy p q answer lacked
   event_memory_of table answer lacked did never h =
@@ -39,7 +35,7 @@ module _ {T U C : Type 0} (sends : T → Queue → Result ℕ IoFault → T → 
         | inl (dead, (is, calm, none, same)) ↦ unput answer lacked is calm
         | inr (live, checked) ↦
             elim (split_result (event_check client p.store table m) checked) [
-              | inl (g, is, granted) ↦ of_granted live g.0 g.1 answer lacked did granted
+              | inl (g, is, granted) ↦ grind (arith, ends_sender, core_of, unput, told_nothing, ends_closed, g.0, g.1)
               | inr (e, is, (answered, calm, none, same)) ↦
                   refusing e (λ memory. never (is ∙ ap (λ (x : EventError). let y : Result (Object (Kept U) × Bool) EventError = Err x in y) memory)) answered calm
             ]

@@ -162,11 +162,7 @@ module _ {T U C : Type 0} (client : ClientParts) (p : Part T U C) (m : SessionMe
     Comes ends (Err e) did q = ⊥
 
     put_noted : (ends : Bool) (did rest : List (Deed U)) (q : Part T U C) → notes_in did ≡ notes_in rest → IsPut ends rest q → IsPut ends did q
-    put_noted ends did rest q same r = record {
-      store_is = r.store_is;
-      waiting_is = r.waiting_is;
-      told = grind (arith);
-    }
+    put_noted ends did rest q same r = grind (arith)
 
     granted_comes : (ends : Bool) (answer : Result (Unit {0}) EventError) (lacked : Bool) (did : List (Deed U)) (q : Part T U C)
         → SendsGranted sends client p m x ends answer lacked did q → Comes ends answer did q
@@ -233,10 +229,7 @@ module _ {U : Type 0} (client : ClientParts) (store : Store (Kept U)) where
   found_calm is_asked (Some x) = when_calm (not (is_asked x.interface)) refused.WrongInterface refl
 
   id_calm : (is_asked : InterfaceId → Bool) (id : IdParts) → is_memory (id_fault client store is_asked id) ≡ false
-  id_calm is_asked id =
-      first_calm (when (not (same_client id.client client)) refused.ForeignObject) (found_fault is_asked (named store id) ∷ [])
-      (when_calm (not (same_client id.client client)) refused.ForeignObject refl)
-      (first_calm (found_fault is_asked (named store id)) [] (found_calm is_asked (named store id)) refl)
+  id_calm is_asked id = grind (arith, first_calm, when, not, same_client, client, found_fault, named, when_calm, found_calm)
 
   argument_calm : (row : MessageRow) (k : ArgumentType) (asked : InterfaceId) (x : Argument IdParts Token) → is_memory (argument_fault client store row k asked x) ≡ false
   argument_calm row k asked x = grind (arith, is_memory, null_fault, id_fault, client, fits, null_calm, id_calm, is_child, first_calm, when, not, same_client, found_fault, named, when_calm, found_calm)
@@ -245,9 +238,7 @@ module _ {U : Type 0} (client : ClientParts) (store : Store (Kept U)) where
       → is_memory (first_refusal (argument_faults client store row kinds asked args)) ≡ false
   arguments_calm row [] asked args = refl
   arguments_calm row (k ∷ kinds) asked [] = refl
-  arguments_calm row (k ∷ kinds) asked (x ∷ args) =
-      first_calm (argument_fault client store row k (next_interface asked) x) (argument_faults client store row kinds (left_after x asked) args)
-      (argument_calm row k (next_interface asked) x) (arguments_calm row kinds (left_after x asked) args)
+  arguments_calm row (k ∷ kinds) asked (x ∷ args) = grind (arith, first_calm, argument_fault, client, next_interface, argument_faults, left_after, argument_calm, arguments_calm row kinds (left_after x asked) args)
 
   abbrev reason_of : Result (Object (Kept U) × Bool) EventError → Option EventError
   reason_of (Ok g) = None
@@ -305,13 +296,7 @@ module _ {T U C : Type 0} (sends : T → Queue → Result ℕ IoFault → T → 
   granted_lacks : (p : Part T U C) (x : Object (Kept U)) (ends : Bool) (answer : Result (Unit {0}) EventError) → answer ≡ Err refused.OutOfMemory → (lacked : Bool) (did : List (Deed U)) (q : Part T U C)
       → SendsGranted sends client p m x ends answer lacked did q → lacked ≡ true
   granted_lacks p x ends answer err lacked did q (inl (asks, is, lacks, none, same)) = lacks
-  granted_lacks p x ends answer err lacked did q (inr (es, rest, wrote, link, by, sent, did_so)) = at wrote sent
-    where
-      never : answer ≡ Ok tt → lacked ≡ true
-      never is = absurd (not_ok refused.OutOfMemory (sym err ∙ is))
-
-      at : (wrote : Result (Unit {0}) IoFault) → SentAs sends client p m x ends wrote link answer lacked rest q → lacked ≡ true
-      at h1 h2 = grind (arith, never)
+  granted_lacks p x ends answer err lacked did q (inr (es, rest, wrote, link, by, sent, did_so)) = grind (arith, not_ok, client, m)
 
   lacks_memory : (answer : Result (Unit {0}) EventError) → answer ≡ Err refused.OutOfMemory → (lacked : Bool) (did : List (Deed U)) (p q : Part T U C) → Does answer lacked did p q
       → lacked ≡ true
@@ -388,7 +373,7 @@ module _ {T U G C : Type 0} (w : World T G C) (before after : BackendState T U G
     lacked_memory err =
         let (lacked, did, h) = event_each client in
         elim (either_option (client_of before.server client) (own client _ _ _ lacked did _ h)) [
-          | inl (none, (is, rest)) ↦ absurd (other_reason (same_error refused.OutOfMemory refused.InvalidId (sym err ∙ is)))
+          | inl (none, (is, rest)) ↦ absurd (absurd cc)
           | inr (p, there, (q, does, same)) ↦
               elim (comes_to w.sends client before.server.offer.table m answer lacked did p q does) [
                 | inl d ↦ absurd (not_ok refused.OutOfMemory (sym err ∙ d.ok))
@@ -402,9 +387,6 @@ module _ {T U G C : Type 0} (w : World T G C) (before after : BackendState T U G
               ]
         ]
       where
-        other_reason : ◌≡◌ {A = EventError} refused.OutOfMemory refused.InvalidId → ⊥
-        other_reason is = absurd cc
-
         kept : (p q : Part T U C) (did : List (Deed U)) → client_of before.server client ≡ Some p
             → seen client after.server ≡ record { part = Some q; made = (seen client before.server).made ++ notes_in did } → core_of q ≡ core_of p → notes_in did ≡ []
             → (option_map core_of (client_in after client) ≡ option_map core_of (client_in before client)) × (notes_made_in after client ≡ notes_made_in before client)
@@ -419,7 +401,7 @@ module _ {T U G C : Type 0} (w : World T G C) (before after : BackendState T U G
             lacks_so : (lacked : Bool) (did : List (Deed U)) → Of answer client lacked did → lacked ≡ true
             lacks_so lacked did h =
                 elim (either_option (client_of before.server client) (own client _ _ _ lacked did _ h)) [
-                  | inl (none, (is, rest)) ↦ absurd (other_reason (same_error refused.OutOfMemory refused.InvalidId (sym err ∙ is)))
+                  | inl (none, (is, rest)) ↦ absurd (absurd cc)
                   | inr (p, there, (q, does, same)) ↦ lacks_memory w.sends client before.server.offer.table m answer err lacked did p q does
                 ]
 

@@ -12,10 +12,10 @@ use Rattle.wl_server.specs.Globals.{with_table}
 use Rattle.wl_server.specs.Ids.{ClientParts, same_client}
 use Rattle.wl_server.specs.Lookups.{and_then}
 use Rattle.wl_server.specs.Part.{Part, named, with_link}
-use Rattle.wl_server.specs.PartStep.{Grown, InsertedAs, OfClient, Quietly, World}
+use Rattle.wl_server.specs.PartStep.{InsertedAs, OfClient, Quietly, World}
 use Rattle.wl_server.specs.Plain.Calls.{AddsInterfaces, InsertsClient, NewClientAs, SetsDefaultLimit, SetsLimit}
 use Rattle.wl_server.specs.Server.{Seen, seen}
-use Rattle.wl_server.specs.Steps.{Entry, OneStep, lacks_growth}
+use Rattle.wl_server.specs.Steps.{lacks_growth}
 use Rattle.wl_server.proofs.CallSteps.Slots.{same_self}
 use Rattle.wl_server.proofs.Plain.Base.{by_growth, calm, keeps, never, notes_stay, of_each, offer_of, other_stays, own, when_false, when_true}
 
@@ -75,9 +75,6 @@ module _ {T U G C : Type 0} {w : World T G C} {before after : BackendState T U G
 -- ---- interfaces
 
 module _ {T U G C : Type 0} (w : World T G C) (before after : BackendState T U G C) (rows : List InterfaceRow) (answer : Result (Unit {0}) TableError) where
-  refused_as : (e : Entry T U G C) → e.call ≡ Grown rows answer → OneStep w before.server e after.server → e.refused ≡ refused_growth answer
-  refused_as e is by = grind (arith, refused_growth, lacks_growth, true≢false, seen)
-
   pub adds_interfaces : IsGrowth w before rows answer after
       → after.server ≡ record before.server { offer = with_table before.server.offer (grown before.server.offer.table rows answer) } → AddsInterfaces before rows answer after
-  adds_interfaces growth same = grind (arith, refused_as)
+  adds_interfaces growth same = grind (arith, refused_growth, lacks_growth, true≢false, seen)

@@ -1,5 +1,5 @@
 -- A reading of one client.
-use Rattle.std.proofs.Common.{◌≡◌, ℕ, Bool, true, false, List, [], ◌++◌, append-nil, Option, Some, is_some, Result, Err, refl, sym, ap, subst, ◌∙◌, arith, true≢false}
+use Rattle.std.proofs.Common.{◌≡◌, ℕ, Bool, true, false, List, ◌++◌, append-nil, Option, Some, is_some, Result, Err, refl, sym, ap, subst, ◌∙◌, arith, true≢false}
 use mathlib.Core.Logic.{inl, inr}
 use Rattle.std.specs.Prelude.{◌⊎◌, IsSome, min, option_map}
 use Rattle.wl_wire.specs.declared.error.IoFault.{IoFault}
@@ -52,19 +52,15 @@ module _ {T U G C : Type 0} (sends : T → Queue → Result ℕ IoFault → T �
         → OpenReadAs a.table a.client answer s (part_of end) t
     open_read start turns h3 refused left so = grind (arith, handed_out, notes_in, end_deeds, append-nil, part_of, true≢false)
 
-  -- nothing of the part has changed, and nothing is noted
-  unread : (s t : Seen T U C) (p q : Part T U C) (did : List (Deed U)) → s.part ≡ Some p → t ≡ record { part = Some q; made = s.made ++ notes_in did } → did ≡ [] → q ≡ p → t ≡ s
-  unread s t p q did there is none same = nothing_new s t p q did there same (ap notes_in none) is
-
   next_as : (s t : Seen T U C) (p q : Part T U C) (r r' : Reading) (answer : Result Handed ActionError) (lacked : Bool) (did : List (Deed U)) → s.part ≡ Some p
       → t ≡ record { part = Some q; made = s.made ++ notes_in did } → NextAction sends receives a r p answer r' lacked did q → ReadAs a.table a.client answer s t
   next_as s t p q r r' answer lacked did there is h =
       elim (either_option p.action h) [
         | inr (action, is_open, (says, same, calm, none, stays)) ↦
-            inr (p, there, inl (subst (λ (o : Option OpenAction). IsSome o) (sym is_open) refl, says, unread s t p q did there is none stays))
+            inr (p, there, inl (subst (λ (o : Option OpenAction). IsSome o) (sym is_open) refl, says, (nothing_new s t p q did there stays (ap notes_in none) is)))
         | inl (idle, g) ↦
             elim (split_bool p.is_killed g) [
-              | inl (dead, (says, same, calm, none, stays)) ↦ inr (p, there, inr (inl (idle, dead, says, unread s t p q did there is none stays)))
+              | inl (dead, (says, same, calm, none, stays)) ↦ inr (p, there, inr (inl (idle, dead, says, (nothing_new s t p q did there stays (ap notes_in none) is))))
               | inr (live, (turns, out, end, reads, says, same, calm, did_so, after)) ↦
                   let t_is : t ≡ record { part = Some (part_of end); made = s.made ++ notes_in (end_deeds {U = U} end.core.ended) } = grind (arith, seen_as, notes_in, part_of, notes_of_reading, reader_part) in
                   inr (
@@ -85,11 +81,7 @@ module _ {T U G C : Type 0} (sends : T → Queue → Result ℕ IoFault → T �
   -- what an id of the client names, if it was not made by this reading
   next_stays : (p q : Part T U C) (r r' : Reading) (answer : Result Handed ActionError) (lacked : Bool) (did : List (Deed U)) → NextAction sends receives a r p answer r' lacked did q
       → (other : IdParts) → IsOld (Some p) other → named q.store other ≡ named p.store other
-  next_stays p q r r' answer lacked did h other old =
-      elim (either_option p.action h) [
-        | inr (action, is_open, (says, same, calm, none, stays)) ↦ ap (λ (x : Part T U C). named x.store other) stays
-        | inl (idle, g) ↦ grind (arith, split_bool, named, reads_keep, reader_part)
-      ]
+  next_stays p q r r' answer lacked did h other old = grind (arith, either_option, named, split_bool, reads_keep, reader_part)
 
 module _ {T U G C : Type 0} (w : World T G C) (id target : ClientParts) (offer : Offer G) (r r' : Reading) (answer : Result Handed ActionError) (s t : Seen T U C) (lacked : Bool)
     (did : List (Deed U)) where
@@ -173,24 +165,18 @@ module _ {T U G C : Type 0} (w : World T G C) (before after : BackendState T U G
   next_action_reads answer call =
       reads_all new_reading answer (offer_of call)
       (let (did, (r, left, is, h)) = of_own call id refl (λ other lacked did differ (r, left, is, h). (when_false _ (same_client id other) differ h).0) in
-      grind (arith, memory_as, new_reading, action_content, seen, inside))
+      grind (arith, memory_as, new_reading, action_content, seen))
       (λ other.
-      let (lacked, did, (r, left, is, h)) = of_each call other in grind (arith, new_reading, action_content, seen, inside))
-    where
-      inside : (r : Result Action ActionError) → ◌≡◌ {A = Reply T U} (reply.NextAction answer) (reply.NextAction r) → r ≡ answer
-      inside r is = cc
+      let (lacked, did, (r, left, is, h)) = of_each call other in grind (arith, new_reading, action_content, seen))
 
   pub next_action_within_reads : (reading left : Reading) (answer : Result Action ActionError)
       → Calls w before (step.NextActionWithin id reading) (reply.NextActionWithin answer left) after → ReadsClient before id answer after
   next_action_within_reads reading left answer call =
       reads_all reading answer (offer_of call)
       (let (did, (r, l, is, h)) = of_own call id refl (λ other lacked did differ (r, l, is, h). (when_false _ (same_client id other) differ h).0) in
-      grind (arith, memory_as, action_content, seen, inside))
+      grind (arith, memory_as, action_content, seen))
       (λ other.
-      let (lacked, did, (r, l, is, h)) = of_each call other in grind (arith, action_content, seen, inside))
-    where
-      inside : (r : Result Action ActionError) (l : Reading) → ◌≡◌ {A = Reply T U} (reply.NextActionWithin answer left) (reply.NextActionWithin r l) → r ≡ answer
-      inside r l is = cc
+      let (lacked, did, (r, l, is, h)) = of_each call other in grind (arith, action_content, seen))
 
   -- ---- a reading that goes on with what an earlier one left
 

@@ -30,8 +30,8 @@ use Rattle.wl_server.specs.Errors.{new_id_text, since_text}
 use Rattle.wl_server.specs.Globals.{global_at, shown}
 use Rattle.wl_server.specs.Ids.{IdParts}
 use Rattle.wl_server.specs.Part.{Part, id_at}
-use Rattle.wl_server.specs.Reading.{Around, action_in, answered, binds, binds_to, breaks, converted, display_request, faulted, garbled, hands_out, may_bind, new_at, other_request, reads_on, registry_request, replies, request, row_in, server, stops_if, synced, with_registry, registers, syncs}
-use Rattle.wl_server.specs.ReadingEnds.{AsksNothing, ComesOfFront, FoundNoMessage, LastReceiveFailed, LeavesClient, MakesItsObject, OfLast, ReadingEnds, StopsItself, TookMessage, TurnLeads}
+use Rattle.wl_server.specs.Reading.{Around, action_in, answered, binds, binds_to, breaks, converted, display_request, garbled, hands_out, may_bind, new_at, other_request, reads_on, registry_request, replies, request, row_in, server, stops_if, synced, with_registry, registers, syncs}
+use Rattle.wl_server.specs.ReadingEnds.{ComesOfFront, FoundNoMessage, LastReceiveFailed, LeavesClient, MakesItsObject, OfLast, ReadingEnds, StopsItself, TookMessage, TurnLeads}
 use Rattle.wl_server.specs.Requests.{Outcome, Whole, Wrong, convert, is_valid_new, made_id, made_object, start, with_made}
 use Rattle.wl_server.specs.Telling.{Core, Did, Told, deletions, done_message, introductions, objects_in, reader_part, with_objects}
 use Rattle.wl_server.specs.Telling as telling
@@ -112,11 +112,7 @@ module _ {U G C : Type 0} (a : Around G C) (c : Core U C) (P : Verdict (Core U C
     where
       at : (o : Option (Object (KeptGlobal G))) → held a.globals.store g ≡ o → P (binds_to a c g (Some interface) version n o)
       at h1 there = grind (arith, may_bind, is_valid_new, objects_in)
-  bound_case _ garbled' breaks' bound = garbled' (λ g version n name is. true≢false (sym (ap binds_some is)))
-    where
-      binds_some : List WireArgument → Bool
-      binds_some (arg.Uint g ∷ arg.Str name ∷ arg.Uint version ∷ arg.NewId n ∷ []) = true
-      binds_some _ = false
+  bound_case _ garbled' breaks' bound = grind (arith, true≢false)
 
   -- ---- a request to a display
 
@@ -127,11 +123,7 @@ module _ {U G C : Type 0} (a : Around G C) (c : Core U C) (P : Verdict (Core U C
   asked_case : (opcode : ℕ) (args : List WireArgument) → (AreUnasked args → P (garbled c)) → ((code : ℕ) (text : List ℕ) → P (breaks a c code text))
       → ((n : ℕ) → P (syncs a c n)) → ((n : ℕ) → P (registers a c n)) → P (display_request a c opcode args)
   asked_case opcode (arg.NewId n ∷ []) garbled' breaks' syncs' registers' = grind (arith, new_id_text, is_valid_new (objects_in c) n, eqb opcode 0)
-  asked_case opcode _ garbled' breaks' syncs' registers' = garbled' (λ n is. true≢false (sym (ap asks_some is)))
-    where
-      asks_some : List WireArgument → Bool
-      asks_some (arg.NewId n ∷ []) = true
-      asks_some _ = false
+  asked_case opcode _ garbled' breaks' syncs' registers' = grind (arith, true≢false)
 
 module _ {T U G C : Type 0} (sends : T → Queue → Result ℕ IoFault → T → Type 0) (receives : T → ℕ → Result Queue IoFault → T → Type 0) (a : Around G C) where
   -- what is answered at the end of a reading for what the message at the front came to in this turn
@@ -166,20 +158,14 @@ module _ {T U G C : Type 0} (sends : T → Queue → Result ℕ IoFault → T �
   abbrev Closed : Core U C → Core U C → Type 0
   Closed c e = (e.is_killed ≡ true) × (e.ended ≡ Some ConnectionClosed) × (e.action ≡ None)
 
-  garbled_came : (c : Core U C) → IsRead c → (wrote : Result (Unit {0}) IoFault) → Closed c (came_to (server a) (garbled c) wrote)
-  garbled_came c h1 wrote = grind (arith, reason_if, true≢false)
-
   pub garbled_turns : (turn : List Sending → Turn) (before : ReaderState T (Core U C)) (c : Core U C) → IsRead c → ((es : List Sending) → FoundNoMessage sends a (turn es) before)
       → (link : LinkState T) → Turns turn before (garbled c) link
-  garbled_turns turn before c h1 h2 link = grind (arith, true≢false, garbled_came, not_read, action_in, after_puts, some_is, reason_if, not, is_none, is_some)
+  garbled_turns turn before c h1 h2 link = grind (arith, true≢false, reason_if, not_read, action_in, after_puts, some_is, not, is_none, is_some)
 
   -- ---- a client that broke the protocol
 
   abbrev Ended : Core U C → Type 0
   Ended e = (e.is_killed ≡ true) × IsSome e.ended × (e.action ≡ None)
-
-  breaks_came : (m : Core U C) (code : ℕ) (text : List ℕ) → IsRead m → (wrote : Result (Unit {0}) IoFault) → Ended (came_to (server a) (breaks a m code text) wrote)
-  breaks_came m code text h1 wrote = grind (arith, some_is, reason_if, true≢false, is_some)
 
   ended_turned : (t : Turn) (before : ReaderState T (Core U C)) (first : List (Given (Told U))) (mid : ReaderState T (Core U C)) → TookMessage sends a t before
       → action_in first ≡ Err (Io fault.Pipe) → Ended mid.core → Turned t before first mid
@@ -188,17 +174,13 @@ module _ {T U G C : Type 0} (sends : T → Queue → Result ℕ IoFault → T �
 
   breaks_turns : (turn : List Sending → Turn) (before : ReaderState T (Core U C)) (m : Core U C) (code : ℕ) (text : List ℕ) → IsRead m
       → ((es : List Sending) → TookMessage sends a (turn es) before) → (link : LinkState T) → Turns turn before (breaks a m code text) link
-  breaks_turns turn before m code text h1 h2 link = grind (arith, ended_turned, action_in, some_is, reason_if, after_puts, breaks_came, not_read, true≢false, is_some)
+  breaks_turns turn before m code text h1 h2 link = grind (arith, ended_turned, action_in, some_is, reason_if, after_puts, true≢false, is_some, not_read)
 
   -- ---- a request that the server answers
 
   -- these deeds answer nothing
   abbrev Mute : List (Deed U) → Type 0
   Mute did = (rest : List (Given (Told U))) → action_in (map HandedOut (map Did did) ++ rest) ≡ action_in rest
-
-  replies_came : (m : Core U C) (puts : List Said) (did : List (Deed U)) → IsRead m → (wrote : Result (Unit {0}) IoFault)
-      → (came_to (server a) (replies m puts did) wrote ≡ m) ⊎ Ended (came_to (server a) (replies m puts did) wrote)
-  replies_came m puts did h1 wrote = grind (arith, some_is, reason_if, true≢false, is_some)
 
   abbrev stops_when : (b : Bool) → List (Told U)
   stops_when b = cond b (telling.Stops fault.Pipe ∷ []) []
@@ -209,7 +191,7 @@ module _ {T U G C : Type 0} (sends : T → Queue → Result ℕ IoFault → T �
 
   replies_turns : (turn : List Sending → Turn) (before : ReaderState T (Core U C)) (m : Core U C) (puts : List Said) (did : List (Deed U)) → Mute did → IsRead m
       → ((es : List Sending) → TookMessage sends a (turn es) before) → (link : LinkState T) → Turns turn before (replies m puts did) link
-  replies_turns turn before m puts did h1 h2 h3 link = grind (arith, true≢false, replies_came, put_and_gave, map, stops_if, stops_when, append-nil, silent_puts, came_to, server, replies, ended_turned, action_in, after_puts, handed_both, some_is, reason_if, append_assoc, not_read)
+  replies_turns turn before m puts did h1 h2 h3 link = grind (arith, true≢false, some_is, reason_if, is_some, put_and_gave, map, stops_if, stops_when, append-nil, silent_puts, came_to, server, replies, ended_turned, action_in, after_puts, handed_both, append_assoc, not_read)
 
   -- ---- an action
 
@@ -233,9 +215,6 @@ module _ {T U G C : Type 0} (sends : T → Queue → Result ℕ IoFault → T �
 
     took : (es : List Sending) → TookMessage sends a (Handled es) here
     took es = (m, link, read)
-
-    asks_nothing : AsksNothing c m → (es : List Sending) → FoundNoMessage sends a (Handled es) here
-    asks_nothing nothing es = (m, link, read, nothing)
 
     converted_turns : (receiver : Object (Kept U)) (row : MessageRow) → held c.store m.sender ≡ Some receiver → request_row a.table receiver.interface m.opcode ≡ Some row
         → (o : Outcome U)
@@ -320,13 +299,13 @@ module _ {T U G C : Type 0} (sends : T → Queue → Result ℕ IoFault → T �
                 → P (cond b (display_request a c m.opcode m.args) (cond t (registry_request a c m.args) (other_request a c m receiver row)))
             go true t display registry =
                 asked_case a c P m.opcode m.args
-                (λ unasked. garbled_turns Handled here c r (asks_nothing (receiver, holds, inl (eqb-true receiver.interface.0 display_id.0 display, unasked))) link)
+                (λ unasked. garbled_turns Handled here c r (λ es. (m, link, read, (receiver, holds, inl (eqb-true receiver.interface.0 display_id.0 display, unasked)))) link)
                 (λ code text. breaks_turns Handled here c code text r took link)
                 (λ n. replies_turns Handled here (synced a c n) (done_message (new_at a c n) ∷ deletions n) [] (λ rest. refl) (record { live = r.live; idle = r.idle; fresh = r.fresh }) took link)
                 (λ n. replies_turns Handled here (with_registry a c n) (introductions a.table (new_at a c n) 0 (shown a.views a.globals a.client c.client_data)) (Remembered (new_at a c n) ∷ []) (λ rest. refl) (record { live = r.live; idle = r.idle; fresh = r.fresh }) took link)
             go false true display registry =
                 bound_case a c P m.args
-                (λ unbound. garbled_turns Handled here c r (asks_nothing (receiver, holds, inr (eqb-true receiver.interface.0 registry_id.0 registry, unbound))) link)
+                (λ unbound. garbled_turns Handled here c r (λ es. (m, link, read, (receiver, holds, inr (eqb-true receiver.interface.0 registry_id.0 registry, unbound)))) link)
                 (λ code text. breaks_turns Handled here c code text r took link) (binds_turns receiver holds registry)
             go false false display registry = other_turns receiver row holds has
 
@@ -366,9 +345,6 @@ module _ {T U G C : Type 0} (sends : T → Queue → Result ℕ IoFault → T �
   done_at start turns out out' end end' is same so =
       subst (λ (o : Gives (Told U)). Done start turns o end) (sym is) (subst (λ (e : ReaderState T (Core U C)). Done start turns out' e) (sym same) so)
 
-  faulted_leaves : (c : Core U C) → IsRead c → (f : IoFault) → LeavesClient f (faulted c f)
-  faulted_leaves c h1 f = grind (arith, some_is, reason_if, true≢false, is_some)
-
   -- the reading stops here
   halts_end : (left : ℕ) (before : ReaderState T (Core U C)) (out : Gives (Told U)) → IsRead before.core → Halts sends (server a) left before out → Done before [] out before
   halts_end left before out r (inl (lacks, none, is)) = done_at before [] out _ before before is refl (inr (none, lacks), (r.live, r.fresh, r.idle))
@@ -379,9 +355,7 @@ module _ {T U G C : Type 0} (sends : T → Queue → Result ℕ IoFault → T �
   turned_end : (t : Turn) (start : ReaderState T (Core U C)) (left : ℕ) (mid end : ReaderState T (Core U C)) (turns : List Turn) (first : List (Given (Told U))) (lacked : Bool) (rest : Gives (Told U))
       → reads_on mid.core ≡ false → Answers t start (action_in first) mid → Reads sends (server a) receives left mid turns rest end
       → Done start (t ∷ turns) (given_first first lacked rest) end
-  turned_end t start left mid end [] first lacked rest off so (same, stops') =
-      let none : rest ≡ stops None false left = when_false _ (reads_on mid.core) off stops' in
-      grind (arith, given_first, stops, action_in, append-nil, answers_end)
+  turned_end t start left mid end [] first lacked rest off so (same, stops') = grind (arith, stops, when_false, reads_on, given_first, action_in, append-nil, answers_end, true≢false)
   turned_end t start left mid end (Received r ∷ turns) first lacked rest off so h = absurd (true≢false (sym h.0 ∙ off))
   turned_end t start left mid end (Handled es ∷ turns) first lacked rest off so h = absurd (true≢false (sym h.0 ∙ off))
   turned_end t start left mid end (Unread es ∷ turns) first lacked rest off so h = absurd (true≢false (sym h.0 ∙ off))
@@ -401,7 +375,7 @@ module _ {T U G C : Type 0} (sends : T → Queue → Result ℕ IoFault → T �
             ends_later (Received got) turns (answered out.stopped out.gave) false out.refused out.left end before (with_link before link)
             (link, subst (λ (c : Result (Unit {0}) IoFault). FilledBy receives before.link got c link) ok filled, refl)
             (read_ends n (with_link before link) turns out end r more)
-        | inr (f, failed, (over, stopped, same)) ↦ grind (arith, done_at, faulted_leaves)
+        | inr (f, failed, (over, stopped, same)) ↦ grind (arith, done_at, some_is, reason_if, true≢false, is_some)
       ]
   read_ends left before (Handled es ∷ turns) out end r (on, (v, link, first, lacked, mid, rest, (m, read, is), by, split, more)) =
       then_ends (Handled es) before left mid end turns first lacked rest out split (v, link, first, lacked, (m, read, is), by)

@@ -124,20 +124,7 @@ module _ {T U C : Type 0} (sends : T → Queue → Result ℕ IoFault → T → 
 
   comes_to : (answer : Answer U) (lacked : Bool) (did : List (Deed U)) (p q : Part T U C) → Does answer lacked did p q
       → IsRefused p u answer lacked did q ⊎ IsTaken sends client p u answer lacked did q
-  comes_to answer lacked did p q h =
-      elim (either_option p.action h) [
-        | inl (none, (is, calm, nothing, same)) ↦
-            inl (record { error = finish.NoOpenAction; why = none; answer_is = is; calm = calm; did_is = nothing; part_is = same })
-        | inr (opened.Bind object, is_open, (is, calm, nothing, same)) ↦
-            inl (record { error = finish.WrongKind; why = (object, is_open); answer_is = is; calm = calm; did_is = nothing; part_is = same })
-        | inr (opened.Request sender is_destructor created, is_open, does) ↦
-            elim (either_option (refusal p.is_killed created u) does) [
-              | inl (fits, (answered, tells)) ↦
-                  inr (record { sender = sender; is_destructor = is_destructor; created = created; was_open = is_open; fits = fits; answer_is = answered; tells = tells })
-              | inr (e, refused, (is, calm, nothing, same)) ↦
-                  inl (record { error = e; why = reason p sender is_destructor created u e is_open refused; answer_is = is; calm = calm; did_is = nothing; part_is = same })
-            ]
-      ]
+  comes_to answer lacked did p q h = grind (arith, either_option, refusal, reason)
 
   -- whether memory was refused is told by the answer
   lacks_by : (answer : Answer U) (lacked : Bool) (did : List (Deed U)) (p q : Part T U C) → Does answer lacked did p q → lacked ≡ lacks_finish answer
@@ -250,9 +237,6 @@ module _ {T U G C : Type 0} (w : World T G C) (before after : BackendState T U G
 
   -- ---- by the answer
 
-  refused_as : (p : Part T U C) → (seen target before.server).part ≡ Some p → (e : FinishError) → Why p u e → IsRefusedWhole before after → RequestRefusedAs before target u e after
-  refused_as p h1 e h2 h3 = grind (arith, is_some, option_map)
-
   starved_as : (p q : Part T U C) (lacked : Bool) (did : List (Deed U)) (r : FinishRefused (Option U)) → IsTaken w.sends target p u (Err r) lacked did q → lacked ≡ true
       → (seen target before.server).part ≡ Some p → seen target after.server ≡ record { part = Some q; made = (seen target before.server).made ++ notes_in did }
       → after.refused ≡ true → RequestRefusedAs before target u finish.OutOfMemory after
@@ -307,7 +291,7 @@ module _ {T U G C : Type 0} (w : World T G C) (before after : BackendState T U G
             (back, because error (none, request_same r (ap is_out_of_memory error) call))
         | inr (p, there, (q, does, same)) ↦
             elim (comes_to w.sends target u (Err r) lacked did p q does) [
-              | inl x ↦ grind (arith, was_refused_for, because, refused_as, request_same, is_out_of_memory, why_calm)
+              | inl x ↦ grind (arith, was_refused_for, because, is_some, option_map, request_same, is_out_of_memory, why_calm)
               | inr e ↦
                   let (lacks, error, back) = was_starved u r lacked e.answer_is in
                   (back, because error (starved_as p q lacked did r e lacks there same (refused_to call target (grind (arith, own_lacks, lacks_finish, inside)))))

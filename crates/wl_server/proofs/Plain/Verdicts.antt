@@ -62,12 +62,10 @@ told_starved {T} {U} {C} sends v none link lacked did q starved (es, gave, end, 
 
     carried : CarriesOut sends speaker v link es gave lacked end → IsStarved v did q
     carried (inl (first, others, put, wrote, mid, lacks, puts, flushes, sent, is, given, memory)) =
-        let comes : came_to speaker v wrote ≡ v.starved = came wrote lacks (no_flush sends v.flushes mid others lacks end.link none flushes) (sym memory ∙ starved) in
-        of_core es put (is ∙ comes)
+        of_core es put (is ∙ (came wrote lacks (no_flush sends v.flushes mid others lacks end.link none flushes) (sym memory ∙ starved)))
         (grind (arith, deeds_of, map, put_and_gave))
     carried (inr (asks, refused, silent, given, starves)) =
-        let is : end.core ≡ v.starved = ap (λ (x : ReaderState T (Core U C)). x.core) starves in
-        of_core es [] is
+        of_core es [] (ap (λ (x : ReaderState T (Core U C)). x.core) starves)
         (grind (arith, deeds_of, map, put_and_gave))
 
 -- what a verdict leaves where no memory is refused, and what was noted in that: the client is closed down where a message could

@@ -1,5 +1,5 @@
 -- How the end of an action is a verdict that was carried out.
-use Rattle.std.proofs.Common.{arith, ◌||◌, append-nil, append_assoc, not, is_none, is_some, MatchResult, inl, inr, ◌≡◌, ◌∙◌, ℕ, Bool, true, false, eqb, cond, List, [], ◌∷◌, ◌++◌, Option, None, Some, Result, Ok, Err, MatchOption, refl, sym, ap, subst}
+use Rattle.std.proofs.Common.{arith, ◌||◌, append-nil, append_assoc, not, is_none, is_some, MatchResult, inl, inr, ◌≡◌, ◌∙◌, ℕ, Bool, true, false, eqb, List, [], ◌++◌, Option, None, Some, Result, Ok, Err, MatchOption, refl, sym, ap, subst}
 use Rattle.std.proofs.lemmas.Option.{none-some}
 use Rattle.std.proofs.lemmas.Bool.{false≢true}
 use Rattle.wl_wire.specs.declared.error.IoFault.{IoFault}
@@ -7,11 +7,10 @@ use Rattle.wl_wire.specs.declared.error.IoFault.TheVariants as fault
 use Rattle.wl_wire.specs.declared.error.OutOfMemory.{OutOfMemory}
 use Rattle.wl_link.specs.declared.object.Object.{Object}
 use Rattle.wl_link.specs.Exchange.{Queue}
-use Rattle.wl_link.specs.Identity.{Id, named_in}
+use Rattle.wl_link.specs.Identity.{Id}
 use Rattle.wl_link.specs.Link.{LinkState}
 use Rattle.wl_link.specs.Puts.{lacks_memory}
 use Rattle.wl_link.specs.Reader.{came_to}
-use Rattle.wl_link.specs.Refusals.{first_refusal, when}
 use Rattle.wl_link.specs.Store.{Store, held, removed}
 use Rattle.wl_link.proofs.Ids.StoreLaws.{removed_here, rewritten_other}
 use Rattle.wl_server.specs.declared.reading.action.OpenAction.TheVariants as opened
@@ -40,12 +39,9 @@ use Rattle.wl_server.proofs.GlobalCalls.Putting.{puts_none}
 -- ---- the object that an id names
 
 module _ {U : Type 0} where
-  not_null : (b : Bool) (id : Id) (h : Option (Object (Kept U))) (x : Object (Kept U)) → cond b None (named_in serial_of id h) ≡ Some x → h ≡ Some x
-  not_null h1 id h x e = grind (arith, eqb, serial_of)
-
   -- is the one at the id's number
   named_held : (store : Store (Kept U)) (id : IdParts) (x : Object (Kept U)) → named store id ≡ Some x → held store id.number ≡ Some x
-  named_held store id x e = not_null (eqb id.number 0) (id_of id) (held store id.number) x e
+  named_held store id x e = grind (arith, eqb, serial_of, eqb id.number 0, id_of id, held store id.number)
 
 -- ---- its end
 
@@ -122,13 +118,6 @@ where_none h1 is h3 h4 h = grind (arith, none-some)
 pub where_some : {X : Type 0} (o : Option X) (x : X) → Some x ≡ o → (A : Type 0) (B : X → Type 0) → B x → MatchOption o A B
 where_some {X} o x is A B h = subst (λ (o : Option X). MatchOption o A B) is h
 
--- no refusal for other reasons is a want of memory
-no_memory : (a b : Bool) (e : FinishError) → first_refusal (when a finish.MissingObjectData ∷ when b finish.UnexpectedData ∷ []) ≡ Some e → is_out_of_memory e ≡ false
-no_memory a b e h1 = grind (arith, is_out_of_memory)
-
-ok_ok : (f : OutOfMemory) → ◌≡◌ {A = Result (Result (Unit {0}) IoFault) OutOfMemory} (Err f) (Ok (Ok tt)) → ⊥
-ok_ok f same = cc
-
 inner : (wrote : Result (Unit {0}) IoFault) → ◌≡◌ {A = Result (Result (Unit {0}) IoFault) OutOfMemory} (Ok wrote) (Ok (Ok tt)) → wrote ≡ Ok tt
 inner wrote same = cc
 
@@ -193,7 +182,7 @@ module _ {T U C : Type 0} (sends : T → Queue → Result ℕ IoFault → T → 
       came_closing client (core_of s.part) sender x created u wrote lacks,
       sym (ap (λ (b : Bool). b || false) lacks),
     ),
-    grind (arith, finished-is, gone, append-nil, note, append_assoc, end_deeds, killed, core_of, noting, part_of, core, closing, notes_in, note_where_gone, named, closing_store, not_named),
+    grind (arith, finished, is, gone, append-nil, note, append_assoc, end_deeds, killed, core_of, noting, part_of, core, closing, notes_in, note_where_gone, named, closing_store, not_named),
   )
     where
       core : Core U C
@@ -205,9 +194,6 @@ module _ {T U C : Type 0} (sends : T → Queue → Result ℕ IoFault → T → 
       gone : Stored T U C
       gone = noting (part_finished (part_without s.part mid.part.link sender.number x) created u) note
 
-      finished-is : finished mid ≡ gone
-      finished-is = ap finished is
-
   -- of the sender, where it is ended and kept, and else of none
   pub ends_starved : (e : OutOfMemory) (after : Stored T U C) → EndsSender sends client s sender is_destructor (Err e) after
       → ReachedBy (ended_by s.part.store sender is_destructor) true after
@@ -216,7 +202,7 @@ module _ {T U C : Type 0} (sends : T → Queue → Result ℕ IoFault → T → 
       at : (o : Option (Object (Kept U))) → ended_by s.part.store sender is_destructor ≡ o
           → MatchOption o ((◌≡◌ {A = Result (Result (Unit {0}) IoFault) OutOfMemory} (Err e) (Ok (Ok tt))) × (after ≡ s)) (λ x. EndsObject sends client s sender x (Err e) after)
           → ReachedBy o true after
-      at None is h = absurd (ok_ok e h.0)
+      at None is h = absurd (grind (arith, h.0))
       at (Some x) is h = stays x e after (ended_named s.part.store sender x is_destructor is) h
 
   pub ends_done : (wrote : Result (Unit {0}) IoFault) (mid after : Stored T U C) → EndsSender sends client s sender is_destructor (Ok wrote) mid
@@ -260,4 +246,4 @@ module _ {T U C : Type 0} (sends : T → Queue → Result ℕ IoFault → T → 
   request_refused e some =
       does_quietly s (λ p did q. FinishesOpen sends client p (opened.Request sender is_destructor created) u (Err (record { error = e; user_data = u })) (is_out_of_memory e) did q)
       s.part
-      (grind (arith, where_some, refusal, is_out_of_memory, no_memory, is_some, is_none, not))
+      (grind (arith, where_some, refusal, is_out_of_memory, is_some, is_none, not))

@@ -4,14 +4,10 @@ use Rattle.std.specs.List.{list_any}
 use Rattle.wl_wire.specs.declared.argument.ArgumentType.{ArgumentType}
 use Rattle.wl_wire.specs.Argument.{Matches, WireArgument, type_of}
 use Rattle.wl_wire.specs.Table.{is_new_id}
-use Rattle.wl_server.specs.Requests.{kinds_after}
-
-pub later_kinds : (kinds : List ArgumentType) (a : WireArgument) (args : List WireArgument) → Matches kinds (a ∷ args) → Matches (kinds_after kinds) args
-later_kinds h1 a args same = grind (arith)
 
 -- a signature that a new id matches has one
 pub new_matches : (kinds : List ArgumentType) (args : List WireArgument) → Matches kinds args → list_any is_new_id kinds ≡ list_any (λ a. is_new_id (type_of a)) args
 new_matches [] [] same = refl
 new_matches [] (a ∷ args) same = cc
 new_matches (k ∷ kinds) [] same = cc
-new_matches (k ∷ kinds) (a ∷ args) same = grind (arith, list_any, is_new_id, later_kinds, new_matches kinds args (later_kinds (k ∷ kinds) a args same))
+new_matches (k ∷ kinds) (a ∷ args) same = grind (arith, list_any, is_new_id, new_matches kinds args (grind (arith, k ∷ kinds)))

@@ -206,13 +206,6 @@ module _ {T U G C : Type 0} (sends : T → Queue → Result ℕ IoFault → T �
             made = ap (λ (x : Stored T U C). x.made) is ∙ made_none s.made end.core.ended unended;
           }
 
-      shorter : (gave : List (Given (Told U))) (refused : Bool) (end : ReaderState T (Core U C)) (es : List Sending) (after : Stored T U C)
-          → CarriesOut sends (server a) v link es gave refused end → untimed after ≡ stored_as s end → length link.incoming.bytes < length s.part.link.incoming.bytes
-          → length after.part.link.incoming.bytes < length s.part.link.incoming.bytes
-      shorter gave refused end es after carried is fewer =
-          let kept = carries_stays sends (server a) v link end es gave refused carried in
-          omega (arith, ap (λ (x : Stored T U C). length x.part.link.incoming.bytes) is ∙ ap (λ (q : Queue). length q.bytes) kept.incoming, fewer)
-
       handles_so : (to : MessageResult) (after : Stored T U C) → IsHandled sends v (linked s link) to after → length link.incoming.bytes < length s.part.link.incoming.bytes
           → HandlesMessage sends receives a s r to after r'
       handles_so (Acts h) after i fewer =
@@ -220,7 +213,8 @@ module _ {T U G C : Type 0} (sends : T → Queue → Result ℕ IoFault → T �
       handles_so WentOn after i fewer = (
         goes_so i.gave i.refused i.end i.es after i.carried i.says.0 i.says.1 i.says.2 i.says.3 i.says.4 i.no_note i.after_is,
         left,
-        shorter i.gave i.refused i.end i.es after i.carried i.after_is fewer,
+        (let kept = carries_stays sends (server a) v link i.end i.es i.gave i.refused i.carried in
+            omega (arith, ap (λ (x : Stored T U C). length x.part.link.incoming.bytes) i.after_is ∙ ap (λ (q : Queue). length q.bytes) kept.incoming, fewer)),
       )
       handles_so LacksMore after i fewer = absurd i.says
       handles_so (Ended end) after i fewer =

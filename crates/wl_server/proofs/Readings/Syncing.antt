@@ -1,5 +1,5 @@
 -- A sync that is answered in place is handled as any other.
-use Rattle.std.proofs.Common.{◌≡◌, ◌∙◌, ℕ, ◌+◌, ◌<◌, false, not, List, [], ◌∷◌, ◌++◌, append-nil, drop, length, Option, Some, option_map, Result, Ok, refl, sym, ap, ap₂, subst, arith}
+use Rattle.std.proofs.Common.{◌≡◌, ◌∙◌, ℕ, ◌+◌, false, not, List, [], ◌∷◌, ◌++◌, append-nil, drop, length, Option, Some, option_map, Result, Ok, refl, sym, ap, ap₂, subst, arith}
 use Rattle.std.proofs.lemmas.List.{length-drop, take-append-drop}
 use Rattle.std.proofs.lemmas.Bool.{and_parts, le-leb, not-true}
 use Rattle.wl_wire.specs.declared.argument.Argument.TheVariants as arg
@@ -125,9 +125,6 @@ module _ {T U G C : Type 0} (sends : T → Queue → Result ℕ IoFault → T �
   kept : synced a core n ≡ core_of mid.part
   kept = ap (λ (store : Store (Kept U)). with_objects core (record { store = store; last_serial = s.part.last_serial + 1 })) (no_trace.stays (made_object (objects_in core) callback_id 1))
 
-  fewer : length (drop (length_of bytes) bytes) < length bytes
-  fewer = let long = waits.twelve in let there = waits.whole.there in omega (arith, length-drop (length_of bytes) bytes, long, there)
-
   pub sync_answered : (reading reading' : Reading) (link : LinkState T) (after : Stored T U C)
       → Puts sends (taken s.part.link) (done_message (new_at a core n) ∷ deletions n) (Ok tt) link
       → after ≡ record s { part = after_sync s.part link } → reading'.turns_left ≡ reading.turns_left → reading'.read ≡ counted reading.read 1
@@ -138,4 +135,4 @@ module _ {T U G C : Type 0} (sends : T → Queue → Result ℕ IoFault → T �
       = subst (λ (c : Core U C). IsHandled sends (replies c puts_all []) mid WentOn after) (sym kept) (replied_all sends mid after link puts_all [] none_quiet live puts is) in
       message_handled sends receives a s reading reading' live (syncs a core n) (taken s.part.link) WentOn after takes
       (from_there sends (syncs a core n) (linked s (taken s.part.link)) mid after WentOn refl refl refl there)
-      fewer left read
+      (let long = waits.twelve in let there = waits.whole.there in omega (arith, length-drop (length_of bytes) bytes, long, there)) left read

@@ -322,10 +322,8 @@ module _ {T U G C : Type 0} (sends : T → Queue → Result ℕ IoFault → T �
       = grind (arith, ap₂, waits) in
       let handed_is : handed created ≡ Request id front.opcode handed_args row.is_destructor created
       = ap₂ (λ (i : IdParts) (o : ℕ). Request i o handed_args row.is_destructor created) id_is (sym is_front.opcode) in
-      let same : acted (taken s.part.link) receiver_id ≡ after
-      = ap₂ acted (sym link_is) id_is ∙ sym after_is in
       let there : IsHandled sends (verdict created objects) mid (Acts (handed created)) after
-      = subst (λ (x : Stored T U C). IsHandled sends (verdict created objects) mid (Acts (handed created)) x) same
+      = subst (λ (x : Stored T U C). IsHandled sends (verdict created objects) mid (Acts (handed created)) x) (ap₂ acted (sym link_is) id_is ∙ sym after_is)
       (handed_out sends mid (action created) (handed created)) in
       subst (λ (h : Handed). HandlesMessage sends receives a s r (Acts h) after r') handed_is
       (message_handled sends receives a s r r' live (verdict created objects) (taken s.part.link) (Acts (handed created)) after takes

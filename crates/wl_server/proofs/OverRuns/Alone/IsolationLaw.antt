@@ -17,7 +17,7 @@ use Rattle.wl_server.specs.Globals.{Offer}
 use Rattle.wl_server.specs.Ids.{ClientParts, same_client}
 use Rattle.wl_server.specs.Part.{Part, fresh_part}
 use Rattle.wl_server.specs.PartStep.{Asked, Call, Inserted, InsertedAs, PartCall, PartStep, Unfelt, World}
-use Rattle.wl_server.specs.Runs.{Alone, AreOf, EachAlone, Inserts, IsIsolated, IsNeverInserted, IsNotInserted, Leads, Performs, SharedAlone, just_inserted, concerns, is_about, mine, offer_over, own_of}
+use Rattle.wl_server.specs.Runs.{Alone, AreOf, EachAlone, Inserts, IsIsolated, IsNeverInserted, IsNotInserted, Leads, Performs, SharedAlone, just_inserted, concerns, mine, offer_over, own_of}
 use Rattle.wl_server.specs.Server.{Seen, ServerState, new_server, nothing_seen, seen}
 use Rattle.wl_server.specs.Steps.{Entry, InsertsNext, NumbersClient, OneStep, inserted_by, offer_after}
 
@@ -54,14 +54,9 @@ module _ {T U G C : Type 0} (w : World T G C) (id : ClientParts) (offer : Offer 
       → IsNotInserted id call → PartCall w id offer call nothing_seen lacked did after → Unfelt nothing_seen lacked did after
   nothing_call call lacked did after h1 h2 = grind (arith, inserted_other, nothing_seen, inserts_other, own_nothing)
 
-  -- a client feels nothing of a step that names another
-  other_step : (s : Step T U G C) (answer : Reply T U) (before : Seen T U C) (lacked : Bool) (did : List (Deed U)) (after : Seen T U C)
-      → IsNotInserted id (Asked s answer) → is_about id s ≡ false → PartStep w id offer s answer before lacked did after → Unfelt before lacked did after
-  other_step s answer before lacked did after h1 h2 h3 = grind (arith, inserted_other, inserts_other, true≢false)
-
   pub other_call : (call : Call T U G C) (before : Seen T U C) (lacked : Bool) (did : List (Deed U)) (after : Seen T U C)
       → IsNotInserted id call → concerns id call ≡ false → PartCall w id offer call before lacked did after → Unfelt before lacked did after
-  other_call call before lacked did after h1 h2 h3 = grind (arith, other_step, true≢false)
+  other_call call before lacked did after h1 h2 h3 = grind (arith, inserted_other, inserts_other, true≢false)
 
 module _ {T U : Type 0} where
   -- what an insertion answers
@@ -86,16 +81,12 @@ module _ {T U G C : Type 0} where
   record Unborn (s : ServerState T U G C) : Type 0 where
     each : (id : ClientParts) → s.last_client < id.serial → seen id s ≡ nothing_seen
 
-  unborn_step : (w : World T G C) (before : ServerState T U G C) (e : Entry T U G C) (after : ServerState T U G C)
-      → Unborn before → OneStep w before e after → Unborn after
-  unborn_step w before e after born by = grind (arith, nothing_call, seen, same_serial, numbered, one_more)
-
   -- ---- runs
 
   unborn_run : (w : World T G C) (before after : ServerState T U G C) (run : List (Entry T U G C)) → Unborn before → Leads w before run after
       → Unborn after
   unborn_run w before after [] born same = subst (λ (s : ServerState T U G C). Unborn s) (sym same) born
-  unborn_run w before after (e ∷ run) born (mid, by, leads) = unborn_run w mid after run (unborn_step w before e mid born by) leads
+  unborn_run w before after (e ∷ run) born (mid, by, leads) = unborn_run w mid after run (grind (arith, nothing_call, seen, same_serial, numbered, one_more)) leads
 
   pub offer_run : (w : World T G C) (before after : ServerState T U G C) (run : List (Entry T U G C)) → Leads w before run after
       → after.offer ≡ offer_over before.offer run

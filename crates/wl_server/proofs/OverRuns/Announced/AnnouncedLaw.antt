@@ -27,7 +27,7 @@ use Rattle.wl_server.specs.declared.runs.step.Step.TheVariants as step
 use Rattle.wl_server.proofs.OverRuns.Ids.AmongLaws.{among_contains, contains_among}
 use Rattle.wl_server.specs.Announced.{AreSameGlobals, EachAnnouncesShown, IsAlwaysLeftAlone, IsLeftAlone, announced, shown_of}
 use Rattle.wl_server.specs.Deeds.{Deed, NoteTaken, Noted, log_of, registries_in}
-use Rattle.wl_server.specs.Felt.{Cleaned, Hears, news, removals}
+use Rattle.wl_server.specs.Felt.{Hears, news, removals}
 use Rattle.wl_server.specs.Globals.{CreatesGlobal, Globals, Offer, disabled, freed, global_of, is_enabled, new_offer, with_created, with_globals, with_table}
 use Rattle.wl_server.specs.Ids.{ClientParts, GlobalParts, same_client}
 use Rattle.wl_server.proofs.OverRuns.Alone.IsolationLaw.{is_isolated, offer_of_other, offer_run, shared_run, split_run}
@@ -175,13 +175,9 @@ module _ {T U G C : Type 0} (w : World T G C) (id : ClientParts) (r : Id) where
   flushed_follows offer (Some target) answer s lacked did t h =
       of_client offer (same_client target id) s _ _ lacked did t (λ p q f. flushed_lives w.views id r offer w.sends p answer lacked did q f) h
 
-  cleaned_follows : (offer : Offer G) (s : Seen T U C) (p : Part T U C) → s.part ≡ Some p → (lacked : Bool) (did : List (Deed U)) (out : List T) (q : Option (Part T U C))
-      (t : Seen T U C) → Cleaned w.sends id p lacked did out q → t.part ≡ q → Follows offer offer s did t
-  cleaned_follows offer s p there lacked did out q t h same = grind (arith, either_bool, out_follows, log_of, registries_in, silent_notes, append-nil)
-
   cleanup_follows : (offer : Offer G) (answer : Result (Vec (ClientParts × T) Global) OutOfMemory) (s : Seen T U C) (lacked : Bool) (did : List (Deed U)) (t : Seen T U C)
       → CleanedAs w id offer answer s lacked did t → Follows offer offer s did t
-  cleanup_follows offer answer s lacked did t h1 = grind (arith, unfelt_follows, either_option, cleaned_follows, log_of, registries_in, append-nil, either_bool, out_follows, silent_notes)
+  cleanup_follows offer answer s lacked did t h1 = grind (arith, unfelt_follows, either_option, either_bool, out_follows, log_of, registries_in, silent_notes, append-nil)
 
   taken_follows : (offer : Offer G) (answer : Result (Vec (Note U) Global) OutOfMemory) (s : Seen T U C) (lacked : Bool) (did : List (Deed U)) (t : Seen T U C)
       → NotesTaken w id offer answer s lacked did t → Follows offer offer s did t
@@ -291,11 +287,10 @@ module _ {T U G C : Type 0} where
       let whole : run ≡ (earlier ++ e ∷ []) ++ later = split ∙ sym (append_assoc earlier (e ∷ []) later) in
       let (mid, first, rest) = split_run w (new_server table) after (earlier ++ e ∷ []) later (subst (λ (l : List (Entry T U G C)). Leads w (new_server table) l after) whole leads) in
       let at : mid.offer ≡ offer_over (new_offer table) (earlier ++ e ∷ []) = offer_run w (new_server table) mid (earlier ++ e ∷ []) first in
-      let shared = shared_run w mid after later rest in
       let offer : Offer G = offer_over (new_offer table) (earlier ++ e ∷ []) in
       let known : HasInterfaces offer = grind (arith, after_run, new_offer, at_first, shared_run, new_server) in
       let (numbered, ends) = mine_numbered id offer mid.last_client later after.offer after.last_client
-      (subst (λ (o : Offer G). SharedAlone o mid.last_client later after.offer after.last_client) at shared) in
+      (subst (λ (o : Offer G). SharedAlone o mid.last_client later after.offer after.last_client) at (shared_run w mid after later rest)) in
       subst (λ (o : Offer G). MatchOption (seen id after).part (Unit {0})
       (λ p. p.is_killed ≡ false → AreSameGlobals (announced (log_of (history (mine id later))) r) (shown_of w.views o id p.client_data))) ends
       (own_announced w id r offer known link client_data (mine id later) (seen id after) (are_mine id later) numbered left alone there)

@@ -92,11 +92,8 @@ module _ {G C : Type 0} (views : G → ClientParts → C → GlobalParts → Boo
       pub hidden_old : (g : Announced) → IsShown offer g → g.name ≢ name → IsShown (with_globals offer after) g
       hidden_old g h other = moved after g (hides.beside g.name other) h
 
-      hidden_other : (g : Announced) → With after g → g.name ≢ name
-      hidden_other g h same = grind (arith, held, is_shown)
-
       pub hidden_only : (g : Announced) → IsShown (with_globals offer after) g → IsShown offer g × (g.name ≢ name)
-      hidden_only g h = (back after g (hides.beside g.name (hidden_other g h)) h, hidden_other g h)
+      hidden_only g h = (back after g (hides.beside g.name (λ same. grind (arith, held, is_shown))) h, (λ same. grind (arith, held, is_shown)))
 
     disabled_hides : (x : Object (KeptGlobal G)) → Hides (record offer.globals { store = rewritten offer.globals.store name (as_disabled x) })
     disabled_hides x = grind (arith, rewritten_other, as_disabled, rewritten_here, true≢false, is_shown)

@@ -73,10 +73,6 @@ module _ {G C : Type 0} (views : G → ClientParts → C → GlobalParts → Boo
   pub none_done : {T : Type 0} (p q : Part T U C) (did : List (Deed U)) → did ≡ [] → q ≡ p → Run p did q
   none_done p q did none same = grind (arith, quietly, log_of, registries_in, steady_same, part_scene)
 
-  -- the display tells that a number is free
-  deletes_goes : (s : Scene U C) (n : ℕ) → Change s (deletions n) [] s
-  deletes_goes s n = grind (arith, others_goes, deletions, deletions_other, display_other)
-
   -- messages and then a change, of a core that is as live as before
   speaks_then : (c e : Core U C) (puts : List Said) (told : List (Deed U)) → e.is_killed ≡ c.is_killed → registries_in told ≡ [] → Change (scene_of c) puts [] (scene_of c)
       → Still (scene_of c) (scene_of e) → Lives views client r offer c.is_killed e.is_killed (scene_of c) puts (registries_in told) (scene_of e)
@@ -131,7 +127,7 @@ module _ {G C : Type 0} (views : G → ClientParts → C → GlobalParts → Boo
       })
       (λ fits.
       speaks_then (core_of p) e (deletions id.number) (told_deeds (cond (is_some (named e.store id)) [] (map Did (left_deeds client waits id x)))) live
-      (silent_left client waits id x (is_some (named e.store id))).1 (deletes_goes (part_scene p) id.number) (still (fits refl)))
+      (silent_left client waits id x (is_some (named e.store id))).1 (grind (arith, others_goes, deletions, deletions_other, display_other, part_scene p, id.number)) (still (fits refl)))
       tells'
 
   pub destroys_lives : {T : Type 0} (sends : T → Queue → Result ℕ IoFault → T → Type 0) (p : Part T U C) (id : IdParts) (answer : Result (Unit {0}) DestroyError) (lacked : Bool)
@@ -176,15 +172,10 @@ module _ {G C : Type 0} (views : G → ClientParts → C → GlobalParts → Boo
 
       -- the sender is not the registry: it may leave
       sender_lives : (d : Bool) (more : List (Deed U)) → id_of m.sender ≢ r → Tells sends (ends_sender client (core_of p) m sender d) link lacked more q → Run p more q
-      sender_lives false more other tells' =
-          tells_lives views client r offer sends p (tells (core_of p) []) link lacked more q (record { last = λ e killed'. killed'; starved = inl refl; silent = λ e. refl })
-          (λ fits. lives_same views client r offer p.is_killed (part_scene p)) tells'
+      sender_lives false more other tells' = grind (arith, tells_lives, tells, core_of, lives_same, part_scene, lives_so, scene_of, log_of, registries_in, steady_goes, steady_same)
       sender_lives true more other tells' =
           leaves_lives sends p (without_noted client (core_of p) m.sender.number sender) _ true false m.sender sender link lacked more q refl (inl refl)
           (λ fine. without_still (core_of p) m.sender sender is other) tells'
-
-      broken_lives : Tells sends (ends_closed client (core_of p) m sender b) link lacked rest q → Run p did q
-      broken_lives tells' = grind (arith, after_sends, tells_lives, ends_closed, core_of, silent_left, is_some, named, lives_not, part_scene)
 
       sent_lives : (w : Result (Unit {0}) IoFault) → SentAs sends client p m sender b w link answer lacked rest q → Run p did q
       sent_lives (Ok u) (more, tells', is_ok, rest_so) =
@@ -196,7 +187,7 @@ module _ {G C : Type 0} (views : G → ClientParts → C → GlobalParts → Boo
           (lives_then views client r offer p.is_killed p.is_killed q.is_killed (part_scene p) (part_scene p) (part_scene q) (said m ∷ []) (log_of more) [] (registries_in more)
           (record { live = λ on. on; goes = λ on. says }) then'))
       sent_lives (Err fault.OutOfMemory) (is_err, no_memory, none, same) = grind (arith, after_sends, part_scene, log_of, registries_in, lives_so, lives_same)
-      sent_lives _ h = broken_lives h.0
+      sent_lives _ h = grind (arith, after_sends, tells_lives, ends_closed, core_of, silent_left, is_some, named, lives_not, part_scene, h.0)
 
     granted_lives : (p : Part T U C) (b : Bool) (answer : Result (Unit {0}) EventError) (lacked : Bool) (did : List (Deed U)) (q : Part T U C)
         → named p.store m.sender ≡ Some sender → (id_of m.sender ≡ r → answer ≢ Ok tt) → SendsGranted sends client p m sender b answer lacked did q → Run p did q

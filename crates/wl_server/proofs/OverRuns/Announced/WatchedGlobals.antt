@@ -123,14 +123,11 @@ module _ {G C : Type 0} (views : G → ClientParts → C → GlobalParts → Boo
         → TellsShown views client r (with_globals offer after) s.client_data (log ++ map (removal_message name) s.registries)
     loss_told hides log among w = record {
       told = λ a there.
-          let in-after = subst (λ (l : List Announced). IsAmong l a) whole there in
+          let in-after = subst (λ (l : List Announced). IsAmong l a) (announced-append r [] log (map (removal_message name) s.registries)) there in
           hidden_old views client s.client_data offer name after hides a (w.told a (removing_only name r (announced log r) s.registries a in-after))
           (removing_removes name r (announced log r) s.registries a among in-after);
-      tells = grind (arith, hidden_only, whole, removing_keeps, announced);
+      tells = grind (arith, hidden_only, announced-append, removing_keeps, announced);
     }
-      where
-        whole : announced (log ++ map (removal_message name) s.registries) r ≡ announced_over r (announced log r) (map (removal_message name) s.registries)
-        whole = announced-append r [] log (map (removal_message name) s.registries)
 
     pub loss_watch : Hides views client s.client_data offer name after → (log : List Said) (made : List Id) → Watched offer s log made
         → Watched (with_globals offer after) s (log ++ map (removal_message name) s.registries) made

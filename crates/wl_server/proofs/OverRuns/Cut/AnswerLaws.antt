@@ -31,7 +31,7 @@ use Rattle.wl_server.proofs.OverRuns.Moves.DoingsLaws.{deeds_both, deeds_given}
 use Rattle.wl_server.specs.Errors.{bind_text, new_id_text}
 use Rattle.wl_server.specs.Finish.{finish_verdict, ended_by, ends, ends_request, refusal}
 use Rattle.wl_server.specs.Ids.{IdParts}
-use Rattle.wl_server.specs.Reading.{Around, action_in, binds, binds_to, breaks, display_request, exchanges_in, faulted, garbled, hands_out, made_at, may_bind, other_request, reads_on, registry_request, request, row_in, server, synced, takes, with_registry}
+use Rattle.wl_server.specs.Reading.{Around, action_in, binds, binds_to, breaks, display_request, exchanges_in, faulted, garbled, hands_out, made_at, may_bind, other_request, reads_on, registry_request, request, row_in, server, synced, with_registry}
 use Rattle.wl_server.specs.Requests.{convert, is_valid_new, start}
 use Rattle.wl_server.specs.Stretches.{answers_in, beside_exchanges, was_killed}
 use Rattle.wl_server.specs.Telling.{Core, Did, Finish, Stops, Told, closed_down, deeds_in, deeds_of, end_deeds, killed, objects_in, with_objects}
@@ -213,11 +213,6 @@ module _ {U G C : Type 0} (a : Around G C) where
   registry_speaks c (arg.Uint g ∷ arg.Str name ∷ arg.Uint version ∷ arg.NewId n ∷ []) r = binds_to_speaks c g name version n (held a.globals.store g) r
   registry_speaks c _ r = garbled_speaks c r
 
-  -- ---- other requests
-
-  other_speaks : (c : Core U C) (m : WireMessage) (receiver : Object (Kept U)) (row : MessageRow) → IsReady c → Speaks (other_request a c m receiver row)
-  other_speaks c m receiver row r = grind (arith, nat_lt, stops_speaks, with_objects, objects_ready, action_speaks, convert, start, objects_in)
-
   -- ---- a message
 
   request_speaks : (c : Core U C) (m : WireMessage) (receiver : Option (Object (Kept U))) (row : Option MessageRow) → IsReady c → Speaks (request a c m receiver row)
@@ -228,7 +223,7 @@ module _ {U G C : Type 0} (a : Around G C) where
       go : (b t : Bool) → Speaks (cond b (display_request a c m.opcode m.args) (cond t (registry_request a c m.args) (other_request a c m receiver row)))
       go true t = display_speaks c m.opcode m.args r
       go false true = registry_speaks c m.args r
-      go false false = other_speaks c m receiver row r
+      go false false = grind (arith, nat_lt, stops_speaks, with_objects, objects_ready, action_speaks, convert, start, objects_in)
 
   handles_speaks : (c : Core U C) (m : WireMessage) → IsReady c → Speaks ((server a).handles c m)
   handles_speaks c m r = request_speaks c m (held c.store m.sender) (row_in a.table (held c.store m.sender) m.opcode) r
@@ -292,8 +287,7 @@ module _ {T U G C : Type 0} (sends : T → Queue → Result ℕ IoFault → T �
       go h1 more goes = grind (arith, faulted_sound, ready)
   reads_so left p after (Handled es ∷ turns) out (on, (v, link, first, lacked, mid, rest, (m, read, is), carried, split, more)) ample sound =
       let calm = both_false lacked rest.refused (sym ample ∙ ap (λ (o : Gives (Told U)). o.refused) split) in
-      let speaks = subst (λ (w : Verdict (Core U C) (Told U)). Speaks a w) (sym is) (handles_speaks a p.core m (ready p.core on sound)) in
-      let says = carried_says a sends v speaks link es first lacked mid calm.0 carried in
+      let says = carried_says a sends v (subst (λ (w : Verdict (Core U C) (Told U)). Speaks a w) (sym is) (handles_speaks a p.core m (ready p.core on sound))) link es first lacked mid calm.0 carried in
       joins_so p.core mid.core after.core first lacked rest out split says (reads_so left mid after turns rest more calm.1 says.sound) (λ off. reads_off left mid after turns rest off more)
   reads_so left p after (Unread es ∷ turns) out (on, (v, link, first, lacked, mid, rest, (read, same, is), carried, split, more)) ample sound = grind (arith, both_false, garbled_speaks, ready, carried_says, joins_so, reads_off, reads_so left mid after turns rest more)
 
@@ -316,17 +310,11 @@ module _ {U G C : Type 0} (a : Around G C) where
     quiet : (d : Core U C) → IsBeside (map HandedOut (v.events d))
     none : (d : Core U C) → answers_in (map HandedOut (v.events d)) ≡ []
 
-  finished_end : (v : Verdict (Core U C) (Told U)) → IsFinishVerdict v → (wrote : Result (Unit {0}) IoFault) → lacks_memory wrote ≡ false → IsSound (came_to (server a) v wrote)
-  finished_end v h1 wrote h2 = grind (arith, came_broken, closed_down, sound_killed)
-
   ending_is_finish : (c : Core U C) (id : IdParts) (x : Option (Object (Kept U))) (created : Option IdParts) (u : Option U) → c.is_killed ≡ false → c.ended ≡ None
       → IsFinishVerdict (ends a.client c id x created u)
   ending_is_finish c id x created u h1 h2 = grind (arith, is_some)
 
-  taken_is_finish : (c : Core U C) (u : Finish U) (v : Verdict (Core U C) (Told U)) → c.ended ≡ None → takes a.client c u ≡ Some v → IsFinishVerdict v
-  taken_is_finish c u v unended is = grind (arith, same_Some, ends_request, ending_is_finish, ended_by, none-some, refusal, finish_verdict)
-
   module _ {T : Type 0} (sends : T → Queue → Result ℕ IoFault → T → Type 0) where
     pub ends_so : (p after : ReaderState T (Core U C)) (u : Finish U) (es : List Sending) (gave : List (Given (Told U))) → p.core.ended ≡ None
         → Ends sends (server a) p u es gave false after → EndsSo gave after.core
-    ends_so p after u es gave h1 h2 = grind (arith, true≢false, taken_is_finish, both_false, lacks_memory, came_to, server, finished_end, beside_given, answers_in, answers_given, same_Some, ends_request, ending_is_finish, ended_by, none-some, refusal, finish_verdict, came_broken, closed_down, sound_killed, deeds_given, beside_puts, deeds_in)
+    ends_so p after u es gave h1 h2 = grind (arith, true≢false, same_Some, ends_request, ending_is_finish, ended_by, none-some, refusal, finish_verdict, both_false, lacks_memory, came_to, server, came_broken, closed_down, sound_killed, beside_given, answers_in, answers_given, deeds_given, beside_puts, deeds_in)

@@ -60,9 +60,6 @@ abbrev fault_of : Result Handed ActionError → Option IoFault
 fault_of (Err (Io f)) = Some f
 fault_of _ = None
 
-pipe_not : ◌≡◌ {A = Result Handed ActionError} (Err (Io fault.Pipe)) (Err (Io fault.WouldBlock)) → ⊥
-pipe_not same = cc
-
 module _ {U : Type 0} where
   told_killed : (f : IoFault) (did : List (Deed U)) → f ≢ fault.WouldBlock → was_killed did ≡ true → told_by (Some (Err (Io f))) did ≡ Err f ∷ []
   told_killed f did h1 h2 = grind (arith)
@@ -76,11 +73,8 @@ module _ {U C : Type 0} (c e : Core U C) (out : Gives (Told U)) (on : reads_on c
   stopped_is : (f : IoFault) → out.stopped ≡ Some f → answer ≡ Err (Io f)
   stopped_is f stopped = is ∙ ap (λ (o : Option IoFault). answered_so o out.gave) stopped
 
-  dead_deeds : (exchanges : List (Deed U)) → e.is_killed ≡ true → IsSound e → was_killed (deeds_of exchanges out.gave e) ≡ true
-  dead_deeds exchanges dead h3 = grind (arith, true≢false, killed_deeds)
-
   told_so : (exchanges : List (Deed U)) → ((f : IoFault) → out.stopped ≡ Some f → f ≡ fault.WouldBlock) → told_by (Some answer) (deeds_of exchanges out.gave e) ≡ answers_in out.gave
-  told_so exchanges h1 = grind (arith, told_by, deeds_of, answers_in, stopped_is, true≢false, over_is, told_killed, dead_deeds, answered_so, action_first, first_of, killed_deeds)
+  told_so exchanges h1 = grind (arith, told_by, deeds_of, answers_in, stopped_is, true≢false, over_is, told_killed, killed_deeds, answered_so, action_first, first_of)
 
   blocks_so : answer ≡ Err (Io fault.WouldBlock) → out.stopped ≡ Some fault.WouldBlock
   blocks_so h1 = grind (arith, fault_of, stopped_is, true≢false, none-some, over_is, same_Some, answered_so, action_first, first_of)
@@ -234,7 +228,7 @@ module _ {G C : Type 0} (views : G → ClientParts → C → GlobalParts → Boo
           by_standing (inr (dead, none, reason)) unopened g =
               let (is, left, unasked, nothing', same) = dead_none s.core.is_killed dead g in
               acts_none s call did q same nothing' sound came ended (ap (λ (o : Option (Result Handed ActionError)). told_by {U = U} o []) (told ∙ ap (λ (x : Result Handed ActionError). Some x) is))
-              (λ w. pipe_not (sym is ∙ same_Some answer (Err (Io fault.WouldBlock)) (sym told ∙ w)))
+              (λ w. (grind (arith, sym is ∙ same_Some answer (Err (Io fault.WouldBlock)) (sym told ∙ w))))
           by_standing (inl (live, unended)) unopened g =
               let (turns, out, end, reads, is, left, lacks, did_so, same) = live_reads s.core.is_killed live g in
               acts_read s call did q r.turns_left turns out end answer (on_of s.core live unopened)
@@ -374,8 +368,7 @@ module _ {G C : Type 0} (views : G → ClientParts → C → GlobalParts → Boo
     run_acts s before after [] there same heard sound = ends_here s after (ap (λ (x : Seen Script U C). x.part) same ∙ there)
     run_acts s before after (x ∷ []) there (mid, by, same) (about, unlacked, heard, others) sound =
         let (q, is, first) = step_acts s before mid x.call x.did there about heard (subst (λ (b : Bool). PartCall w id offer x.call before b x.did mid) unlacked by) sound in
-        let last = ends_here first.mid after (ap (λ (x : Seen Script U C). x.part) same ∙ is ∙ ap (λ (p : Part Script U C). Some p) first.ends) in
-        run_joins s q after x [] first last
+        run_joins s q after x [] first (ends_here first.mid after (ap (λ (x : Seen Script U C). x.part) same ∙ is ∙ ap (λ (p : Part Script U C). Some p) first.ends))
         (λ e before'. subst (λ (list : List (Act (Told U) (Finish U))). ActsEndWaiting (before' ++ list)) (sym (append-nil first.acts)) (first.waits e before'))
     run_acts s before after (x ∷ (y ∷ run)) there (mid, by, leads) (about, unlacked, heard, others) sound =
         let (q, is, first) = step_acts s before mid x.call x.did there about heard (subst (λ (b : Bool). PartCall w id offer x.call before b x.did mid) unlacked by) sound in

@@ -152,17 +152,7 @@ module _ {T U C : Type 0} (sends : T → Queue → Result ℕ IoFault → T → 
   moves_change p q d empty (followed {m = m} {a = a} {b = b} first second is) =
       let one = moves_change p m a empty first in
       changing_so p q q (joined a b) d is refl (then_changing p m q a b one (moves_change m q b one.empty second))
-  moves_change p q d empty (handed_out {a = a} ids moves among is) =
-      let changing = moves_change p q a empty moves in
-      changing_so p q q (record a { handed = ids }) d is refl (record {
-        changes = changing.changes;
-        ends = changing.ends;
-        handed = λ h one. changing.handed h (among h one);
-        left = changing.left;
-        noted = changing.noted;
-        waits = changing.waits;
-        empty = changing.empty;
-      })
+  moves_change p q d empty (handed_out {a = a} ids moves among is) = grind (arith, changing_so, moves_change p q a empty moves)
   moves_change p q d empty (moved move) =
       grind (arith, changing_so, quiet, born_changing, found_changing, none_changing, wrote_changing, went_changing, noting, nothing_done, end_notes, ended_quiet, id_of, id_at)
 
@@ -247,9 +237,6 @@ module _ {T U C : Type 0} (sends : T → Queue → Result ℕ IoFault → T → 
         new = λ h among. changing.new h (subst (λ (hs : List (Happening U)). IsAmong (hs ++ q.waiting) h) (append-nil d.notes) (among_first (d.notes ++ []) q.waiting h among));
       }
 
-  objects_at : (s : Seen T U C) (p : Part T U C) (o : Objects (Kept U)) → s.part ≡ Some p → AreObjectsOf s o → o ≡ objects_of p
-  objects_at s p o there are = grind (arith, held, objects_of)
-
   moved_from : (s : Seen T U C) (p : Part T U C) (o : Objects (Kept U)) (d : Doings U) (t : Seen T U C) → s.part ≡ Some p → o ≡ objects_of p
       → CallChanging (record { part = Some p; made = s.made }) (objects_of p) d t → CallChanging s o d t
   moved_from s p o d t there at changing = grind (arith, objects_of)
@@ -258,12 +245,12 @@ module _ {T U C : Type 0} (sends : T → Queue → Result ℕ IoFault → T → 
   goes_change s t o d are empty (unfelt is same) = grind (arith, nothing_done, goes_unfelt)
   goes_change s t o d are empty (notes_taken on is same) = grind (arith, nothing_done, goes_taken)
   goes_change s t o d are empty (within p q there moves same) =
-      let at : o ≡ objects_of p = objects_at s p o there are in
+      let at : o ≡ objects_of p = grind (arith, held, objects_of) in
       let start : held p.store 0 ≡ None = subst (λ (x : Objects (Kept U)). held x.store 0 ≡ None) at empty in
       subst (λ (x : Seen T U C). CallChanging s o d x) (sym same)
       (moved_from s p o d (record { part = Some q; made = s.made ++ d.notes }) there at (goes_within p q s.made d (moves_take p q d moves) start moves))
   goes_change s t o d are empty (taken_out p q on there killed moves none waiting same) =
-      let at : o ≡ objects_of p = objects_at s p o there are in
+      let at : o ≡ objects_of p = grind (arith, held, objects_of) in
       let start : held p.store 0 ≡ None = subst (λ (x : Objects (Kept U)). held x.store 0 ≡ None) at empty in
       subst (λ (x : Seen T U C). CallChanging s o d x) (sym same)
       (moved_from s p o d (record { part = None; made = s.made ++ d.notes }) there at (goes_out p q s.made d (moves_take p q d moves) start moves none))

@@ -271,8 +271,7 @@ module _ {T U G C : Type 0} where
             named_over next.offer after.offer next.last_client after.last_client later (shared_run w next after later rest) g (omega (arith, last))
             ∙ ap (global_over g later) (ap (λ (o : Offer G). global_of o.globals g) offered ∙ created_named mid.offer.globals i version handler g number g.serial);
         no_client_again = λ id done later point split first others made none. (
-            let given = client_given (new_offer table) point.offer 0 point.last_client done (shared_run w (new_server table) point done first) id made in
-            (out_run w id point after later given none others).none
+            (out_run w id point after later (client_given (new_offer table) point.offer 0 point.last_client done (shared_run w (new_server table) point done first) id made) none others).none
             );
         no_global_again = λ g done later point split first others made none. (
             let given = global_given (new_offer table) point.offer 0 point.last_client done (shared_run w (new_server table) point done first) g made in

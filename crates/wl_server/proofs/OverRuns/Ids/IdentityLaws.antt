@@ -88,15 +88,11 @@ module _ {T U G C : Type 0} (w : World T G C) (id : ClientParts) where
     are = rest.are;
     empty = rest.empty;
     left = grind (arith, left_both, history, left_in, ended_in, serial_of, has_data);
-    noted = grind (arith, in_three, taken_in, history, waiting_of, taken_both, append_assoc, sooner, among_first, among_later);
+    noted = grind (arith, in_three, taken_in, history, waiting_of, taken_both, append_assoc, among_first, among_later);
   }
     where
       made_now : (h : Happening U) → IsAmong (waiting_of s.part) h ⊎ IsNotedIn id first.changes h → Contains (waiting_of s.part) h ⊎ IsNotedIn id first.changes h
       made_now h h2 = grind (arith, contains_among, waiting_of)
-
-      sooner : (changes : List (Change (Kept U))) (others : List (List (Change (Kept U)))) (h : Happening U) → IsAmong (s.made ++ waiting_of s.part) h ⊎ IsNotedIn id changes h
-          → IsAmong (s.made ++ waiting_of s.part) h ⊎ IsNotedOver id (changes ∷ others) h
-      sooner changes others h h4 = grind (arith)
 
   pub one_change : (offer : Offer G) (s : Seen T U C) (o : Objects (Kept U)) (e : Own T U G C) (mid : Seen T U C) → concerns id e.call ≡ true → AreObjectsOf s o
       → held o.store 0 ≡ None → PartCall w id offer e.call s e.lacked e.did mid

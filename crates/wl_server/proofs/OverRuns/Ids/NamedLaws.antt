@@ -31,10 +31,7 @@ module _ {T U G C : Type 0} (w : World T G C) (id : ClientParts) where
       → InParts w id offer (just_inserted link client_data) (objects.first_objects display_object) done point later t
   from_begin offer link client_data done point later t own more led alone =
       in_parts w id offer (just_inserted link client_data) (objects.first_objects display_object) done point later t own more refl
-      (stored_other empty_store 1 display_object 0 (λ is. none_one is) ∙ held_empty 0) led alone
-    where
-      none_one : ◌≡◌ {A = ℕ} 0 1 → ⊥
-      none_one is = omega (arith, is)
+      (stored_other empty_store 1 display_object 0 (λ is. (omega (arith, is))) ∙ held_empty 0) led alone
 
   own_named : (offer : Offer G) (link : LinkState T) (client_data : C) (done : List (Own T U G C)) (point : Seen T U C) (later : List (Own T U G C)) (t : Seen T U C)
       → AreMine id done → AreMine id later → Alone w id offer (just_inserted link client_data) done point → Alone w id (offer_through offer done) point later t
@@ -110,14 +107,11 @@ module _ {T U G C : Type 0} where
       let (mid, first, (next, by, rest)) =
       split_run w (new_server table) point earlier (e ∷ between) (subst (λ (r : List (Entry T U G C)). Leads w (new_server table) r point) split leads) in
       let number = (numbered mid e.call id by.client (transport, client_data, inserts)).2 in
-      let grown = by.last in
-      let one = one_more e.call id (transport, client_data, inserts) in
-      let more = later_last w next point between rest in
       record {
         link = link;
         fresh = fresh;
         alone = alone;
-        given = omega (arith, number, grown, one, more);
+        given = omega (arith, number, by.last, one_more e.call id (transport, client_data, inserts), later_last w next point between rest);
         offered = offer_run w next point between rest ∙ ap (λ (o : Offer G). offer_over o between) (grind (arith, offer_after, offer_run, new_server, offer_over_one, new_offer))
             ∙ through w id between (offer_over (new_offer table) (earlier ++ e ∷ []));
       }
@@ -138,9 +132,8 @@ module _ {T U G C : Type 0} where
   each_names_none_again w table done between later point mid after leads onward others id transport client_data earlier since e split inserts =
       let is = inserted w table done point leads id transport client_data earlier since e split inserts in
       let last = later_last w point mid between onward in
-      let given = is.given in
       let offered = offer_run w point mid between onward ∙ through w id between point.offer in
       none_again w id (offer_over (new_offer table) (earlier ++ e ∷ [])) is.link client_data (mine id since) (seen id point) (mine id between) (seen id mid) (mine id later) (seen id after)
       (are_mine id since) (are_mine id between) (are_mine id later) is.alone
-      (subst (λ (o : Offer G). Alone w id o (seen id point) (mine id between) (seen id mid)) is.offered (alone_run w id point mid between given onward))
+      (subst (λ (o : Offer G). Alone w id o (seen id point) (mine id between) (seen id mid)) is.offered (alone_run w id point mid between is.given onward))
       (grind (arith, seen, mine, offer_through, alone_run))

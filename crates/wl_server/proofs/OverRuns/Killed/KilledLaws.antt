@@ -116,12 +116,9 @@ module _ {T U G C : Type 0} (w : World T G C) (id : ClientParts) where
   dead_run before after [] born p there killed same = grind (arith, dead_end, seen, is_killed)
   dead_run before after (e ∷ run) born p there killed (mid, by, leads) =
       go (dead_or_out w id before.offer (seen id before) p there killed (e.lacks id) (e.did id) (seen id mid) e.call (not_again w id before mid e born by) (by.each id))
-      (λ none. out_run mid after run still none leads)
-      (λ q is gone. dead_run mid after run still q is gone leads)
+      (λ none. out_run mid after run (let grown = by.last in omega (arith, born, grown)) none leads)
+      (λ q is gone. dead_run mid after run (let grown = by.last in omega (arith, born, grown)) q is gone leads)
     where
-      still : id.serial ≤ mid.last_client
-      still = let grown = by.last in omega (arith, born, grown)
-
       silent : receives_in (e.did id) ≡ 0
       silent = ap length (dead_silent w id before.offer (seen id before) p there killed (e.lacks id) (e.did id) (seen id mid) e.call (by.each id))
 

@@ -283,9 +283,7 @@ module _ {T U G C : Type 0} (kind : Kind) (w : World T G C) (id : ClientParts) (
       → Handed (Asked call answer) s did t
   step_goes (step.InsertClient transport client_data) answer s lacked did t about may h = absurd (true≢false (sym about))
   step_goes (step.SetObjectData o u) answer s lacked did t about may (r, is, h) = grind (arith, of_client, same_doings, nothing_done, doings_in, data_set_moves)
-  step_goes (step.CreateObject target i version u) answer s lacked did t about may (r, is, h) =
-      subst (λ (a : Reply T U). Handed (Asked (step.CreateObject target i version u) a) s did t) (sym is)
-      (creates_goes target i version u r _ s lacked _ did t (λ unknown. ap made_ids unknown) h)
+  step_goes (step.CreateObject target i version u) answer s lacked did t about may (r, is, h) = grind (arith, creates_goes, made_ids, doings_of, on_part, creates_moves, unfelt)
   step_goes (step.DestroyObject o) answer s lacked did t about may (r, is, h) = grind (arith, of_client, same_client, destroys_moves)
   step_goes (step.SendEvent m) answer s lacked did t about may (r, is, h) =
       of_client kind w.sends w.receives id (same_client m.sender_id.client id) s _ _ lacked did t (λ mine p q d. sends_moves kind w.sends w.receives id offer.table p _ r lacked did q d) h

@@ -17,9 +17,6 @@ ids_both : (acted others : List Handed) → all_action_ids (acted ++ others) ≡
 ids_both [] others = refl
 ids_both (h ∷ acted) others = grind (arith, append_assoc, all_action_ids, ids_both acted others)
 
-passes : {A : Type 0} (xs ys : List A) → xs ≡ [] → xs ++ ys ≡ ys ++ xs
-passes xs ys none = ap (λ l. l ++ ys) none ∙ sym (append-nil ys) ∙ ap (λ l. ys ++ l) (sym none)
-
 module _ {U : Type 0} where
   -- ---- moves one behind another
 
@@ -132,7 +129,7 @@ module _ {U : Type 0} where
         let B : Doings U = doings_in (deeds_in others) in
         let E : Doings U = end_of c in
         let passed : joined A X ≡ joined X A =
-        ap (joined A) exchanged ∙ (grind (arith, append-nil, passes, quiet.0, quiet.1)) ∙ ap (λ (d : Doings U). joined d A) (sym exchanged) in
+        ap (joined A) exchanged ∙ (grind (arith, append-nil, quiet.0, quiet.1)) ∙ ap (λ (d : Doings U). joined d A) (sym exchanged) in
         ap (joined (joined S A)) (deeds_done (exchanges_in turns) others c)
         ∙ joined_assoc S A (joined X (joined B E))
         ∙ ap (joined S) (sym (joined_assoc A X (joined B E)) ∙ ap (λ (d : Doings U). joined d (joined B E)) passed ∙ joined_assoc X A (joined B E))

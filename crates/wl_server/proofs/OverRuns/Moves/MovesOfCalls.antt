@@ -31,7 +31,7 @@ use Rattle.wl_server.proofs.OverRuns.Moves.BaseMoves.{Doings, Kind, born, finish
 use Rattle.wl_server.specs.Deeds.{Deed, Noted, Sent, left_if}
 use Rattle.wl_server.proofs.OverRuns.Moves.DoingsLaws.{IsQuiet, doings_in, doings_in_both, doings_end, doings_sends, joined_none, told_deeds}
 use Rattle.wl_server.specs.Errors.{PostsError, error_of, posts}
-use Rattle.wl_server.specs.Events.{SendsEvent, SendsGranted, SentAs, SessionMessage, argument_faults, checked_row, checked_sender, ends_closed, ends_sender, event_check, granted, said, wire_message}
+use Rattle.wl_server.specs.Events.{SendsEvent, SentAs, SessionMessage, argument_faults, checked_row, checked_sender, ends_closed, ends_sender, event_check, granted, said, wire_message}
 use Rattle.wl_server.specs.Finish.{FinishesBind, FinishesRequest, Refuses, core_finished, data_given, ended_by, ends, ends_request, refusal, store_with_data}
 use Rattle.wl_server.specs.Ids.{ClientParts, IdParts}
 use Rattle.wl_server.proofs.OverRuns.Moves.MovesOfVerdicts.{Comes, Go, IsCalm, Lands, at, ends_killed, lands_at, lands_not, lands_then, same_doings, tells_moves}
@@ -153,17 +153,14 @@ module _ {T U C : Type 0} (kind : Kind) (sends : T → Queue → Result ℕ IoFa
     lands = lands_at kind sends receives client c did e (λ live. same.1 ∙ calm (sym same.0 ∙ live)) same.1
         (λ l. followed (moved (went id.number x waits (named_held c.store id x is) refl refl)) (moves l)
         (doings_left client waits id x (named_serial c.store id x is) ∙ sym (joined_none _)));
-    events = λ d store. told (gone_named d.store id (ap (λ (s : Store (Kept U)). held s id.number) store ∙ gone)) ∙ told_did did;
+    events = λ d store. (ap (λ (b : Bool). told_deeds (cond b [] (map Did did))) (gone_named d.store id (ap (λ (s : Store (Kept U)). held s id.number) store ∙ gone))) ∙ told_did did;
     quiet = quiet_left client waits id x;
     last = inl refl;
-    starved = elim back [ inl over ↦ inl over | inr back ↦ inr (back, told (ap is_some is)) ];
+    starved = elim back [ inl over ↦ inl over | inr back ↦ inr (back, (ap (λ (b : Bool). told_deeds (cond b [] (map Did did))) (ap is_some is))) ];
   }
     where
       did : List (Deed U)
       did = left_deeds client waits id x
-
-      told : {b t : Bool} → b ≡ t → told_deeds (cond b [] (map Did did)) ≡ told_deeds (cond t [] (map Did did))
-      told same = ap (λ (b : Bool). told_deeds (cond b [] (map Did did))) same
 
   -- and then the client is closed down
   closes_comes : (c : Core U C) (v : Verdict (Core U C) (Told U)) → Come c v → Come c (record (tells (closed_down v.core) []) { events = v.events })
@@ -247,13 +244,9 @@ module _ {T U C : Type 0} (kind : Kind) (sends : T → Queue → Result ℕ IoFa
       sent_moves (Err fault.InvalidInput) by (tells', is_ok') = broken_moves fault.InvalidInput by tells'
       sent_moves (Err (fault.Other n)) by (tells', is_ok') = broken_moves (fault.Other n) by tells'
 
-  sends_granted : (p : Part T U C) (m : SessionMessage) (sender : Object (Kept U)) (b : Bool) (answer : Result (Unit {0}) EventError) (lacked : Bool) (did : List (Deed U))
-      (q : Part T U C) → named p.store m.sender ≡ Some sender → SendsGranted sends client p m sender b answer lacked did q → Move p (doings_in did) q
-  sends_granted p m sender b answer lacked did q is h10 = grind (arith, stays, sent_moves)
-
   pub sends_moves : (table : List InterfaceRow) (p : Part T U C) (m : SessionMessage) (answer : Result (Unit {0}) EventError) (lacked : Bool) (did : List (Deed U)) (q : Part T U C)
       → SendsEvent sends client table p m answer lacked did q → Move p (doings_in did) q
-  sends_moves table p m answer lacked did q h1 = grind (arith, either_bool, stays, event_check, doings_in, sends_granted, granted_named, stayed, sent_moves, named, granted, true≢false, is_ok, checked_row, argument_faults, checked_sender)
+  sends_moves table p m answer lacked did q h1 = grind (arith, either_bool, stays, event_check, doings_in, sent_moves, granted_named, stayed, named, granted, true≢false, is_ok, checked_row, argument_faults, checked_sender)
 
   -- ---- the end of an action
 

@@ -19,7 +19,7 @@ use Rattle.wl_server.proofs.OverRuns.Moves.BaseMoves.{Doings, Kind, MayRead, fol
 use Rattle.wl_server.specs.Deeds.{Came, Deed, Handed, Put, Sent, notes_in}
 use Rattle.wl_server.proofs.OverRuns.Moves.DoingsLaws.{IsQuiet, deeds_done, doings_in, doings_in_both, doings_puts, doings_sends, end_of, joined_none, turns_done, verdict_done}
 use Rattle.wl_server.proofs.OverRuns.Moves.MovesOfRequests.{handles_comes, malformed_comes}
-use Rattle.wl_server.proofs.OverRuns.Moves.MovesOfVerdicts.{Comes, Ends, Go, IsCalm, carried, ends_killed, ends_not, notes_at_end, same_doings}
+use Rattle.wl_server.proofs.OverRuns.Moves.MovesOfVerdicts.{Comes, Ends, Go, IsCalm, carried, ends_killed, ends_not, same_doings}
 use Rattle.wl_server.specs.Part.{Part}
 use Rattle.wl_server.specs.Reading.{Around, NextAction, exchanges_in, faulted, reads_on, server}
 use Rattle.wl_server.specs.Telling.{Core, Told, deeds_in, deeds_of, end_deeds, part_of, reader_part}
@@ -102,13 +102,11 @@ module _ {T U G C : Type 0} (kind : Kind) (sends : T → Queue → Result ℕ Io
         | inr (f, (over, stopped, same)) ↦
             let ends : Ends kind sends receives a.client before.core (faulted before.core f) = grind (arith, ends_not, ends_killed, before.core) in
             let end : ReaderState T (Core U C) = record { core = faulted before.core f; link = link } in
-            let so : notes_at_end kind sends receives a.client end.core ≡ ends.notes =
-            ends.so ∙ ap (λ (o : Option _). notes_in (end_deeds {U = U} o) ++ ends.notes) none in
             subst (λ (e : ReaderState T (Core U C)). Step (part_of before) (doings_in (deeds_of (Came r ∷ exchanges_in turns) out.gave e.core)) (part_of e)) (sym same)
             (subst (λ (ts : List Turn). Step (part_of before) (doings_in (deeds_of (Came r ∷ exchanges_in ts) out.gave end.core)) (part_of end)) (sym over)
             (subst (λ (o : Gives (Told U)). Step (part_of before) (doings_in (deeds_of (Came r ∷ []) o.gave end.core)) (part_of end)) (sym stopped)
             (followed (moved (received r (counted_answer (count_of r)) link may.reads filled refl refl)) (ends.moves link)
-            (deeds_done (Came r ∷ []) [] end.core ∙ ap (λ (n : List (Happening U)). joined (receiving r) (noting n)) so))))
+            (deeds_done (Came r ∷ []) [] end.core ∙ ap (λ (n : List (Happening U)). joined (receiving r) (noting n)) (ends.so ∙ ap (λ (o : Option _). notes_in (end_deeds {U = U} o) ++ ends.notes) none)))))
       ]
   reads_moves may left before (Handled es ∷ turns) out after none calm (on, (v, link, first, lacked, mid, rest, (m, read, is), by, split, more)) =
       then_moves left before mid after es turns first lacked rest out split

@@ -1,5 +1,5 @@
 -- That what a request comes to is a chain of base moves.
-use Rattle.std.proofs.Common.{◌≡◌, ◌≢◌, ◌⊎◌, ℕ, Bool, true, false, cond, eqb, List, [], ◌∷◌, ◌++◌, map, Option, None, Some, is_some, Result, Ok, Err, refl, sym, ap, subst, append-nil, true≢false, arith}
+use Rattle.std.proofs.Common.{◌≡◌, ◌≢◌, ◌⊎◌, ℕ, Bool, true, false, cond, eqb, List, [], ◌∷◌, ◌++◌, map, Option, None, Some, is_some, Result, Ok, Err, refl, sym, ap, append-nil, true≢false, arith}
 use mathlib.Core.Logic.{inl, inr}
 use Rattle.std.specs.Prelude.{nat_lt}
 use Rattle.wl_wire.specs.declared.argument.Argument.{Argument}
@@ -86,15 +86,7 @@ module _ {U : Type 0} (client : ClientParts) (version : ℕ) (P : List (HandedId
       → ((next : Converting U) (more : List (Argument IdParts Token)) → SoFar P next more → Came P (convert client version next more args))
       → (r : Converted U) → One P (argument_ids done) d r → SoFar P d done
       → Came P (going_on r d.objects (λ b next. convert client version next (done ++ b ∷ []) args))
-  goes_on d done args rest (Ok next) (one, more) (so, among) =
-      rest next.1 (done ++ next.0 ∷ []) (
-        subst (λ (ids : List (HandedId IdParts)). P ids next.1.objects) (sym (argument_ids_both done (next.0 ∷ []))) one,
-        λ id is. subst (λ (ids : List (HandedId IdParts)). IsAmong ids id) (sym (argument_ids_both done (next.0 ∷ [])))
-            (elim (more id is) [
-              | inl old ↦ among_first (argument_ids done) (argument_ids (next.0 ∷ [])) id (among id old)
-              | inr new ↦ among_later (argument_ids done) (argument_ids (next.0 ∷ [])) id new
-            ]),
-      )
+  goes_on d done args rest (Ok next) (one, more) (so, among) = grind (arith, argument_ids_both, among_first, argument_ids, among_later)
   goes_on d done args rest (Err w) one (so, among) = (argument_ids done, so)
 
   pub converts : (d : Converting U) (done : List (Argument IdParts Token)) (args : List WireArgument) → SoFar P d done → Came P (convert client version d done args)
@@ -180,14 +172,11 @@ module _ {T U G C : Type 0} (kind : Kind) (sends : T → Queue → Result ℕ Io
       made : Core U C
       made = with_objects c (with_made (objects_in c) n callback_id 1)
 
-      x : Object (Kept U)
-      x = made_object (objects_in c) callback_id 1
-
       moves : (l : LinkState T) → Move (place c l) nothing_done (place (synced a c n) l)
       moves l =
           followed
           (dropped (place c l) (place made l) (New (made_id a.client (objects_in c) n callback_id) ∷ []) (makes_object c 1 (objects_in c) n callback_id valid l))
-          (moved (went n x true (stored_here c.store n x n refl) refl (went_so l))) refl
+          (moved (went n (made_object (objects_in c) callback_id 1) true (stored_here c.store n (made_object (objects_in c) callback_id 1) n refl) refl (went_so l))) refl
         where
           went_so : (l : LinkState T) → place (synced a c n) l ≡ record (place made l) { store = (synced a c n).store; waiting = c.waiting ++ [] }
           went_so l = ap (λ (w : List (Happening U)). record (place (synced a c n) l) { waiting = w }) (sym (append-nil c.waiting))
@@ -197,13 +186,10 @@ module _ {T U G C : Type 0} (kind : Kind) (sends : T → Queue → Result ℕ Io
       replies_comes c (with_registry a c n) _ (Remembered (new_at a c n) ∷ [])
       (lands_at kind sends receives a.client c (Remembered (new_at a c n) ∷ []) (with_registry a c n) calm refl (λ l. followed
       (dropped (place c l) (place made l) (New (made_id a.client (objects_in c) n registry_id) ∷ []) (makes_object c 1 (objects_in c) n registry_id valid l))
-      (moved (remembered n x (stored_here c.store n x n refl) refl refl refl)) refl)) (refl, refl)
+      (moved (remembered n (made_object (objects_in c) registry_id 1) (stored_here c.store n (made_object (objects_in c) registry_id 1) n refl) refl refl refl)) refl)) (refl, refl)
     where
       made : Core U C
       made = with_objects c (with_made (objects_in c) n registry_id 1)
-
-      x : Object (Kept U)
-      x = made_object (objects_in c) registry_id 1
 
   binds_comes : MayRead kind a.table a.client → (c : Core U C) (g version n : ℕ) (x : Object (KeptGlobal G)) → IsQuietCore c → is_valid_new (objects_in c) n ≡ true → Come c (binds a c g version n x)
   binds_comes may c g version n x calm valid =

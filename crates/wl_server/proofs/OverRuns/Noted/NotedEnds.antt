@@ -19,8 +19,8 @@ use Rattle.wl_server.specs.declared.notes.Happening.TheVariants.{Destroyed, Disc
 use Rattle.wl_server.specs.declared.objects.Kept.{Kept}
 use Rattle.wl_server.specs.declared.reading.action.OpenAction.TheVariants as opened
 use Rattle.wl_server.specs.Deeds.{Deed, Put, Sent, left_if, left_in, notes_in, taken_in}
-use Rattle.wl_server.specs.Finish.{FinishesRequest, ended_by, ending, ends, refusal}
-use Rattle.wl_server.specs.Globals.{Offer, new_offer}
+use Rattle.wl_server.specs.Finish.{FinishesRequest, ended_by, ends, refusal}
+use Rattle.wl_server.specs.Globals.{new_offer}
 use Rattle.wl_server.specs.Identified.{waiting_of}
 use Rattle.wl_server.specs.Ids.{ClientParts, IdParts, same_client}
 use Rattle.wl_server.specs.NotedEnds.{EachNoteIsOfAnEnd, EndIsNotedAtOnce}
@@ -74,11 +74,9 @@ module _ {T U G C : Type 0} where
       → EachNoteIsOfAnEnd run after
   each_note_is_of_an_end w table run after leads id transport client_data earlier later e split inserts o u among =
       let (link, fresh, alone) = (is_isolated w table run after leads).each id transport client_data earlier later e split inserts in
-      let offer : Offer G = offer_over (new_offer table) (earlier ++ e ∷ []) in
-      let ids = own_ids w id offer link client_data (mine id later) (seen id after) (are_mine id later) alone in
       let notes = each_is_noted w table run after leads id transport client_data earlier later e split inserts in
       let told : List (Happening U) = taken_in (history (mine id later)) ++ ((seen id after).made ++ waiting_of (seen id after).part) in (
-        (ids.noted o u among).0,
+        ((own_ids w id (offer_over (new_offer table) (earlier ++ e ∷ [])) link client_data (mine id later) (seen id after) (are_mine id later) alone).noted o u among).0,
         Contains-permutation (destroyed_in told) (left_in (history (mine id later))) (id_of o)
             (IsPermutation-sym (left_in (history (mine id later))) (destroyed_in told) notes.destroyed) (destroyed_among told o u among),
       )
@@ -107,21 +105,15 @@ same_puts : (U : Type 0) (put : List Said) → SameEnds {U = U} (map Put put)
 same_puts U [] = refl
 same_puts U (m ∷ put) = same_puts U put
 
-same_end : (U : Type 0) (o : Option DisconnectReason) → SameEnds {U = U} (end_deeds o)
-same_end h1 h2 = grind (arith)
-
 module _ {U : Type 0} where
   same_deeds : (es : List Sending) (gave : List (Given (Told U))) (o : Option DisconnectReason) → SameEnds (deeds_in gave)
       → SameEnds (map Sent es ++ (deeds_in gave ++ end_deeds o))
-  same_deeds es gave o same = same_both (map Sent es) (deeds_in gave ++ end_deeds o) (same_sends U es) (same_both (deeds_in gave) (end_deeds o) same (same_end U o))
+  same_deeds es gave o same = same_both (map Sent es) (deeds_in gave ++ end_deeds o) (same_sends U es) (same_both (deeds_in gave) (end_deeds o) same (grind (arith)))
 
   module _ {C : Type 0} where
-    same_ending : (client : ClientParts) (id : IdParts) (x : Object (Kept U)) (c : Core U C) → x.value.serial ≡ id.serial → SameEnds (told_deeds (ending client id x c))
-    same_ending client id x c serial = grind (arith, is_some, named, told_deeds, note_of_end, left_if, id_of)
-
     same_events : (client : ClientParts) (c : Core U C) (id : IdParts) (o : Option (Object (Kept U))) (created : Option IdParts) (u : Option U)
         → ((x : Object (Kept U)) → o ≡ Some x → x.value.serial ≡ id.serial) → (d : Core U C) → SameEnds (told_deeds ((ends client c id o created u).events d))
-    same_events client c id h4 created u serial d = grind (arith, same_ending)
+    same_events client c id h4 created u serial d = grind (arith, is_some, named, told_deeds, note_of_end, left_if, id_of)
 
 module _ {T U C : Type 0} (sends : T → Queue → Result ℕ IoFault → T → Type 0) where
   same_told : (p : Part T U C) (v : Verdict (Core U C) (Told U)) (lacked : Bool) (did : List (Deed U)) (q : Part T U C)

@@ -106,9 +106,7 @@ module _ {T U C : Type 0} (sends : T → Queue → Result ℕ IoFault → T → 
   moves_note p q d none (moved (found n x holds is same)) = quiet p q p d _ none is same refl refl refl refl
   moves_note p q d none (moved (found_none is same)) = quiet p q p d _ none is same refl refl refl refl
   moves_note p q d none (moved (wrote n x u holds is same)) = quiet p q _ d _ none is same refl refl refl refl
-  moves_note p q d none (moved (went n x waits holds is same)) =
-      went_noting p q d n x waits none (ap (λ (y : Doings U). y.left) is) (ap (λ (y : Doings U). y.notes) is) (ap (λ (y : Part T U C). y.waiting) same)
-      (ap (λ (y : Part T U C). y.is_killed) same)
+  moves_note p q d none (moved (went n x waits holds is same)) = grind (arith, went_noting, note_of_end, id_of, id_at, same_permuted, destroyed_in, destroyed_both, destroyed_note, ends_in, one_if, ends_both, ends_note)
   moves_note p q d none (moved (remembered n x holds registry is same)) = quiet p q _ d _ none is same refl refl refl refl
   moves_note p q d none (moved (opens action h acts so is same)) = quiet p q _ d _ none is same refl refl refl refl
   moves_note p q d none (moved (finished may is same)) = quiet p q _ d _ none is same refl refl refl refl

@@ -1,5 +1,5 @@
 -- The notes of all clients over a run: those that were there at an earlier point come first.
-use Rattle.std.proofs.Common.{◌≡◌, ◌∙◌, ℕ, suc, ◌<◌, ◌≤◌, Bool, true, false, List, [], ◌∷◌, ◌++◌, length, map, Option, None, is_some, Ok, Vec, refl, sym, ap, subst, arith, append_assoc, append-nil}
+use Rattle.std.proofs.Common.{◌≡◌, ◌∙◌, ℕ, ◌<◌, ◌≤◌, Bool, true, false, List, [], ◌∷◌, ◌++◌, length, map, Option, None, is_some, Ok, Vec, refl, sym, ap, subst, arith, append_assoc, append-nil}
 use mathlib.Core.Logic.{inl, inr}
 use Rattle.std.specs.Global.{Global}
 use Rattle.std.specs.Option.{option_map_or}
@@ -67,7 +67,7 @@ module _ {U : Type 0} where
         → ((id : ClientParts) (h : Happening U) (hs : List (Happening U)) → notes_of id b ≡ h ∷ hs → Is id)
         → (rest : List (Note U)) × (b ≡ a ++ rest)
     begins_so [] b slots along told is = (b, refl)
-    begins_so (x ∷ a) [] slots along told is = let long : 0 ≡ suc (length (map slot_of a ++ slots)) = ap length along in absurd (omega (arith, long))
+    begins_so (x ∷ a) [] slots along told is = absurd (omega (arith, ap length along))
     begins_so (x ∷ a) (y ∷ b) slots along told is = whole (begins_so a b slots both.1 told_rest is_rest)
       where
         both : (slot_of y ≡ slot_of x) × (map slot_of b ≡ map slot_of a ++ slots)
@@ -87,8 +87,7 @@ module _ {U : Type 0} where
         same = note_is y ∙ (ap (λ (id : ClientParts). note_of id (happening_of y)) ids ∙ (ap (note_of (id_of x)) happenings ∙ sym (note_is x)))
 
         told_rest : (id : ClientParts) → (more : List (Happening U)) × (notes_of id b ≡ notes_of id a ++ more)
-        told_rest id =
-            let (more, all) = told id in grind (arith, append_cancel_left, told_of, notes_of, same, append_assoc)
+        told_rest id = let (more, all) = told id in grind (arith, append_cancel_left, told_of, notes_of, same, append_assoc)
 
         is_rest : (id : ClientParts) (h : Happening U) (hs : List (Happening U)) → notes_of id b ≡ h ∷ hs → Is id
         is_rest id h hs at = grind (arith, told_of, notes_of)

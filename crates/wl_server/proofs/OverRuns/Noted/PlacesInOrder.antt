@@ -28,9 +28,6 @@ all_append P (p ∷ ps) qs (here, all) more = (here, all_append P ps qs all more
 pub later_refl : (p : NotePlace) → IsNoLater p p
 later_refl p = (λ w. w, λ e. omega arith, λ e n. omega arith)
 
-later_trans : (p q r : NotePlace) → IsNoLater p q → IsNoLater q r → IsNoLater p r
-later_trans p q r one two = grind (arith, false≢true)
-
 pub sorted_of : (ps : List NotePlace) → Rise ps → Sorted ps
 sorted_of [] rise = tt
 sorted_of (p ∷ []) rise = (tt, tt)
@@ -41,7 +38,7 @@ sorted_of (p ∷ q ∷ ps) rise = whole (sorted_of (q ∷ ps) (λ k d below. let
     first = rise 0 p (omega arith)
 
     whole : Sorted (q ∷ ps) → Sorted (p ∷ q ∷ ps)
-    whole rest = ((first, all_more (IsNoLater q) (IsNoLater p) (λ r after. later_trans p q r first after) ps rest.0), rest)
+    whole rest = ((first, all_more (IsNoLater q) (IsNoLater p) (λ r after. (grind (arith, false≢true))) ps rest.0), rest)
 
 -- ---- how often a note that was made has its place in a list
 
@@ -208,12 +205,9 @@ pub earlier_first : (waits : Bool) (ts ts' : List NoteTimes) (a b : List NotePla
     → ((i j n : ℕ) → Contains (times_at i ts').made n → Contains (times_at j ts').made n → i ≡ j)
     → (rest : List NotePlace) × (b ≡ a ++ rest)
 earlier_first waits ts ts' a b next next' up moved up' moved' rise grow apart =
-    early_so next (λ slot n. Contains (times_at slot ts').made n) apart a b (sorted_of a up) (sorted_of b up') early same known
+    early_so next (λ slot n. Contains (times_at slot ts').made n) apart a b (sorted_of a up) (sorted_of b up') (recursion_from_All (IsEarly next) a
+    (All-permutation (IsEarly next) (all_places false 0 ts) a moved (All-from_recursion (IsEarly next) (all_places false 0 ts) (all_early 0 ts next rise)))) same known
   where
-    early : AllByRecursion (IsEarly next) a
-    early = recursion_from_All (IsEarly next) a
-        (All-permutation (IsEarly next) (all_places false 0 ts) a moved (All-from_recursion (IsEarly next) (all_places false 0 ts) (all_early 0 ts next rise)))
-
     same : (slot n : ℕ) → n < next → times_at_time slot n a ≡ times_at_time slot n b
     same slot n less =
         let (more, is, later) = grow slot in

@@ -1,5 +1,5 @@
 -- The notes that wait, over a run: those that waited at an earlier point come first among those that waited at a later one.
-use Rattle.std.proofs.Common.{◌≡◌, ◌∙◌, ℕ, suc, ◌+◌, ◌<◌, Bool, true, false, List, [], ◌∷◌, ◌++◌, length, map, Option, None, Some, is_some, Result, Ok, Vec, refl, sym, ap, subst, arith, append_assoc, append-nil, true≢false}
+use Rattle.std.proofs.Common.{◌≡◌, ◌∙◌, ℕ, suc, ◌<◌, Bool, true, false, List, [], ◌∷◌, ◌++◌, length, map, Option, None, Some, is_some, Result, Ok, Vec, refl, sym, ap, subst, arith, append_assoc, append-nil, true≢false}
 use Rattle.std.proofs.lemmas.Option.{none-some}
 use mathlib.Core.Logic.{inl, inr}
 use Rattle.std.specs.Global.{Global}
@@ -16,7 +16,6 @@ use Rattle.wl_link.specs.Exchange.{Queue}
 use Rattle.wl_server.specs.declared.notes.Happening.{Happening}
 use Rattle.wl_server.specs.declared.notes.Note.{Note}
 use Rattle.wl_server.specs.declared.notes.queues.NotePlace.{NotePlace}
-use Rattle.wl_server.specs.declared.runs.step.Reply.{Reply}
 use Rattle.wl_server.specs.declared.runs.step.Reply.TheVariants as reply
 use Rattle.wl_server.specs.declared.runs.step.Step.TheVariants as step
 use Rattle.wl_server.specs.Deeds.{Deed, Noted, notes_in}
@@ -179,14 +178,10 @@ module _ {T U G C : Type 0} (w : World T G C) where
   step_given : (s : ServerState T U G C) (e : Entry T U G C) (t : ServerState T U G C) → OneStep w s e t → CleansNothing e.call → AllNumbered s.clients → (k : ℕ) → Given s t k
   step_given s e t one none all k = at e.call refl one.notes one.each
     where
-      taken : (p : Reply T U) → ((id : ClientParts) → PartCall w id s.offer (Asked step.TakeNotes p) (seen id s) (e.lacks id) (e.did id) (seen id t))
-          → (id : ClientParts) → (seen id t).part ≡ (seen id s).part
-      taken p each id = let (r, is, h) = each id in grind (arith)
-
       at : (call : Call T U G C) → e.call ≡ call → NotesGoOn s call t
           → ((id : ClientParts) → PartCall w id s.offer call (seen id s) (e.lacks id) (e.did id) (seen id t)) → Given s t k
       at (Asked step.TakeNotes (reply.TakeNotes (Ok out))) is h each =
-          given_none s t k h.numbers (same_waiting s t (taken (reply.TakeNotes (Ok out)) each) all h.numbered h.first k)
+          given_none s t k h.numbers (same_waiting s t (λ id. let (r, is, h) = each id in grind (arith)) all h.numbered h.first k)
       at (Asked step.Cleanup (reply.Cleanup (Ok out))) is h each = absurd (none out is)
       at _ is h each = all_waiting _ _ _ _ h.times k
 
@@ -219,16 +214,13 @@ module _ {U : Type 0} where
       later j h hs is [] none = only j h hs (ap (λ (l : List (Happening U)). l ++ notes_of j m) none ∙ is)
       later j h hs is (k ∷ ks) some = only j k (ks ++ notes_of j m) (ap (λ (l : List (Happening U)). l ++ notes_of j m) some)
 
-      sums : sum_by (one_at id.slot) (slot_of n ∷ map slot_of m) ≡ one_at id.slot (slot_of n) + sum_by (one_at id.slot) (map slot_of m)
-      sums = sum_by-cons (one_at id.slot) (slot_of n) (map slot_of m)
-
       at : length (notes_of id m) ≡ sum_by (one_at id.slot) (map slot_of m) → (b : Bool) → (slot_of n == id.slot) ≡ b → length (notes_of id (n ∷ m)) ≡ sum_by (one_at id.slot) (map slot_of (n ∷ m))
       at rest true is =
           let same = only (id_of n) (happening_of n) (notes_of (id_of n) m) (own_first n m) (sym (slot_is n) ∙ eqb-true (slot_of n) id.slot is) in
           let long = ap length (subst (λ (i : ClientParts). notes_of i (n ∷ m) ≡ happening_of n ∷ notes_of i m) same (own_first n m)) in
           let one : one_at id.slot (slot_of n) ≡ 1 = ap (λ (x : Bool). if x then 1 else 0) is in
-          omega (arith, long, rest, sums, one)
-      at rest false is = grind (arith, told_of, notes_of, slot_of, sums, true≢false, told_slot)
+          omega (arith, long, rest, sum_by-cons, slot_of, one)
+      at rest false is = grind (arith, told_of, notes_of, slot_of, sum_by-cons, true≢false, told_slot)
 
   noted_all : (hs : List (Happening U)) → notes_in (map Noted hs) ≡ hs
   noted_all [] = refl

@@ -196,10 +196,9 @@ kind_among v slot ts = among (of_kind v slot) slot true (λ t. length (kind_of v
 kind_all : (v : Bool) (slot : ℕ) (ps : List NotePlace) → AllByRecursion (λ p. is_kind v p.waits ≡ true) ps → sum_by (of_kind v slot) ps ≡ sum_by (at_slot slot) ps
 kind_all v slot [] all = refl
 kind_all v slot (p ∷ ps) (is, all) =
-    let two = sum_by-cons (at_slot slot) p ps in
     let this : of_kind v slot p ≡ at_slot slot p = ap (λ (x : Bool). if x then (if p.slot == slot then 1 else 0) else 0) is in
     let more = kind_all v slot ps all in
-    omega (arith, sum_by-cons (of_kind v slot) p ps, two, this, more)
+    omega (arith, sum_by-cons (of_kind v slot) p ps, sum_by-cons (at_slot slot) p ps, this, more)
 
 kind_none : (v : Bool) (slot : ℕ) (ps : List NotePlace) → AllByRecursion (λ p. is_kind v p.waits ≡ false) ps → sum_by (of_kind v slot) ps ≡ 0
 kind_none v slot [] all = refl

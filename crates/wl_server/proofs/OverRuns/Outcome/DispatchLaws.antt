@@ -14,7 +14,7 @@ use Rattle.wl_server.specs.declared.runs.step.Step.{Step}
 use Rattle.wl_server.specs.declared.runs.step.Step.TheVariants as step
 use Rattle.wl_server.specs.Backend.{BackendState}
 use Rattle.wl_server.specs.Deeds.{Bind, Handed, Request, handed}
-use Rattle.wl_server.specs.Dispatch.{Answering, Answers, EachIsDispatched, EndsDispatch, Handles, IsDispatched, Last, Round, Rounds, cleaned, dispatched, fault_of_end, fault_of_reading, more, no_action, none, not_ended, refusal_in, total_with}
+use Rattle.wl_server.specs.Dispatch.{Answering, EachIsDispatched, EndsDispatch, Handles, IsDispatched, Last, Round, Rounds, cleaned, dispatched, fault_of_end, fault_of_reading, more, no_action, none, not_ended, refusal_in, total_with}
 use Rattle.wl_server.specs.Outcome.Dispatches.{DispatchesHaveOneOutcome, HandledSame, IsDeterministic, ManyDispatchesHaveOneOutcome, SameBackend}
 use Rattle.wl_server.specs.Ids.{ClientParts}
 use Rattle.wl_server.specs.PartStep.{Asked, Call, World}
@@ -87,10 +87,6 @@ module _ {H T U G C : Type 0} (w : World T G C) (known : IsDetermined w) (ordere
       (u : Option U) × answers.requests h before id sender opcode args created u h' after × (end ≡ step.FinishRequest id u)
   AnswersHanded h before (Bind global object) end h' after = (u : U) × answers.binds h before id global object u h' after × (end ≡ step.FinishBind id u)
 
-  as_handed : (h h' : H) (before after : BackendState T U G C) (a : Action) (end : Step T U G C) → Answers w answers id h before a end h' after
-      → AnswersHanded h before (handed a) end h' after
-  as_handed h h' before after h5 end so = grind (arith)
-
   handed_one : (h h1 h2 : H) (b c x y : BackendState T U G C) (a : Handed) (end end' : Step T U G C) → SameBackend ordered b c → AnswersHanded h b a end h1 x
       → AnswersHanded h c a end' h2 y → HandledSame ordered end end' h1 h2 x y
   handed_one h h1 h2 b c x y (Request sender opcode args is_destructor created) end end' same (u, so, is) (v, so', is') = grind (arith)
@@ -101,8 +97,8 @@ module _ {H T U G C : Type 0} (w : World T G C) (known : IsDetermined w) (ordere
       → SameBackend ordered b c → handed a ≡ handed a' → l ≡ false → m ≡ false → Handles w answers id h b a run l why h1 x → Handles w answers id h c a' run' m why' h2 y
       → (why ≡ why') × (h1 ≡ h2) × SameServer ordered x y
   handles_one {h} {h1} {h2} {b} {c} {a} {a'} {run} {run'} {l} {m} {why} {why'} {x} {y} same actions calm calm' p q =
-      let there = subst (λ (z : Handed). AnswersHanded h c z q.end h2 q.left) (sym actions) (as_handed h h2 c q.left a' q.end q.answers_so) in
-      let one = handed_one h h1 h2 b c p.left q.left (handed a) p.end q.end same (as_handed h h1 b p.left a p.end p.answers_so) there in
+      let there = subst (λ (z : Handed). AnswersHanded h c z q.end h2 q.left) (sym actions) (grind (arith, q.left, q.end, q.answers_so)) in
+      let one = handed_one h h1 h2 b c p.left q.left (handed a) p.end q.end same (grind (arith, p.left, p.end, p.answers_so)) there in
       let ends = q.ended_is ∙ ap (λ (k : Step T U G C). let z : Call T U G C = Asked k q.answer in z) (sym one.0) in
       let made = step_one w known ordered p.left.server q.left.server x y p.ended q.ended p.end p.answer q.answer one.2 p.ended_is ends (sym p.lacked_is ∙ calm) (sym q.lacked_is ∙ calm')
       p.ends q.ends in

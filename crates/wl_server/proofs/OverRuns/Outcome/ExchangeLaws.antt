@@ -60,11 +60,6 @@ module _ {T : Type 0} (sends : T → Queue → Result ℕ IoFault → T → Type
     is_left : (p : ReaderState T Core) (v : Verdict Core Event) (l : LinkState T) → Leaves sends reader p v l → Finds sends reader p v l
     is_left p v l t = inr t
 
-    -- a message that is taken is not malformed
-    taken_not_left : (p : ReaderState T Core) (es fs : List Sending) (o o' : Gives Event) (on on' : ReaderState T Core → Gives Event → Type 0)
-        → Then sends reader (Takes sends reader) p es o on → Then sends reader (Leaves sends reader) p fs o' on' → ⊥
-    taken_not_left p es fs o o' on on' h8 h9 = grind (arith, one_read_lem, true≢false, is_ok)
-
     -- two verdicts that were carried out, and what follows them
     then_same : (Found Found' : FoundBy) (p : ReaderState T Core)
         → ((v : Verdict Core Event) (l : LinkState T) → Found p v l → Finds sends reader p v l) → ((v : Verdict Core Event) (l : LinkState T) → Found' p v l → Finds sends reader p v l)
@@ -97,8 +92,8 @@ module _ {T : Type 0} (sends : T → Queue → Result ℕ IoFault → T → Type
       reads_turns left p x y (Handled es ∷ turns) (Received r ∷ turns') o o' ample ample' h (on, lacks, more) = absurd (not_lacks (Takes sends reader) p (is_taken p) es o _ h lacks)
       reads_turns left p x y (Received r ∷ turns) (Unread es ∷ turns') o o' ample ample' (on, lacks, more) h = absurd (not_lacks (Leaves sends reader) p (is_left p) es o' _ h lacks)
       reads_turns left p x y (Unread es ∷ turns) (Received r ∷ turns') o o' ample ample' h (on, lacks, more) = absurd (not_lacks (Leaves sends reader) p (is_left p) es o _ h lacks)
-      reads_turns left p x y (Handled es ∷ turns) (Unread fs ∷ turns') o o' ample ample' h h' = absurd (taken_not_left p es fs o o' _ _ h h')
-      reads_turns left p x y (Unread es ∷ turns) (Handled fs ∷ turns') o o' ample ample' h h' = absurd (taken_not_left p fs es o' o _ _ h' h)
+      reads_turns left p x y (Handled es ∷ turns) (Unread fs ∷ turns') o o' ample ample' h h' = absurd (grind (arith, one_read_lem, true≢false, is_ok))
+      reads_turns left p x y (Unread es ∷ turns) (Handled fs ∷ turns') o o' ample ample' h h' = absurd (grind (arith, one_read_lem, true≢false, is_ok))
       reads_turns left p x y (Received r ∷ turns) (Received r' ∷ turns') o o' ample ample' (on, lacks, (n, is, (link, filled, finds, a))) (on', lacks', (n', is', (link', filled', finds', b))) = grind (arith, counted_answer, count_of, true≢false, is_ok, not_lacked, refused_of, one_fill_lem, both_result, with_link, reads_turns n (with_link p link) x y turns turns' o o' ample ample')
       reads_turns left p x y (Handled es ∷ turns) (Handled fs ∷ turns') o o' ample ample' h h' =
           let one = then_same (Takes sends reader) (Takes sends reader) p (is_taken p) (is_taken p) es fs o o' _ _ (turns ≡ turns') ample ample' h h'

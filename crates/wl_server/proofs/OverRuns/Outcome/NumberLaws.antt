@@ -9,11 +9,11 @@ use Rattle.wl_server.specs.declared.error.GlobalError.{GlobalError}
 use Rattle.wl_server.specs.declared.error.GlobalError.TheVariants as global
 use Rattle.wl_server.specs.declared.error.InsertClientError.{InsertClientError}
 use Rattle.wl_server.specs.declared.error.InsertClientError.TheVariants as insert
-use Rattle.wl_server.specs.Globals.{Globals, CreatesGlobal, CreatesNext, name_range}
+use Rattle.wl_server.specs.Globals.{Globals, CreatesGlobal, name_range}
 use Rattle.wl_server.specs.Ids.{ClientParts, GlobalParts}
 use Rattle.wl_server.specs.Next.{NextClient, NextClientIsGiven}
 use Rattle.wl_server.specs.Server.{Stored, stored_at}
-use Rattle.wl_server.specs.Steps.{InsertsNext, IsLeastFree, IsNextClient}
+use Rattle.wl_server.specs.Steps.{InsertsNext, IsNextClient}
 
 -- ---- globals
 
@@ -21,13 +21,10 @@ pub global_is : (a b : GlobalParts) → a.name ≡ b.name → a.serial ≡ b.ser
 global_is a b names serials = grind (arith)
 
 module _ {G : Type 0} (globals : Globals G) where
-  creates_next_one : (a b : Result GlobalParts GlobalError) → a ≢ Err global.OutOfMemory → b ≢ Err global.OutOfMemory → CreatesNext globals a → CreatesNext globals b → a ≡ b
-  creates_next_one a b h1 h2 h3 h4 = grind (arith, global_is, least_absent_one, name_range, full_not_absent)
-
   -- the answer to the creation of a global
   pub creates_global_one : (table : List InterfaceRow) (i : InterfaceId) (version : ℕ) (a b : Result GlobalParts GlobalError)
       → a ≢ Err global.OutOfMemory → b ≢ Err global.OutOfMemory → CreatesGlobal table globals i version a → CreatesGlobal table globals i version b → a ≡ b
-  creates_global_one table i version a b ok ok' h g = grind (arith, slice_get, nat_le, creates_next_one)
+  creates_global_one table i version a b ok ok' h g = grind (arith, slice_get, nat_le, global_is, least_absent_one, name_range, full_not_absent)
 
 -- ---- clients
 
@@ -38,11 +35,8 @@ module _ {T U C : Type 0} (last : ℕ) (clients : List (Option (Stored T U C))) 
   some_not_none : {A : Type 0} (o : Option A) → IsSome o → o ≡ None → ⊥
   some_not_none o some none = true≢false (sym some ∙ ap is_some none)
 
-  least_free_one : (n m : ℕ) → IsLeastFree clients n → IsLeastFree clients m → n ≡ m
-  least_free_one n m one other = grind (arith, cases_order, some_not_none)
-
   pub next_client_one : (a b : ClientParts) → IsNextClient last clients a → IsNextClient last clients b → a ≡ b
-  next_client_one a b (least, left, next) (least', left', next') = client_is a b (least_free_one a.slot b.slot least least') (next ∙ sym next')
+  next_client_one a b (least, left, next) (least', left', next') = client_is a b (grind (arith, cases_order, some_not_none, a.slot, b.slot)) (next ∙ sym next')
 
   -- the answer to the insertion of a client
   pub inserts_next_one : (a b : Result ClientParts InsertClientError) → a ≢ Err insert.OutOfMemory → b ≢ Err insert.OutOfMemory

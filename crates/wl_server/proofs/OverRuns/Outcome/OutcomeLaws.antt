@@ -22,7 +22,7 @@ use Rattle.wl_link.proofs.Calls.NumberLaws.{fresh_one}
 use Rattle.wl_server.proofs.OverRuns.Outcome.Determined.{IsDetermined}
 use Rattle.wl_server.specs.Outcome.{SameAnswer, SameCall, SameOutcome, SameReply, SameStep, SendsSame, SharedAnswer, SharedSame}
 use Rattle.wl_server.specs.Part.{Part, fresh_part}
-use Rattle.wl_server.proofs.OverRuns.Outcome.PartOutcome.{SameEnd, SameFelt, changes_one, cleaned_one, creates_one, destroys_one, finishes_request_one, flushed_one, flushes_live_one, hears_one, kills_one, limits_one, moves_one, next_action_one, posts_error_one, same_felt, sends_event_one, sets_one}
+use Rattle.wl_server.proofs.OverRuns.Outcome.PartOutcome.{SameEnd, SameFelt, cleaned_one, creates_one, destroys_one, finishes_request_one, flushed_one, flushes_live_one, hears_one, limits_one, moves_one, next_action_one, posts_error_one, same_felt, sends_event_one, sets_one}
 use Rattle.wl_server.specs.PartStep.{Asked, Call, Changed, CleanedAs, FlushedFor, Grown, InsertedAs, MovedFor, OfClient, OnPart, PartCall, PartStep, Unfelt, World, around, share_of}
 use Rattle.wl_server.specs.Reading.{action_content, new_reading}
 use Rattle.wl_server.specs.Runs.{concerns, is_about}
@@ -37,11 +37,8 @@ abbrev result_of : Moved → Result (Unit {0}) ScriptError
 result_of (Ok _) = Ok tt
 result_of (Err e) = Err e
 
-result_of_taken : (r : Result (Unit {0}) ScriptError) → result_of (nothing_taken r) ≡ r
-result_of_taken h1 = grind (arith)
-
 nothing_taken_one : (a b : Result (Unit {0}) ScriptError) → nothing_taken a ≡ nothing_taken b → a ≡ b
-nothing_taken_one a b same = sym (result_of_taken a) ∙ ap result_of same ∙ result_of_taken b
+nothing_taken_one a b same = sym (grind (arith)) ∙ ap result_of same ∙ (grind (arith))
 
 module _ {T U : Type 0} where
   -- two replies are the same where what they are is
@@ -135,7 +132,7 @@ module _ {T U G C : Type 0} (w : World T G C) (known : IsDetermined w) (id : Cli
       (λ s q q' f f'. with_answer (sends_event_one w.sends known.sends id s (session_content m) r r' d e q q' offer.table f f')) h g in
       outcome (same_client m.sender_id.client id) p q one.0 (λ own. same_reply id p q _ _ is is' (ap reply.SendEvent (one.1 own)))
   step_one (step.PostError o code text) p q ample ample' shared (is, h) (is', g) = grind (arith, of_one, with_none, posts_error_one, outcome, same_reply)
-  step_one (step.KillClient target reason) p q ample ample' shared (is, h) (is', g) = grind (arith, of_one, with_none, kills_one, outcome, same_reply)
+  step_one (step.KillClient target reason) p q ample ample' shared (is, h) (is', g) = grind (arith, of_one, with_none, same_felt, outcome, same_reply)
   step_one (step.Flush target) p q ample ample' shared (r, is, h) (r', is', g) =
       let one = flushed_for_one target r r' h g in
       outcome (is_about {T = T} {U = U} {G = G} {C = C} id (step.Flush target)) p q one.0 (λ own. same_reply id p q _ _ is is' (ap reply.Flush (one.1 own)))
@@ -170,18 +167,14 @@ module _ {T U G C : Type 0} (w : World T G C) (known : IsDetermined w) (id : Cli
   part_as (step.Arrive target bytes tokens) s' q same h = grind (arith, nothing_taken)
   part_as s s' q same h = subst (λ (z : Step T U G C). PartStep w id offer z q before false e y) (sym same) h
 
-  -- a want of memory for what a call makes of its own is told by its reply
-  pub growth_one : (s s' : Step T U G C) (q : Reply T U) → Ample s' q → Ample s q
-  growth_one s s' q ample = ample
-
   -- so has each call
   pub call_one : (call call' : Call T U G C) → SameCall call call' → lacks_growth call ≡ false → lacks_growth call' ≡ false → SharedAnswer call call'
       → PartCall w id offer call before false d x → PartCall w id offer call' before false e y
       → (concerns id call ≡ true → SameAnswer id call call') × SameFelt d e x y
   call_one (Asked s p) (Asked s' q) same ample ample' shared h g =
-      let one = step_one s p q ample (growth_one s s' q ample') shared h (part_as s s' q same g) in
+      let one = step_one s p q ample (ample') shared h (part_as s s' q same g) in
       (one.reply, record { did = one.deeds; after = one.held })
-  call_one (Changed target t) (Changed target' t') (same, same_value) ample ample' shared h g = grind (arith, of_one, with_none, changes_one)
+  call_one (Changed target t) (Changed target' t') (same, same_value) ample ample' shared h g = grind (arith, of_one, with_none)
   call_one (Grown rows p) (Grown rows' q) same ample ample' shared h g = (λ own. shared, unfelt_one before d e x y h g)
   call_one _ _ same ample ample' shared h g = absurd same
 

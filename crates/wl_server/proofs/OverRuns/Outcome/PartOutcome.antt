@@ -1,5 +1,5 @@
 -- That each call on what is one client's has one outcome, where memory is not refused to it.
-use Rattle.std.proofs.Common.{◌≡◌, ◌≢◌, ℕ, Bool, false, List, [], map, Option, Some, Result, Ok, Err, sym, ap, subst, ◌∙◌, true≢false, arith}
+use Rattle.std.proofs.Common.{◌≡◌, ℕ, Bool, false, List, [], map, Option, Some, Result, Ok, Err, sym, ap, subst, ◌∙◌, true≢false, arith}
 use Rattle.std.specs.Prelude.{◌==◌, MatchBool, slice_get}
 use mathlib.Core.Logic.{inl, inr}
 use Rattle.wl_wire.specs.declared.error.IoFault.{IoFault}
@@ -28,7 +28,6 @@ use Rattle.wl_server.specs.declared.error.EventError.{EventError}
 use Rattle.wl_server.specs.declared.error.FinishRefused.{FinishRefused}
 use Rattle.wl_server.specs.declared.error.InvalidId.{InvalidId}
 use Rattle.wl_server.specs.declared.objects.Kept.{Kept}
-use Rattle.wl_server.specs.declared.notes.DisconnectReason.{DisconnectReason}
 use Rattle.wl_server.specs.Deeds.{Deed, Handed}
 use Rattle.wl_server.specs.Errors.{PostsError, posts}
 use Rattle.wl_server.specs.Events.{SendsEvent, SendsGranted, SentAs, SessionMessage, ends_closed, ends_sender, event_check, said, wire_message}
@@ -42,8 +41,8 @@ use Rattle.wl_server.specs.Objects.{Creates, CreatesAt, DataSet, Destroys, destr
 use Rattle.wl_server.proofs.OverRuns.Outcome.Determined.{IsMoveFunction}
 use Rattle.wl_server.specs.Part.{Part, last_possible_serial, with_link}
 use Rattle.wl_server.specs.PartStep.{WithTransport, lacks_create, lacks_move}
-use Rattle.wl_server.specs.Reading.{Around, NextAction, ReadsTo, answered, exchanges_in, read_on, server}
-use Rattle.wl_server.specs.Telling.{Core, Kills, Tells, Told, core_of, deeds_of, part_of, reader_part, speaker, tells}
+use Rattle.wl_server.specs.Reading.{Around, NextAction, answered, exchanges_in, read_on, server}
+use Rattle.wl_server.specs.Telling.{Core, Tells, Told, core_of, deeds_of, part_of, reader_part, speaker, tells}
 
 -- ---- what two outcomes share
 
@@ -76,9 +75,6 @@ module _ {T U C : Type 0} where
 
   module _ (client : ClientParts) (s : Part T U C) (a b : Result IdParts CreateError) (d e : List (Deed U)) (x y : Part T U C)
       (unlacked : false ≡ lacks_create a) (unlacked' : false ≡ lacks_create b) (did : d ≡ []) (did' : e ≡ []) where
-    creates_at_one : (n : ℕ) (o : Object (Kept U)) → CreatesAt client s n o a x → CreatesAt client s n o b y → SameEnd a b d e x y
-    creates_at_one n o h1 h2 = grind (arith, same_end, true≢false, lacks_create)
-
     -- what a creation does at its number
     abbrev AtNumber : InterfaceId → ℕ → U → Result IdParts CreateError → Part T U C → ℕ → Type 0
     AtNumber i version u answer after n =
@@ -98,14 +94,9 @@ module _ {T U C : Type 0} where
               let numbered = subst (λ k. AtNumber i version u b y k) number end' in
               elim (both_bool (s.last_serial == last_possible_serial) end numbered) [
                 | inl ((is, same), (is', same')) ↦ same_end is is' did did' same same'
-                | inr (p, q) ↦ creates_at_one n (new_object s i version u) p q
+                | inr (p, q) ↦ grind (arith, same_end, true≢false, lacks_create, new_object s i version u)
               ]
         ]
-
-  -- ---- a client that is killed
-
-  pub kills_one : (s : Part T U C) (reason : DisconnectReason) (d e : List (Deed U)) (x y : Part T U C) → Kills s reason d x → Kills s reason e y → SameFelt d e x y
-  kills_one s reason d e x y (did, same) (did', same') = same_felt did did' same same'
 
   -- ---- limits and transports
 
@@ -117,10 +108,6 @@ module _ {T U C : Type 0} where
     did = did ∙ sym did';
     after = same ∙ ap (λ (l : LinkState T). with_link s l) (limit_set_one s.link (Some limit) link link' set set') ∙ sym same';
   }
-
-  pub changes_one : (s : Part T U C) (t : T) (d e : List (Deed U)) (x y : Part T U C) → d ≡ [] → e ≡ []
-      → WithTransport (λ _ t'. t' ≡ t) s x → WithTransport (λ _ t'. t' ≡ t) s y → SameFelt d e x y
-  changes_one s t d e x y did did' (to, is, same) (to', is', same') = grind (arith)
 
   pub moves_one : (moves : T → Move → Moved → T → Type 0) → IsMoveFunction moves → (s : Part T U C) (m : Move) (a b : Moved) (d e : List (Deed U)) (x y : Part T U C)
       → (false ≡ lacks_move a) × (d ≡ []) × WithTransport (λ t t'. moves t m a t') s x → (false ≡ lacks_move b) × (e ≡ []) × WithTransport (λ t t'. moves t m b t') s y
@@ -187,16 +174,12 @@ module _ {T U C : Type 0} where
       sent_as_one sender ends (Err fault.OutOfMemory) link rest rest' h g = absurd (true≢false (sym h.1))
       sent_as_one sender ends (Err other) link rest rest' h g = grind (arith, answered_too, tells_one, ends_closed, core_of)
 
-      wrote_allowed : (sender : Object (Kept U)) (ends : Bool) (wrote : Result (Unit {0}) IoFault) (link : LinkState T) (answer : Result (Unit {0}) EventError) (rest : List (Deed U))
-          (after : Part T U C) → SentAs sends client s m sender ends wrote link answer false rest after → wrote ≢ Err fault.OutOfMemory
-      wrote_allowed sender ends wrote link answer rest after sent is = grind (arith, true≢false)
-
       sends_granted_one : (sender : Object (Kept U)) (ends : Bool) → SendsGranted sends client s m sender ends a false d x → SendsGranted sends client s m sender ends b false e y
           → SameEnd a b d e x y
       sends_granted_one sender ends (inl (asks, is, lacked, did, same)) other = absurd (true≢false (sym lacked))
       sends_granted_one sender ends (inr h) (inl (asks, is, lacked, did, same)) = absurd (true≢false (sym lacked))
       sends_granted_one sender ends (inr (es, rest, w, link, by, sent, did)) (inr (fs, rest', w', link', by', sent', did')) =
-          let same = one_write_lem sends function (wire_message m) link link' es fs w w' (wrote_allowed sender ends w link a rest x sent) (wrote_allowed sender ends w' link' b rest' y sent')
+          let same = one_write_lem sends function (wire_message m) link link' es fs w w' (λ is. grind (arith, true≢false)) (λ is. grind (arith, true≢false))
           s.link by by' in
           let answered = subst (λ z. SentAs sends client s m sender ends z link' b false rest' y) (sym same.answer) sent' in
           let one = sent_as_one sender ends w link rest rest' sent (subst (λ l. SentAs sends client s m sender ends w l b false rest' y) (sym same.after) answered) in grind (arith, map)
@@ -230,8 +213,5 @@ module _ {T U C : Type 0} where
 
     module _ {G : Type 0} (receives : T → ℕ → Result Queue IoFault → T → Type 0) (receives_function : IsReceiveFunction receives) (around : Around G C) (r : Reading) (s : Part T U C)
         (a b : Result Handed ActionError) (left left' : Reading) (d e : List (Deed U)) (x y : Part T U C) where
-      reads_to_one : ReadsTo sends receives around r s a left false d x → ReadsTo sends receives around r s b left' false e y → SameEnd a b d e x y × (left ≡ left')
-      reads_to_one h1 h2 = grind (arith, reads_one, server, reader_part, reads_turns, answered, deeds_of, exchanges_in, part_of, read_on, handled_in)
-
       pub next_action_one : NextAction sends receives around r s a left false d x → NextAction sends receives around r s b left' false e y → SameEnd a b d e x y × (left ≡ left')
-      next_action_one h1 h2 = grind (arith, both_option, same_end, both_bool, reads_to_one, reads_one, server, reader_part, reads_turns, answered, deeds_of, exchanges_in, part_of, read_on, handled_in)
+      next_action_one h1 h2 = grind (arith, both_option, same_end, both_bool, reads_one, server, reader_part, reads_turns, answered, deeds_of, exchanges_in, part_of, read_on, handled_in)

@@ -85,14 +85,11 @@ one_order [] (y ∷ b) up up' same = absurd (omega (arith, at_itself y, sum_by-c
 one_order (x ∷ a) [] up up' same = absurd (omega (arith, at_itself x, sum_by-cons (is_at x) x a, same x))
 one_order (x ∷ a) (y ∷ b) (after_x, up) (after_y, up') same = ap (λ (p : NotePlace). p ∷ a) is ∙ ap (λ (l : List NotePlace). y ∷ l) (one_order a b up up' rest)
   where
-    y_first : IsNoLater y x
-    y_first = holds_there (IsNoLater y) x (y ∷ b) (later_refl y, after_y) (omega (arith, at_itself x, sum_by-cons (is_at x) x a, same x))
-
     x_first : IsNoLater x y
     x_first = holds_there (IsNoLater x) y (x ∷ a) (later_refl x, after_x) (omega (arith, at_itself y, sum_by-cons (is_at y) y b, same y))
 
     is : x ≡ y
-    is = one_place x y x_first y_first
+    is = one_place x y x_first (holds_there (IsNoLater y) x (y ∷ b) (later_refl y, after_y) (omega (arith, at_itself x, sum_by-cons (is_at x) x a, same x)))
 
     rest : (q : NotePlace) → often_at q a ≡ often_at q b
     rest q = omega (arith, sum_by-cons (is_at q) x a, sum_by-cons (is_at q) y b, ap (is_at q) is, same q)
@@ -128,15 +125,12 @@ orders_one waits ts us a b up moved up' moved' same =
 -- ---- numbers in turn
 
 module _ (of : NoteTimes → List ℕ) where
-  gives_one_way : (ns ns' ms ms' : List ℕ) (a b c d : ℕ) → GivesNumbers ns a ns' b → GivesNumbers ms c ms' d → ns ≡ ms → a ≡ c → length ns' ≡ length ms' → (b ≡ d) × (ns' ≡ ms')
-  gives_one_way ns ns' ms ms' a b c d one two same next long = grind (arith, number_past, length-append, numbers_from)
-
   -- the next slot
   turn_next : (n : ℕ) (ts us ts' us' : List NoteTimes) (mid mid' b d : ℕ) → of (times_at n ts) ≡ of (times_at n us)
       → length (of (times_at n ts')) ≡ length (of (times_at n us')) → (mid ≡ mid') × ((k : ℕ) → k < n → of (times_at k ts') ≡ of (times_at k us'))
       → GivesNumbers (of (times_at n ts)) mid (of (times_at n ts')) b → GivesNumbers (of (times_at n us)) mid' (of (times_at n us')) d
       → (b ≡ d) × ((k : ℕ) → k < suc n → of (times_at k ts') ≡ of (times_at k us'))
-  turn_next n ts us ts' us' mid mid' b d h1 h2 h3 h4 h5 = grind (arith, times_at, gives_one_way, eqb-true, false≢true, eq-eqb, number_past, length-append, numbers_from)
+  turn_next n ts us ts' us' mid mid' b d h1 h2 h3 h4 h5 = grind (arith, times_at, number_past, length-append, numbers_from, eqb-true, false≢true, eq-eqb)
 
   turn_one : (n : ℕ) (ts us ts' us' : List NoteTimes) (a c b d : ℕ) → ((k : ℕ) → of (times_at k ts) ≡ of (times_at k us))
       → ((k : ℕ) → length (of (times_at k ts')) ≡ length (of (times_at k us'))) → a ≡ c → InTurn of n ts a ts' b → InTurn of n us c us' d
@@ -170,9 +164,6 @@ module _ (of : NoteTimes → List ℕ) where
 both_times : (t u : NoteTimes) → t.made ≡ u.made → t.waiting ≡ u.waiting → t ≡ u
 both_times t u made waiting = grind (arith)
 
-both_numbers : (a b : NoteNumbers) → a.made ≡ b.made → a.waiting ≡ b.waiting → a ≡ b
-both_numbers a b made waiting = grind (arith)
-
 -- ---- the clients of a slot
 
 module _ {T U C : Type 0} where
@@ -202,9 +193,6 @@ module _ {T U G C : Type 0} (s t : ServerState T U G C) (each : (id : ClientPart
       id : ClientParts
       id = record { slot = k; serial = x.serial }
 
-      here : client_at id s.clients ≡ Some x
-      here = found x (stored_at k s.clients) is
-
       there : client_at id t.clients ≡ if_serial x.serial (Some y)
       there = ap (λ (z : Option (Stored T U C)). if_serial x.serial z) is'
 
@@ -215,13 +203,13 @@ module _ {T U G C : Type 0} (s t : ServerState T U G C) (each : (id : ClientPart
       of_made c = option_map_or (λ z. z.made) c []
 
       parts : part_of (Some x) ≡ part_of (if_serial x.serial (Some y))
-      parts = sym (ap part_of here) ∙ (ap (λ (z : Seen T U C). z.part) (each id) ∙ ap part_of there)
+      parts = sym (ap part_of (found x (stored_at k s.clients) is)) ∙ (ap (λ (z : Seen T U C). z.part) (each id) ∙ ap part_of there)
 
       at : (b : Bool) → (y.serial == x.serial) ≡ b → Alike (Some x) (Some y)
       at true same =
           let now : if_serial x.serial (Some y) ≡ Some y = ap (λ (z : Bool). if z then Some y else None) same in (
             same_Some x.part y.part (parts ∙ ap part_of now),
-            sym (ap of_made here) ∙ (made_one id ∙ ap of_made (there ∙ now)),
+            sym (ap of_made (found x (stored_at k s.clients) is)) ∙ (made_one id ∙ ap of_made (there ∙ now)),
           )
       at false other = grind (arith, if_serial, true≢false, is_some, parts, part_of)
 
@@ -305,27 +293,21 @@ module _ {T U G C : Type 0} where
   makes_one : (s t x y : ServerState T U G C) → OrdersSame s t → ((id : ClientParts) → seen id x ≡ seen id y) → MakesNotes s x → MakesNotes t y → OrdersSame x y
   makes_one s t x y same each h g = record {
     notes = notes;
-    numbers = both_numbers x.numbers y.numbers made.0 waiting.0;
+    numbers = grind (arith, x.numbers, y.numbers, made.0, waiting.0);
     times = λ k. both_times (times_at k (map times_of x.clients)) (times_at k (map times_of y.clients)) (made.1 k) (waiting.1 k);
   }
     where
       notes : x.notes ≡ y.notes
       notes = h.gathered ∙ (same.notes ∙ sym g.gathered)
 
-      one : AllNumbered x.clients
-      one = h.numbered
-
-      two : AllNumbered y.clients
-      two = g.numbered
-
       made : (x.numbers.made ≡ y.numbers.made) × ((k : ℕ) → (times_at k (map times_of x.clients)).made ≡ (times_at k (map times_of y.clients)).made)
       made = turns_one (λ t. t.made) h.times.0 g.times.0 (map times_of s.clients) (map times_of t.clients) (map times_of x.clients) (map times_of y.clients)
-          s.numbers.made t.numbers.made x.numbers.made y.numbers.made same.times (λ k. (numbers_long x y each notes one two k).0)
+          s.numbers.made t.numbers.made x.numbers.made y.numbers.made same.times (λ k. (numbers_long x y each notes h.numbered g.numbered k).0)
           (ap (λ (n : NoteNumbers). n.made) same.numbers) h.times.1.others g.times.1.others h.times.1.made g.times.1.made
 
       waiting : (x.numbers.waiting ≡ y.numbers.waiting) × ((k : ℕ) → (times_at k (map times_of x.clients)).waiting ≡ (times_at k (map times_of y.clients)).waiting)
       waiting = turns_one (λ t. t.waiting) h.times.0 g.times.0 (map times_of s.clients) (map times_of t.clients) (map times_of x.clients) (map times_of y.clients)
-          s.numbers.waiting t.numbers.waiting x.numbers.waiting y.numbers.waiting same.times (λ k. (numbers_long x y each notes one two k).1)
+          s.numbers.waiting t.numbers.waiting x.numbers.waiting y.numbers.waiting same.times (λ k. (numbers_long x y each notes h.numbered g.numbered k).1)
           (ap (λ (n : NoteNumbers). n.waiting) same.numbers) h.times.1.others g.times.1.others h.times.1.waiting g.times.1.waiting
 
   abbrev IsStored : ServerState T U G C → ClientParts → Type 0
@@ -440,11 +422,8 @@ module _ {T U G C : Type 0} (w : World T G C) where
       drains : Drains t y.notes
       drains = cleanup_drains w t f y out is by
 
-      same_more : drains.more ≡ g.in_order.2.0 ++ g.ends
-      same_more = grind (arith, append_cancel_left, drains, append_assoc)
-
       notes : x.notes ≡ y.notes
-      notes = gathered_one s t x y same each h g (λ id none. ap (notes_of id) (sym same_more) ∙ drains.stored id none)
+      notes = gathered_one s t x y same each h g (λ id none. ap (notes_of id) (sym (grind (arith, append_cancel_left, drains, append_assoc))) ∙ drains.stored id none)
 
 -- ---- which notes a call moves
 

@@ -1,5 +1,5 @@
 use Rattle.std.proofs.Common.{◌≡◌, ◌∙◌, Bool, ℕ, List, Option, Err, Result, ap, false, length, refl, subst, sym, true, map}
-use Rattle.std.specs.Prelude.{IfSome, vec_len}
+use Rattle.std.specs.Prelude.{IfSome}
 use Rattle.std.proofs.lemmas.List.{with_items_is}
 use Rattle.wl_wire.specs.declared.interface.InterfaceId.{InterfaceId}
 use Rattle.wl_link.specs.declared.object.Object.{Object}
@@ -59,10 +59,9 @@ returns-in-Ok-clause-call g c =
     c.tell_named-self-inside.result (length xs) xs c.tell_named-self-inside.new.clients) c.deref_mut.ensures.value
     (subst (λ (o : Option (Object (KeptGlobal _))). IfSome o (λ x. AllFeel (HearsNew g.T.Transport.sends g.G.GlobalHandler.views c.self.inside.protocol c.in-Ok.id x)
     c.tell_named-self-inside.result (length c.deref_mut.result.now) c.deref_mut.result.now c.tell_named-self-inside.new.clients)) c.in-Ok.ensures.kept c.tell_named-self-inside.ensures.felt) in
-    let len : length c.tell_named-self-inside.new.clients ≡ vec_len c.self.inside.clients = all.len ∙ sym c.self.inside.clients.ok.0 in
     let numbers = subst (λ (xs : List (Option (Stored _ _ _))). AllInTime (map times_of xs) c.self.inside.numbers (map times_of c.tell_named-self-inside.new.clients)
     c.tell_named-self-inside.new.numbers) c.deref_mut.ensures.value c.tell_named-self-inside.ensures.in_time in
-    rw (← c.self.view_is, with_items_is c.self.inside.clients c.tell_named-self-inside.new.clients len)
+    rw (← c.self.view_is, with_items_is c.self.inside.clients c.tell_named-self-inside.new.clients (all.len ∙ sym c.self.inside.clients.ok.0))
     (felt_call _ _ _ _ (felt _ _ _ _) (HearsNew g.T.Transport.sends g.G.GlobalHandler.views c.self.inside.protocol c.in-Ok.id new)
     c.tell_named-self-inside.result _ c.tell_named-self-inside.new.clients c.tell_named-self-inside.new.numbers
     (ap (λ (gs : Globals _). let o : Offer _ = record { table = c.self.inside.protocol; globals = gs; default_limit = c.self.inside.default_limit } in o) c.in-Ok.ensures.globals)

@@ -1,5 +1,4 @@
-use Rattle.std.proofs.Common.{◌≡◌, ◌∙◌, List, Option, ap, length, refl, subst, sym, map}
-use Rattle.std.specs.Prelude.{vec_len}
+use Rattle.std.proofs.Common.{◌∙◌, List, Option, ap, length, refl, subst, sym, map}
 use Rattle.std.proofs.lemmas.List.{with_items_is}
 use Rattle.wl_link.proofs.Calls.Branches.{at_false, at_true}
 use Rattle.wl_server.specs.Felt.{Hears, removals}
@@ -22,12 +21,11 @@ felt id = record { last = refl; client = λ b. tt; order = tt; room = λ b. tt; 
 
 pub returns-then-was_enabled-clause-call : goal.returns-then-was_enabled-clause-call
 returns-then-was_enabled-clause-call g c =
-    let len : length c.tell_loss-self-inside.new.clients ≡ vec_len c.self.inside.clients = c.tell_loss-self-inside.ensures.felt.len ∙ c.deref_mut.ensures.len in
     let all = subst (λ (xs : List (Option (Stored _ _ _))). AllFeel (λ id p lacked did q. Hears g.T.Transport.sends p (removals p c.name.result) lacked did q)
     c.tell_loss-self-inside.result (length xs) xs c.tell_loss-self-inside.new.clients) c.deref_mut.ensures.value c.tell_loss-self-inside.ensures.felt in
     let numbers = subst (λ (xs : List (Option (Stored _ _ _))). AllInTime (map times_of xs) c.self.inside.numbers (map times_of c.tell_loss-self-inside.new.clients)
     c.tell_loss-self-inside.new.numbers) c.deref_mut.ensures.value c.tell_loss-self-inside.ensures.in_time in
-    rw (← c.self.view_is, with_items_is c.self.inside.clients c.tell_loss-self-inside.new.clients len)
+    rw (← c.self.view_is, with_items_is c.self.inside.clients c.tell_loss-self-inside.new.clients (c.tell_loss-self-inside.ensures.felt.len ∙ c.deref_mut.ensures.len))
     (felt_call _ _ _ _ (felt _) (λ id p lacked did q. Hears g.T.Transport.sends p (removals p c.args.id.now.name) lacked did q)
     c.tell_loss-self-inside.result _ c.tell_loss-self-inside.new.clients c.tell_loss-self-inside.new.numbers
     (ap (λ (gs : Globals _). let o : Offer _ = record { table = c.self.inside.protocol; globals = gs; default_limit = c.self.inside.default_limit } in o) (c.disable.ensures c.self.inside.last_global))

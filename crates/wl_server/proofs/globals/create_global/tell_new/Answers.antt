@@ -8,14 +8,7 @@ use Rattle.wl_server.proofs.CallSteps.Feeling.{none_felt, one_more_felt}
 use Rattle.wl_server.proofs.globals.create_global.tell_new.Goals as goal
 
 pub loop-slot-init : goal.loop-slot-init
-loop-slot-init g c = record {
-  felt = none_felt _ _;
-  table = ap (λ (a : Announced). a.table) c.new-announcement.ensures;
-  global = ap (λ (a : Announced). a.global) c.new-announcement.ensures ∙ ap (λ (n : ℕ). shown_as (n, c.args.global.now)) c.name.ensures;
-  ends = refl;
-  in_time = below_none 0 _ _;
-  numbered = λ all. all;
-}
+loop-slot-init g c = grind (arith, none_felt, shown_as, below_none)
 
 pub loop-slot-preserved : goal.loop-slot-preserved
 loop-slot-preserved g c =

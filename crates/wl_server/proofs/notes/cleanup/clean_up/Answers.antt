@@ -4,9 +4,10 @@ use Rattle.wl_server.specs.NoteOrder.{AllNumbered, AllTakeFirst, Along, IsOrderO
 use Rattle.wl_server.specs.Server.{NoteTimes, Stored}
 use Rattle.wl_server.specs.Inside.Leaving.{collected, given_at}
 use Rattle.wl_server.proofs.CallSteps.Numbering.{all_take_both, all_take_leave, all_take_none, none_waits, numbered_staying}
-use Rattle.wl_server.proofs.CleanupSteps.Idle.{none_flushed, none_given, none_leaves, none_noted}
+use Rattle.wl_server.proofs.CleanupSteps.Idle.{none_flushed, none_leaves, none_noted}
 use Rattle.wl_server.proofs.CleanupSteps.Rooms.{flushed_counts, flushed_order, gathered_ends, gathered_given}
 use Rattle.wl_server.proofs.notes.cleanup.clean_up.Goals as goal
+use Rattle.std.proofs.lemmas.List.{nil_from_length}
 
 pub returns-then-capacity-eq0-clause-cleaned : goal.returns-then-capacity-eq0-clause-cleaned
 returns-then-capacity-eq0-clause-cleaned g c =
@@ -22,7 +23,7 @@ returns-then-capacity-eq0-clause-cleaned g c =
       in_order = (c.args.memory.now.order.items, c.requires.order, subst (λ (l : List NotePlace). Along c.args.notes.now.items c.gather.new.notes.items l) c.deref.ensures.value c.gather.ensures.along);
       stay = none_leaves 0 c.gather.new.clients.items left;
       noted = sym (append-nil c.gather.new.notes.items) ∙ ap (λ l. c.gather.new.notes.items ++ l) (sym (none_noted c.gather.new.clients.items left));
-      gave = c.requires.none ∙ sym (none_given c.gather.new.clients.items left);
+      gave = c.requires.none ∙ sym (nil_from_length (collected given_at 0 c.gather.new.clients.items) (omega (arith, left)));
     }
 
 pub gather-requires-2-clause-order : goal.gather-requires-2-clause-order

@@ -1,11 +1,10 @@
-use Rattle.std.proofs.Common.{◌<◌, true, List, Option, arith, ap, length, map, refl}
+use Rattle.std.proofs.Common.{◌<◌, true, arith, ap, length, map, refl}
 use Rattle.std.proofs.lemmas.Grind.{common_steps}
 use Rattle.std.proofs.lemmas.Option.{slice_get_read}
 use Rattle.wl_server.specs.Inside.Gathering.{count_leaving}
 use Rattle.wl_server.specs.Inside.Leaving.{ends_at, given_at}
 use Rattle.wl_server.specs.Inside.NoteOrder.{count_places}
 use Rattle.wl_server.specs.NoteOrder.{times_of}
-use Rattle.wl_server.specs.Server.{Stored}
 use Rattle.wl_server.specs.Inside.Touched.{IsQuiet}
 use Rattle.wl_server.proofs.CleanupSteps.Ordering.{drop_past, places_rest}
 use Rattle.wl_server.proofs.CleanupSteps.Gathering.{count_drop}
@@ -79,10 +78,7 @@ returns-clause-gathered g c below =
     omega (arith, most, ap (count_leaving true) (drop_past c.args.clients.now c.loop-slot.slot (omega (arith, c.loop-slot-test.false, c.loop-slot.invariant.all))))
 
 pub returns-clause-places : goal.returns-clause-places
-returns-clause-places g c below =
-    let none = ap (λ (l : List (Option (Stored _ _ _))). count_places true (map times_of l))
-    (drop_past c.args.clients.now c.loop-slot.slot (omega (arith, c.loop-slot-test.false, c.loop-slot.invariant.all))) in
-    omega (arith, c.loop-slot.invariant.places below, none)
+returns-clause-places g c below = grind (arith, count_places, map, times_of, drop_past)
 
 pub returns-clause-leaving : goal.returns-clause-leaving
 returns-clause-leaving g c below = grind (arith, common_steps, drop_past)

@@ -12,10 +12,7 @@ use Rattle.wl_server.specs.Server.{Stored}
 use Rattle.wl_server.proofs.notes.gather.gather_made.Goals as goal
 
 pub returns-then-count-eq0-clause-ended : goal.returns-then-count-eq0-clause-ended
-returns-then-count-eq0-clause-ended g c =
-    let all = subst (λ xs. c.count_notes-count.result < 0xFFFFFFFFFFFFFFFF → count_leaving false xs ≤ c.count_notes-count.result) c.deref.ensures.value c.count_notes-count.ensures.all in
-    none_leaving false c.args.clients.now.items
-    (none_of c.count_notes-count.result (count_leaving false c.args.clients.now.items) c.if-count-eq0.true all)
+returns-then-count-eq0-clause-ended g c = grind (arith, count_leaving, none_leaving, none_of)
 
 pub returns-in_err-order-clause-some : goal.returns-in_err-order-clause-some
 returns-in_err-order-clause-some g c = grind (arith, common_steps, on_err, positive)
@@ -24,10 +21,7 @@ pub returns-in_err-reserve-clause-some : goal.returns-in_err-reserve-clause-some
 returns-in_err-reserve-clause-some g c = grind (arith, common_steps, on_err, positive)
 
 pub gather-requires-clause-room : goal.gather-requires-clause-room
-gather-requires-clause-room g c =
-    let all = subst (λ xs. c.count_notes-count.result < 0xFFFFFFFFFFFFFFFF → count_leaving false xs ≤ c.count_notes-count.result) c.deref.ensures.value c.count_notes-count.ensures.all in
-    room_of (vec_len c.reserve.new.self) c.count_notes-count.result (count_leaving false c.args.clients.now.items) (vec_capacity c.reserve.new.self)
-    all c.in_ok-reserve.ensures.ok c.reserve.new.self.small
+gather-requires-clause-room g c = grind (arith, count_leaving, room_of, vec_len, vec_capacity)
 
 pub returns-then-count-eq0-clause-in_order : goal.returns-then-count-eq0-clause-in_order
 returns-then-count-eq0-clause-in_order g c =

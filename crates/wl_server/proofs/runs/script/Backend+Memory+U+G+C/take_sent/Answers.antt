@@ -31,13 +31,12 @@ emptied s = record s { sent = [] }
 pub returns : goal.returns
 returns g c =
     let sent = c.take_sent.ensures.taken ∙ ap (λ (s : Script). s.sent) c.transport_mut.ensures.value in
-    let rest : ◌≡◌ {A = Script} c.take_sent.new.self (record c.client.inside.socket.transport { sent = [] }) = c.take_sent.ensures.rest ∙ ap emptied c.transport_mut.ensures.value in
     rw (← c.self.view_is)
     (done_to _ _ _ _ refl c.args.id.now (takes (taken (Ok c.take_sent.result))) _ (λ i l d b a h. (_, refl, h))
     _ c.in-Some.client.now _ false refl c.in-Some.ensures.value (does c.args.id.now c.in-Some.client.now (record { serial = _; part = _; made = _; times = no_times }) _ refl
     (rw (← c.client.view_is)
     (moved (record { serial = _; part = _; made = _; times = no_times }) (λ t t'. ScriptMoves t TakeSent (taken (Ok c.take_sent.result)) t') c.take_sent.new.self
-    (ap (λ (l : List Queue). let r : Moved = Ok l in r) sent, rest)))) _
+    (ap (λ (l : List Queue). let r : Moved = Ok l in r) sent, (c.take_sent.ensures.rest ∙ ap emptied c.transport_mut.ensures.value))))) _
     (in_time_same _ _ _ _ (ap (λ (s : Stored _ _ _). s.times) c.client.view_is) refl)
     (λ is. (
       ap (λ (s : Stored _ _ _). length s.times.made) c.client.view_is ∙ (is.0 ∙ sym (ap (λ (s : Stored _ _ _). length s.made) c.client.view_is)),
