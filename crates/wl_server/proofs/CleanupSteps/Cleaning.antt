@@ -26,7 +26,7 @@ use Rattle.wl_server.proofs.CleanupSteps.Outgoing.{if_false, if_true}
 -- ---- notes among deeds
 
 module _ {U : Type 0} where
-  noted_notes : (told : List (Happening U)) → notes_in (map Noted told) ≡ told
+  pub noted_notes : (told : List (Happening U)) → notes_in (map Noted told) ≡ told
   noted_notes [] = refl
   noted_notes (h ∷ told) = ap (λ (l : List (Happening U)). h ∷ l) (noted_notes told)
 

@@ -1,5 +1,5 @@
 -- From what the calls of a dispatch say of themselves to what it does.
-use Rattle.std.proofs.Common.{◌≡◌, ◌<◌, ◌≤◌, ℕ, ◌+◌, length, get_or, take, arith, List, [], ◌∷◌, ◌++◌, append_assoc, append-nil, Bool, true, false, Option, None, Some, is_some, Result, Ok, Err, ap, refl, sym, subst, ◌∙◌, true≢false}
+use Rattle.std.proofs.Common.{◌≡◌, ◌<◌, ◌≤◌, ℕ, ◌+◌, length, get_or, take, arith, List, [], ◌∷◌, ◌++◌, append_assoc, append-nil, Bool, false, Option, None, Some, is_some, Result, Ok, Err, ap, refl, sym, subst, ◌∙◌, true≢false}
 use Rattle.std.specs.Prelude.{◌||◌, Vec}
 use Rattle.std.proofs.lemmas.List.{take_all, take_more}
 use Rattle.std.specs.Global.{Global}
@@ -28,10 +28,7 @@ use Rattle.wl_server.proofs.Dispatches.Waiting.{round_fewer}
 use Rattle.wl_server.proofs.OverRuns.Alone.AccountLaws.{is_accounted_for}
 use Rattle.wl_server.proofs.OverRuns.Alone.IsolationLaw.{join_runs}
 use Rattle.wl_server.proofs.OverRuns.Cut.CuttingLaws.{histories_cut}
-
-or_false : (b : Bool) → (b || false) ≡ b
-or_false true = refl
-or_false false = refl
+use Rattle.wl_server.proofs.ObjectCalls.Closing.{or_false}
 
 or_assoc : (a b c : Bool) → ((a || b) || c) ≡ (a || (b || c))
 or_assoc h1 b c = grind (arith)

@@ -6,7 +6,7 @@ use Rattle.wl_link.specs.Link.{LinkState, Wrote}
 use Rattle.wl_link.specs.Puts.{PutBy, PutsOut, Said}
 use Rattle.wl_server.specs.Inside.Puts.{Puts}
 
-ok_err : (f : IoFault) → ◌≡◌ {A = Result (Unit {0}) IoFault} (Ok tt) (Err f) → ⊥
+pub ok_err : (f : IoFault) → ◌≡◌ {A = Result (Unit {0}) IoFault} (Ok tt) (Err f) → ⊥
 ok_err f same = cc
 
 module _ {T : Type 0} (sends : T → Queue → Result ℕ IoFault → T → Type 0) where

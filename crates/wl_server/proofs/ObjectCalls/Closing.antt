@@ -13,7 +13,7 @@ use Rattle.wl_server.specs.Telling.{Core, Tells, Told, closed_down, end_deeds, p
 use Rattle.wl_server.specs.Inside.Carried.{told_notes}
 use Rattle.wl_server.proofs.Readings.Notes.{tells_put}
 
-or_false : (b : Bool) → (b || false) ≡ b
+pub or_false : (b : Bool) → (b || false) ≡ b
 or_false true = refl
 or_false false = refl
 

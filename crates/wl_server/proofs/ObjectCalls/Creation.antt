@@ -1,5 +1,5 @@
 -- How an insertion, or why there is none, is a creation.
-use Rattle.std.proofs.Common.{◌≡◌, ℕ, ◌+◌, ◌<◌, Bool, true, false, List, [], Option, Some, is_some, Result, Ok, Err, MatchOption, MatchBool, Bor, not, option_copied, option_map, refl, ap, subst, inl, inr, true≢false, arith}
+use Rattle.std.proofs.Common.{◌≡◌, ℕ, ◌+◌, ◌<◌, Bool, true, false, List, [], Option, Some, is_some, Result, Ok, Err, MatchOption, Bor, not, option_copied, option_map, refl, ap, subst, inl, inr, true≢false, arith}
 use Rattle.std.specs.Prelude.{◌==◌, slice_get}
 use Rattle.std.proofs.lemmas.Bool.{eqb-true, eq-eqb, false≢true}
 use Rattle.wl_wire.specs.declared.interface.InterfaceId.{InterfaceId}
@@ -20,6 +20,8 @@ use Rattle.wl_server.specs.Objects.{Creates}
 use Rattle.wl_server.specs.Part.{Part, fresh_object, last_possible_serial}
 use Rattle.wl_server.specs.Server.{Stored, no_times}
 use Rattle.wl_server.proofs.CallSteps.Doing.{does_quietly}
+use Rattle.wl_server.proofs.CleanupSteps.Outgoing.{if_false}
+use Rattle.wl_server.proofs.CleanupSteps.Outgoing.{if_true}
 
 known : {A : Type 0} (o : Option A) (X Y : Type 0) → is_some o ≡ true → Y → MatchOption o X (λ _. Y)
 known h1 h2 h3 is y = grind (arith, false≢true)
@@ -31,12 +33,6 @@ unknown h1 h2 h3 is x = grind (arith, true≢false)
 pub row_found : {A B : Type 0} (f : A → B) (found : Option (Bor A)) (row : Option B) (none : Bool) → option_map f (option_copied found) ≡ row → is_some found ≡ not none
     → is_some row ≡ not none
 row_found f h2 row none is some = grind (arith)
-
-with_serial : (b : Bool) (X Y : Type 0) → b ≡ false → Y → MatchBool b X Y
-with_serial h1 h2 h3 is y = grind (arith, true≢false)
-
-no_serial : (b : Bool) (X Y : Type 0) → b ≡ true → X → MatchBool b X Y
-no_serial h1 h2 h3 is x = grind (arith, false≢true)
 
 module _ {T U C : Type 0} (table : List InterfaceRow) (client : ClientParts) (s : Stored T U C) (i : InterfaceId) (version : ℕ) (u : U) where
   abbrev pub Created : Result IdParts CreateError → Part T U C → List (Deed U) → Part T U C → Type 0
@@ -57,7 +53,7 @@ module _ {T U C : Type 0} (table : List InterfaceRow) (client : ClientParts) (s 
       does_quietly s (Created (Err e)) s.part (refl, known (slice_get table i.0) _ _ is (inl (full, ap Err why, refl)))
   lacks_serial is fits last e (inr (n, least, why)) =
       does_quietly s (Created (Err e)) s.part
-      (refl, known (slice_get table i.0) _ _ is (inr (n, least, no_serial (s.part.last_serial == last_possible_serial) _ _ (eq-eqb s.part.last_serial last_possible_serial (omega (arith, fits, last))) (ap Err why, refl))))
+      (refl, known (slice_get table i.0) _ _ is (inr (n, least, if_true (s.part.last_serial == last_possible_serial) _ _ (eq-eqb s.part.last_serial last_possible_serial (omega (arith, fits, last))) (ap Err why, refl))))
 
   module _ (is_known : is_some (slice_get table i.0) ≡ true) (few : s.part.last_serial + 1 < 0x10000000000000000) where
     abbrev pub with_both : Store (Kept U) → ℕ → Part T U C
@@ -74,7 +70,7 @@ module _ {T U C : Type 0} (table : List InterfaceRow) (client : ClientParts) (s 
     created n serial x store next is (least, put) =
         does_quietly s (Created (Ok (id serial))) (with_both store serial) (
           refl,
-          grind (arith, known, slice_get, with_serial, last_possible_serial, serial_left, id, stored, is, next),
+          grind (arith, known, slice_get, if_false, last_possible_serial, serial_left, id, stored, is, next),
         )
       where
         id : ℕ → IdParts
@@ -96,5 +92,5 @@ module _ {T U C : Type 0} (table : List InterfaceRow) (client : ClientParts) (s 
         at ((n, least, unused), same) =
             does_quietly s (Created (Err create.OutOfMemory)) (over store) (
               refl,
-              grind (arith, known, slice_get, with_serial, last_possible_serial, serial_left, over),
+              grind (arith, known, slice_get, if_false, last_possible_serial, serial_left, over),
             )

@@ -7,5 +7,4 @@ pub mod Watching
 pub mod WatchedVerdicts
 pub mod WatchedReadings
 pub mod WatchedCalls
-pub mod WatchedGlobals
 pub mod AnnouncedLaw

@@ -1,4 +1,2 @@
 -- How a killed client is read, until a cleanup takes it out, and after that.
-pub mod KilledParts
-pub mod KilledCalls
 pub mod KilledLaws

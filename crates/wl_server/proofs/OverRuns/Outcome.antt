@@ -1,6 +1,5 @@
 -- Where memory is not refused there is one outcome.
 pub mod Determined
-pub mod ExchangeLaws
 pub mod NumberLaws
 pub mod PartOutcome
 pub mod OutcomeLaws

@@ -24,7 +24,7 @@ use Rattle.wl_server.specs.Plain.{CleansUpClients, HandsOut, TakesNotes}
 use Rattle.wl_server.specs.Server.{Seen, seen}
 use Rattle.wl_server.specs.Steps.{RisesBySlot}
 use Rattle.wl_server.proofs.Plain.Base.{calm, none_and_some, of_each, offer_of, one_value, refused_growth, some_lacks, split_bool, unchanged, when_false, when_true}
-use Rattle.wl_server.proofs.Plain.Verdicts.{lacking}
+use Rattle.wl_server.proofs.Readings.Finishing.{wanted_memory}
 
 all_noted : {U : Type 0} (notes : List (Happening U)) → notes_in (map Noted notes) ≡ notes
 all_noted [] = refl
@@ -69,7 +69,7 @@ module _ {T U G C : Type 0} {w : World T G C} {before after : BackendState T U G
         | inr (p, there, (q, cleans, same)) ↦
             elim (split_bool p.is_killed cleans) [
               | inl (dead, (flushed, answer, end, (es, link, by, memory, did_so, ends), did_all, handed, gone)) ↦
-                  (id, p, link, there, dead, (es, subst (λ (x : Result (Unit {0}) IoFault). FlushedBy w.sends p.link es x link) (lacking answer (sym memory)) by), handed ∙ ap (λ (x : Part T U C). x.link.transport ∷ []) ends)
+                  (id, p, link, there, dead, (es, subst (λ (x : Result (Unit {0}) IoFault). FlushedBy w.sends p.link es x link) (wanted_memory answer (sym memory)) by), handed ∙ ap (λ (x : Part T U C). x.link.transport ∷ []) ends)
               | inr (live, (calm, did_so, handed, stays)) ↦ absurd (true≢false calm)
             ]
       ]

@@ -2,7 +2,7 @@
 use Rattle.std.proofs.Common.{◌≡◌, ℕ, Bool, true, false, cond, eqb, List, [], ◌∷◌, Option, None, Some, IsSome, is_some, Result, Ok, Err, refl, sym, ap, subst, ◌∙◌, true≢false, arith}
 use mathlib.Core.Logic.{inl, inr}
 use Rattle.std.proofs.lemmas.Bool.{cases_lt, eq-eqb}
-use Rattle.std.specs.Prelude.{◌⊎◌, ◌||◌, ◌≤◌, ◌<◌, Vec}
+use Rattle.std.specs.Prelude.{◌⊎◌, ◌≤◌, ◌<◌, Vec}
 use Rattle.std.specs.Global.{Global}
 use Rattle.wl_wire.specs.declared.error.IoFault.{IoFault}
 use Rattle.wl_wire.specs.declared.error.IoFault.TheVariants as fault
@@ -26,7 +26,7 @@ use Rattle.wl_server.specs.declared.runs.step.Step.{Step}
 use Rattle.wl_server.specs.declared.runs.step.Step.TheVariants as step
 use Rattle.wl_server.specs.Backend.{BackendState}
 use Rattle.wl_server.specs.Deeds.{Deed, Handed}
-use Rattle.wl_server.specs.Dispatch.{Answering, Answers, DispatchesAll, DispatchesClient, Handles, Last, Rounds, after_cleanup, cleaned, dispatched, fault_of_end, fault_of_reading, more as one_round, no_action, none as no_round, not_ended, refusal_in}
+use Rattle.wl_server.specs.Dispatch.{Answering, Answers, DispatchesAll, DispatchesClient, Handles, Last, Rounds, after_cleanup, cleaned, dispatched, fault_of_end, fault_of_reading, more as one_round, no_action, none as no_round, not_ended, refusal_in, EachIsDispatched, EndsDispatch, IsDispatched, Round}
 use Rattle.wl_server.specs.Finish.{FinishesBind, refusal}
 use Rattle.wl_server.specs.Globals.{Offer}
 use Rattle.wl_server.specs.Inside.Finishing.{lacks_finish}
@@ -38,15 +38,61 @@ use Rattle.wl_server.specs.Plain.Reading.{FaultLeaves, IsKilledOnce, ReadAs}
 use Rattle.wl_server.specs.Reading.{Around, NextAction, action_content, server}
 use Rattle.wl_server.specs.ReadingEnds.{LastReceiveFailed}
 use Rattle.wl_server.specs.Server.{Seen, ServerState, seen}
-use Rattle.wl_server.specs.Steps.{Entry, OneStep, lacks_growth}
+use Rattle.wl_server.specs.Steps.{Entry, OneStep, lacks_growth, offer_after}
 use Rattle.wl_server.specs.Telling.{Core, Told}
 use Rattle.wl_server.proofs.Dispatches.Standing.{Stands, born_still, run_stands}
 use Rattle.wl_server.proofs.Plain.Base.{none_and_some, own}
 use Rattle.wl_server.proofs.Plain.Cleanup.{cleaned_killed, cleaned_live, cleaned_none}
-use Rattle.wl_server.proofs.Plain.DispatchGlobals.{dispatch_keeps, dispatches_keep}
 use Rattle.wl_server.proofs.Plain.Reading.{reads_as}
-use Rattle.wl_server.proofs.Plain.ReadingEnds.{reading_ends, split_result}
+use Rattle.wl_server.proofs.Plain.ReadingEnds.{reading_ends, split_result, or_true}
 use Rattle.wl_server.proofs.Plain.Requests.{own_lacks}
+
+-- ---- that a dispatch changes no global, if no call of its handler does
+
+module _ {H T U G C : Type 0} (w : World T G C) (answers : Answering H T U G C) (keeps : KeepsGlobals answers) where
+  -- so does a call of this kind
+  kept_by : (before after : ServerState T U G C) (e : Entry T U G C) (call : Call T U G C) → OneStep w before e after → e.call ≡ call
+      → offer_after before.offer call ≡ before.offer → after.offer ≡ before.offer
+  kept_by before after e call by is same = by.offer ∙ ap (offer_after before.offer) is ∙ same
+
+  module _ (id : ClientParts) where
+    round_keeps : (h h' : H) (r r' : Reading) (before after : ServerState T U G C) (run : List (Entry T U G C)) (lacked : Bool) (why : Option FinishError)
+        → Round w answers id h r before run lacked why h' r' after → after.offer ≡ before.offer
+    round_keeps h h' r r' before after run lacked why round =
+        grind (arith, kept_by, round.found, round.handed, round.rest, round.end_lacked, round.handles)
+        ∙ kept_by before round.found.server round.read _ round.reads round.read_is refl
+
+    rounds_keep : (h h' : H) (r r' : Reading) (before after : ServerState T U G C) (run : List (Entry T U G C)) (lacked : Bool)
+        → Rounds w answers id h r before run lacked h' r' after → after.offer ≡ before.offer
+    rounds_keep h h' r r' before after run lacked (no_round nothing calm) = refl
+    rounds_keep h h' r r' before after run lacked (one_round {h1 = h1} {r1 = r1} {s1 = s1} {first = first} {next = next} {before = was} {now = now} rounds round run_is lacked_is) = grind (arith, round_keeps, rounds_keep h h1 r r1 before s1 first was rounds)
+
+    client_keeps : (h h' : H) (before after : ServerState T U G C) (run : List (Entry T U G C)) (lacked : Bool) (answer : Result ℕ IoFault)
+        → IsDispatched w answers id h before run lacked answer h' after → after.offer ≡ before.offer
+    client_keeps h h' before after run lacked answer serves = grind (arith, kept_by, round_keeps, rounds_keep)
+
+  -- the clients one after another
+  clients_keep : (ids : List ClientParts) (h h' : H) (before after : ServerState T U G C) (run : List (Entry T U G C)) (lacked : Bool) (total : ℕ)
+      → EachIsDispatched w answers ids h before run lacked total h' after → after.offer ≡ before.offer
+  clients_keep ids h h' before after run lacked total (no_round no_ids nothing calm no_total) = refl
+  clients_keep ids h h' before after run lacked total (one_round {earlier = earlier} {h1 = h1} {s1 = s1} {first = first} {next = next} {before = was} {now = now} {count = count} id answer each serves ids_are run_is lacked_is total_is) =
+      client_keeps id h1 h' s1 after next now answer serves ∙ clients_keep earlier h h1 before s1 first was count each
+
+  -- the cleanup at the end
+  end_keeps : (before mid : ServerState T U G C) (after : BackendState T U G C) (calls : List (Entry T U G C)) (lacked : Bool) (answer result : Result ℕ IoFault)
+      → EndsDispatch w before calls lacked mid answer result after → after.server.offer ≡ mid.offer
+  end_keeps before mid after calls lacked answer result ends = kept_by mid after.server ends.cleanup _ ends.cleans ends.cleanup_is refl
+
+  pub dispatch_keeps : (id : ClientParts) (h h' : H) (before mid : ServerState T U G C) (after : BackendState T U G C) (calls : List (Entry T U G C)) (lacked : Bool)
+      (answer result : Result ℕ IoFault) → IsDispatched w answers id h before calls lacked answer h' mid → EndsDispatch w before calls lacked mid answer result after
+      → after.server.offer ≡ before.offer
+  dispatch_keeps id h h' before mid after calls lacked answer result serves ends =
+      end_keeps before mid after calls lacked answer result ends ∙ client_keeps id h h' before mid calls lacked answer serves
+
+  pub dispatches_keep : (ids : List ClientParts) (h h' : H) (before mid : ServerState T U G C) (after : BackendState T U G C) (calls : List (Entry T U G C)) (lacked : Bool)
+      (total : ℕ) (result : Result ℕ IoFault) → EachIsDispatched w answers ids h before calls lacked total h' mid → EndsDispatch w before calls lacked mid (Ok total) result after
+      → after.server.offer ≡ before.offer
+  dispatches_keep ids h h' before mid after calls lacked total result each ends = grind (arith, end_keeps, clients_keep)
 
 -- ---- the cleanup
 
@@ -162,9 +208,6 @@ module _ {T U C : Type 0} (table : List InterfaceRow) (id : ClientParts) (s t : 
 
 -- ---- whether memory was refused
 
-or_then : (a b : Bool) → b ≡ true → (a || b) ≡ true
-or_then h1 b is = grind (arith)
-
 not_both : {A E : Type 0} {r : Result A E} {x : A} {e : E} → r ≡ Ok x → r ≡ Err e → ⊥
 not_both ok err = absurd cc
 
@@ -176,9 +219,9 @@ module _ {T U G C : Type 0} (sends : T → Queue → Result ℕ IoFault → T �
   receive_starves left before (Received got ∷ []) out end (on, lacks, (n, is, (link, filled, room, h))) (r, last, failed) = grind (arith, split_result, not_both)
   receive_starves left before (Received got ∷ t ∷ turns) out end (on, lacks, (n, is, (link, filled, room, h))) last = grind (arith, split_result, counted_answer, count_of, with_link, receive_starves n (with_link before link) (t ∷ turns) out end)
   receive_starves left before (Handled es ∷ []) out end h (r, last, failed) = grind (arith)
-  receive_starves left before (Handled es ∷ t ∷ turns) out end (on, (v, link, first, lacked, mid, rest, found, by, split', more)) last = grind (arith, or_then, receive_starves left mid (t ∷ turns) rest end more last)
+  receive_starves left before (Handled es ∷ t ∷ turns) out end (on, (v, link, first, lacked, mid, rest, found, by, split', more)) last = grind (arith, or_true, receive_starves left mid (t ∷ turns) rest end more last)
   receive_starves left before (Unread es ∷ []) out end h (r, last, failed) = grind (arith)
-  receive_starves left before (Unread es ∷ t ∷ turns) out end (on, (v, link, first, lacked, mid, rest, found, by, split', more)) last = grind (arith, or_then, receive_starves left mid (t ∷ turns) rest end more last)
+  receive_starves left before (Unread es ∷ t ∷ turns) out end (on, (v, link, first, lacked, mid, rest, found, by, split', more)) last = grind (arith, or_true, receive_starves left mid (t ∷ turns) rest end more last)
 
   next_starves : (p q : Part T U C) (r r' : Reading) (lacked : Bool) (did : List (Deed U)) → NextAction sends receives a r p (Err (Io fault.OutOfMemory)) r' lacked did q → lacked ≡ true
   next_starves p q r r' lacked did h = grind (arith, either_option, not_open, reading_ends, receive_starves)
@@ -308,7 +351,7 @@ module _ {H T U G C : Type 0} (w : World T G C) (answers : Answering H T U G C) 
       at (Io f) is lacks =
           reading_starved w id s s' e by r r' (is ∙ ap (λ (f : IoFault). Asked (step.NextActionWithin id r) (reply.NextActionWithin (Err (Io f)) r')) lacks)
   last_starved {h = h} {h' = h'} {s' = s'} (not_ended why round f_is) lacks =
-      round.lacked_is ∙ or_then round.read.refused round.end_lacked (at why (sym f_is ∙ lacks) round.handles)
+      round.lacked_is ∙ or_true round.read.refused round.end_lacked (at why (sym f_is ∙ lacks) round.handles)
     where
       at : (why : FinishError) → fault_of_end why ≡ fault.OutOfMemory → Handles w answers id h round.found round.handed round.rest round.end_lacked (Some why) h' s' → round.end_lacked ≡ true
       at finish.OutOfMemory lacks x = end_starved x
@@ -381,7 +424,7 @@ module _ {H T U G C : Type 0} (w : World T G C) (answers : Answering H T U G C) 
               true≢false,
               ends.cleanup.refused,
               rounds.rounds_end.lacked_is
-                  ∙ or_then rounds.rounds_end.first_lacked rounds.rounds_end.last_lacked
+                  ∙ or_true rounds.rounds_end.first_lacked rounds.rounds_end.last_lacked
                   (last_starved rounds.rounds_end.end (grind (arith, eqb, rounds.fault, rounds.left.read, sym (result_as (Ok out) is) ∙ lacks))),
             ));
         globals = λ keeps. dispatch_keeps w answers keeps id h h' before mid after calls lacked answer result rounds ends;
@@ -390,7 +433,7 @@ module _ {H T U G C : Type 0} (w : World T G C) (answers : Answering H T U G C) 
         client = subst (λ (a : Result ℕ IoFault). LeftBy before id (seen id after.server).part a) (sym (result_as (Err l) is)) tt;
         all = λ fine. absurd (fine (result_as (Err l) is));
         memory = λ lacks.
-            ends.refused ∙ or_then lacked ends.cleanup.refused (refused_as w mid after ends.cleanup ends.out ends.cleans ends.cleanup_is l is);
+            ends.refused ∙ or_true lacked ends.cleanup.refused (refused_as w mid after ends.cleanup ends.out ends.cleans ends.cleanup_is l is);
         globals = λ keeps. dispatch_keeps w answers keeps id h h' before mid after calls lacked answer result rounds ends;
       }
 
@@ -411,4 +454,4 @@ module _ {H T U G C : Type 0} (w : World T G C) (answers : Answering H T U G C) 
       at : (r : Result (Vec (ClientParts × T) Global) OutOfMemory) → ends.out ≡ reply.Cleanup r → DispatchOfSeveralLeaves answers before result after
       at (Ok out) is = subst (λ (a : Result ℕ IoFault). DispatchOfSeveralLeaves answers before a after) (sym (result_as (Ok out) is))
           (record { all = all_live w mid after ends.cleanup ends.out ends.cleans ends.cleanup_is out is; globals = kept })
-      at (Err l) is = grind (arith, result_as, or_then, refused_as, kept, cleaned, lacks_growth, dispatches_keep)
+      at (Err l) is = grind (arith, result_as, or_true, refused_as, kept, cleaned, lacks_growth, dispatches_keep)

@@ -1,7 +1,7 @@
 -- An error that the program posts.
 use Rattle.std.proofs.Common.{◌≡◌, ℕ, Bool, true, false, cond, List, [], ◌∷◌, ◌++◌, append-nil, map, Some, is_some, Result, Ok, Err, refl, sym, ap, subst, ◌∙◌, true≢false, arith}
 use mathlib.Core.Logic.{inl, inr}
-use Rattle.std.specs.Prelude.{◌⊎◌, ◌==◌, MatchBool, option_map}
+use Rattle.std.specs.Prelude.{◌==◌, MatchBool, option_map}
 use Rattle.wl_wire.specs.declared.error.IoFault.{IoFault}
 use Rattle.wl_wire.specs.declared.error.IoFault.TheVariants as fault
 use Rattle.wl_wire.specs.Table.{InterfaceRow}
@@ -27,10 +27,7 @@ use Rattle.wl_server.specs.Server.{Seen, seen}
 use Rattle.wl_server.specs.Telling.{Core, Tells, Told, closed_down, core_of, deeds_of, end_deeds, part_of, speaker}
 use Rattle.wl_server.proofs.Plain.Base.{keeps, nothing_new, of_each, of_own, offer_of, other_stays, own, unchanged, when_false, when_true}
 use Rattle.wl_server.proofs.Readings.Notes.{notes_told}
-
-by_choice : {P Q : Type 0} (b : Bool) → MatchBool b P Q → ((b ≡ true) × P) ⊎ ((b ≡ false) × Q)
-by_choice true p = inl (refl, p)
-by_choice false q = inr (refl, q)
+use Rattle.wl_server.proofs.Plain.Base.{split_bool}
 
 module _ {T U C : Type 0} (sends : T → Queue → Result ℕ IoFault → T → Type 0) (table : List InterfaceRow) (id : IdParts) (code : ℕ) (text : List ℕ) where
   -- the client is killed for this reason, and otherwise as it was but for its link
@@ -83,7 +80,7 @@ module _ {T U C : Type 0} (sends : T → Queue → Result ℕ IoFault → T → 
 
   -- the objects stay
   stores_stay : (lacked : Bool) (did : List (Deed U)) (p q : Part T U C) → Does lacked did p q → q.store ≡ p.store
-  stores_stay lacked did p q h = grind (arith, by_choice, ends)
+  stores_stay lacked did p q h = grind (arith, split_bool, ends)
 
   -- a null id does nothing
   null_same : (id.number == 0) ≡ true → (b : Bool) (s t : Seen T U C) (lacked : Bool) (did : List (Deed U)) → OfClient b s (Does lacked did) (Unit {0}) lacked did t → t ≡ s

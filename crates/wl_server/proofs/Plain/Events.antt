@@ -1,7 +1,7 @@
 -- An event that the program sends.
 use Rattle.std.proofs.Common.{◌≡◌, ℕ, Bool, true, false, cond, not, List, [], ◌∷◌, ◌++◌, append-nil, map, Option, None, Some, is_some, Result, Ok, Err, refl, sym, ap, subst, ◌∙◌, true≢false, arith}
 use mathlib.Core.Logic.{inl, inr}
-use Rattle.std.specs.Prelude.{◌⊎◌, ◌≢◌, MatchBool, MatchResult, option_map}
+use Rattle.std.specs.Prelude.{◌⊎◌, ◌≢◌, option_map}
 use Rattle.wl_wire.specs.declared.argument.AllowNull.{AllowNull}
 use Rattle.wl_wire.specs.declared.argument.AllowNull.TheVariants.{No, Yes}
 use Rattle.wl_wire.specs.declared.argument.Argument.{Argument}
@@ -44,22 +44,37 @@ use Rattle.wl_server.specs.Plain.Events.{ChecksTo, EmitsEvent, EventIsPut, Event
 use Rattle.wl_server.specs.Server.{Seen, seen}
 use Rattle.wl_server.specs.Telling.{Core, Did, Tells, Told, core_of, end_deeds}
 use Rattle.wl_server.proofs.OverRuns.Moves.MovesOfCalls.{granted_named}
-use Rattle.wl_server.proofs.Plain.Base.{ids_differ, keeps, nothing_new, of_each, of_own, offer_of, one_value, other_stays, own, refused_to, same_is, unchanged, when_false}
-use Rattle.wl_server.proofs.Plain.EventMemory.{MemoryBy, event_memory_of, is_sent, lacking, refusing}
+use Rattle.wl_server.proofs.Plain.Base.{ids_differ, keeps, nothing_new, of_each, of_own, offer_of, one_value, other_stays, own, refused_to, same_is, unchanged, when_false, split_bool}
 use Rattle.wl_server.proofs.Plain.Naming.{names_so, removed_named, removed_others}
 use Rattle.wl_server.proofs.Plain.Verdicts.{IsStarved, IsTold, told_ended, told_nothing, told_starved}
+use Rattle.wl_server.proofs.Plain.Globals.{split, which}
+use Rattle.wl_server.proofs.Plain.ReadingEnds.{split_result}
 
-by_choice : {P Q : Type 0} (b : Bool) → MatchBool b P Q → ((b ≡ true) × P) ⊎ ((b ≡ false) × Q)
-by_choice true p = inl (refl, p)
-by_choice false q = inr (refl, q)
+-- ---- whether memory was refused where an event is sent, by the answer
 
-by_result : {A E : Type 0} {P : A → Type 0} {Q : E → Type 0} (r : Result A E) → MatchResult r P Q → ((x : A) × (r ≡ Ok x) × P x) ⊎ ((e : E) × (r ≡ Err e) × Q e)
-by_result (Ok x) p = inl (x, refl, p)
-by_result (Err e) q = inr (e, refl, q)
+-- what the answer tells of memory
+pub data MemoryBy {T U C : Type 0} (p q : Part T U C) (answer : Result (Unit {0}) EventError) (lacked : Bool) : Type 0 where
+  lacking : answer ≡ Err refused.OutOfMemory → lacked ≡ true → MemoryBy p q answer lacked
+  refusing : (e : EventError) → (e ≡ refused.OutOfMemory → ⊥) → answer ≡ Err e → lacked ≡ false → MemoryBy p q answer lacked
+  is_sent : answer ≡ Ok tt → (lacked ≡ true → (p.is_killed ≡ false) × (q.is_killed ≡ true)) → MemoryBy p q answer lacked
 
-split_bool : (b : Bool) → (b ≡ true) ⊎ (b ≡ false)
-split_bool true = inl refl
-split_bool false = inr refl
+module _ {T U C : Type 0} (sends : T → Queue → Result ℕ IoFault → T → Type 0) (client : ClientParts) (m : SessionMessage) (p q : Part T U C) where
+  -- the event could not be put for another reason
+  unput : (answer : Result (Unit {0}) EventError) (lacked : Bool) → answer ≡ Ok tt → lacked ≡ false → MemoryBy p q answer lacked
+  unput answer lacked is calm = is_sent is (λ lacks. absurd (true≢false (sym lacks ∙ calm)))
+
+  pub event_memory_of : (table : List InterfaceRow) (answer : Result (Unit {0}) EventError) (lacked : Bool) (did : List (Deed U))
+      → (event_check client p.store table m ≡ Err refused.OutOfMemory → ⊥) → SendsEvent sends client table p m answer lacked did q → MemoryBy p q answer lacked
+  event_memory_of table answer lacked did never h =
+      elim (split_bool p.is_killed h) [
+        | inl (dead, (is, calm, none, same)) ↦ unput answer lacked is calm
+        | inr (live, checked) ↦
+            elim (split_result (event_check client p.store table m) checked) [
+              | inl (g, is, granted) ↦ grind (arith, ends_sender, core_of, unput, told_nothing, ends_closed, g.0, g.1)
+              | inr (e, is, (answered, calm, none, same)) ↦
+                  refusing e (λ memory. never (is ∙ ap (λ (x : EventError). let y : Result (Object (Kept U) × Bool) EventError = Err x in y) memory)) answered calm
+            ]
+      ]
 
 -- sends are no notes
 behind_sends : {U : Type 0} (es : List Sending) (rest : List (Deed U)) → notes_in (map Sent es ++ rest) ≡ notes_in rest
@@ -144,7 +159,7 @@ module _ {T U C : Type 0} (client : ClientParts) (p : Part T U C) (m : SessionMe
 
     was_put : (ends : Bool) (link : LinkState T) (lacked : Bool) (did : List (Deed U)) (q : Part T U C) → Tells sends (verdict ends) link lacked did q → IsPut ends did q
     was_put ends link lacked did q h =
-        elim (split_bool lacked) [
+        elim (which lacked) [
           | inl lacks ↦ put_starved ends (starved_same ends) did q (told_starved sends (verdict ends) (flushes_none ends) link lacked did q lacks h)
           | inr calm ↦ put_live ends did q (told_ended sends (verdict ends) (lasts ends) link lacked did q calm h)
         ]
@@ -281,10 +296,10 @@ module _ {T U C : Type 0} (sends : T → Queue → Result ℕ IoFault → T → 
   comes_to : (answer : Result (Unit {0}) EventError) (lacked : Bool) (did : List (Deed U)) (p q : Part T U C) → Does answer lacked did p q
       → IsDropped p answer did q ⊎ (IsRefusedFor p answer did q ⊎ IsGranted p answer did q)
   comes_to answer lacked did p q h =
-      elim (by_choice p.is_killed h) [
+      elim (split p.is_killed h) [
         | inl (dead, (is, calm, none, same)) ↦ inl (record { dead = dead; ok = is; none = none; same = same })
         | inr (live, checked) ↦
-            elim (by_result (event_check client p.store table m) checked) [
+            elim (split_result (event_check client p.store table m) checked) [
               | inl (g, is, granted) ↦
                   inr (inr (record { live = live; x = g.0; ends = g.1; checked = is; comes = granted_comes client p m g.0 sends live g.1 answer lacked did q granted }))
               | inr (e, is, (answered, calm, none, same)) ↦
@@ -300,17 +315,17 @@ module _ {T U C : Type 0} (sends : T → Queue → Result ℕ IoFault → T → 
 
   lacks_memory : (answer : Result (Unit {0}) EventError) → answer ≡ Err refused.OutOfMemory → (lacked : Bool) (did : List (Deed U)) (p q : Part T U C) → Does answer lacked did p q
       → lacked ≡ true
-  lacks_memory answer h1 lacked did p q h2 = grind (arith, by_choice, not_ok, by_result, event_check, client, m, granted_lacks, never_memory, same_error, true≢false, is_memory, reason_of, sender_calm, named)
+  lacks_memory answer h1 lacked did p q h2 = grind (arith, split, not_ok, split_result, event_check, client, m, granted_lacks, never_memory, same_error, true≢false, is_memory, reason_of, sender_calm, named)
 
   -- a refusal changes nothing
   refused_same : (answer : Result (Unit {0}) EventError) (e : EventError) → answer ≡ Err e → e ≢ refused.OutOfMemory → (b : Bool) (s t : Seen T U C) (lacked : Bool) (did : List (Deed U))
       → OfClient b s (Does answer lacked did) (answer ≡ Err refused.InvalidId) lacked did t → t ≡ s
-  refused_same answer e h1 h2 b s t lacked did h3 = grind (arith, either_option, comes_to, nothing_new, notes_in, never_so, client, m, by_choice, by_result, event_check, granted_comes, append-nil)
+  refused_same answer e h1 h2 b s t lacked did h3 = grind (arith, either_option, comes_to, nothing_new, notes_in, never_so, client, m, split, split_result, event_check, granted_comes, append-nil)
 
   -- an event to a killed client changes nothing
   dropped_same : (answer : Result (Unit {0}) EventError) (b : Bool) (s t : Seen T U C) (lacked : Bool) (did : List (Deed U)) → (b ≡ true → (p : Part T U C) → s.part ≡ Some p → p.is_killed ≡ true)
       → OfClient b s (Does answer lacked did) (answer ≡ Err refused.InvalidId) lacked did t → t ≡ s
-  dropped_same answer b s t lacked did h1 h2 = grind (arith, either_option, comes_to, nothing_new, notes_in, true≢false, by_choice, by_result, event_check, client, m, granted_comes, append-nil)
+  dropped_same answer b s t lacked did h1 h2 = grind (arith, either_option, comes_to, nothing_new, notes_in, true≢false, split, split_result, event_check, client, m, granted_comes, append-nil)
 
   -- another id of the client names what it named
   others_stay : (answer : Result (Unit {0}) EventError) (lacked : Bool) (did : List (Deed U)) (p q : Part T U C) → Does answer lacked did p q → (other : IdParts)

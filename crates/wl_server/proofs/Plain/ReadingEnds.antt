@@ -1,21 +1,21 @@
 -- How a reading ends, over its turns.
-use Rattle.std.proofs.Common.{◌≡◌, ◌⊎◌, ℕ, Bool, true, false, not, cond, eqb, eqb-true, ◌&&◌, List, [], ◌∷◌, ◌++◌, map, append-nil, append_assoc, Option, None, Some, is_none, is_some, Result, Ok, Err, refl, sym, ap, subst, ◌∙◌, true≢false, arith}
+use Rattle.std.proofs.Common.{◌≡◌, ◌⊎◌, ℕ, Bool, true, false, not, cond, eqb, eqb-true, ◌&&◌, List, [], ◌∷◌, ◌++◌, map, append-nil, append_assoc, Option, None, Some, is_none, is_some, Result, Ok, Err, refl, sym, ap, subst, ◌∙◌, true≢false, arith, MatchOption, ap₂}
 use mathlib.Core.Logic.{inl, inr}
 use Rattle.std.specs.Prelude.{IsSome, MatchOption, MatchResult, ◌||◌, nat_lt, option_map}
 use Rattle.wl_wire.specs.declared.argument.Argument.TheVariants as arg
-use Rattle.wl_wire.specs.Argument.{WireArgument}
+use Rattle.wl_wire.specs.Argument.{WireArgument, type_of}
 use Rattle.wl_wire.specs.declared.error.IoFault.{IoFault}
 use Rattle.wl_wire.specs.declared.error.IoFault.TheVariants as fault
 use Rattle.wl_wire.specs.Message.{WireMessage}
-use Rattle.wl_wire.specs.MessageRows.{request_row}
-use Rattle.wl_wire.specs.Table.{MessageRow, display_id, name_of, registry_id}
+use Rattle.wl_wire.specs.MessageRows.{request_row, creates, next_interface}
+use Rattle.wl_wire.specs.Table.{MessageRow, display_id, name_of, registry_id, is_new_id}
 use Rattle.wl_link.specs.declared.object.Object.{Object}
-use Rattle.wl_link.proofs.Ids.StoreLaws.{stored_here}
+use Rattle.wl_link.proofs.Ids.StoreLaws.{stored_here, held_stored}
 use Rattle.wl_link.specs.Exchange.{Queue, Sending}
 use Rattle.wl_link.specs.Link.{FilledBy, LinkState, count_of, counted_answer}
 use Rattle.wl_link.specs.Puts.{Said}
 use Rattle.wl_link.specs.Reader.{CarriesOut, Given, Gives, Handled, HandedOut, Halts, Queued, Reads, ReadsAs, Received, Turn, Unread, Verdict, came_to, given_first, put_and_gave, stops, with_link, ReaderState}
-use Rattle.wl_link.specs.Store.{held}
+use Rattle.wl_link.specs.Store.{held, Store}
 use Rattle.wl_server.specs.declared.error.ActionError.{ActionError}
 use Rattle.wl_server.specs.declared.error.ActionError.TheVariants.{ActionOpen, Io}
 use Rattle.wl_server.specs.declared.globals.KeptGlobal.{KeptGlobal}
@@ -28,16 +28,173 @@ use Rattle.wl_server.specs.Deeds.{Deed, Handed, Remembered}
 use Rattle.wl_server.specs.Deeds as deeds
 use Rattle.wl_server.specs.Errors.{new_id_text, since_text}
 use Rattle.wl_server.specs.Globals.{global_at, shown}
-use Rattle.wl_server.specs.Ids.{IdParts}
-use Rattle.wl_server.specs.Part.{Part, id_at}
+use Rattle.wl_server.specs.Ids.{IdParts, ClientParts}
+use Rattle.wl_server.specs.Part.{Part, id_at, fresh_object, null_id}
 use Rattle.wl_server.specs.Reading.{Around, action_in, answered, binds, binds_to, breaks, converted, display_request, garbled, hands_out, may_bind, new_at, other_request, reads_on, registry_request, replies, request, row_in, server, stops_if, synced, with_registry, registers, syncs}
-use Rattle.wl_server.specs.ReadingEnds.{ComesOfFront, FoundNoMessage, LastReceiveFailed, LeavesClient, MakesItsObject, OfLast, ReadingEnds, StopsItself, TookMessage, TurnLeads}
-use Rattle.wl_server.specs.Requests.{Outcome, Whole, Wrong, convert, is_valid_new, made_id, made_object, start, with_made}
+use Rattle.wl_server.specs.ReadingEnds.{ComesOfFront, FoundNoMessage, LastReceiveFailed, LeavesClient, MakesItsObject, OfLast, ReadingEnds, StopsItself, TookMessage, TurnLeads, ObjectsFit, new_id_in}
+use Rattle.wl_server.specs.Requests.{Outcome, Whole, Wrong, convert, is_valid_new, made_id, made_object, start, with_made, Converted, Converting, allows_null, convert_one, going_on, kinds_after, object_found, with_new_argument, with_object_argument}
 use Rattle.wl_server.specs.Telling.{Core, Did, Told, deletions, done_message, introductions, objects_in, reader_part, with_objects}
 use Rattle.wl_server.specs.Telling as telling
 use Rattle.wl_server.proofs.OverRuns.Moves.MovesOfRequests.{valid_new}
-use Rattle.wl_server.proofs.Plain.Arguments.{Came, converts, made_by_all, makes_new, read_signed}
 use Rattle.wl_server.proofs.Plain.Base.{none_and_some, when_false, when_true}
+use Rattle.wl_server.proofs.Readings.Handling.{behind_puts}
+use Rattle.std.proofs.lemmas.Option.{none-some}
+use Rattle.std.specs.List.{list_any}
+use Rattle.wl_wire.specs.declared.argument.Argument.{Argument}
+use Rattle.wl_wire.specs.declared.argument.ArgumentType.{ArgumentType}
+use Rattle.wl_wire.specs.declared.argument.Token.{Token}
+use Rattle.wl_wire.specs.declared.interface.InterfaceId.{InterfaceId}
+use Rattle.wl_wire.specs.Reading.{Reads as ReadsArguments}
+use Rattle.wl_wire.proofs.Spelling.CursorLaws.{piece_fits}
+use Rattle.wl_link.specs.Identity.{Objects}
+use Rattle.wl_server.specs.declared.reading.response.RequestFault.TheVariants as wrong
+use Rattle.wl_server.specs.Events.{wire_argument}
+
+-- ---- the arguments of a request that is handed out: those of its message, with the ids of kept objects
+
+-- ---- new ids among arguments
+
+abbrev is_new : {Id Fd : Type 0} → Argument Id Fd → Bool
+is_new a = is_new_id (type_of a)
+
+new_in_both : (signature : List ArgumentType) (args : List WireArgument) (payload : List ℕ) (fds : List Token) → ReadsArguments signature args payload fds
+    → list_any is_new_id signature ≡ list_any is_new args
+unfolding ReadsArguments
+new_in_both [] [] payload fds r = refl
+new_in_both (k ∷ signature) (a ∷ args) payload fds r =
+    ap₂ (λ (x y : Bool). x || y) (sym (grind (arith)) ∙ ap is_new_id (piece_fits k a r.0 r.5).0) (new_in_both signature args r.1 r.2 r.6)
+new_in_both _ _ payload fds r = absurd r
+
+new_on_the_wire : (args : List (Argument IdParts Token)) → is_some (new_id_in args) ≡ list_any is_new (map wire_argument args)
+new_on_the_wire [] = refl
+new_on_the_wire (arg.NewId id ∷ args) = refl
+new_on_the_wire (arg.Int z ∷ args) = new_on_the_wire args
+new_on_the_wire (arg.Uint n ∷ args) = new_on_the_wire args
+new_on_the_wire (arg.Fixed z ∷ args) = new_on_the_wire args
+new_on_the_wire (arg.Str text ∷ args) = new_on_the_wire args
+new_on_the_wire (arg.Object id ∷ args) = new_on_the_wire args
+new_on_the_wire (arg.Array bytes ∷ args) = new_on_the_wire args
+new_on_the_wire (arg.Fd token ∷ args) = new_on_the_wire args
+
+module _ {T U G C : Type 0} (sends : T → Queue → Result ℕ IoFault → T → Type 0) (a : Around G C) (p : ReaderState T (Core U C)) (m : WireMessage) (link : LinkState T) where
+  -- a message that was read has its signature from the table
+  pub read_signed : ReadsAs sends (server a) p (Ok m) link
+      → (signature : List ArgumentType)
+      × (option_map (λ (r : MessageRow). r.signature) (row_in a.table (held p.core.store m.sender) m.opcode) ≡ Some signature)
+      × (list_any is_new_id signature ≡ list_any is_new m.args)
+  read_signed read = grind (arith, true≢false, is_new_id, ap₂, new_in_both)
+
+  -- it makes an object by the table exactly if one of its arguments is a new number
+  pub makes_new : ReadsAs sends (server a) p (Ok m) link → (row : MessageRow) → row_in a.table (held p.core.store m.sender) m.opcode ≡ Some row
+      → creates row ≡ list_any is_new m.args
+  makes_new read row has = grind (arith, read_signed, is_new_id)
+
+module _ {U : Type 0} where
+  -- each object that was kept still is, at its number
+  abbrev pub Grown : Store (Kept U) → Store (Kept U) → Type 0
+  Grown s t = (k : ℕ) (x : Object (Kept U)) → held s k ≡ Some x → held t k ≡ Some x
+
+  -- a new object takes a number that was free
+  pub grown_new : (o : Objects (Kept U)) (n : ℕ) (i : InterfaceId) (version : ℕ) → is_valid_new o n ≡ true → Grown o.store (with_made o n i version).store
+  grown_new o n i version valid k x there = grind (arith, held_stored, made_object, eqb, none-some, valid_new, held, eqb-true)
+
+module _ {U : Type 0} (client : ClientParts) (version : ℕ) where
+  -- The object of this id is new, and of this version.
+  abbrev IsMade : Store (Kept U) → Store (Kept U) → IdParts → Type 0
+  IsMade before after id = (id.client ≡ client) × (held before id.number ≡ None) × (held after id.number ≡ Some (fresh_object id.interface version id.serial None))
+
+  -- The arguments have no new id, and made nothing. Or they have one, and made its object, of the interface that was left.
+  abbrev pub Making : Converting U → Converting U → List (Argument IdParts Token) → Type 0
+  Making d e more =
+      ((new_id_in more ≡ None) × (e.created ≡ d.created))
+      ⊎ ((id : IdParts) × (d.child ≡ Some id.interface) × (new_id_in more ≡ Some id) × (e.created ≡ Some id) × IsMade d.objects.store e.objects.store id)
+
+  -- what one argument became
+  abbrev One : Converting U → WireArgument → Converted U → Type 0
+  One d x (Ok next) =
+      (wire_argument next.0 ≡ x) × Grown d.objects.store next.1.objects.store
+      × ((s : Store (Kept U)) (more : List (Argument IdParts Token)) → Grown next.1.objects.store s → ObjectsFit client s next.1.kinds next.1.asked more
+      → ObjectsFit client s d.kinds d.asked (next.0 ∷ more))
+      × ((e : Converting U) (more : List (Argument IdParts Token)) → Grown next.1.objects.store e.objects.store → Making next.1 e more → Making d e (next.0 ∷ more))
+  One d x (Err w) = Unit {0}
+
+  one_object : (d : Converting U) (n : ℕ) (null b : Bool) → allows_null d.kinds ≡ null → eqb n 0 ≡ b
+      → One d (arg.Object n) (with_object_argument d (cond b (cond null (Ok (null_id client)) (Err wrong.NullObject)) (object_found client (next_interface d.asked) n (held d.objects.store n))))
+  one_object d n null b h1 h2 = grind (arith, with_object_argument, eqb-true)
+
+  one_new : (d : Converting U) (n : ℕ) (child : Option InterfaceId) → d.child ≡ child → One d (arg.NewId n) (with_new_argument client version d n child)
+  one_new d n None left = tt
+  one_new d n (Some i) left = go (is_valid_new d.objects n) refl
+    where
+      go : (b : Bool) → is_valid_new d.objects n ≡ b
+          → One d (arg.NewId n) (cond b
+          (Ok (
+            arg.NewId (made_id client d.objects n i),
+            record {
+              objects = with_made d.objects n i version;
+              kinds = kinds_after d.kinds;
+              asked = d.asked;
+              child = None;
+              created = Some (made_id client d.objects n i);
+            },
+          ))
+          (Err (wrong.InvalidNewId n)))
+      go true valid = (
+        refl,
+        grown_new d.objects n i version valid,
+        λ s more grown rest. rest,
+        λ e more grown made. elim made [
+          | inl (none, created) ↦
+              inr (
+                made_id client d.objects n i,
+                left,
+                refl,
+                created,
+                (
+                  refl,
+                  (valid_new d.objects n valid).0,
+                  grown n (made_object d.objects i version) (stored_here d.objects.store n (made_object d.objects i version) n refl),
+                ),
+              )
+          | inr (id, none, new, created, is) ↦ absurd (none-some _ none)
+        ],
+      )
+      go false valid = tt
+
+  -- what the arguments became: behind those that were gone through stand theirs
+  abbrev pub Came : Converting U → List (Argument IdParts Token) → List WireArgument → Outcome U → Type 0
+  Came d done args (Whole e all) =
+      (more : List (Argument IdParts Token)) × (all ≡ done ++ more) × (map wire_argument more ≡ args) × Grown d.objects.store e.objects.store
+      × ObjectsFit client e.objects.store d.kinds d.asked more × Making d e more
+  Came d done args (Wrong w objects) = Unit {0}
+
+  came_then : (d next : Converting U) (done : List (Argument IdParts Token)) (b : Argument IdParts Token) (x : WireArgument) (args : List WireArgument) → One d x (Ok (b, next))
+      → (o : Outcome U) → Came next (done ++ b ∷ []) args o → Came d done (x ∷ args) o
+  came_then d next done b x args (is, grown, fit, makes) (Whole e all) (more, all_is, numbers, grown', fits', made) = (
+    b ∷ more,
+    all_is ∙ append_assoc done (b ∷ []) more,
+    ap (λ (y : WireArgument). y ∷ map wire_argument more) is ∙ ap (λ (ys : List WireArgument). x ∷ ys) numbers,
+    λ k y there. grown' k y (grown k y there),
+    fit e.objects.store more grown' fits',
+    makes e more grown' made,
+  )
+  came_then d next done b x args so (Wrong w objects) h = tt
+
+  goes_on : (d : Converting U) (done : List (Argument IdParts Token)) (x : WireArgument) (args : List WireArgument) (r : Converted U) → One d x r
+      → ((next : Converting U) (all : List (Argument IdParts Token)) → Came next all args (convert client version next all args))
+      → Came d done (x ∷ args) (going_on r d.objects (λ b next. convert client version next (done ++ b ∷ []) args))
+  goes_on d done x args (Ok (b, next)) so rest = came_then d next done b x args so (convert client version next (done ++ b ∷ []) args) (rest next (done ++ b ∷ []))
+  goes_on d done x args (Err w) so rest = tt
+
+  pub converts : (d : Converting U) (done : List (Argument IdParts Token)) (args : List WireArgument) → Came d done args (convert client version d done args)
+  converts d done [] = ([], sym (append-nil done), refl, λ k x there. there, tt, inl (refl, refl))
+  converts d done (x ∷ args) = goes_on d done x args (convert_one client version d x) (grind (arith, one_object, allows_null, eqb, one_new)) (λ next all. converts next all args)
+
+module _ {U : Type 0} (client : ClientParts) (version : ℕ) (row : MessageRow) (objects : Objects (Kept U)) (e : Converting U) (args : List (Argument IdParts Token)) (wire : List WireArgument) where
+  -- all arguments were gone through: the object that they made, if any, is that of the new id among them
+  pub made_by_all : Making client version (start objects row) e args → map wire_argument args ≡ wire → creates row ≡ list_any is_new wire
+      → MakesItsObject client e.objects.store row version args e.created × MatchOption e.created (Unit {0}) (λ id. held objects.store id.number ≡ None)
+  made_by_all h1 h2 h3 = grind (arith, is_some, new_on_the_wire, is_new)
 
 reason_if : (b : Bool) (o : Option DisconnectReason) (reason : DisconnectReason) → b ≡ false → cond b o (Some reason) ≡ Some reason
 reason_if false o reason is = refl
@@ -51,7 +208,7 @@ later_turn : (f : IoFault) (t : Turn) (turns : List Turn) → LastReceiveFailed 
 later_turn f t [] (r, is, failed) = absurd (none_and_some None refl is)
 later_turn f t (u ∷ turns) last = last
 
-or_true : (a b : Bool) → b ≡ true → (a || b) ≡ true
+pub or_true : (a b : Bool) → b ≡ true → (a || b) ≡ true
 or_true true b is = refl
 or_true false b is = is
 
@@ -66,17 +223,12 @@ TookOne t = (es : List Sending) × (t ≡ Handled es)
 -- ---- what was given
 
 module _ {U : Type 0} where
-  -- messages that were put do not answer
-  pub after_puts : (put : List Said) (gave : List (Given (Told U))) → action_in (map Queued put ++ gave) ≡ action_in gave
-  after_puts [] gave = refl
-  after_puts (m ∷ put) gave = after_puts put gave
-
   -- it answers nothing, so what comes behind it answers
   abbrev Silent : List (Given (Told U)) → Type 0
   Silent first = (rest : List (Given (Told U))) → action_in (first ++ rest) ≡ action_in rest
 
   silent_puts : (put : List Said) (events : List (Told U)) → Silent (map HandedOut events) → Silent (put_and_gave put events)
-  silent_puts put events silent rest = ap action_in (append_assoc (map Queued put) (map HandedOut events) rest) ∙ after_puts put (map HandedOut events ++ rest) ∙ silent rest
+  silent_puts put events silent rest = ap action_in (append_assoc (map Queued put) (map HandedOut events) rest) ∙ behind_puts put (map HandedOut events ++ rest) ∙ silent rest
 
 -- ---- a core that is read
 
@@ -160,7 +312,7 @@ module _ {T U G C : Type 0} (sends : T → Queue → Result ℕ IoFault → T �
 
   pub garbled_turns : (turn : List Sending → Turn) (before : ReaderState T (Core U C)) (c : Core U C) → IsRead c → ((es : List Sending) → FoundNoMessage sends a (turn es) before)
       → (link : LinkState T) → Turns turn before (garbled c) link
-  garbled_turns turn before c h1 h2 link = grind (arith, true≢false, reason_if, not_read, action_in, after_puts, some_is, not, is_none, is_some)
+  garbled_turns turn before c h1 h2 link = grind (arith, true≢false, reason_if, not_read, action_in, behind_puts, some_is, not, is_none, is_some)
 
   -- ---- a client that broke the protocol
 
@@ -174,7 +326,7 @@ module _ {T U G C : Type 0} (sends : T → Queue → Result ℕ IoFault → T �
 
   breaks_turns : (turn : List Sending → Turn) (before : ReaderState T (Core U C)) (m : Core U C) (code : ℕ) (text : List ℕ) → IsRead m
       → ((es : List Sending) → TookMessage sends a (turn es) before) → (link : LinkState T) → Turns turn before (breaks a m code text) link
-  breaks_turns turn before m code text h1 h2 link = grind (arith, ended_turned, action_in, some_is, reason_if, after_puts, true≢false, is_some, not_read)
+  breaks_turns turn before m code text h1 h2 link = grind (arith, ended_turned, action_in, some_is, reason_if, behind_puts, true≢false, is_some, not_read)
 
   -- ---- a request that the server answers
 
@@ -191,7 +343,7 @@ module _ {T U G C : Type 0} (sends : T → Queue → Result ℕ IoFault → T �
 
   replies_turns : (turn : List Sending → Turn) (before : ReaderState T (Core U C)) (m : Core U C) (puts : List Said) (did : List (Deed U)) → Mute did → IsRead m
       → ((es : List Sending) → TookMessage sends a (turn es) before) → (link : LinkState T) → Turns turn before (replies m puts did) link
-  replies_turns turn before m puts did h1 h2 h3 link = grind (arith, true≢false, some_is, reason_if, is_some, put_and_gave, map, stops_if, stops_when, append-nil, silent_puts, came_to, server, replies, ended_turned, action_in, after_puts, handed_both, append_assoc, not_read)
+  replies_turns turn before m puts did h1 h2 h3 link = grind (arith, true≢false, some_is, reason_if, is_some, put_and_gave, map, stops_if, stops_when, append-nil, silent_puts, came_to, server, replies, ended_turned, action_in, behind_puts, handed_both, append_assoc, not_read)
 
   -- ---- an action
 
@@ -203,7 +355,7 @@ module _ {T U G C : Type 0} (sends : T → Queue → Result ℕ IoFault → T �
       let at_m : mid.core ≡ record m { action = Some action } = core ∙ ap (λ (w : Result (Unit {0}) IoFault). came_to (server a) (hands_out m action h) w) ok in
       inr (
         ap reads_on at_m ∙ ap (λ (b : Bool). not b && false) live,
-        subst (λ (x : Result Handed ActionError). Answers (Handled es) before x mid) (sym (ap action_in gave ∙ after_puts put _))
+        subst (λ (x : Result Handed ActionError). Answers (Handled es) before x mid) (sym (ap action_in gave ∙ behind_puts put _))
             (subst (λ (e : Core U C). (e.is_killed ≡ false) × (e.ended ≡ None) × TookOne (Handled es) × ComesOfFront sends a h before (record { core = e; link = mid.link }))
             (sym at_m) (live, fresh, (es, refl), comes mid.link)),
       )

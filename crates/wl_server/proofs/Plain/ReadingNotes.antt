@@ -17,12 +17,11 @@ use Rattle.wl_server.specs.Requests.{Outcome, Whole, Wrong, convert, start}
 use Rattle.wl_server.specs.Telling.{Core, Told, deeds_in, deeds_of, end_deeds, objects_in}
 use Rattle.wl_server.proofs.OverRuns.Announced.RequestCases.{request_case}
 use Rattle.wl_server.proofs.OverRuns.Moves.BaseMoves.{Doings}
-use Rattle.wl_server.proofs.OverRuns.Moves.DoingsLaws.{deeds_both, deeds_given, doings_in_both, doings_puts, doings_turns, told_deeds}
+use Rattle.wl_server.proofs.OverRuns.Moves.DoingsLaws.{deeds_given, doings_in_both, doings_puts, doings_turns, told_deeds}
+use Rattle.wl_server.proofs.Readings.Notes.{notes_append}
+use Rattle.wl_server.proofs.Readings.OneMessage.{deeds_append}
 
 module _ {U : Type 0} where
-  pub notes_both : (x y : List (Deed U)) → notes_in (x ++ y) ≡ notes_in x ++ notes_in y
-  notes_both x y = ap (λ (d : Doings U). d.notes) (doings_in_both x y)
-
   turns_unnoted : (turns : List Turn) → notes_in {U = U} (exchanges_in turns) ≡ []
   turns_unnoted turns = let (es, rs, is) = doings_turns turns in ap (λ (d : Doings U). d.notes) is
 
@@ -72,7 +71,7 @@ module _ {T U G C : Type 0} (sends : T → Queue → Result ℕ IoFault → T �
       reads_respect sends receives (server a) (λ c gave d. Bare (deeds_in gave))
       (record {
         same = λ c. (refl, refl);
-        joins = λ c d e gave others x y. subst Bare (sym (deeds_both gave others)) (bare_both (deeds_in gave) (deeds_in others) x y);
+        joins = λ c d e gave others x y. subst Bare (sym (deeds_append gave others)) (bare_both (deeds_in gave) (deeds_in others) x y);
         handles = λ c m on. verdict_bare c ((server a).handles c m) (handles_bare c m);
         malformed = λ c on. verdict_bare c (garbled c) (λ d. (refl, refl));
         faulted = λ c f on. (refl, refl);
@@ -82,4 +81,4 @@ module _ {T U G C : Type 0} (sends : T → Queue → Result ℕ IoFault → T �
   -- only the end of the client is noted
   pub notes_of_reading : (left : ℕ) (before : ReaderState T (Core U C)) (turns : List Turn) (out : Gives (Told U)) (end : ReaderState T (Core U C))
       → Reads sends (server a) receives left before turns out end → notes_in (deeds_of (exchanges_in turns) out.gave end.core) ≡ notes_in (end_deeds {U = U} end.core.ended)
-  notes_of_reading left before turns out end reads = grind (arith, notes_both, exchanges_in, deeds_in, end_deeds, turns_unnoted, reads_bare)
+  notes_of_reading left before turns out end reads = grind (arith, notes_append, exchanges_in, deeds_in, end_deeds, turns_unnoted, reads_bare)

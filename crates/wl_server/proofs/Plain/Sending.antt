@@ -21,7 +21,7 @@ use Rattle.wl_server.specs.Plain.{FlushMemory, FlushedAs, FlushesClients, IsUnch
 use Rattle.wl_server.specs.Server.{Seen, seen}
 use Rattle.wl_server.specs.Telling.{core_of}
 use Rattle.wl_server.proofs.Plain.Base.{keeps, missing_stays, none_and_some, notes_stay, nothing_new, of_each, of_own, offer_of, one_value, other_stays, own, same_is, some_lacks, split_bool, unchanged, when_false, when_true}
-use Rattle.wl_server.proofs.Plain.Verdicts.{lacking}
+use Rattle.wl_server.proofs.Readings.Finishing.{wanted_memory}
 
 silent : {U : Type 0} (es : List Sending) → notes_in {U = U} (map Sent es) ≡ []
 silent [] = refl
@@ -101,7 +101,7 @@ module _ {T U G C : Type 0} {w : World T G C} {before after : BackendState T U G
             elim (split_bool p.is_killed flushes) [
               | inl (dead, (calm, nothing, stays)) ↦ absurd (true≢false calm)
               | inr (live, (a, (es, link, by, memory, did_so, is))) ↦
-                  (id, p, link, there, live, (es, subst (λ (x : Result (Unit {0}) IoFault). FlushedBy w.sends p.link es x link) (lacking a (sym memory)) by), ap (λ (x : Seen T U C). x.part) same ∙ ap Some is)
+                  (id, p, link, there, live, (es, subst (λ (x : Result (Unit {0}) IoFault). FlushedBy w.sends p.link es x link) (wanted_memory a (sym memory)) by), ap (λ (x : Seen T U C). x.part) same ∙ ap Some is)
             ]
       ]
   flush_memory (Some id) answer call =

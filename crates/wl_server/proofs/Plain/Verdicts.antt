@@ -14,10 +14,6 @@ use Rattle.wl_server.specs.Part.{Part}
 use Rattle.wl_server.specs.Telling.{Core, Tells, Told, closed_down, deeds_of, end_deeds, part_of, speaker}
 use Rattle.wl_server.proofs.Readings.Notes.{notes_told}
 
--- an answer that lacks memory
-pub lacking : (a : Result (Unit {0}) IoFault) → lacks_memory a ≡ true → a ≡ Err fault.OutOfMemory
-lacking h1 is = grind (arith, true≢false)
-
 pub no_flush : {T : Type 0} (sends : T → Queue → Result ℕ IoFault → T → Type 0) (flushes : Bool) (mid : LinkState T) (es : List Sending) (lacked : Bool) (after : LinkState T)
     → flushes ≡ false → FlushesOut sends flushes mid es lacked after → lacked ≡ false
 no_flush sends h2 mid es lacked after none h = grind (arith, true≢false)

@@ -35,13 +35,7 @@ use Rattle.wl_server.proofs.CallSteps.Doing.{does_quietly}
 use Rattle.wl_server.proofs.Readings.Notes.{tells_carried}
 use Rattle.wl_server.proofs.ObjectCalls.Posting.{kills_is}
 use Rattle.wl_server.proofs.GlobalCalls.Putting.{puts_none}
-
--- ---- the object that an id names
-
-module _ {U : Type 0} where
-  -- is the one at the id's number
-  named_held : (store : Store (Kept U)) (id : IdParts) (x : Object (Kept U)) → named store id ≡ Some x → held store id.number ≡ Some x
-  named_held store id x e = grind (arith, eqb, serial_of, eqb id.number 0, id_of id, held store id.number)
+use Rattle.wl_server.proofs.ObjectCalls.Destroying.{named_is_held}
 
 -- ---- its end
 
@@ -63,14 +57,14 @@ module _ {T U C : Type 0} (sends : T → Queue → Result ℕ IoFault → T → 
       → ((y : Object (Kept U)) → held s.part.store n ≡ Some y
       → (registries ≡ registries_without s.part.registries n y) × (made ≡ same_made ++ note_of_end client n y))
       → same_made ≡ s.made → EndsSender sends client s sender is_destructor (Ok wrote) (changed times link store registries made)
-  ends_taken x n wrote link store registries made same_made times ended-is n-is puts lacks store-is left same-is = grind (arith, named_held, ended_named, deletions, no_times, registries_without, note_of_end)
+  ends_taken x n wrote link store registries made same_made times ended-is n-is puts lacks store-is left same-is = grind (arith, named_is_held, ended_named, deletions, no_times, registries_without, note_of_end)
 
 -- ---- what it leaves
 
 module _ {U : Type 0} where
   -- data that an object is given make none at a number that holds none
-  still_gone : (store : Store (Kept U)) (n : ℕ) (created : Option IdParts) (u : Option U) → held store n ≡ None → held (store_with_data store created u) n ≡ None
-  still_gone store n created u h1 = grind (arith, named, data_given, rewritten_other, with_user_data, named_held)
+  pub still_gone : (store : Store (Kept U)) (n : ℕ) (created : Option IdParts) (u : Option U) → held store n ≡ None → held (store_with_data store created u) n ≡ None
+  still_gone store n created u h1 = grind (arith, named, data_given, rewritten_other, with_user_data, named_is_held)
 
   -- an object that left is named no more, whatever data the new one was given
   pub not_named : (store : Store (Kept U)) (sender : IdParts) (created : Option IdParts) (u : Option U)
@@ -87,7 +81,7 @@ module _ {U : Type 0} where
 
 -- ---- a write's answer
 
-wanted_memory : (wrote : Result (Unit {0}) IoFault) → lacks_memory wrote ≡ true → wrote ≡ Err fault.OutOfMemory
+pub wanted_memory : (wrote : Result (Unit {0}) IoFault) → lacks_memory wrote ≡ true → wrote ≡ Err fault.OutOfMemory
 wanted_memory h1 is = grind (arith, false≢true)
 
 module _ {U C : Type 0} where

@@ -22,15 +22,12 @@ use Rattle.wl_server.specs.Telling.{Core, Kills, Tells, closed_down, core_of, en
 use Rattle.wl_server.proofs.Readings.Flushing.{does_nothing}
 use Rattle.wl_server.proofs.Readings.Notes.{tells_put}
 use Rattle.wl_server.proofs.GlobalCalls.Putting.{puts_none}
+use Rattle.wl_server.proofs.ObjectCalls.Closing.{or_false}
 
 -- a write that failed closes the client down, for whatever reason
 came_failed : {U C : Type 0} (c : Core U C) (messages : List Said) (f : IoFault) → came_to speaker (tells c messages) (Err f) ≡ closed_down c
 came_failed c messages fault.OutOfMemory = refl
 came_failed c messages f = refl
-
-or_false : (b : Bool) → (b || false) ≡ b
-or_false true = refl
-or_false false = refl
 
 module _ {T U C : Type 0} (sends : T → Queue → Result ℕ IoFault → T → Type 0) where
   abbrev over_link : Stored T U C → LinkState T → Stored T U C

@@ -66,7 +66,7 @@ or_false true = refl
 or_false false = refl
 
 module _ {U : Type 0} where
-  deeds_append : (a b : List (Given (Told U))) → deeds_in (a ++ b) ≡ deeds_in a ++ deeds_in b
+  pub deeds_append : (a b : List (Given (Told U))) → deeds_in (a ++ b) ≡ deeds_in a ++ deeds_in b
   deeds_append [] b = refl
   deeds_append (Rattle.wl_link.specs.Reader.Queued m ∷ a) b = ap (λ (l : List (Deed U)). Rattle.wl_server.specs.Deeds.Put m ∷ l) (deeds_append a b)
   deeds_append (Rattle.wl_link.specs.Reader.HandedOut (Rattle.wl_server.specs.Telling.Did d) ∷ a) b = ap (λ (l : List (Deed U)). d ∷ l) (deeds_append a b)

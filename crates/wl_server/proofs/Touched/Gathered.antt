@@ -27,7 +27,7 @@ none_more : {A : Type 0} (xs ys : List A) → [] ≡ xs ++ ys → ys ≡ []
 none_more [] ys is = sym is
 none_more (x ∷ xs) ys is = let long = ap length is in absurd (omega (arith, long))
 
-none_first : {A : Type 0} (xs ys : List A) → xs ++ ys ≡ [] → xs ≡ []
+pub none_first : {A : Type 0} (xs ys : List A) → xs ++ ys ≡ [] → xs ≡ []
 none_first [] ys is = refl
 none_first (x ∷ xs) ys is = let long = ap length is in absurd (omega (arith, long))
 
@@ -36,7 +36,7 @@ none_long [] is = refl
 none_long (x ∷ xs) is = absurd (omega (arith, is))
 
 module _ {T U C : Type 0} where
-  times_stored : (clients : List (Option (Stored T U C))) (k : ℕ) → times_at k (map times_of clients) ≡ times_of (stored_at k clients)
+  pub times_stored : (clients : List (Option (Stored T U C))) (k : ℕ) → times_at k (map times_of clients) ≡ times_of (stored_at k clients)
   times_stored [] k = refl
   times_stored (x ∷ clients) zero = refl
   times_stored (x ∷ clients) (suc k) = times_stored clients k

@@ -30,13 +30,14 @@ use Rattle.wl_server.specs.Felt.{FlushedTo, FlushesLive}
 use Rattle.wl_server.specs.Finish.{FinishesBind, FinishesRequest, Refuses, core_finished, finish_verdict, data_given, ended_by, ends, refusal, store_with_data}
 use Rattle.wl_server.specs.Globals.{Offer}
 use Rattle.wl_server.specs.Ids.{ClientParts, GlobalParts, IdParts}
-use Rattle.wl_server.proofs.OverRuns.Moves.MovesOfCalls.{destroyable_named, ended_named, granted_named, leaving_by, left_deeds, named_held, named_serial}
+use Rattle.wl_server.proofs.OverRuns.Moves.MovesOfCalls.{destroyable_named, ended_named, granted_named, leaving_by, left_deeds, named_serial}
 use Rattle.wl_server.specs.Objects.{Creates, DataSet, Destroys, destroyable, new_object, unless_refused, without, without_noted}
 use Rattle.wl_server.specs.Part.{Part, end_note, id_at, id_of, last_possible_serial, named, with_link}
 use Rattle.wl_server.specs.Telling.{Core, Did, Kills, Tells, core_of, delete_message, deletions, tells}
 use Rattle.wl_server.proofs.OverRuns.Announced.WatchedReadings.{deletions_other}
 use Rattle.wl_server.proofs.OverRuns.Announced.WatchedVerdicts.{Lives, PartLives, lives_not, lives_same, lives_so, lives_then, log_both, registries_both, tells_lives}
 use Rattle.wl_server.proofs.OverRuns.Announced.Watching.{Goes, Scene, Steady, born_goes, display_other, goes_then, id_at_number, others_goes, part_scene, scene_of, set_action_goes, steady_goes, steady_same, steady_then, went_goes, wrote_goes}
+use Rattle.wl_server.proofs.ObjectCalls.Destroying.{named_is_held}
 
 -- ---- deeds that put nothing
 
@@ -86,7 +87,7 @@ module _ {G C : Type 0} (views : G → ClientParts → C → GlobalParts → Boo
       elim (either_option (named p.store id) h) [
         | inl (nobody, (is, same)) ↦ none_done p q did none same
         | inr (x, some, (is, same)) ↦
-            quietly p q _ did (ap log_of none, ap registries_in none) same refl (wrote_goes views client r offer (part_scene p) id.number x u (named_held p.store id x some))
+            quietly p q _ did (ap log_of none, ap registries_in none) same refl (wrote_goes views client r offer (part_scene p) id.number x u (named_is_held p.store id x some))
       ]
 
   pub creates_lives : {T : Type 0} (p : Part T U C) (i : InterfaceId) (version : ℕ) (u : U) (answer : Result IdParts CreateError) (did : List (Deed U)) (q : Part T U C)
@@ -111,7 +112,7 @@ module _ {G C : Type 0} (views : G → ClientParts → C → GlobalParts → Boo
   without_still : (c : Core U C) (id : IdParts) (x : Object (Kept U)) → named c.store id ≡ Some x → (id_of id ≢ r)
       → Still (scene_of c) (scene_of (without c id.number x))
   without_still c id x is other =
-      went_goes views client r offer (scene_of c) id.number x (named_held c.store id x is) (λ log made w among same. other (sym (named_at c.store id x is) ∙ same))
+      went_goes views client r offer (scene_of c) id.number x (named_is_held c.store id x is) (λ log made w among same. other (sym (named_at c.store id x is) ∙ same))
 
   -- an object leaves, and its number is told
   leaves_lives : {T : Type 0} (sends : T → Queue → Result ℕ IoFault → T → Type 0) (p : Part T U C) (e starved : Core U C) (waits asks : Bool) (id : IdParts) (x : Object (Kept U))
@@ -216,13 +217,13 @@ module _ {G C : Type 0} (views : G → ClientParts → C → GlobalParts → Boo
           go : (o : Option (Object (Kept U))) → named c.store id ≡ o
               → Still (scene_of (record c { action = None })) (scene_of (record c { action = None; store = data_given c.store id.number o u }))
           go None e = steady_same views client r offer (scene_of (record c { action = None }))
-          go (Some x) e = wrote_goes views client r offer (scene_of (record c { action = None })) id.number x u (named_held c.store id x e)
+          go (Some x) e = wrote_goes views client r offer (scene_of (record c { action = None })) id.number x u (named_is_held c.store id x e)
 
   -- the sender of an open request is not the registry
   ends_still : (c : Core U C) (id : IdParts) (b : Bool) (created : Option IdParts) (x : Object (Kept U)) → c.action ≡ Some (opened.Request id b created)
       → named c.store id ≡ Some x → Still (scene_of c) (scene_of (without c id.number x))
   ends_still c id b created x open' is =
-      went_goes views client r offer (scene_of c) id.number x (named_held c.store id x is)
+      went_goes views client r offer (scene_of c) id.number x (named_is_held c.store id x is)
       (λ log made w among same. w.open_other id b created open' among (sym (named_at c.store id x is) ∙ same))
 
   refuses_lives : {T D : Type 0} (p : Part T U C) (d : D) (e : FinishError) (answer : Result (Unit {0}) (FinishRefused D)) (lacked : Bool) (did : List (Deed U)) (q : Part T U C)

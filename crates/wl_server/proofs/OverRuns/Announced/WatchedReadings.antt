@@ -23,7 +23,7 @@ use Rattle.wl_server.specs.declared.globals.KeptGlobal.{KeptGlobal}
 use Rattle.wl_server.proofs.OverRuns.Announced.AnnouncementLaws.{AreOfOthers}
 use Rattle.wl_server.specs.Deeds.{Deed, Handed, Remembered, log_of, registries_in}
 use Rattle.wl_server.specs.Deeds as deeds
-use Rattle.wl_server.proofs.OverRuns.Moves.DoingsLaws.{deeds_both, told_deeds}
+use Rattle.wl_server.proofs.OverRuns.Moves.DoingsLaws.{told_deeds}
 use Rattle.wl_server.specs.Errors.{fault_text, since_text}
 use Rattle.wl_server.specs.Globals.{Offer, global_at}
 use Rattle.wl_server.specs.Ids.{ClientParts, GlobalParts, IdParts}
@@ -36,6 +36,7 @@ use Rattle.wl_server.specs.Requests.{Outcome, Whole, Wrong, convert, is_valid_ne
 use Rattle.wl_server.specs.Telling.{Core, Did, Told, deeds_in, delete_message, deletions, done_message, objects_in, reader_part, with_objects}
 use Rattle.wl_server.proofs.OverRuns.Announced.WatchedVerdicts.{CoreLives, Forms, Leads, PartLives, carried_to, lives_not, lives_same, lives_so, lives_then, log_both, registries_both, told_stops, turned, verdict_lives}
 use Rattle.wl_server.proofs.OverRuns.Announced.Watching.{Goes, Scene, Steady, born_goes, display_other, goes_then, kept_other, opens_goes, others_goes, part_scene, registers_goes, scene_of, set_action_goes, steady_goes, steady_same, steady_then, went_goes}
+use Rattle.wl_server.proofs.Readings.OneMessage.{deeds_append}
 
 -- the messages that a display sends are of no registry
 pub deletions_other : (r : Id) (n : ℕ) → ((k : ℕ) → record { number = k; serial = 0 } ≢ r) → AreOfOthers r (deletions n)
@@ -178,7 +179,7 @@ module _ {G C : Type 0} (views : G → ClientParts → C → GlobalParts → Boo
     none_gave c gave none = subst (λ (g : List (Given (Told U))). Gave c g c) (sym none) (lives_same views client r offer c.is_killed (scene_of c))
 
     gave_then : (c m e : Core U C) (first rest : List (Given (Told U))) → Gave c first m → Gave m rest e → Gave c (first ++ rest) e
-    gave_then c m e first rest one more = grind (arith, lives_so, scene_of, log_of, deeds_in, registries_in, deeds_both, log_both, registries_both, lives_then)
+    gave_then c m e first rest one more = grind (arith, lives_so, scene_of, log_of, deeds_in, registries_in, deeds_append, log_both, registries_both, lives_then)
 
     turn_lives : (before : ReaderState T (Core U C)) (link : LinkState T) (v : Verdict (Core U C) (Told U)) → Handles before.core v → (es : List Sending) (first : List (Given (Told U)))
         (lacked : Bool) (mid : ReaderState T (Core U C)) → CarriesOut sends (server (around_of views client offer)) v link es first lacked mid → Gave before.core first mid.core

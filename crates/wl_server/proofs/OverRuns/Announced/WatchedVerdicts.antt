@@ -1,7 +1,7 @@
 -- What a verdict that is carried out leaves of a client that lives on: all its messages were put, or nothing was done.
 use Rattle.std.proofs.Common.{◌≡◌, ◌⊎◌, ℕ, Bool, true, false, List, [], ◌∷◌, ◌++◌, map, append-nil, Result, Ok, Err, refl, sym, ap, ◌∙◌, true≢false, arith}
 use mathlib.Core.Logic.{inr}
-use Rattle.std.specs.Prelude.{◌||◌, is_ok}
+use Rattle.std.specs.Prelude.{◌||◌}
 use Rattle.wl_wire.specs.declared.error.IoFault.{IoFault}
 use Rattle.wl_wire.specs.declared.error.IoFault.TheVariants as fault
 use Rattle.wl_link.proofs.Calls.Branches.{either_result}
@@ -19,9 +19,7 @@ use Rattle.wl_server.specs.Part.{Part}
 use Rattle.wl_server.specs.Reading.{exchanges_in, stops_if}
 use Rattle.wl_server.specs.Telling.{Core, Finish, Tells, Told, closed_down, core_of, deeds_in, deeds_of, speaker}
 use Rattle.wl_server.proofs.OverRuns.Announced.Watching.{Goes, Scene, goes_then, part_scene, scene_of, steady_goes, steady_same}
-
-not_err : (f : IoFault) → ◌≡◌ {A = Result (Unit {0}) IoFault} (Ok tt) (Err f) → ⊥
-not_err f e = true≢false (ap is_ok e)
+use Rattle.wl_server.proofs.GlobalCalls.Putting.{ok_err}
 
 -- one message at most
 abbrev pub IsShort : List Said → Type 0
@@ -34,7 +32,7 @@ module _ {T : Type 0} (sends : T → Queue → Result ℕ IoFault → T → Type
   pub all_put : (before : LinkState T) (messages : List Said) (es : List Sending) (put : List Said) (after : LinkState T)
       → PutsOut sends before messages es put (Ok tt) after → put ≡ messages
   all_put before [] es put after (none, is, ok, same) = is
-  all_put before (m ∷ messages) es put after (first, one, mid, by, h) = grind (arith, either_result, not_err, all_put mid messages)
+  all_put before (m ∷ messages) es put after (first, one, mid, by, h) = grind (arith, either_result, ok_err, all_put mid messages)
 
 module _ {U : Type 0} where
   -- ---- deeds of exchanges, and of what is given
@@ -114,7 +112,7 @@ module _ {U C : Type 0} where
           given_put put (v.events (v.last v.core)) gave deeds (forms.silent (v.last v.core)) ∙ all_put sends link v.puts first put mid puts,
           given_made put (v.events (v.last v.core)) gave deeds,
         ))
-    came link mid after first others put (Err fault.OutOfMemory) lacked gave refused e puts flushed core deeds is = grind (arith, either_result, not_err, given_put, given_made, registries_in, told_deeds)
+    came link mid after first others put (Err fault.OutOfMemory) lacked gave refused e puts flushed core deeds is = grind (arith, either_result, ok_err, given_put, given_made, registries_in, told_deeds)
     came link mid after first others put (Err fault.WouldBlock) lacked gave refused e puts flushed core deeds is = fails fault.WouldBlock gave refused e core
     came link mid after first others put (Err fault.Pipe) lacked gave refused e puts flushed core deeds is = fails fault.Pipe gave refused e core
     came link mid after first others put (Err fault.TooBig) lacked gave refused e puts flushed core deeds is = fails fault.TooBig gave refused e core

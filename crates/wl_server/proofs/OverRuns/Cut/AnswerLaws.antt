@@ -27,7 +27,7 @@ use Rattle.wl_server.specs.declared.globals.KeptGlobal.{KeptGlobal}
 use Rattle.wl_server.specs.declared.notes.DisconnectReason.{DisconnectReason}
 use Rattle.wl_server.specs.declared.notes.Happening.TheVariants.{Disconnected}
 use Rattle.wl_server.specs.Deeds.{Acted, Came, Deed, Handed, Noted, Put, Sent}
-use Rattle.wl_server.proofs.OverRuns.Moves.DoingsLaws.{deeds_both, deeds_given}
+use Rattle.wl_server.proofs.OverRuns.Moves.DoingsLaws.{deeds_given}
 use Rattle.wl_server.specs.Errors.{bind_text, new_id_text}
 use Rattle.wl_server.specs.Finish.{finish_verdict, ended_by, ends, ends_request, refusal}
 use Rattle.wl_server.specs.Ids.{IdParts}
@@ -35,6 +35,7 @@ use Rattle.wl_server.specs.Reading.{Around, action_in, binds, binds_to, breaks, 
 use Rattle.wl_server.specs.Requests.{convert, is_valid_new, start}
 use Rattle.wl_server.specs.Stretches.{answers_in, beside_exchanges, was_killed}
 use Rattle.wl_server.specs.Telling.{Core, Did, Finish, Stops, Told, closed_down, deeds_in, deeds_of, end_deeds, killed, objects_in, with_objects}
+use Rattle.wl_server.proofs.Readings.OneMessage.{deeds_append}
 
 -- ---- lists of what was given
 
@@ -96,7 +97,7 @@ module _ {U : Type 0} where
   IsBeside gave = beside_exchanges (deeds_in gave) ≡ deeds_in gave
 
   beside_gave : (gave others : List (Given (Told U))) → IsBeside gave → IsBeside others → IsBeside (gave ++ others)
-  beside_gave gave others first second = grind (arith, deeds_both, beside_both, deeds_in, ap₂)
+  beside_gave gave others first second = grind (arith, deeds_append, beside_both, deeds_in, ap₂)
 
   beside_given : (put : List Said) (events : List (Told U)) → IsBeside (map HandedOut events) → IsBeside (put_and_gave put events)
   beside_given put events quiet = grind (arith, deeds_given, beside_puts, deeds_in)
@@ -263,7 +264,7 @@ module _ {U C : Type 0} where
   -- what a verdict said, and then the rest
   joins_so : (c mid e : Core U C) (first : List (Given (Told U))) (lacked : Bool) (rest out : Gives (Told U)) → out ≡ given_first first lacked rest → Says first mid
       → ReadsSo mid rest e → (reads_on mid ≡ false → (rest.stopped ≡ None) × (rest.gave ≡ []) × (e ≡ mid)) → ReadsSo c out e
-  joins_so c mid e first lacked rest out h1 h2 h3 h4 = grind (arith, beside_gave, answers_in, answers_both, reads_on, given_first, true≢false, append-nil, deeds_both, beside_both, deeds_in)
+  joins_so c mid e first lacked rest out h1 h2 h3 h4 = grind (arith, beside_gave, answers_in, answers_both, reads_on, given_first, true≢false, append-nil, deeds_append, beside_both, deeds_in)
 
 module _ {T U G C : Type 0} (sends : T → Queue → Result ℕ IoFault → T → Type 0) (receives : T → ℕ → Result Queue IoFault → T → Type 0)
     (a : Around G C) where

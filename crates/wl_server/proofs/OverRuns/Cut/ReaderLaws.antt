@@ -19,7 +19,7 @@ use Rattle.wl_server.specs.Part.{Part}
 use Rattle.wl_server.specs.Reading.{Around, server}
 use Rattle.wl_server.specs.Telling.{Core, Finish, OfBind, OfRequest, Told, core_of, deeds_of, part_of, reader_part, speaker}
 
-answered_not : {D : Type 0} (e : FinishRefused D) → ◌≡◌ {A = Result (Unit {0}) (FinishRefused D)} (Ok tt) (Err e) → ⊥
+pub answered_not : {D : Type 0} (e : FinishRefused D) → ◌≡◌ {A = Result (Unit {0}) (FinishRefused D)} (Ok tt) (Err e) → ⊥
 answered_not e is = true≢false (ap is_ok is)
 
 module _ {T U G C : Type 0} (sends : T → Queue → Result ℕ IoFault → T → Type 0) (a : Around G C) where

@@ -1,7 +1,7 @@
 -- That what a stretch of a client's own run gives is what is served of all that arrived.
 --
 -- Its entries are acts of the client as a reader: those that are refused change nothing, and are none.
-use Rattle.std.proofs.Common.{◌≡◌, ◌≢◌, ◌⊎◌, ℕ, Bool, true, false, List, [], ◌∷◌, ◌++◌, append_assoc, append-nil, Option, None, Some, Result, Ok, Err, is_ok, map, refl, sym, ap, ap₂, subst, ◌∙◌, true≢false, arith}
+use Rattle.std.proofs.Common.{◌≡◌, ◌≢◌, ◌⊎◌, ℕ, Bool, true, false, List, [], ◌∷◌, ◌++◌, append_assoc, append-nil, Option, None, Some, Result, Ok, Err, map, refl, sym, ap, ap₂, subst, ◌∙◌, true≢false, arith}
 use mathlib.Core.Logic.{inl, inr}
 use Rattle.std.proofs.lemmas.Option.{same_Some, none-some}
 use Rattle.std.specs.Prelude.{MatchBool}
@@ -32,7 +32,6 @@ use Rattle.wl_server.specs.declared.runs.step.Step.TheVariants as step
 use Rattle.wl_server.proofs.OverRuns.Cut.AnswerLaws.{IsSound, ReadsSo, action_first, answers_both, beside_both, beside_deeds, beside_sends, beside_turns, ends_so, first_of, killed_deeds, on_of, reads_so}
 use Rattle.wl_server.proofs.OverRuns.Cut.CuttingLaws.{of_part, taken_off}
 use Rattle.wl_server.specs.Deeds.{Deed, Handed, Sent}
-use Rattle.wl_server.proofs.OverRuns.Moves.DoingsLaws.{deeds_both}
 use Rattle.wl_server.specs.Finish.{FinishesBind, FinishesRequest}
 use Rattle.wl_server.specs.Globals.{Offer}
 use Rattle.wl_server.specs.Ids.{ClientParts, GlobalParts}
@@ -49,9 +48,8 @@ use Rattle.wl_server.specs.Server.{Seen, ServerState, seen}
 use Rattle.wl_server.specs.Steps.{Entry}
 use Rattle.wl_server.specs.Stretches.{AllHeard, EachIsCut, EachPartIsCut, EndsWaiting, IsHeard, StretchIsServed, IsStretch, IsStretchWithin, SameLeft, handed_out, answers_in, arrived, arrived_by, beside_exchanges, finished, finished_by, left_in, reading_by, told_by, was_killed}
 use Rattle.wl_server.specs.Telling.{Core, Finish, OfBind, OfRequest, Told, core_of, deeds_in, deeds_of, end_deeds, part_of, reader_part}
-
-accepted_not : {D : Type 0} (e : FinishRefused D) → ◌≡◌ {A = Result (Unit {0}) (FinishRefused D)} (Ok tt) (Err e) → ⊥
-accepted_not e is = true≢false (ap is_ok is)
+use Rattle.wl_server.proofs.Readings.OneMessage.{deeds_append}
+use Rattle.wl_server.proofs.OverRuns.Cut.ReaderLaws.{answered_not}
 
 -- ---- what a reading told
 
@@ -84,18 +82,18 @@ module _ {U C : Type 0} (c e : Core U C) (out : Gives (Told U)) (on : reads_on c
 module _ {T U C : Type 0} where
   request_refused : (sends : T → Queue → Result ℕ IoFault → T → Type 0) (client : ClientParts) (p : Part T U C) (u : Option U) (e : FinishRefused (Option U)) (did : List (Deed U)) (q : Part T U C)
       → FinishesRequest sends client p u (Err e) false did q → (did ≡ []) × (q ≡ p)
-  request_refused sends client p u e did q h = grind (arith, accepted_not)
+  request_refused sends client p u e did q h = grind (arith, answered_not)
 
   bind_refused : (p : Part T U C) (u : U) (e : FinishRefused U) (did : List (Deed U)) (q : Part T U C) → FinishesBind p u (Err e) false did q → (did ≡ []) × (q ≡ p)
-  bind_refused p u e did q h = grind (arith, accepted_not)
+  bind_refused p u e did q h = grind (arith, answered_not)
 
   -- where no action is open none is finished
   request_open : (sends : T → Queue → Result ℕ IoFault → T → Type 0) (client : ClientParts) (p : Part T U C) (u : Option U) (did : List (Deed U)) (q : Part T U C) → p.action ≡ None
       → FinishesRequest sends client p u (Ok tt) false did q → ⊥
-  request_open sends client p u did q unopened h = grind (arith, accepted_not, none-some)
+  request_open sends client p u did q unopened h = grind (arith, answered_not, none-some)
 
   bind_open : (p : Part T U C) (u : U) (did : List (Deed U)) (q : Part T U C) → p.action ≡ None → FinishesBind p u (Ok tt) false did q → ⊥
-  bind_open p u did q unopened h = grind (arith, accepted_not, none-some)
+  bind_open p u did q unopened h = grind (arith, answered_not, none-some)
 
 module _ {G C : Type 0} (views : G → ClientParts → C → GlobalParts → Bool) (id : ClientParts) (offer : Offer G) where
   abbrev w : World Script G C
@@ -345,7 +343,7 @@ module _ {G C : Type 0} (views : G → ClientParts → C → GlobalParts → Boo
       does = does_joins (server a) s first.mid others.end first.acts others.acts first.does others.does;
       came_in = arrived-append first.acts others.acts ∙ ap₂ joined first.came_in others.came_in;
       ended_with = ended-append first.acts others.acts ∙ ap₂ (λ (x y : List (Finish U)). x ++ y) first.ended_with others.ended_with;
-      deeds = grind (arith, beside_both, append_assoc, beside_exchanges, deeds_in, deeds_both, end_deeds, history, given_in, given_in-append);
+      deeds = grind (arith, beside_both, append_assoc, beside_exchanges, deeds_in, deeds_append, end_deeds, history, given_in, given_in-append);
       answers = grind (arith, roomy_before, server, a, ends_by_pipe, ap₂, acts_pieces, answers_in, given_in-append, answers_both, given_in);
       waits = waits;
     }

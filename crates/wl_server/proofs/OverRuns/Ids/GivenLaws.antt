@@ -24,7 +24,8 @@ use Rattle.wl_server.specs.Steps.{AnswersShared, Entry, inserted_by, offer_after
 use Rattle.wl_server.proofs.OverRuns.Alone.IsolationLaw.{one_more, shared_run, split_run}
 use Rattle.wl_server.proofs.OverRuns.Announced.ShownLaws.{global_held}
 use Rattle.wl_server.proofs.OverRuns.Killed.KilledLaws.{out_next, out_run}
-use Rattle.wl_server.proofs.OverRuns.Outcome.NumberLaws.{client_is, global_is}
+use Rattle.wl_server.proofs.OverRuns.Outcome.NumberLaws.{global_is}
+use Rattle.wl_server.proofs.CallSteps.Slots.{same_parts}
 
 some_none : {A : Type 0} {o : Option A} → IsSome o → o ≡ None → ⊥
 some_none some none = true≢false (sym some ∙ ap is_some none)
@@ -220,7 +221,7 @@ module _ {T U G C : Type 0} where
       go (Some k) one = at (same_client k id) refl
         where
           at : (b : Bool) → same_client k id ≡ b → Inserts id call ⊎ IsNotInserted id call
-          at h1 same = grind (arith, inserts_in, eqb, client_is, eqb-true, true≢false, same_client, same_Some, inserted_in)
+          at h1 same = grind (arith, inserts_in, eqb, same_parts, eqb-true, true≢false, same_client, same_Some, inserted_in)
 
   client_made_over : (w : World T G C) (before after : ServerState T U G C) (run : List (Entry T U G C)) (id : ClientParts) → Leads w before run after → IsSome (seen id after).part
       → IsSome (seen id before).part ⊎ SomeCall (Inserts id) run

@@ -9,9 +9,10 @@ use Rattle.wl_server.specs.Deeds.{came_in}
 use Rattle.wl_server.proofs.OverRuns.Moves.BaseMoves.{Doings, acted_in, all_action_ids, doings_of, joined, nothing_done, noting, putting, sending}
 use Rattle.wl_server.specs.Deeds.{Acted, Came, Deed, Handed, Left, Noted, NoteTaken, Put, Remembered, Sent, notes_in, sends_of}
 use Rattle.wl_server.specs.Reading.{exchanges_in}
-use Rattle.wl_server.specs.Telling.{Core, Did, Stops, Told, deeds_in, deeds_of, end_deeds}
+use Rattle.wl_server.specs.Telling.{Core, Told, deeds_in, deeds_of, end_deeds}
 use Rattle.wl_link.specs.Identity.{HandedId}
 use Rattle.wl_server.specs.Ids.{IdParts}
+use Rattle.wl_server.proofs.Readings.OneMessage.{deeds_append}
 
 ids_both : (acted others : List Handed) → all_action_ids (acted ++ others) ≡ all_action_ids acted ++ all_action_ids others
 ids_both [] others = refl
@@ -89,18 +90,12 @@ module _ {U : Type 0} where
   abbrev pub told_deeds : List (Told U) → List (Deed U)
   told_deeds events = deeds_in (map HandedOut events)
 
-  pub deeds_both : (gave others : List (Given (Told U))) → deeds_in (gave ++ others) ≡ deeds_in gave ++ deeds_in others
-  deeds_both [] others = refl
-  deeds_both (Queued m ∷ gave) others = ap (λ (did : List (Deed U)). Put m ∷ did) (deeds_both gave others)
-  deeds_both (HandedOut (Did d) ∷ gave) others = ap (λ (did : List (Deed U)). d ∷ did) (deeds_both gave others)
-  deeds_both (HandedOut (Stops f) ∷ gave) others = deeds_both gave others
-
   deeds_queued : (put : List Said) → deeds_in {U = U} (map Queued put) ≡ map Put put
   deeds_queued [] = refl
   deeds_queued (m ∷ put) = ap (λ (did : List (Deed U)). Put m ∷ did) (deeds_queued put)
 
   pub deeds_given : (put : List Said) (events : List (Told U)) → deeds_in (put_and_gave put events) ≡ map Put put ++ told_deeds events
-  deeds_given put events = grind (arith, deeds_both, map, told_deeds, deeds_queued)
+  deeds_given put events = grind (arith, deeds_append, map, told_deeds, deeds_queued)
 
   -- ---- the deeds of a verdict, and of a reading
 
@@ -136,5 +131,5 @@ module _ {U : Type 0} where
         ∙ sym (joined_assoc S X (joined A (joined B E)))
         ∙ ap (λ (d : Doings U). joined d (joined A (joined B E))) (ap (λ (d : Doings U). joined d X) (sym (doings_sends es)) ∙ sym (doings_in_both (map Sent es) (exchanges_in turns)))
         ∙ ap (joined (doings_in (map Sent es ++ exchanges_in turns)))
-        (sym (joined_assoc A B E) ∙ ap (λ (d : Doings U). joined d E) (sym (doings_in_both (deeds_in first) (deeds_in others)) ∙ ap doings_in (sym (deeds_both first others))))
+        (sym (joined_assoc A B E) ∙ ap (λ (d : Doings U). joined d E) (sym (doings_in_both (deeds_in first) (deeds_in others)) ∙ ap doings_in (sym (deeds_append first others))))
         ∙ sym (deeds_done (map Sent es ++ exchanges_in turns) (first ++ others) c)

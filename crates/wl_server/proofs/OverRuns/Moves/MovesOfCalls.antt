@@ -15,7 +15,7 @@ use Rattle.wl_link.specs.Puts.{PutsOut, Said}
 use Rattle.wl_link.specs.Reader.{Verdict}
 use Rattle.wl_link.specs.Identity.{New}
 use Rattle.wl_link.specs.Store.{Store, held, removed, rewritten, server_range, stored}
-use Rattle.wl_link.proofs.Ids.StoreLaws.{removed_here, rewritten_other}
+use Rattle.wl_link.proofs.Ids.StoreLaws.{removed_here}
 use Rattle.wl_server.specs.declared.reading.action.OpenAction.TheVariants as opened
 use Rattle.wl_server.specs.declared.error.CreateError.{CreateError}
 use Rattle.wl_server.specs.declared.error.DestroyError.{DestroyError}
@@ -38,13 +38,12 @@ use Rattle.wl_server.proofs.OverRuns.Moves.MovesOfVerdicts.{Comes, Go, IsCalm, L
 use Rattle.wl_server.specs.Objects.{Creates, DataSet, Destroys, destroyable, destroys, new_object, without}
 use Rattle.wl_server.specs.Part.{Part, end_note, id_at, id_of, last_possible_serial, named, note_of_end, serial_of, with_link, with_user_data}
 use Rattle.wl_server.specs.Telling.{Core, Did, Kills, Tells, Told, closed_down, core_of, deletions, killed, tells}
+use Rattle.wl_server.proofs.ObjectCalls.Destroying.{named_is_held}
+use Rattle.wl_server.proofs.Readings.Finishing.{still_gone}
 
 -- ---- what an id names
 
 module _ {U : Type 0} where
-  pub named_held : (store : Store (Kept U)) (id : IdParts) (x : Object (Kept U)) → named store id ≡ Some x → held store id.number ≡ Some x
-  named_held store id x e = grind (arith, eqb, held, serial_of, id_of)
-
   pub named_serial : (store : Store (Kept U)) (id : IdParts) (x : Object (Kept U)) → named store id ≡ Some x → x.value.serial ≡ id.serial
   named_serial store id x e = grind (arith, eqb, held, serial_of, id_of)
 
@@ -86,10 +85,6 @@ module _ {U : Type 0} where
   pub granted_named : (client : ClientParts) (store : Store (Kept U)) (table : List InterfaceRow) (m : SessionMessage) (g : Object (Kept U) × Bool) → event_check client store table m ≡ Ok g
       → named store m.sender ≡ Some g.0
   granted_named client store table m g e = grind (arith, named, granted, true≢false, is_ok, checked_row, argument_faults, checked_sender)
-
-  -- data given to another object leave a free number free
-  still_gone : (store : Store (Kept U)) (n : ℕ) (created : Option IdParts) (u : Option U) → held store n ≡ None → held (store_with_data store created u) n ≡ None
-  still_gone store n h3 u free = grind (arith, named, rewritten_other, with_user_data, none-some, held, named_held)
 
   pub ended_named : (store : Store (Kept U)) (id : IdParts) (b : Bool) (x : Object (Kept U)) → ended_by store id b ≡ Some x → named store id ≡ Some x
   ended_named store id h3 x e = grind (arith, none-some)
@@ -136,7 +131,7 @@ module _ {T U C : Type 0} (kind : Kind) (sends : T → Queue → Result ℕ IoFa
   bears n x free ne serial made same = moved (born n x free ne serial made same)
 
   pub data_set_moves : (p : Part T U C) (id : IdParts) (u : U) (answer : Result (Unit {0}) InvalidId) (q : Part T U C) → DataSet p id u answer q → Move p nothing_done q
-  data_set_moves p id u answer q h = grind (arith, named, stayed, writes, named_held)
+  data_set_moves p id u answer q h = grind (arith, named, stayed, writes, named_is_held)
 
   pub creates_moves : (table : List InterfaceRow) (p : Part T U C) (i : InterfaceId) (version : ℕ) (u : U) (answer : Result IdParts CreateError) (q : Part T U C)
       → Creates table client p i version u answer q → Move p (handing (made_ids answer)) q
@@ -151,7 +146,7 @@ module _ {T U C : Type 0} (kind : Kind) (sends : T → Queue → Result ℕ IoFa
   leaves_comes c e starved waits asks id x puts calm is same gone moves back = record {
     made = did;
     lands = lands_at kind sends receives client c did e (λ live. same.1 ∙ calm (sym same.0 ∙ live)) same.1
-        (λ l. followed (moved (went id.number x waits (named_held c.store id x is) refl refl)) (moves l)
+        (λ l. followed (moved (went id.number x waits (named_is_held c.store id x is) refl refl)) (moves l)
         (doings_left client waits id x (named_serial c.store id x is) ∙ sym (joined_none _)));
     events = λ d store. (ap (λ (b : Bool). told_deeds (cond b [] (map Did did))) (gone_named d.store id (ap (λ (s : Store (Kept U)). held s id.number) store ∙ gone))) ∙ told_did did;
     quiet = quiet_left client waits id x;
@@ -252,7 +247,7 @@ module _ {T U C : Type 0} (kind : Kind) (sends : T → Queue → Result ℕ IoFa
 
   -- the object that the action made gets the data, if it is still kept
   data_moves : (p : Part T U C) (created : Option IdParts) (u : Option U) → Move p nothing_done (record p { store = store_with_data p.store created u })
-  data_moves p created u = grind (arith, stayed, named, nothing_done, data_given, writes, named_held)
+  data_moves p created u = grind (arith, stayed, named, nothing_done, data_given, writes, named_is_held)
 
   finish_moves : kind.finishes ≡ true → (p : Part T U C) (created : Option IdParts) (u : Option U) → Move p nothing_done (record p { action = None; store = store_with_data p.store created u })
   finish_moves may p created u = followed (data_moves p created u) (moved (finished may refl refl)) refl

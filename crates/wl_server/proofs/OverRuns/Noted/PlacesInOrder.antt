@@ -10,6 +10,7 @@ use Rattle.std.specs.List.{sum_by}
 use Rattle.wl_server.specs.declared.notes.queues.NotePlace.{NotePlace}
 use Rattle.wl_server.specs.NoteOrder.{IsNoLater, Rise, RiseWithin, all_places, place_at, places_of, times_at}
 use Rattle.wl_server.specs.Server.{NoteTimes, no_times}
+use Rattle.wl_server.proofs.CallSteps.Numbering.{rise_up}
 
 -- ---- lists in order, by recursion
 
@@ -181,13 +182,9 @@ as_often ns more ns' next next' n is rise less = grind (arith, sum_by-append, no
 
 -- ---- the places of what was made are early
 
-pub last_up : (low : ℕ) (ns : List ℕ) (next : ℕ) → RiseWithin low ns next → low ≤ next
-last_up low [] next is = is
-last_up low (n ∷ ns) next (first, rest) = let more = last_up (n + 1) ns next rest in omega (arith, first, more)
-
 made_early : (k low : ℕ) (ns : List ℕ) (next : ℕ) → RiseWithin low ns next → AllByRecursion (IsEarly next) (map (place_at false k) ns)
 made_early k low [] next rise = tt
-made_early k low (n ∷ ns) next (first, rest) = ((refl, (let up = last_up (n + 1) ns next rest in omega (arith, up))), made_early k (n + 1) ns next rest)
+made_early k low (n ∷ ns) next (first, rest) = ((refl, (let up = rise_up (n + 1) ns next rest in omega (arith, up))), made_early k (n + 1) ns next rest)
 
 all_early : (k : ℕ) (ts : List NoteTimes) (next : ℕ) → ((j : ℕ) → RiseWithin 0 (times_at j ts).made next) → AllByRecursion (IsEarly next) (all_places false k ts)
 all_early k [] next rise = tt

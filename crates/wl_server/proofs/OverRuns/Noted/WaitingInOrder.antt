@@ -38,9 +38,12 @@ use Rattle.wl_server.proofs.OverRuns.Moves.BaseMovesLaw.{call_goes, gathers_in}
 use Rattle.wl_server.proofs.OverRuns.Noted.NotesInOrder.{Drains, begins_so, cleanup_drains, happening_of, id_of, made_of, one_client, own_first, run_numbers, slot_is, told_slot}
 use Rattle.wl_server.proofs.OverRuns.Noted.PlacesInOrder.{sorted_of}
 use Rattle.wl_server.proofs.OverRuns.Noted.WaitingPlaces.{Parted, made_places, made_so, parted, waiting_first, waiting_places}
-use Rattle.wl_server.proofs.OverRuns.Outcome.SameNotes.{fronts_one, times_stored}
+use Rattle.wl_server.proofs.OverRuns.Outcome.SameNotes.{fronts_one}
 use Rattle.wl_server.proofs.OverRuns.Outcome.ShareLaws.{same_client_is}
 use Rattle.wl_server.proofs.OverRuns.Outcome.WholeLaws.{found as stored_found}
+use Rattle.wl_server.proofs.CleanupSteps.Cleaning.{noted_notes}
+use Rattle.wl_server.proofs.Touched.Gathered.{none_first}
+use Rattle.wl_server.proofs.Touched.Gathered.{times_stored}
 
 -- ---- lists
 
@@ -65,10 +68,6 @@ split_at f (x ∷ xs) (m ∷ ms) ns is =
     let rest : map f xs ≡ ms ++ ns = cc in
     let (a, b, are, one, two) = split_at f xs ms ns rest in
     (x ∷ a, b, ap (λ l. x ∷ l) are, ap (λ k. k ∷ map f a) here ∙ ap (λ l. m ∷ l) one, two)
-
-first_empty : {A : Type 0} (a b : List A) → a ++ b ≡ [] → a ≡ []
-first_empty [] b is = refl
-first_empty (x ∷ a) b is = let long : suc (length (a ++ b)) ≡ 0 = ap length is in absurd (omega (arith, long))
 
 later_empty : {A : Type 0} (a b : List A) → a ++ b ≡ [] → b ≡ []
 later_empty [] b is = is
@@ -222,10 +221,6 @@ module _ {U : Type 0} where
           omega (arith, long, rest, sum_by-cons, slot_of, one)
       at rest false is = grind (arith, told_of, notes_of, slot_of, sum_by-cons, true≢false, told_slot)
 
-  noted_all : (hs : List (Happening U)) → notes_in (map Noted hs) ≡ hs
-  noted_all [] = refl
-  noted_all (h ∷ hs) = ap (λ (l : List (Happening U)). h ∷ l) (noted_all hs)
-
   noted_more : (hs : List (Happening U)) (ds : List (Deed U)) → notes_in (map Noted hs ++ ds) ≡ hs ++ notes_in ds
   noted_more [] ds = refl
   noted_more (h ∷ hs) ds = ap (λ (l : List (Happening U)). h ∷ l) (noted_more hs ds)
@@ -272,7 +267,7 @@ module _ {T U G C : Type 0} (w : World T G C) (s : ServerState T U G C) (e : Ent
   noted_next id p lacked did share q h =
       elim (either_bool p.is_killed h) [
         | inl (sent, answer, end, flushes, did_so, handed, gone) ↦ (_, ap notes_in did_so ∙ noted_more p.waiting _)
-        | inr (unlacked, did_so, handed, stays) ↦ ([], ap notes_in did_so ∙ (noted_all p.waiting ∙ sym (append-nil p.waiting)))
+        | inr (unlacked, did_so, handed, stays) ↦ ([], ap notes_in did_so ∙ (noted_notes p.waiting ∙ sym (append-nil p.waiting)))
       ]
 
   -- what is told of a client: its notes that were made, then those that waited
@@ -358,8 +353,8 @@ module _ {T U G C : Type 0} (w : World T G C) (s : ServerState T U G C) (e : Ent
       at None none =
           let nothing = sym (notes_append id made (waited ++ gathers.ends)) ∙ none_told id none in
           let later = later_empty (notes_of id made) (notes_of id (waited ++ gathers.ends)) nothing in (
-            grind (arith, first_empty, notes_of, made, waited, gathers, option_map_or),
-            first_empty (notes_of id waited) (notes_of id gathers.ends) (sym (notes_append id waited gathers.ends) ∙ later)
+            grind (arith, none_first, notes_of, made, waited, gathers, option_map_or),
+            none_first (notes_of id waited) (notes_of id gathers.ends) (sym (notes_append id waited gathers.ends) ∙ later)
                 ∙ sym (ap (λ (o : Option (Stored T U C)). waiting_of (option_map (λ s. s.part) o)) none),
           )
       at (Some c) here =

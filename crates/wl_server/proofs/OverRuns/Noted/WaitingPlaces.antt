@@ -9,7 +9,8 @@ use Rattle.std.proofs.lemmas.List.Sums.{sum_by-append, sum_by-cons}
 use Rattle.wl_server.specs.declared.notes.queues.NotePlace.{NotePlace}
 use Rattle.wl_server.specs.NoteOrder.{IsNoLater, Rise, RiseWithin, all_places, place_at, places_of, times_at}
 use Rattle.wl_server.specs.Server.{NoteTimes}
-use Rattle.wl_server.proofs.OverRuns.Noted.PlacesInOrder.{IsEarly, Sorted, all_append, among, as_often, early_so, has_number, last_up, of_made, often, sorted_of, times_at_time}
+use Rattle.wl_server.proofs.OverRuns.Noted.PlacesInOrder.{IsEarly, Sorted, all_append, among, as_often, early_so, has_number, of_made, often, sorted_of, times_at_time}
+use Rattle.wl_server.proofs.CallSteps.Numbering.{rise_up}
 
 -- ---- those that were made come before those that wait
 
@@ -113,7 +114,7 @@ low_made k next (n ∷ ns) = (λ is. absurd (false≢true is), low_made k next n
 
 low_waiting : (k low : ℕ) (ns : List ℕ) (next : ℕ) → RiseWithin low ns next → AllByRecursion (IsLow next) (map (place_at true k) ns)
 low_waiting k low [] next rise = tt
-low_waiting k low (n ∷ ns) next (first, rest) = (λ is. (let up = last_up (n + 1) ns next rest in omega (arith, up)), low_waiting k (n + 1) ns next rest)
+low_waiting k low (n ∷ ns) next (first, rest) = (λ is. (let up = rise_up (n + 1) ns next rest in omega (arith, up)), low_waiting k (n + 1) ns next rest)
 
 all_low : (k : ℕ) (ts : List NoteTimes) (next : ℕ) → ((j : ℕ) → RiseWithin 0 (times_at j ts).waiting next) → AllByRecursion (IsLow next) (all_places true k ts)
 all_low k [] next rise = tt

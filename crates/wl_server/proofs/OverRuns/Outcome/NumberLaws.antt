@@ -14,6 +14,7 @@ use Rattle.wl_server.specs.Ids.{ClientParts, GlobalParts}
 use Rattle.wl_server.specs.Next.{NextClient, NextClientIsGiven}
 use Rattle.wl_server.specs.Server.{Stored, stored_at}
 use Rattle.wl_server.specs.Steps.{InsertsNext, IsNextClient}
+use Rattle.wl_server.proofs.CallSteps.Slots.{same_parts}
 
 -- ---- globals
 
@@ -28,15 +29,12 @@ module _ {G : Type 0} (globals : Globals G) where
 
 -- ---- clients
 
-pub client_is : (a b : ClientParts) → a.slot ≡ b.slot → a.serial ≡ b.serial → a ≡ b
-client_is a b slots serials = grind (arith)
-
 module _ {T U C : Type 0} (last : ℕ) (clients : List (Option (Stored T U C))) where
   some_not_none : {A : Type 0} (o : Option A) → IsSome o → o ≡ None → ⊥
   some_not_none o some none = true≢false (sym some ∙ ap is_some none)
 
   pub next_client_one : (a b : ClientParts) → IsNextClient last clients a → IsNextClient last clients b → a ≡ b
-  next_client_one a b (least, left, next) (least', left', next') = client_is a b (grind (arith, cases_order, some_not_none, a.slot, b.slot)) (next ∙ sym next')
+  next_client_one a b (least, left, next) (least', left', next') = same_parts a b (grind (arith, cases_order, some_not_none, a.slot, b.slot)) (next ∙ sym next')
 
   -- the answer to the insertion of a client
   pub inserts_next_one : (a b : Result ClientParts InsertClientError) → a ≢ Err insert.OutOfMemory → b ≢ Err insert.OutOfMemory

@@ -4,7 +4,7 @@ use mathlib.Core.Logic.{inl, inr}
 use Rattle.std.specs.Global.{Global}
 use Rattle.std.specs.List.{AllByRecursion, sum_by}
 use Rattle.std.specs.Option.{option_map, option_map_or}
-use Rattle.std.specs.Prelude.{◌⊎◌, ◌==◌, IsPermutation, if◌then◌else◌, nat_lt, slice_get}
+use Rattle.std.specs.Prelude.{◌⊎◌, ◌==◌, IsPermutation, if◌then◌else◌, nat_lt}
 use Rattle.std.proofs.lemmas.Bool.{eq-eqb, eqb-true, false≢true, ltb-false, ltb-true}
 use Rattle.std.proofs.lemmas.List.{append_cancel_left, length-append, length-map, map-append}
 use Rattle.std.proofs.lemmas.List.Sorted.{sum_by-IsPermutation}
@@ -27,11 +27,12 @@ use Rattle.wl_server.specs.Part.{Part}
 use Rattle.wl_server.specs.PartStep.{Asked, Call, Changed, Grown, PartCall, World}
 use Rattle.wl_server.specs.Server.{NoteTimes, Seen, ServerState, Stored, client_at, if_serial, no_times, note_of, notes_of, seen, stored_at, told_of}
 use Rattle.wl_server.specs.Steps.{Entry, GathersNotes, HandsOutNotes, MakesNotes, NotesGoOn, OneStep, lacks_growth}
-use Rattle.wl_server.proofs.CallSteps.Numbering.{gives_none, time_in, times_in}
+use Rattle.wl_server.proofs.CallSteps.Numbering.{gives_none}
 use Rattle.wl_server.proofs.CleanupSteps.Gathering.{notes_append}
 use Rattle.wl_server.proofs.OverRuns.Noted.NotesInOrder.{Drains, Takes, begins_so, cleanup_drains, happening_of, id_of, made_of, note_is, one_client, own_first, slot_is, takes_of, told_slot}
 use Rattle.wl_server.proofs.OverRuns.Noted.PlacesInOrder.{Sorted, later_refl, sorted_of}
 use Rattle.wl_server.proofs.OverRuns.Outcome.WholeLaws.{found, slot_same}
+use Rattle.wl_server.proofs.Touched.Gathered.{times_stored}
 
 -- ---- lists
 
@@ -172,9 +173,6 @@ module _ {T U C : Type 0} where
   Alike None None = Unit {0}
   Alike (Some x) (Some y) = (x.part ≡ y.part) × (x.made ≡ y.made)
   Alike _ _ = ⊥
-
-  pub times_stored : (clients : List (Option (Stored T U C))) (k : ℕ) → times_at k (map times_of clients) ≡ times_of (stored_at k clients)
-  times_stored clients k = grind (arith, times_in, slice_get, time_in, times_of)
 
   as_long : (a b : Option (Stored T U C)) → Alike a b → IsNumbered a → IsNumbered b
       → (length (times_of a).made ≡ length (times_of b).made) × (length (times_of a).waiting ≡ length (times_of b).waiting)

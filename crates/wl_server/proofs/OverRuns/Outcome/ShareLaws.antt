@@ -5,9 +5,9 @@ use mathlib.Core.Logic.{inl, inr}
 use Rattle.std.proofs.lemmas.Bool.{cases_Bool, cases_order, eqb-true}
 use Rattle.wl_server.specs.Ids.{ClientParts, same_client}
 use Rattle.wl_server.proofs.OverRuns.Alone.IsolationLaw.{same_self, same_serial}
-use Rattle.wl_server.proofs.OverRuns.Outcome.NumberLaws.{client_is}
 use Rattle.wl_server.specs.PartStep.{share_of}
 use Rattle.wl_server.specs.Steps.{RiseBySlot}
+use Rattle.wl_server.proofs.CallSteps.Slots.{same_parts}
 
 -- ---- ids
 
@@ -15,7 +15,7 @@ same_slot : (a b : ClientParts) → same_client a b ≡ true → a.slot ≡ b.sl
 same_slot a b same = grind (arith, eqb-true, true≢false)
 
 pub same_client_is : (a b : ClientParts) → same_client a b ≡ true → a ≡ b
-same_client_is a b same = client_is a b (same_slot a b same) (same_serial a b same)
+same_client_is a b same = same_parts a b (same_slot a b same) (same_serial a b same)
 
 -- ---- lists
 
