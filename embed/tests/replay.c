@@ -14,6 +14,7 @@ enum { MOST_CLIENTS = 64, LINE = 1 << 18, DEFAULT_ROOM = 65536 };
 static nb_server server;
 static nb_client_id ids[MOST_CLIENTS];
 static int is_inserted[MOST_CLIENTS], is_in[MOST_CLIENTS]; /* ever; now */
+static int is_killed[MOST_CLIENTS];                        /* by the program; the next cleanup says what it was sent */
 static int is_blocked[MOST_CLIENTS];                       /* the next flush finds no room */
 static nb_action action[MOST_CLIENTS];
 
@@ -160,7 +161,7 @@ static void print_all_sent(void)
 {
     for (int slot = 0; slot < MOST_CLIENTS; slot++) {
         nb_counts counts = { 0, 0 };
-        if (!is_in[slot])
+        if (!is_in[slot] || is_killed[slot])
             continue;
         nb_server_to_send(&server, &ids[slot], bytes, sizeof bytes, descriptors, NB_MOST_DESCRIPTORS, &counts);
         print_sent(slot, counts.bytes, counts.descriptors);
@@ -277,6 +278,7 @@ static void run(uint64_t number, char **words, int count)
         }
         ids[id.slot] = id;
         is_inserted[id.slot] = is_in[id.slot] = 1;
+        is_killed[id.slot] = 0;
         action[id.slot] = (nb_action){ .kind = 0 };
         print_text("> client ");
         print_number(id.slot);
@@ -313,6 +315,7 @@ static void run(uint64_t number, char **words, int count)
     } else if (strcmp(word, "finish") == 0) {
         answer(finish(slot, number));
     } else if (strcmp(word, "kill") == 0) {
+        is_killed[slot] = 1;
         answer(nb_server_kill_client(&server, &ids[slot]));
     } else if (strcmp(word, "accept") == 0) {
         answer(NB_OK); /* cuts what one flush sends into parts, which are joined in a line */
@@ -382,6 +385,7 @@ static int replay(const char *path)
     rewind(file);
     memset(is_inserted, 0, sizeof is_inserted);
     memset(is_in, 0, sizeof is_in);
+    memset(is_killed, 0, sizeof is_killed);
     memset(is_blocked, 0, sizeof is_blocked);
     if (nb_server_start(&server, &quad, &table) != NB_OK)
         return -1;
