@@ -9,7 +9,7 @@ use Rattle.wl_server.specs.Ids.{ClientParts, same_client}
 use Rattle.wl_server.specs.Inside.Leaving.{all_staying, collected, ends_at, ends_in, ends_of, given_at, given_in, id_in, staying}
 use Rattle.wl_server.specs.PartStep.{share_of}
 use Rattle.wl_server.specs.Server.{Stored, client_at, if_serial, note_of, notes_of}
-use Rattle.wl_server.proofs.CleanupSteps.Gathering.{notes_append, notes_other, notes_same}
+use Rattle.wl_server.proofs.CleanupSteps.Gathering.{notes_other, notes_same}
 use Rattle.wl_server.proofs.CallSteps.Slots.{same_parts, same_self, same_serials, same_slots}
 
 -- ---- shares
@@ -35,7 +35,7 @@ module _ {T U C : Type 0} where
 
   -- ---- notes
 
-  other_ends : (id : ClientParts) (n : ℕ) (x : Option (Stored T U C)) → (n == id.slot) ≡ false → notes_of id (ends_at n x) ≡ []
+  pub other_ends : (id : ClientParts) (n : ℕ) (x : Option (Stored T U C)) → (n == id.slot) ≡ false → notes_of id (ends_at n x) ≡ []
   other_ends id n None other = refl
   other_ends id n (Some s) other = at s.part.is_killed
     where
@@ -43,7 +43,7 @@ module _ {T U C : Type 0} where
       at true = notes_other (id_in n s) id (ends_of (id_in n s) (entries s.part.store.objects)) (same_slots (id_in n s) id other)
       at false = refl
 
-  own_ends : (id : ClientParts) (x : Option (Stored T U C)) → notes_of id (ends_at id.slot x) ≡ ends_in id (if_serial id.serial x)
+  pub own_ends : (id : ClientParts) (x : Option (Stored T U C)) → notes_of id (ends_at id.slot x) ≡ ends_in id (if_serial id.serial x)
   own_ends id None = refl
   own_ends id (Some s) = at (s.serial == id.serial) s.part.is_killed refl refl
     where
@@ -57,18 +57,12 @@ module _ {T U C : Type 0} where
       at false true other killed = notes_other (id_in id.slot s) id (ends_of (id_in id.slot s) (entries s.part.store.objects)) (same_serials (id_in id.slot s) id refl other)
       at false false other live = refl
 
-  pub ends_for : (id : ClientParts) (clients : List (Option (Stored T U C))) → notes_of id (collected ends_at 0 clients) ≡ ends_in id (client_at id clients)
-  ends_for id clients =
-      collected_at (notes_of id) ends_at id.slot refl (notes_append id) (other_ends id) 0 id.slot clients (omega arith) ∙ (grind (arith, own_ends, slice_get clients id.slot))
-
   -- ---- transports
 
   pub given_for : (id : ClientParts) (clients : List (Option (Stored T U C))) → share_of id (collected given_at 0 clients) ≡ given_in (client_at id clients)
   given_for id clients =
-      collected_at (share_of id) given_at id.slot refl (share_append id) (λ n x h1. grind (arith, id_in, same_slots)) 0 id.slot clients (omega arith) ∙ at (slice_get clients id.slot)
-    where
-      at : (o : Option (Option (Stored T U C))) → option_map_or (λ x. share_of id (given_at id.slot x)) o [] ≡ given_in (if_serial id.serial (option_map_or (λ s. s) o None))
-      at h1 = grind (arith, id_in, given_in, same_parts, same_self, same_serials)
+      collected_at (share_of id) given_at id.slot refl (share_append id) (λ n x h1. grind (arith, id_in, same_slots)) 0 id.slot clients (omega arith)
+      ∙ (grind (arith, id_in, given_in, same_parts, same_self, same_serials, slice_get clients id.slot))
 
   -- ---- who stays
 
@@ -89,10 +83,6 @@ module _ {T : Type 0} where
   from_more n (e ∷ first) rest a b zero d below = a 0 d (omega arith)
   from_more n (e ∷ first) rest a b (suc j) d below = from_more n first rest (λ i d lt. a (suc i) d (omega (arith, lt))) b j d (omega (arith, below))
 
-  one_rises : (n : ℕ) (i : ClientParts) (t : T) (c : Bool) (rest : List (ClientParts × T)) → n ≡ i.slot → AreFrom (n + 1) rest → Rises rest
-      → Rises ((if c then ((i, t) ∷ []) else []) ++ rest)
-  one_rises n i t c rest h1 h2 h3 = grind (arith)
-
 module _ {T U C : Type 0} where
   collected_from : (m n : ℕ) (clients : List (Option (Stored T U C))) → m ≤ n → AreFrom m (collected given_at n clients)
   collected_from m n [] le j d below = absurd (omega (arith, below))
@@ -100,7 +90,7 @@ module _ {T U C : Type 0} where
 
   rises_more : (n : ℕ) (x : Option (Stored T U C)) (rest : List (ClientParts × T)) → AreFrom (n + 1) rest → Rises rest → Rises (given_at n x ++ rest)
   rises_more n None rest from rises = rises
-  rises_more n (Some s) rest from rises = one_rises n (id_in n s) s.part.link.transport s.part.is_killed rest refl from rises
+  rises_more n (Some s) rest from rises = grind (arith, id_in n s, s.part.link.transport, s.part.is_killed)
 
   -- the clients that leave stand by slot
   pub given_rises : (n : ℕ) (clients : List (Option (Stored T U C))) → Rises (collected given_at n clients)

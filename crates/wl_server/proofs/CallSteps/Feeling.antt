@@ -1,5 +1,5 @@
 -- A step that each client feels by itself, one slot after another.
-use Rattle.std.proofs.Common.{◌≡◌, ◌≢◌, ◌∙◌, ℕ, ◌+◌, ◌<◌, Bool, true, false, ◌||◌, List, [], length, map, Option, None, Some, is_some, refl, sym, ap, subst, arith, true≢false}
+use Rattle.std.proofs.Common.{◌≡◌, ◌∙◌, ℕ, ◌+◌, ◌<◌, Bool, true, false, ◌||◌, List, [], length, map, Option, None, Some, is_some, refl, sym, ap, subst, arith, true≢false}
 use mathlib.Core.Logic.{inl, inr}
 use Rattle.std.specs.Option.{option_map_or}
 use Rattle.std.specs.Prelude.{◌⊎◌, ◌==◌, if◌then◌else◌, nat_lt, slice_get, slice_set}
@@ -21,9 +21,9 @@ use Rattle.wl_server.specs.NoteOrder.{AllInTime, AllNumbered, times_of}
 use Rattle.wl_server.specs.Inside.Places.{AllFeel, FeltAt, PlaceFeels}
 use Rattle.wl_server.specs.Server.{Seen, ServerState, Stored, client_at, if_serial, seen_as, notes_of}
 use Rattle.wl_server.specs.Steps.{AsksForRoom, Makes, MakesNotes, NotesGoOn, NumbersClient, AnswersShared, RisesBySlot, inserted_by, lacks_growth, offer_after}
-use Rattle.wl_server.proofs.CallSteps.Numbering.{all_none}
 use Rattle.wl_sets.proofs.Lists.{get_set_other, get_set_same, other_of}
 use Rattle.wl_server.proofs.CallSteps.Slots.{Kind, client_present, on_part, same_parts, slot_within}
+use Rattle.wl_server.proofs.CallSteps.Numbering.{turn_still}
 
 module _ {T U C : Type 0} (R : Kind T U C) where
   -- ---- the loop over the slots
@@ -52,15 +52,12 @@ module _ {T U C : Type 0} (R : Kind T U C) where
   one_more_felt refused lacked slot start now place place' all here feels = record {
     lacks = λ k. if k == slot then lacked else all.lacks k;
     len = length-set now slot place' ∙ all.len;
-    felt = λ k below. (grind (arith, slice_get, slice_set, eqb-true, get_set_same, get_set_other, other_of, less, k == slot));
+    felt = λ k below. (grind (arith, slice_get, slice_set, eqb-true, get_set_same, get_set_other, other_of, k == slot));
     rest = λ k above. get_set_other now slot k place' (λ e. absurd (omega (arith, e, above))) ∙ all.rest k (omega (arith, above));
-    told = λ k below is. (grind (arith, less, k == slot));
+    told = λ k below is. (grind (arith, other_of, k == slot));
     blame = λ is. blames refused lacked refl refl is;
   }
     where
-      less : (k : ℕ) → (k == slot) ≡ false → k < slot + 1 → k < slot
-      less k is below = let other : k ≢ slot = other_of k slot is in omega (arith, below, other)
-
       blames : (r l : Bool) → refused ≡ r → lacked ≡ l → (r || l) ≡ true → (k : ℕ) × (k < slot + 1) × ((if k == slot then lacked else all.lacks k) ≡ true)
       blames true l was is h = grind (arith, eqb-true)
       blames false true was is h = (slot, omega arith, (grind (arith, other_of, slot == slot)))
@@ -152,7 +149,7 @@ module _ {T U G C : Type 0} (w : World T G C) (before : ServerState T U G C) (ca
     record { call = call; refused = refused; lacks = λ id. false; did = λ id. [] },
     refl,
     refl,
-    grind (arith, last, was_refused, all_none),
+    grind (arith, last, was_refused, turn_still),
   )
     where
       was_refused : (lacks_growth call ≡ true) ⊎ ((id : ClientParts) × (false ≡ true)) → refused ≡ true

@@ -1,5 +1,5 @@
 -- The numbers in time of notes: how they rise, and how a call that makes notes keeps them in order.
-use Rattle.std.proofs.Common.{◌≡◌, ◌≢◌, ◌∙◌, ℕ, zero, suc, ◌+◌, ◌<◌, ◌≤◌, Bool, true, false, List, [], ◌∷◌, ◌++◌, length, map, Option, None, Some, is_some, refl, sym, ap, subst, arith, append_assoc, append-nil}
+use Rattle.std.proofs.Common.{◌≡◌, ◌≢◌, ◌∙◌, ℕ, zero, suc, ◌+◌, ◌<◌, ◌≤◌, Bool, true, false, List, [], ◌∷◌, ◌++◌, length, map, Option, Some, refl, sym, ap, subst, arith, append_assoc, append-nil}
 use mathlib.Core.Logic.{inl, inr}
 use Rattle.std.specs.Option.{option_map, option_map_or}
 use Rattle.std.specs.Prelude.{◌⊎◌, ◌==◌, Contains, nat_lt, slice_get, slice_set}
@@ -95,11 +95,6 @@ pub in_time_same : (t u : NoteTimes) (a b : NoteNumbers) → u ≡ t → b ≡ a
 in_time_same t u a b same none =
     subst (λ (x : NoteTimes). NotesInTime t a x b) (sym same) (subst (λ (n : NoteNumbers). NotesInTime t a t n) (sym none) (in_time_none t a))
 
--- a note was made, or notes were that were not
-pub made_in_time : (ms ms' ws ws' : List ℕ) (a b : NoteNumbers) → GivesNumbers ms a.made ms' b.made → ws' ≡ ws → b.waiting ≡ a.waiting
-    → NotesInTime (record { made = ms; waiting = ws }) a (record { made = ms'; waiting = ws' }) b
-made_in_time ms ms' ws ws' a b gives same none = grind (arith, gives_none)
-
 -- a note waits
 pub waits_in_time : (ms ms' ws ws' : List ℕ) (a b : NoteNumbers) → GivesNumbers ws a.waiting ws' b.waiting → ms' ≡ ms → b.made ≡ a.made
     → NotesInTime (record { made = ms; waiting = ws }) a (record { made = ms'; waiting = ws' }) b
@@ -107,7 +102,7 @@ waits_in_time ms ms' ws ws' a b gives same none = grind (arith, gives_none)
 
 -- nothing was noted
 pub still_made : (ms ms' ws : List ℕ) (a : NoteNumbers) → ms' ≡ ms → NotesInTime (record { made = ms; waiting = ws }) a (record { made = ms'; waiting = ws }) a
-still_made ms ms' ws a same = made_in_time ms ms' ws ws a a (subst (λ (l : List ℕ). GivesNumbers ms a.made l a.made) (sym same) (gives_none ms a.made)) refl refl
+still_made ms ms' ws a same = grind (arith, gives_none, subst (λ (l : List ℕ). GivesNumbers ms a.made l a.made) (sym same) (gives_none ms a.made))
 
 pub still_waits : (ms ws ws' : List ℕ) (a : NoteNumbers) → ws' ≡ ws → NotesInTime (record { made = ms; waiting = ws }) a (record { made = ms; waiting = ws' }) a
 still_waits ms ws ws' a same = waits_in_time ms ms ws ws' a a (subst (λ (l : List ℕ). GivesNumbers ws a.waiting l a.waiting) (sym same) (gives_none ws a.waiting)) refl refl
@@ -129,10 +124,7 @@ module _ {T U C : Type 0} where
   pub times_there : (clients : List (Option (Stored T U C))) (k : ℕ) (x : Option (Stored T U C)) → slice_get clients k ≡ Some x → times_at k (map times_of clients) ≡ times_of x
   times_there clients k x here = times_in clients k ∙ ap time_in here
 
-  times_none : (clients : List (Option (Stored T U C))) (k : ℕ) → stored_at k clients ≡ None → times_at k (map times_of clients) ≡ no_times
-  times_none clients k none = grind (arith, times_in, slice_get, option_map_or, no_times, is_some)
-
-  times_same : (clients clients' : List (Option (Stored T U C))) (k : ℕ) → slice_get clients' k ≡ slice_get clients k
+  pub times_same : (clients clients' : List (Option (Stored T U C))) (k : ℕ) → slice_get clients' k ≡ slice_get clients k
       → times_at k (map times_of clients') ≡ times_at k (map times_of clients)
   times_same clients clients' k same = times_in clients' k ∙ (ap time_in same ∙ sym (times_in clients k))
 
@@ -166,10 +158,8 @@ module _ (of : NoteTimes → List ℕ) where
 
       differ : (j k n : ℕ) → Contains (of (times_at j ts)) n ⊎ ((j ≡ i) × (next ≤ n)) → Contains (of (times_at k ts)) n ⊎ ((k ≡ i) × (next ≤ n)) → j ≡ k
       differ j k n (inl a) (inl b) = is.apart j k n a b
-      differ j k n (inl a) (inr (at, high)) =
-          let old = among 0 (of (times_at j ts)) next n (is.rise j) a in absurd (omega (arith, high, old.1))
-      differ j k n (inr (at, high)) (inl b) =
-          let old = among 0 (of (times_at k ts)) next n (is.rise k) b in absurd (omega (arith, high, old.1))
+      differ j k n (inl a) (inr (at, high)) = absurd (omega (arith, high, (among 0 (of (times_at j ts)) next n (is.rise j) a).1))
+      differ j k n (inr (at, high)) (inl b) = absurd (omega (arith, high, (among 0 (of (times_at k ts)) next n (is.rise k) b).1))
       differ j k n (inr (at, high)) (inr (at', high')) = at ∙ sym at'
 
   -- the first numbers of clients are gone
@@ -178,19 +168,16 @@ module _ (of : NoteTimes → List ℕ) where
     rise = λ k. (
         let (gone, same) = first k in
         rise_last 0 gone (of (times_at k ts')) next (subst (λ (l : List ℕ). RiseWithin 0 l next) same (is.rise k)));
-    apart = λ j k n a b. is.apart j k n (had j n a) (had k n b);
+    apart = λ j k n a b. is.apart j k n (let (gone, same) = first j in
+        subst (λ (l : List ℕ). Contains l n) (sym same) (Contains-append_right gone (of (times_at j ts')) n a)) (let (gone, same) = first k in
+        subst (λ (l : List ℕ). Contains l n) (sym same) (Contains-append_right gone (of (times_at k ts')) n b));
   }
-    where
-      had : (k n : ℕ) → Contains (of (times_at k ts')) n → Contains (of (times_at k ts)) n
-      had k n has =
-          let (gone, same) = first k in
-          subst (λ (l : List ℕ). Contains l n) (sym same) (Contains-append_right gone (of (times_at k ts')) n has)
 
 -- ---- numbers in turn
 
 module _ (of : NoteTimes → List ℕ) where
   -- no client of these slots got a number
-  turn_still : (n : ℕ) (ts ts' : List NoteTimes) (next : ℕ) → ((k : ℕ) → k < n → times_at k ts' ≡ times_at k ts) → InTurn of n ts next ts' next
+  pub turn_still : (n : ℕ) (ts ts' : List NoteTimes) (next : ℕ) → ((k : ℕ) → k < n → times_at k ts' ≡ times_at k ts) → InTurn of n ts next ts' next
   turn_still zero ts ts' next same = refl
   turn_still (suc n) ts ts' next same = grind (arith, times_at, gives_none, turn_still n ts ts' next)
 
@@ -235,17 +222,11 @@ all_waiting ts a ts' b (slots, all) k = at (nat_lt k slots) refl
     at true less = turn_each (λ t. t.waiting) slots k ts a.waiting ts' b.waiting (ltb-true k slots less) all.waiting
     at false past = grind (arith, times_at, ltb-false, within_none, turn_up)
 
-pub below_none : (n : ℕ) (ts : List NoteTimes) (a : NoteNumbers) → InTimeBelow n ts a ts a
-below_none n ts a = grind (arith, turn_still)
-
-pub all_none : (ts : List NoteTimes) (a : NoteNumbers) → AllInTime ts a ts a
-all_none ts a = (0, below_none 0 ts a)
-
 pub all_same : (ts ts' : List NoteTimes) (a : NoteNumbers) → ts' ≡ ts → AllInTime ts a ts' a
-all_same ts ts' a same = subst (λ (us : List NoteTimes). AllInTime ts a us a) (sym same) (all_none ts a)
+all_same ts ts' a same = subst (λ (us : List NoteTimes). AllInTime ts a us a) (sym same) ((0, (grind (arith, turn_still))))
 
 -- one client got numbers
-all_but : (ts ts' : List NoteTimes) (i : ℕ) (a b : NoteNumbers) → ((k : ℕ) → k ≢ i → times_at k ts' ≡ times_at k ts)
+pub all_but : (ts ts' : List NoteTimes) (i : ℕ) (a b : NoteNumbers) → ((k : ℕ) → k ≢ i → times_at k ts' ≡ times_at k ts)
     → NotesInTime (times_at i ts) a (times_at i ts') b → AllInTime ts a ts' b
 all_but ts ts' i a b others gives = (
   suc i,
@@ -255,7 +236,8 @@ all_but ts ts' i a b others gives = (
     others = λ k past. others k (λ e. omega (arith, e, past));
     keeps = λ has. record {
       made = λ below. changed (λ t. t.made) ts ts' i a.made b.made others made below (has.made (let up = rise_up a.made made.more b.made (made.rise below) in omega (arith, up, below)));
-      waiting = λ below. changed (λ t. t.waiting) ts ts' i a.waiting b.waiting others waiting below (has.waiting (let up = up_waiting below in omega (arith, up, below)));
+      waiting = λ below. changed (λ t. t.waiting) ts ts' i a.waiting b.waiting others waiting below (has.waiting
+          (let up = rise_up a.waiting waiting.more b.waiting (waiting.rise below) in omega (arith, up, below)));
     };
   },
 )
@@ -265,9 +247,6 @@ all_but ts ts' i a b others gives = (
 
     waiting : GivesWithin (times_at i ts).waiting a.waiting (times_at i ts').waiting b.waiting
     waiting = within (times_at i ts).waiting a.waiting (times_at i ts').waiting b.waiting gives.waiting
-
-    up_waiting : b.waiting < last_number → a.waiting ≤ b.waiting
-    up_waiting below = rise_up a.waiting waiting.more b.waiting (waiting.rise below)
 
 module _ {T U C : Type 0} where
   -- the client of a slot was written
@@ -303,14 +282,6 @@ module _ {T U C : Type 0} where
           subst (λ (t : NoteTimes). NotesInTime t b (times_at i (map times_of (slice_set clients i x'))) c)
           (sym (times_there clients i x here) ∙ before.others i (omega arith))
           (subst (λ (t : NoteTimes). NotesInTime (times_of x) b t c) (sym (times_there (slice_set clients i x') i x' (get_set_same clients i x x' here))) gives)
-
-  -- a client was put at a slot that had none
-  pub put_in_time : (clients clients' : List (Option (Stored T U C))) (i : ℕ) (s : Stored T U C) (a b : NoteNumbers) → stored_at i clients ≡ None → IsPut clients i s clients'
-      → NotesInTime no_times a s.times b → AllInTime (map times_of clients) a (map times_of clients') b
-  put_in_time clients clients' i s a b none (here, others) gives =
-      all_but (map times_of clients) (map times_of clients') i a b (λ k differ. times_same clients clients' k (others k differ))
-      (subst (λ (t : NoteTimes). NotesInTime t a (times_at i (map times_of clients')) b) (sym (times_none clients i none))
-      (subst (λ (t : NoteTimes). NotesInTime no_times a t b) (sym (times_there clients' i (Some s) here)) gives))
 
   -- the numbers that a server has, after its client of an id was written
   pub numbers_set : (clients : List (Option (Stored T U C))) (id : ClientParts) (s s' : Stored T U C) (a b : NoteNumbers) → Some s ≡ client_at id clients
@@ -370,12 +341,6 @@ takes_both t u v one two = record {
   of_made = one.of_made ∙ (ap (λ (l : List ℕ). one.made ++ l) two.of_made ∙ sym (append_assoc one.made two.made v.made));
   of_waiting = one.of_waiting ∙ (ap (λ (l : List ℕ). one.waiting ++ l) two.of_waiting ∙ sym (append_assoc one.waiting two.waiting v.waiting));
 }
-
-pub all_take_none : (ts : List NoteTimes) → AllTakeFirst ts ts
-all_take_none ts k = takes_none (times_at k ts)
-
-pub all_take_both : (ts us vs : List NoteTimes) → AllTakeFirst ts us → AllTakeFirst us vs → AllTakeFirst ts vs
-all_take_both ts us vs one two k = takes_both (times_at k ts) (times_at k us) (times_at k vs) (one k) (two k)
 
 pub numbers_left : (ts ts' : List NoteTimes) (a : NoteNumbers) → AllTakeFirst ts ts' → HasNumbers a ts → HasNumbers a ts'
 numbers_left ts ts' a first has = record {

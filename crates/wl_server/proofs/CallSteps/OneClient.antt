@@ -21,7 +21,7 @@ use Rattle.wl_server.specs.Ids.{ClientParts, same_client}
 use Rattle.wl_server.specs.PartStep.{Asked, Call, OfClient, PartStep, World}
 use Rattle.wl_server.specs.Server.{Seen, ServerState, Stored, client_at}
 use Rattle.wl_server.specs.Steps.{AsksForRoom, MakesNotes, NotesGoOn, NumbersClient, AnswersShared, RisesBySlot, StepOf, inserted_by, lacks_growth, offer_after}
-use Rattle.wl_server.proofs.CallSteps.Numbering.{all_none, numbered_set, set_in_time}
+use Rattle.wl_server.proofs.CallSteps.Numbering.{numbered_set, set_in_time}
 use Rattle.wl_server.proofs.CallSteps.Slots.{Kind, did_at, each_set, lacks_at, same_self, slot_of_client}
 use Rattle.std.proofs.Common.{true≢false}
 use Rattle.wl_server.proofs.CallSteps.Slots.{compare}
@@ -30,6 +30,7 @@ use Rattle.wl_server.proofs.CallSteps.Slots.{same_serials}
 use Rattle.wl_server.proofs.CallSteps.Slots.{same_slots}
 use Rattle.wl_server.specs.Server.{notes_of}
 use Rattle.wl_server.specs.Server.{seen_as}
+use Rattle.wl_server.proofs.CallSteps.Numbering.{turn_still}
 
 -- a call that is about one client: nothing changes that all share, and no memory is wanted but for that client
 record IsOwn {T U G C : Type 0} (call : Call T U G C) : Type 0 where
@@ -123,7 +124,7 @@ module _ {T U G C : Type 0} (w : World T G C) (before : ServerState T U G C) (s 
       order = own.order;
       room = own.room before;
       refused = (λ h. absurd (false≢true h), λ h. was_refused h);
-      notes = own.notes before before (record { gathered = refl; times = all_none _ _; numbered = all });
+      notes = own.notes before before (record { gathered = refl; times = (0, (grind (arith, turn_still))); numbered = all });
       each = λ id. to id _ _ _ _ (grind (arith, compare, same_parts, same_slots, same_serials, false≢true, same_self, seen_as, notes_of, true≢false, before.clients, before.notes));
     },
   )

@@ -123,25 +123,20 @@ module _ {T U C : Type 0} where
         | Are slot serial ↦ subst (λ (i : ClientParts). DoneFor target R missing lacked did i (held_of notes clients i) (held_of notes (slice_set clients target.slot (Some s')) i))
             (same_parts target id slot serial) meant
         | Slots slot ↦ grind (arith, true≢false, same_client, same_slots, seen_as, notes_of, if_serial, option_map_or, get_set_other, other_of)
-        | Serials slot differ ↦ grind (arith, true≢false, same_client, same_serials, seen_as, notes_of, client_absent, at_slot, after, serial')
+        | Serials slot differ ↦ grind (arith, true≢false, same_client, same_serials, seen_as, notes_of, client_absent, at_slot, get_set_same, here, is)
       ]
     where
-      after : slice_get (slice_set clients target.slot (Some s')) target.slot ≡ Some (Some s')
-      after = get_set_same clients target.slot (Some s) (Some s') here
-
       at_slot : (xs : List (Option (Stored T U C))) (x : Stored T U C) → target.slot ≡ id.slot → slice_get xs target.slot ≡ Some (Some x)
           → slice_get xs id.slot ≡ Some (Some x)
       at_slot xs x slot is = subst (λ (n : ℕ). slice_get xs n ≡ Some (Some x)) slot is
-
-      serial' : s'.serial ≡ s.serial
-      serial' = ap (λ (x : Stored T U C). x.serial) is
 
       meant : DoneFor target R missing lacked did target (held_of notes clients target) (held_of notes (slice_set clients target.slot (Some s')) target)
       meant = as_meant (same_client target target) target _ _ R missing lacked did (same_self target)
           (subst (λ (x : Option (Stored T U C)). OnPart (seen_as (notes_of target notes) x) (λ p q. R target p lacked did q) missing lacked did
           (held_of notes (slice_set clients target.slot (Some s')) target)) (sym (client_present target clients s here known))
           (subst (λ (x : Option (Stored T U C)). OnPart (seen_as (notes_of target notes) (Some s)) (λ p q. R target p lacked did q) missing lacked did
-          (seen_as (notes_of target notes) x)) (sym (client_present target _ s' after (serial' ∙ known)))
+          (seen_as (notes_of target notes) x)) (sym (client_present target _ s' (get_set_same clients target.slot (Some s) (Some s') here)
+          ((ap (λ (x : Stored T U C). x.serial) is) ∙ known)))
           (on_part (notes_of target notes) s s' (λ p d r. R target p lacked d r) missing lacked did q does is)))
 
   abbrev Missing : ClientParts → Kind T U C → Type 0 → ClientParts → Bool → Seen T U C → Type 0
@@ -150,10 +145,6 @@ module _ {T U C : Type 0} where
 -- ---- a client that is looked up
 
 module _ {T U C : Type 0} where
-  pub reads_place : (clients : List (Option (Stored T U C))) (id : ClientParts) (slot : ℕ) (x : Option (Stored T U C))
-      → slot ≡ id.slot → slice_get clients slot ≡ Some x → client_at id clients ≡ if_serial id.serial x
-  reads_place clients id slot x same here = grind (arith, if_serial, option_map_or, slice_get)
-
   pub reads_past : (clients : List (Option (Stored T U C))) (id : ClientParts) (slot : ℕ) → slot ≡ id.slot → length clients ≤ slot → client_at id clients ≡ None
   reads_past clients id slot same past = grind (arith, if_serial, option_map_or, slice_get, slice_get_past)
 

@@ -1,5 +1,5 @@
 -- What a cleanup, and what the list of notes, asks for memory for.
-use Rattle.std.proofs.Common.{◌≡◌, ◌≢◌, ℕ, zero, suc, ◌+◌, ◌<◌, ◌≤◌, ◌^◌, Bool, true, false, List, [], ◌∷◌, ◌++◌, length, min, Option, None, Some, Result, OnErr, refl, sym, ap, ◌∙◌, arith, append-nil}
+use Rattle.std.proofs.Common.{◌≡◌, ◌≢◌, ℕ, zero, suc, ◌+◌, ◌<◌, ◌≤◌, ◌^◌, Bool, true, false, List, [], ◌∷◌, ◌++◌, length, min, Option, None, Some, Result, OnErr, refl, sym, ap, ◌∙◌, arith}
 use mathlib.Core.Logic.{inl, inr}
 use Rattle.std.specs.Prelude.{◌⊎◌}
 use Rattle.std.proofs.lemmas.List.{nil_from_length}
@@ -13,9 +13,6 @@ use Rattle.wl_server.proofs.CleanupSteps.Gathering.{count_at}
 
 pub on_err : {A E P : Type 0} (r : Result A E) → P → OnErr r P
 on_err h1 p = grind (arith)
-
-pub positive : (n m : ℕ) → n ≢ 0 → n ≤ m → 0 < m
-positive h1 m some more = grind (arith)
 
 -- what is none in all is none
 pub none_of : (n m : ℕ) → n ≡ 0 → (n < 0xFFFFFFFFFFFFFFFF → m ≤ n) → m ≤ 0
@@ -55,7 +52,7 @@ module _ {T U C : Type 0} where
   later : {R : Stored T U C → Type 0} (x : Option (Stored T U C)) (clients : List (Option (Stored T U C))) → SomeClient clients R → SomeClient (x ∷ clients) R
   later x clients (slot, s, here, is) = (suc slot, s, here, is)
 
-  one_leaves : (waits : Bool) (clients : List (Option (Stored T U C))) → 0 < count_leaving waits clients → SomeClient clients (λ s. to_gather waits (Some s) ≢ [])
+  pub one_leaves : (waits : Bool) (clients : List (Option (Stored T U C))) → 0 < count_leaving waits clients → SomeClient clients (λ s. to_gather waits (Some s) ≢ [])
   one_leaves waits [] more = absurd (omega (arith, more))
   one_leaves waits (None ∷ clients) more = later None clients (one_leaves waits clients (omega (arith, more)))
   one_leaves waits (Some s ∷ clients) more = at (to_gather waits (Some s)) refl (one_leaves waits clients)
@@ -74,10 +71,6 @@ module _ {T U C : Type 0} where
           → SomeClient (Some s ∷ clients) (λ s. s.part.is_killed ≡ true)
       at true killed rest = (0, s, refl, killed)
       at false live rest = later (Some s) clients (rest (rw live at more))
-
-  pub notes_ask : (clients : List (Option (Stored T U C))) → 0 < count_leaving false clients → SomeClient clients (λ s. s.made ≢ [])
-  notes_ask clients some =
-      let (slot, s, here, is) = one_leaves false clients some in (slot, s, here, λ none. is (append-nil s.made ∙ none))
 
   pub cleanup_asks : (clients : List (Option (Stored T U C))) → 0 < count_leaving true clients + length (collected given_at 0 clients)
       → SomeClient clients (λ s. (s.made ++ s.part.waiting ≢ []) ⊎ (s.part.is_killed ≡ true))

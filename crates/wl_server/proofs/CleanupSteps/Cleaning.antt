@@ -34,9 +34,6 @@ module _ {U : Type 0} where
   leave_notes client [] = refl
   leave_notes client (e ∷ objects) = grind (arith, notes_append, note_of_end, id_of, id_at, noted_notes, leave_notes client objects)
 
-  killed_notes : (n m w e s d n2 n3 : List (Happening U)) → n2 ≡ n ++ (m ++ w) → n3 ≡ n2 ++ e → s ≡ [] → d ≡ w ++ (e ++ s) → n3 ++ [] ≡ (n ++ m) ++ d
-  killed_notes n m w e s d n2 n3 is is' none all = grind (arith, append-nil, append_assoc)
-
 module _ {T U G C : Type 0} (w : World T G C) (id : ClientParts) (offer : Offer G) (out : Vec (ClientParts × T) Global) where
   -- ---- one client
 
@@ -54,7 +51,7 @@ module _ {T U G C : Type 0} (w : World T G C) (id : ClientParts) (offer : Offer 
         (
           None,
           if_true s.part.is_killed _ _ killed (sent, answer, with_link s.part link, flushed, refl, given, refl),
-          grind (arith, killed_notes, ends_of, entries, notes_in),
+          grind (arith, append-nil, append_assoc, ends_of, entries, notes_in),
         ),
       )
 
@@ -97,27 +94,18 @@ module _ {T U G C : Type 0} (w : World T G C) (id : ClientParts) (offer : Offer 
           (noted ∙ ap (λ (b : Bool). n2 ++ (if b then ends_of id (entries s1.part.store.objects) else [])) live1)
           (given ∙ ap (λ (b : Bool). if b then (s1.part.link.transport ∷ []) else []) live1)))
 
-  given_untimed : (x : Option (Stored T U C)) → given_in x ≡ given_in (option_map untimed x)
-  given_untimed h1 = grind (arith)
-
   -- it felt the flush, its notes were gathered, and it left if it was killed
   pub cleaned_one : (x0 x1 x2 : Option (Stored T U C)) (lacked : Bool) (sent : List (Deed U)) (n n2 n3 : List (Happening U))
       → Feels (seen_as [] x0) (λ p q. FlushesKilled w.sends p lacked sent q) lacked sent (seen_as [] x1)
       → option_map (emptied true) x2 ≡ option_map (emptied true) x1 → to_gather true x2 ≡ [] → n2 ++ to_gather true x2 ≡ n ++ to_gather true x1
       → n3 ≡ n2 ++ ends_in id x2 → share_of id out.items ≡ given_in x2 → CleanedBy x0 n lacked (staying x2) n3
-  cleaned_one x0 x1 x2 lacked sent n n2 n3 felt same none told noted given = grind (arith, seen_as, untimed, staying, is, at, told1, noted1, given1)
+  cleaned_one x0 x1 x2 lacked sent n n2 n3 felt same none told noted given = grind (arith, seen_as, untimed, staying, is, at, none, told, noted1, given)
     where
       is : option_map untimed x2 ≡ option_map (emptied true) x1
       is = left_is x2 none ∙ same
 
-      told1 : n2 ++ [] ≡ n ++ to_gather true x1
-      told1 = ap (λ (l : List (Happening U)). n2 ++ l) (sym none) ∙ told
-
       noted1 : n3 ≡ n2 ++ ends_in id (option_map (emptied true) x1)
       noted1 = noted ∙ ap (λ (l : List (Happening U)). n2 ++ l) (grind (arith)) ∙ ap (λ (x : Option (Stored T U C)). n2 ++ ends_in id x) is
-
-      given1 : share_of id out.items ≡ given_in (option_map (emptied true) x1)
-      given1 = given ∙ given_untimed x2 ∙ ap given_in is
 
       at : (x0 x1 : Option (Stored T U C)) → Feels (seen_as [] x0) (λ p q. FlushesKilled w.sends p lacked sent q) lacked sent (seen_as [] x1)
           → n2 ++ [] ≡ n ++ to_gather true x1 → n3 ≡ n2 ++ ends_in id (option_map (emptied true) x1) → share_of id out.items ≡ given_in (option_map (emptied true) x1)

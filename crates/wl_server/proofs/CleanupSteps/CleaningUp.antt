@@ -23,13 +23,17 @@ use Rattle.wl_server.specs.Server.{ServerState, Stored, client_at, notes_of}
 use Rattle.wl_server.specs.Steps.{StepOf}
 use Rattle.wl_server.proofs.CleanupSteps.Asking.{cleanup_asks}
 use Rattle.wl_server.proofs.CleanupSteps.Cleaning.{CleanedBy, cleaned_one}
-use Rattle.wl_server.proofs.CallSteps.Collecting.{Rises, ends_for, given_for, given_rises, staying_for}
+use Rattle.wl_server.proofs.CallSteps.Collecting.{Rises, given_for, given_rises, staying_for}
 use Rattle.wl_server.proofs.CallSteps.Feeling.{each_felt, lacks_of, one_lacks, some_lacks}
 use Rattle.wl_server.proofs.CleanupSteps.Gathering.{notes_append}
-use Rattle.wl_server.proofs.CallSteps.Numbering.{all_none}
 use Rattle.wl_server.proofs.CallSteps.Slots.{Kind}
 use Rattle.wl_server.proofs.CleanupSteps.Outgoing.{ends_rise}
 use Rattle.wl_server.proofs.CleanupSteps.TakingNotes.{none_left, same_left}
+use Rattle.std.specs.Prelude.{slice_get}
+use Rattle.wl_server.proofs.CallSteps.Collecting.{collected_at}
+use Rattle.wl_server.proofs.CallSteps.Collecting.{other_ends}
+use Rattle.wl_server.proofs.CallSteps.Collecting.{own_ends}
+use Rattle.wl_server.proofs.CallSteps.Numbering.{turn_still}
 
 -- who stays has no notes that were made, if all were gathered
 none_made : {T U C : Type 0} (x : Option (Stored T U C)) → to_gather true x ≡ [] → option_map_or (λ s. s.made) (staying x) [] ≡ []
@@ -81,7 +85,9 @@ module _ {T U G C : Type 0} (w : World T G C) (before : ServerState T U G C) whe
           (cleaned_one w id before.offer out (client_at id before.clients) (client_at id by.flushed) (client_at id by.left) (lacked id) sent
           (notes_of id before.notes) (notes_of id by.told) (notes_of id notes') felt
           (same_left true by.flushed before.notes by.left by.told by.gathers id) (none_left true by.left by.all id) (by.gathers.told id)
-          (ap (notes_of id) by.noted ∙ (notes_append id by.told _ ∙ ap (λ (l : List (Happening U)). notes_of id by.told ++ l) (ends_for id by.left)))
+          (ap (notes_of id) by.noted ∙ (notes_append id by.told _ ∙ ap (λ (l : List (Happening U)). notes_of id by.told ++ l) (collected_at
+          (notes_of id) ends_at id.slot refl (notes_append id) (other_ends id) 0 id.slot by.left (omega arith) ∙
+          (grind (arith, own_ends, slice_get by.left id.slot)))))
           (ap (share_of id) (are ∙ by.gave) ∙ given_for id by.left))
 
       none_left_of : (id : ClientParts) → option_map_or (λ s. s.made) (client_at id clients') [] ≡ []
@@ -108,7 +114,7 @@ module _ {T U G C : Type 0} (w : World T G C) (before : ServerState T U G C) whe
       order = tt;
       room = cleanup_asks before.clients some;
       refused = (λ h. inl refl, λ h. refl);
-      notes = record { gathered = refl; times = all_none _ _; numbered = all };
+      notes = record { gathered = refl; times = (0, (grind (arith, turn_still))); numbered = all };
       each = λ id. (Err e, refl, (refl, refl, refl));
     },
   )

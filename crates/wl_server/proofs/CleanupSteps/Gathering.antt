@@ -18,22 +18,16 @@ use Rattle.wl_server.proofs.CallSteps.Slots.{Are, Serials, Slots, client_absent,
 -- ---- notes of one client
 
 module _ {U : Type 0} where
-  pub told_same : (target id : ClientParts) (h : Happening U) → same_client target id ≡ true → told_of id (note_of target h) ≡ h ∷ []
-  told_same target id h h1 = grind (arith)
-
-  pub told_other : (target id : ClientParts) (h : Happening U) → same_client target id ≡ false → told_of id (note_of target h) ≡ []
-  told_other target id h h1 = grind (arith)
-
   pub notes_append : (id : ClientParts) (a b : List (Note U)) → notes_of id (a ++ b) ≡ notes_of id a ++ notes_of id b
   notes_append id a b = flat_map-append (told_of id) a b
 
   pub notes_same : (target id : ClientParts) (told : List (Happening U)) → same_client target id ≡ true → notes_of id (map (note_of target) told) ≡ told
   notes_same target id [] same = refl
-  notes_same target id (h ∷ told) same = grind (arith, notes_of, note_of, told_same, notes_same target id told same)
+  notes_same target id (h ∷ told) same = grind (arith, notes_of, note_of, notes_same target id told same)
 
   pub notes_other : (target id : ClientParts) (told : List (Happening U)) → same_client target id ≡ false → notes_of id (map (note_of target) told) ≡ []
   notes_other target id [] other = refl
-  notes_other target id (h ∷ told) other = grind (arith, notes_of, map, note_of, told_other, notes_other target id told other)
+  notes_other target id (h ∷ told) other = grind (arith, notes_of, map, note_of, notes_other target id told other)
 
 -- ---- lists
 
@@ -86,12 +80,6 @@ module _ {T U C : Type 0} (waits : Bool) where
       → Gathers waits clients notes clients' notes' → length clients' ≡ length clients
   gathers_length clients notes clients' notes' by = grind (arith, length-map, option_map, emptied, length)
 
-  -- there is room for the notes of each client
-  pub room_at : (clients : List (Option (Stored T U C))) (notes : List (Note U)) (clients' : List (Option (Stored T U C))) (notes' : List (Note U)) (n n' room room' k : ℕ)
-      (x : Option (Stored T U C)) → Gathers waits clients notes clients' notes' → n ≡ length notes → n' ≡ length notes' → n + count_leaving waits clients ≤ room
-      → room' ≡ room → slice_get clients' k ≡ Some x → n' + length (to_gather waits x) ≤ room'
-  room_at clients notes clients' notes' n n' room room' k x by is is' fits same here = grind (arith, count_at)
-
   -- ---- one note is moved
 
   from_length : (slot : ℕ) (x : Option (Stored T U C)) (told behind : List (Happening U)) → to_gather waits x ≡ told ++ behind
@@ -121,15 +109,21 @@ module _ {T U C : Type 0} (waits : Bool) where
   told_at clients notes notes' slot (Some s) (Some s') here (h, left, rest, is) id =
       elim (compare target id) [
         | Are at same ↦
-            ap (λ (o : Option (Stored T U C)). notes_of id notes' ++ to_gather waits o) (client_present id clients' s' (after at) (serial' ∙ same))
+            ap (λ (o : Option (Stored T U C)). notes_of id notes' ++ to_gather waits o) (client_present id clients' s'
+            (subst (λ (n : ℕ). slice_get clients' n ≡ Some (Some s')) at (get_set_same clients slot (Some s) (Some s') here))
+            ((ap (λ (e : Stored T U C). e.serial) (same_Some (emptied waits s') (emptied waits s) rest)) ∙ same))
             ∙ (ap (λ (l : List (Happening U)). l ++ to_gather waits (Some s'))
             (ap (notes_of id) is ∙ (notes_append id notes (map (note_of target) told)
-            ∙ ap (λ (l : List (Happening U)). notes_of id notes ++ l) (notes_same target id told (is_same at same))))
+            ∙ ap (λ (l : List (Happening U)). notes_of id notes ++ l) (notes_same target id told
+            (subst (λ (i : ClientParts). same_client target i ≡ true) (same_parts target id at same) (same_self target)))))
             ∙ (grind (arith, append_assoc, notes_of, told, to_gather, client_present, here)))
         | Slots at ↦ told_if clients clients' notes notes' target told id (same_slots target id at) is
             (ap (λ (o : Option (Option (Stored T U C))). if_serial id.serial (option_map_or (λ s. s) o None)) (get_set_other clients slot id.slot (Some s') (other_of slot id.slot at)))
         | Serials at differ ↦ told_if clients clients' notes notes' target told id (same_serials target id at differ) is
-            (client_absent id clients' s' (after at) (rw serial' differ) ∙ sym (client_absent id clients s (subst (λ (n : ℕ). slice_get clients n ≡ Some (Some s)) at here) differ))
+            (client_absent id clients' s' (subst (λ (n : ℕ). slice_get clients' n ≡ Some (Some s')) at (get_set_same clients slot (Some s)
+            (Some s') here)) (rw (ap (λ (e : Stored T U C). e.serial) (same_Some (emptied waits s')
+            (emptied waits s) rest)) differ) ∙ sym (client_absent id clients s (subst (λ (n : ℕ). slice_get clients n ≡ Some
+            (Some s)) at here) differ))
       ]
     where
       told : List (Happening U)
@@ -140,15 +134,6 @@ module _ {T U C : Type 0} (waits : Bool) where
 
       clients' : List (Option (Stored T U C))
       clients' = slice_set clients slot (Some s')
-
-      serial' : s'.serial ≡ s.serial
-      serial' = ap (λ (e : Stored T U C). e.serial) (same_Some (emptied waits s') (emptied waits s) rest)
-
-      after : slot ≡ id.slot → slice_get clients' id.slot ≡ Some (Some s')
-      after at = subst (λ (n : ℕ). slice_get clients' n ≡ Some (Some s')) at (get_set_same clients slot (Some s) (Some s') here)
-
-      is_same : slot ≡ id.slot → s.serial ≡ id.serial → same_client target id ≡ true
-      is_same at same = subst (λ (i : ClientParts). same_client target i ≡ true) (same_parts target id at same) (same_self target)
 
   -- a note of the client of one slot was moved
   pub gathers_at : (clients : List (Option (Stored T U C))) (notes notes' : List (Note U)) (slot : ℕ) (x x' : Option (Stored T U C)) → slice_get clients slot ≡ Some x

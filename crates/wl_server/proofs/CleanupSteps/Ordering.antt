@@ -15,7 +15,7 @@ use Rattle.wl_server.specs.declared.notes.queues.NotePlace.{NotePlace}
 use Rattle.wl_server.specs.Inside.Gathering.{AllLeft, MovesNote}
 use Rattle.wl_server.specs.NoteOrder.{Along, IsOrderOf, all_places, place_at, places_at, places_of, slot_of, times_at, times_of, to_gather}
 use Rattle.wl_server.specs.Inside.NoteOrder.{AreNumbered, NoneNumbered, count_places, place_of}
-use Rattle.wl_server.specs.Server.{NoteTimes, Stored, no_times, note_of, stored_at}
+use Rattle.wl_server.specs.Server.{NoteTimes, Stored, no_times, stored_at}
 use Rattle.wl_sets.proofs.Lists.{get_set_other, get_set_same, other_of}
 
 -- ---- lists of places
@@ -92,13 +92,9 @@ module _ {U : Type 0} (slot k : ℕ) where
       let more = each_place waits true is notes in omega (arith, one, more)
   each_place waits false is (n ∷ notes) = grind (arith, places_at, map, place_of, places_cons, each_place waits false is notes)
 
-  put : (waits : Bool) (notes : List (ℕ × Happening U)) (order order' : List NotePlace) → order' ≡ order ++ map (place_of waits slot) notes
+  pub put : (waits : Bool) (notes : List (ℕ × Happening U)) (order order' : List NotePlace) → order' ≡ order ++ map (place_of waits slot) notes
       → places_at k order' ≡ places_at k order + (if slot == k then length notes else 0)
   put waits notes order order' is = grind (arith, places_at, sum_by-append, map, place_of, each_place)
-
-  pub put_made : (made : List (ℕ × Happening U)) (order order' : List NotePlace) → order' ≡ order ++ map (place_of false slot) made
-      → places_at k order' ≡ places_at k order + (if slot == k then length (map (λ n. n.1) made ++ []) else 0)
-  put_made made order order' is = grind (arith, put, places_at, append-nil, length-map)
 
   pub put_both : (made waiting : List (ℕ × Happening U)) (order order' order'' : List NotePlace) → order' ≡ order ++ map (place_of false slot) made
       → order'' ≡ order' ++ map (place_of true slot) waiting
@@ -122,7 +118,7 @@ past_places : (waits : Bool) (slot k : ℕ) (ts : List NoteTimes) → k < slot �
 past_places waits slot k [] past = refl
 past_places waits slot k (t ∷ ts) past = grind (arith, sum_by-append, places_of, all_places, map, place_at, length-append, at_place, length-map, ne_eqb, past_places waits (slot + 1) k ts)
 
-places_among : (waits : Bool) (slot k n : ℕ) (ts : List NoteTimes) → n ≡ slot + k → places_at n (all_places waits slot ts) ≡ length (places_of waits 0 (times_at k ts))
+pub places_among : (waits : Bool) (slot k n : ℕ) (ts : List NoteTimes) → n ≡ slot + k → places_at n (all_places waits slot ts) ≡ length (places_of waits 0 (times_at k ts))
 places_among waits slot k n [] at = grind (arith, places_of, no_times)
 places_among waits slot zero n (t ∷ ts) at = grind (arith, sum_by-append, places_of, all_places, map, place_at, length-append, at_place, length-map, eq-eqb, past_places)
 places_among waits slot (suc k) n (t ∷ ts) at = grind (arith, sum_by-append, places_of, all_places, map, place_at, length-append, at_place, length-map, ne_eqb, places_among waits (slot + 1) k n ts)
@@ -148,9 +144,6 @@ module _ {T U C : Type 0} (waits : Bool) where
   none_stored [] k past = refl
   none_stored (x ∷ clients) zero past = absurd (omega (arith, past))
   none_stored (x ∷ clients) (suc k) past = none_stored clients k (omega (arith, past))
-
-  pub placed_none : (clients : List (Option (Stored T U C))) (order : List NotePlace) → order ≡ [] → Placed clients 0 order
-  placed_none clients order none = record { below = λ k below. absurd (omega (arith, below)); past = λ k past. ap (places_at k) none }
 
   pub placed_more : (clients : List (Option (Stored T U C))) (slot : ℕ) (x : Option (Stored T U C)) (order order' : List NotePlace) → slice_get clients slot ≡ Some x
       → Placed clients slot order → ((k : ℕ) → places_at k order' ≡ places_at k order + (if slot == k then length (to_gather waits x) else 0))
@@ -195,17 +188,10 @@ module _ {T U C : Type 0} (waits : Bool) where
 
   -- ---- the numbers that are left
 
-  times_stored : (clients : List (Option (Stored T U C))) (k : ℕ) → times_at k (map times_of clients) ≡ times_of (stored_at k clients)
+  pub times_stored : (clients : List (Option (Stored T U C))) (k : ℕ) → times_at k (map times_of clients) ≡ times_of (stored_at k clients)
   times_stored [] k = refl
   times_stored (x ∷ clients) zero = refl
   times_stored (x ∷ clients) (suc k) = times_stored clients k
-
-  -- each client has as many numbers as notes, if the places are those of all of them
-  pub order_numbered : (clients : List (Option (Stored T U C))) (order : List NotePlace) → IsOrderOf waits clients order → (k : ℕ) → AreNumbered waits (stored_at k clients)
-  order_numbered clients order is k =
-      ap (λ (t : NoteTimes). length (places_of waits 0 t)) (sym (times_stored clients k))
-      ∙ (sym (places_among waits 0 k k (map times_of clients) (omega arith))
-      ∙ (sym (places_moved k (all_places waits 0 (map times_of clients)) order is.numbers) ∙ is.each k))
 
   pub set_numbered : (clients : List (Option (Stored T U C))) (i : ℕ) (x x' : Option (Stored T U C)) → slice_get clients i ≡ Some x → AreNumbered waits x'
       → ((k : ℕ) → AreNumbered waits (stored_at k clients)) → (k : ℕ) → AreNumbered waits (stored_at k (slice_set clients i x'))
@@ -214,12 +200,6 @@ module _ {T U C : Type 0} (waits : Bool) where
   pub none_numbered : (clients : List (Option (Stored T U C))) (order : List NotePlace) → order ≡ [] → Left clients order → ((k : ℕ) → AreNumbered waits (stored_at k clients))
       → NoneNumbered waits (map times_of clients)
   none_numbered clients order none left numbered k = grind (arith, places_at, places_of, times_stored, nil_from_length, times_at, times_of)
-
-  -- ---- the slots of the notes
-
-  pub slots_after : (notes notes' : List (Note U)) (slot : ℕ) (x x' : Option (Stored T U C)) → MovesNote waits slot x notes x' notes'
-      → (one : List (Note U)) × (notes' ≡ notes ++ one) × (map slot_of one ≡ slot ∷ [])
-  slots_after notes notes' slot x x' h1 = grind (arith, to_gather, note_of)
 
   -- ---- a round of the loop that gathers
 

@@ -19,9 +19,12 @@ use Rattle.wl_server.specs.Ids.{ClientParts}
 use Rattle.wl_server.specs.Inside.Leaving.{Flushes, FlushesKilled, all_staying, collected, with_data, ends_at, ends_of, given_at, id_in, staying}
 use Rattle.wl_server.specs.NoteOrder.{RiseFromSlot}
 use Rattle.wl_server.specs.Server.{Stored, no_times, note_of}
-use Rattle.wl_server.proofs.Readings.Flushing.{killed_stays, live_flushed}
+use Rattle.wl_server.proofs.Readings.Flushing.{live_flushed}
 use Rattle.wl_server.proofs.CleanupSteps.Gathering.{map_set}
 use Rattle.wl_sets.proofs.Lists.{get_set_other, get_set_same, other_of}
+use Rattle.wl_link.proofs.Calls.Branches.{at_true}
+use Rattle.wl_server.proofs.Readings.Flushing.{does_nothing}
+use Rattle.wl_server.specs.Felt.{FlushesLive}
 
 map_itself : {A : Type 0} (f : A → A) (xs : List A) → ((k : ℕ) (x : A) → slice_get xs k ≡ Some x → f x ≡ x) → map f xs ≡ xs
 map_itself f [] all = refl
@@ -69,7 +72,8 @@ module _ {T U C : Type 0} where
   pub not_flushed : (sends : T → Queue → Result ℕ IoFault → T → Type 0) (killed : Bool) (s : Stored T U C) → (s.part.is_killed ≡ killed → ⊥)
       → Does s (λ p did q. Flushes sends killed p false did q) s
   not_flushed sends true s other = not_killed sends s (grind (arith, s.part.is_killed))
-  not_flushed sends false s other = killed_stays sends s (grind (arith, s.part.is_killed))
+  not_flushed sends false s other = does_nothing s (λ p did q. FlushesLive sends p false did q) (at_true _ s.part.is_killed
+      (grind (arith, s.part.is_killed)) (refl, refl, refl))
 
   -- ---- what is noted of one client
 

@@ -56,10 +56,6 @@ module _ {T U C : Type 0} where
   unfolding AreTaken
   taken_felt R n refused before after all taken k below = grind (arith, is_some)
 
-  pub slots_felt : (R : Kind T U C) (count n : ℕ) (refused : Bool) (before after : List (Option (Stored T U C)))
-      → AllFeel R refused (length before) before after → HasSlots count n before → HasSlots count n after
-  slots_felt R count n refused before after all has = record { within = has.within; taken = taken_felt R n refused before after all has.taken }
-
   -- ---- where notes are gathered
 
   emptied_at : (waits : Bool) (k : ℕ) (clients : List (Option (Stored T U C))) → is_some (stored_at k (all_emptied waits clients)) ≡ is_some (stored_at k clients)

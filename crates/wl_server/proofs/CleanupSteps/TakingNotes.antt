@@ -13,26 +13,24 @@ use Rattle.wl_server.specs.declared.runs.step.Step.TheVariants as step
 use Rattle.wl_server.proofs.OverRuns.Alone.AccountLaws.{calls}
 use Rattle.wl_server.specs.Backend.{Calls}
 use Rattle.wl_server.specs.Deeds.{NoteTaken}
-use Rattle.wl_server.specs.Inside.Gathering.{AllLeft, Gathers, all_emptied, count_leaving, emptied}
+use Rattle.wl_server.specs.Inside.Gathering.{AllLeft, Gathers, count_leaving, emptied}
 use Rattle.wl_server.specs.NoteOrder.{AllNumbered, AllTakeFirst, IsInOrder, times_of, to_gather}
 use Rattle.wl_server.specs.Globals.{Offer}
 use Rattle.wl_server.specs.Ids.{ClientParts}
 use Rattle.wl_server.specs.PartStep.{Asked, NotesTaken, World}
 use Rattle.wl_server.specs.Server.{ServerState, Stored, client_at, if_serial, notes_of, seen_as}
 use Rattle.wl_server.specs.Steps.{SomeClient, StepOf}
-use Rattle.wl_server.proofs.CallSteps.Numbering.{all_none}
-use Rattle.wl_server.proofs.CleanupSteps.Asking.{notes_ask}
+use Rattle.wl_server.proofs.CleanupSteps.Asking.{one_leaves}
+use Rattle.wl_server.proofs.CallSteps.Numbering.{turn_still}
 
 module _ {T U C : Type 0} where
   -- ---- what is left of each client
 
-  pub client_emptied : (waits : Bool) (clients : List (Option (Stored T U C))) (id : ClientParts) → client_at id (all_emptied waits clients) ≡ option_map (emptied waits) (client_at id clients)
-  client_emptied waits clients id = grind (arith, if_serial, option_map_or, slice_get-map, option_map, emptied, slice_get)
-
   -- of each id the same client is left
   pub same_left : (waits : Bool) (clients : List (Option (Stored T U C))) (notes : List (Note U)) (clients' : List (Option (Stored T U C))) (notes' : List (Note U))
       → Gathers waits clients notes clients' notes' → (id : ClientParts) → option_map (emptied waits) (client_at id clients') ≡ option_map (emptied waits) (client_at id clients)
-  same_left waits clients notes clients' notes' by id = sym (client_emptied waits clients' id) ∙ (ap (client_at id) by.rest ∙ client_emptied waits clients id)
+  same_left waits clients notes clients' notes' by id = sym (grind (arith, if_serial, option_map_or, slice_get-map, option_map, emptied, slice_get))
+      ∙ (ap (client_at id) by.rest ∙ (grind (arith, if_serial, option_map_or, slice_get-map, option_map, emptied, slice_get)))
 
   pub none_left : (waits : Bool) (clients : List (Option (Stored T U C))) → AllLeft waits clients → (id : ClientParts) → to_gather waits (client_at id clients) ≡ []
   none_left waits clients all id = grind (arith, to_gather, if_serial)
@@ -44,20 +42,14 @@ module _ {T U C : Type 0} where
       → Gathers false clients notes clients' out.items → AllLeft false clients' → (id : ClientParts)
       → NotesTaken w id offer (Ok out) (seen_as (notes_of id notes) (client_at id clients)) false (map NoteTaken (notes_of id notes ++ option_map_or (λ s. s.made) (client_at id clients) []))
       (seen_as [] (client_at id clients'))
-  each_taken w offer clients notes clients' out by left id = (told, refl, refl, held)
+  each_taken w offer clients notes clients' out by left id = ((grind (arith, append-nil, notes_of, none_left, clients', left, id, client_at)), refl, refl, held)
     where
-      none : to_gather false (client_at id clients') ≡ []
-      none = none_left false clients' left id
-
-      told : notes_of id out.items ≡ notes_of id notes ++ option_map_or (λ s. s.made) (client_at id clients) []
-      told = grind (arith, append-nil, notes_of, none, client_at)
-
       parts : option_map (λ s. s.part) (client_at id clients') ≡ option_map (λ s. s.part) (client_at id clients)
       parts = sym (grind (arith, client_at id clients'))
           ∙ (ap (option_map (λ (s : Stored T U C). s.part)) (same_left false clients notes clients' out.items by id) ∙ (grind (arith, client_at id clients)))
 
       held : seen_as [] (client_at id clients') ≡ record { part = option_map (λ s. s.part) (client_at id clients); made = [] }
-      held = grind (arith, option_map_or, client_at, parts, option_map, append-nil, none)
+      held = grind (arith, option_map_or, client_at, parts, option_map, append-nil, none_left, clients', left, id)
 
 module _ {T U G C : Type 0} (w : World T G C) (before : ServerState T U G C) where
   -- ---- the step
@@ -114,7 +106,7 @@ module _ {T U G C : Type 0} (w : World T G C) (before : ServerState T U G C) whe
       order = tt;
       room = some;
       refused = (λ h. inl refl, λ h. refl);
-      notes = record { gathered = refl; times = all_none _ _; numbered = all };
+      notes = record { gathered = refl; times = (0, (grind (arith, turn_still))); numbered = all };
       each = λ id. (Err e, refl, (refl, refl, refl));
     },
   )
@@ -125,4 +117,6 @@ module _ {T U G C : Type 0} (w : World T G C) (before : ServerState T U G C) whe
   notes_starved e clients' notes' same same' some all =
       calls _ _ _ _ _
       (subst (λ (xs : List (Option (Stored T U C))). StepOf w before step.TakeNotes (reply.TakeNotes (Err e)) true (record before { clients = xs; notes = notes' })) (sym same)
-      (subst (λ (ns : List (Note U)). StepOf w before step.TakeNotes (reply.TakeNotes (Err e)) true (record before { notes = ns })) (sym same') (not_taken e (notes_ask before.clients some) all)))
+      (subst (λ (ns : List (Note U)). StepOf w before step.TakeNotes (reply.TakeNotes (Err e)) true (record before { notes = ns })) (sym same')
+      (not_taken e (let (slot, s, here, is) = one_leaves false before.clients some in
+      (slot, s, here, λ none. is (append-nil s.made ∙ none))) all)))

@@ -14,7 +14,7 @@ use Rattle.wl_server.specs.declared.reading.action.Reading.{Reading}
 use Rattle.wl_server.specs.declared.runs.step.Reply.TheVariants as reply
 use Rattle.wl_server.specs.declared.runs.step.Step.TheVariants as step
 use Rattle.wl_server.specs.Backend.{BackendState}
-use Rattle.wl_server.specs.Bounded.{EachIsBounded, EachPartIsBounded, KeepsTo, receives_in, receives_over}
+use Rattle.wl_server.specs.Bounded.{EachPartIsBounded, KeepsTo, receives_in, receives_over}
 use Rattle.wl_server.specs.Deeds.{Deed, Handed, came_in}
 use Rattle.wl_server.specs.Dispatch.{Answering, EndsDispatch, Handles, Last, Round, Rounds, IsDispatched, EachIsDispatched, more, no_action, none, not_ended}
 use Rattle.wl_server.specs.Globals.{Offer}
@@ -27,7 +27,7 @@ use Rattle.wl_server.specs.Runs.{Leads}
 use Rattle.wl_server.specs.Server.{Seen, ServerState, seen}
 use Rattle.wl_server.specs.Steps.{Entry, OneStep}
 use Rattle.wl_server.specs.Telling.{Core, Told}
-use Rattle.wl_server.proofs.Dispatches.Waiting.{spared_unread, stops_left, unread_goes, unread_moves}
+use Rattle.wl_server.proofs.Dispatches.Waiting.{stops_left, unread_goes, unread_moves}
 use Rattle.wl_server.proofs.OverRuns.Alone.IsolationLaw.{same_self}
 use Rattle.wl_server.proofs.OverRuns.Cut.RoomLaws.{no_more, none_sent, received, received_deeds}
 use Rattle.wl_server.proofs.OverRuns.Moves.BaseMoves.{Doings, Goes, Moves, followed, handed_out, notes_taken, moved, stayed, taken_out, unfelt, within}
@@ -75,12 +75,8 @@ module _ {T U G C : Type 0} (w : World T G C) (id : ClientParts) (offer : Offer 
   nothing : (call : Call T U G C) → reads_of id call ≡ false → PartCall w id offer call before lacked did after → receives_in did ≡ 0
   nothing call other h = ap length (call_quiet w id offer before after lacked did call other h)
 
-  keeps_to : (call : Call T U G C) → PartCall w id offer call before lacked did after → KeepsTo id call (receives_in did)
+  pub keeps_to : (call : Call T U G C) → PartCall w id offer call before lacked did after → KeepsTo id call (receives_in did)
   keeps_to call h1 = grind (arith, same_client, receives_in, either_option, around, part_bounded, new_reading, action_content, nothing, length, call_quiet)
-
--- so each call does of each client
-pub each_bounded : {T U G C : Type 0} (w : World T G C) (before after : ServerState T U G C) (e : Entry T U G C) → OneStep w before e after → EachIsBounded e
-each_bounded w before after e one id = keeps_to w id before.offer (seen id before) (seen id after) (e.lacks id) (e.did id) e.call (one.each id)
 
 -- ---- calls one after another
 
@@ -98,20 +94,20 @@ module _ {T U G C : Type 0} (w : World T G C) (id : ClientParts) where
 
   calls_quiet : (before after : ServerState T U G C) (run : List (Entry T U G C)) → Leads w before run after → AllSpare id run → receives_over id run ≡ 0
   calls_quiet before after [] same spared = refl
-  calls_quiet before after (e ∷ run) (mid, one, leads) (spared, others) = grind (arith, one_quiet, spared_unread, calls_quiet mid after run leads others)
+  calls_quiet before after (e ∷ run) (mid, one, leads) (spared, others) = grind (arith, one_quiet, true≢false, calls_quiet mid after run leads others)
 
   -- a reading of this client with so many receives left
   pub reading_bounded : (before after : ServerState T U G C) (e : Entry T U G C) (r r' : Reading) (answer : Result Action ActionError)
       → e.call ≡ Asked (step.NextActionWithin id r) (reply.NextActionWithin answer r') → OneStep w before e after
       → receives_in (e.did id) + r'.turns_left ≤ r.turns_left
-  reading_bounded before after e r r' answer h1 h2 = grind (arith, same_client, same_self, receives_in, each_bounded, true≢false, keeps_to, seen)
+  reading_bounded before after e r r' answer h1 h2 = grind (arith, same_client, same_self, receives_in, keeps_to, true≢false, seen)
 
 -- ---- a dispatch
 
 module _ {H T U G C : Type 0} (w : World T G C) (answers : Answering H T U G C) (id : ClientParts) where
   handles_quiet : (h h' : H) (before : BackendState T U G C) (after : ServerState T U G C) (a : Action) (run : List (Entry T U G C)) (lacked : Bool) (why : Option FinishError)
       → Handles w answers id h before a run lacked why h' after → receives_over id run ≡ 0
-  handles_quiet h h' before after a run lacked why h1 = grind (arith, calls_quiet, one_quiet, over_split, reads_of, spared_unread, nothing, seen, receives_over, over_both)
+  handles_quiet h h' before after a run lacked why h1 = grind (arith, calls_quiet, one_quiet, over_split, reads_of, true≢false, nothing, seen, receives_over, over_both)
 
   -- so many receives were made, and so many are left
   abbrev Spends : Reading → List (Entry T U G C) → Reading → Type 0

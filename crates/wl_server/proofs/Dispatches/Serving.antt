@@ -1,11 +1,8 @@
 -- From what the calls of a dispatch say of themselves to what it does.
 use Rattle.std.proofs.Common.{◌≡◌, ◌<◌, ◌≤◌, ℕ, ◌+◌, length, get_or, take, arith, List, [], ◌∷◌, ◌++◌, append_assoc, append-nil, Bool, false, Option, None, Some, is_some, Result, Ok, Err, ap, refl, sym, subst, ◌∙◌, true≢false}
-use Rattle.std.specs.Prelude.{◌||◌, Vec}
+use Rattle.std.specs.Prelude.{◌||◌}
 use Rattle.std.proofs.lemmas.List.{take_all, take_more}
-use Rattle.std.specs.Global.{Global}
 use Rattle.wl_wire.specs.declared.error.IoFault.{IoFault}
-use Rattle.wl_wire.specs.declared.error.OutOfMemory.{OutOfMemory}
-use Rattle.wl_link.specs.Exchange.{IsWithinOffer}
 use Rattle.wl_server.specs.declared.error.ActionError.{ActionError}
 use Rattle.wl_server.specs.declared.error.FinishError.{FinishError}
 use Rattle.wl_server.specs.declared.reading.action.Action.{Action}
@@ -15,9 +12,9 @@ use Rattle.wl_server.specs.declared.runs.step.Reply.TheVariants as reply
 use Rattle.wl_server.specs.declared.runs.step.Step.{Step}
 use Rattle.wl_server.specs.declared.runs.step.Step.TheVariants as step
 use Rattle.wl_server.specs.Backend.{BackendState, Calls}
-use Rattle.wl_server.specs.Dispatch.{Answering, Answers, DispatchesAll, DispatchesClient, EndsDispatch, Handles, Last, IsDispatched, EachIsDispatched, StayAccountedFor, Round, Rounds, RoundsEnd, after_cleanup, dispatched, fault_of_end, fault_of_reading, more, no_action, none, not_ended, refusal_in, total_with}
+use Rattle.wl_server.specs.Dispatch.{Answering, Answers, DispatchesAll, DispatchesClient, EndsDispatch, Handles, Last, IsDispatched, EachIsDispatched, Round, Rounds, RoundsEnd, dispatched, fault_of_end, fault_of_reading, more, no_action, none, not_ended, refusal_in, total_with}
 use Rattle.wl_server.specs.Ids.{ClientParts}
-use Rattle.wl_server.specs.Inside.Dispatching.{CleansUp, Fewer, RoundsSoFar, ClientsSoFar, MakesAllRounds, MakesRound, MakesRounds, waiting_of}
+use Rattle.wl_server.specs.Inside.Dispatching.{CleansUp, Fewer, RoundsSoFar, ClientsSoFar, MakesAllRounds, MakesRound, MakesRounds}
 use Rattle.wl_server.specs.PartStep.{World}
 use Rattle.wl_server.specs.Reached.{Reached}
 use Rattle.wl_server.specs.Reading.{new_reading}
@@ -106,9 +103,6 @@ module _ {H T U G C : Type 0} (w : World T G C) (answers : Answering H T U G C) 
         fewer = λ none. absurd (true≢false (ap is_some none));
       }
 
-  refused_both : (a b c : Bool) (was read : Bool) → was ≡ a → read ≡ b → ((was || read) || c) ≡ a || (b || c)
-  refused_both a b c was read was_is read_is = grind (arith, or_assoc)
-
   pub serves_refused : (h h' : H) (r r' : Reading) (before found left : BackendState T U G C) (a : Action) (error : FinishError) (f : IoFault) (after : BackendState T U G C) (was read : Bool)
       → was ≡ before.refused → read ≡ found.refused → Calls w before (step.NextActionWithin id r) (reply.NextActionWithin (Ok a) r') found
       → (run : List (Entry T U G C)) × Handles w answers id h found a run left.refused (Some error) h' left.server → f ≡ fault_of_end error → after ≡ keeping (was || read) left
@@ -121,7 +115,7 @@ module _ {H T U G C : Type 0} (w : World T G C) (answers : Answering H T U G C) 
         round = subst (λ (x : IoFault). Last w answers id h r before.server run (found.refused || left.refused) x h' r' after.server) (sym is)
             (subst (λ (s : ServerState T U G C). Last w answers id h r before.server run (found.refused || left.refused) (fault_of_end error) h' r' s)
             (sym (ap (λ (b : BackendState T U G C). b.server) kept)) last);
-        refused = ap (λ (b : BackendState T U G C). b.refused) kept ∙ refused_both before.refused found.refused left.refused was read was_is read_is;
+        refused = ap (λ (b : BackendState T U G C). b.refused) kept ∙ (grind (arith, or_assoc, before.refused, found.refused, left.refused));
         fewer = λ none. absurd (true≢false (ap is_some none));
       }
 
@@ -135,7 +129,7 @@ module _ {H T U G C : Type 0} (w : World T G C) (answers : Answering H T U G C) 
         run = run;
         lacked = found.refused || left.refused;
         round = subst (λ (s : ServerState T U G C). Round w answers id h r before.server run (found.refused || left.refused) None h' r' s) (sym server) round;
-        refused = ap (λ (b : BackendState T U G C). b.refused) kept ∙ refused_both before.refused found.refused left.refused was read was_is read_is;
+        refused = ap (λ (b : BackendState T U G C). b.refused) kept ∙ (grind (arith, or_assoc, before.refused, found.refused, left.refused));
         fewer = λ none.
             subst (λ (s : ServerState T U G C). Fewer id r before.server r' s) (sym server)
             (round_fewer w id answers h h' r r' before found left.server a handles.0 left.refused None calls handles.1);
@@ -154,17 +148,13 @@ module _ {H T U G C : Type 0} (w : World T G C) (answers : Answering H T U G C) 
   pub so_far_none : (h : H) (r : Reading) (before : BackendState T U G C) → RoundsSoFar w answers id h r before h r before
   so_far_none h r before = record { run = []; lacked = false; rounds = none refl refl; refused = sym (or_false before.refused) }
 
-  -- memory was refused so far, and then
-  refused_so : (a b c d e : Bool) → c ≡ b || e → b ≡ a || d → c ≡ a || (d || e)
-  refused_so a b c d e second first = second ∙ ap (λ (x : Bool). x || e) first ∙ or_assoc a d e
-
   pub so_far_more : {h h1 h' : H} {r r1 r' : Reading} {before mid after : BackendState T U G C} {end : Option IoFault} → RoundsSoFar w answers id h r before h1 r1 mid
       → MakesRound w answers id h1 r1 mid end h' r' after → end ≡ None → RoundsSoFar w answers id h r before h' r' after
   so_far_more {h} {h1} {h'} {r} {r1} {r'} {before} {mid} {after} {end} so_far one is = record {
     run = so_far.run ++ one.run;
     lacked = so_far.lacked || one.lacked;
     rounds = more so_far.rounds (rw is at one.round) refl refl;
-    refused = refused_so before.refused mid.refused after.refused so_far.lacked one.lacked one.refused so_far.refused;
+    refused = one.refused ∙ ap (λ (x : Bool). x || one.lacked) so_far.refused ∙ or_assoc before.refused so_far.lacked one.lacked;
   }
 
   pub so_far_joins : {h h1 h' : H} {r r1 r' : Reading} {before mid after : BackendState T U G C} {end : Option IoFault} → RoundsSoFar w answers id h r before h1 r1 mid
@@ -173,7 +163,7 @@ module _ {H T U G C : Type 0} (w : World T G C) (answers : Answering H T U G C) 
     run = so_far.run ++ some.run;
     lacked = so_far.lacked || some.lacked;
     rounds = rounds_join h h1 h' r r1 r' before.server mid.server after.server so_far.run some.run so_far.lacked some.lacked so_far.rounds (rw is at some.rounds);
-    refused = refused_so before.refused mid.refused after.refused so_far.lacked some.lacked some.refused so_far.refused;
+    refused = some.refused ∙ ap (λ (x : Bool). x || some.lacked) so_far.refused ∙ or_assoc before.refused so_far.lacked some.lacked;
   }
 
   -- a receive was used up
@@ -200,7 +190,7 @@ module _ {H T U G C : Type 0} (w : World T G C) (answers : Answering H T U G C) 
       run_is = refl;
       lacked_is = refl;
     };
-    refused = refused_so before.refused mid.refused after.refused so_far.lacked one.lacked one.refused so_far.refused;
+    refused = one.refused ∙ ap (λ (x : Bool). x || one.lacked) so_far.refused ∙ or_assoc before.refused so_far.lacked one.lacked;
     fewer = λ none. absurd (true≢false (ap is_some none));
   }
 
@@ -229,13 +219,8 @@ module _ {H T U G C : Type 0} (w : World T G C) (answers : Answering H T U G C) 
           };
           answer_is = answered;
         };
-        refused = refused_so before.refused mid.refused after.refused so_far.lacked some.lacked some.refused so_far.refused;
+        refused = some.refused ∙ ap (λ (x : Bool). x || some.lacked) so_far.refused ∙ or_assoc before.refused so_far.lacked some.lacked;
       }
-
--- no receive was used up, so fewer bytes wait
-pub fewer_wait : {T U G C : Type 0} (id : ClientParts) (r : Reading) (s : ServerState T U G C) (r' : Reading) (s' : ServerState T U G C) (left : ℕ) → Fewer id r s r' s'
-    → r.turns_left ≡ left → left ≤ r'.turns_left → (r'.turns_left ≡ left) × (waiting_of id s' < waiting_of id s)
-fewer_wait id r s r' s' left h7 was many = grind (arith)
 
 -- ---- that it is a run
 
@@ -275,8 +260,7 @@ module _ {H T U G C : Type 0} (w : World T G C) (answers : Answering H T U G C) 
 module _ {H T U G C : Type 0} (w : World T G C) (answers : Answering H T U G C) where
   each_lead : {ids : List ClientParts} {h h' : H} {before : ServerState T U G C} {run : List (Entry T U G C)} {lacked : Bool} {total : ℕ} {after : ServerState T U G C}
       → EachIsDispatched w answers ids h before run lacked total h' after → Leads w before run after
-  each_lead {ids} {h} {h'} {before} {run} {lacked} {total} {after} (none no_ids no_run unlacked no_total) =
-      subst (λ (y : List (Entry T U G C)). Leads w before y before) (sym no_run) refl
+  each_lead {ids} {h} {h'} {before} {run} {lacked} {total} {after} (none no_ids no_run unlacked no_total) = grind (arith)
   each_lead {ids} {h} {h'} {before} {run} {lacked} {total} {after} (more {s1 = mid} {first = first} {next = next} id answer each serves ids_are run_is lacked_is total_is) =
       subst (λ (y : List (Entry T U G C)). Leads w before y after) (sym run_is)
       (join_runs w before mid after first next (each_lead each) (serves_lead w answers id serves))
@@ -284,16 +268,6 @@ module _ {H T U G C : Type 0} (w : World T G C) (answers : Answering H T U G C) 
 -- ---- its end
 
 module _ {T U G C : Type 0} (w : World T G C) where
-  stay_accounted : IsWithinOffer w.sends → (before after : ServerState T U G C) (run : List (Entry T U G C)) → Leads w before run after → StayAccountedFor w before run after
-  stay_accounted within before after run leads table earlier led =
-      let longer = join_runs w (new_server table) before after earlier run led leads in (longer, is_accounted_for w within table (earlier ++ run) after longer)
-
-  -- the cleanup of a dispatch
-  pub cleans_up : (before left after : BackendState T U G C) (r : Result (Vec (ClientParts × T) Global) OutOfMemory) (answer result : Result ℕ IoFault) (was : Bool)
-      → was ≡ before.refused → Calls w before step.Cleanup (reply.Cleanup r) left → after ≡ record left { refused = was || left.refused } → result ≡ after_cleanup r answer
-      → CleansUp w before answer result after
-  cleans_up before left after r answer result was was_is calls kept is = grind (arith)
-
   ends_dispatch : {mid after : BackendState T U G C} {answer result : Result ℕ IoFault} (before : ServerState T U G C) (calls : List (Entry T U G C)) (lacked : Bool)
       → Leads w before calls mid.server → mid.refused ≡ lacked → CleansUp w mid answer result after → EndsDispatch w before calls lacked mid.server answer result after
   ends_dispatch {mid} {after} {answer} {result} before calls lacked leads refused ends =
@@ -305,7 +279,8 @@ module _ {T U G C : Type 0} (w : World T G C) where
         result_is = ends.result_is;
         refused = ends.refused ∙ ap (λ (b : Bool). b || ends.cleanup.refused) refused;
         leads = whole;
-        accounted = λ within. stay_accounted within before after.server (calls ++ (ends.cleanup ∷ [])) whole;
+        accounted = λ within. (λ table earlier led. let longer = join_runs w (new_server table) before after.server earlier (calls ++
+            (ends.cleanup ∷ [])) led whole in (longer, is_accounted_for w within table (earlier ++ (calls ++ (ends.cleanup ∷ []))) after.server longer));
         cut = λ earlier later e found left is led one leads. histories_cut w found left e.call e refl one;
       }
 
@@ -351,10 +326,6 @@ module _ {H T U G C : Type 0} (w : World T G C) (answers : Answering H T U G C) 
     each.each,
     ends_dispatch w before.server each.run each.lacked (each_lead w answers each.each) each.refused ends,
   )
-
-  pub each_begun : (h : H) (before begun : BackendState T U G C) → begun ≡ record before { refused = false }
-      → ClientsSoFar w answers [] h (record before { refused = false }) 0 h begun
-  each_begun h before begun is = grind (arith, each_none)
 
   -- the next of the clients
   pub one_more : {h h1 h' : H} {before mid after : BackendState T U G C} {count total : ℕ} {answer : Result ℕ IoFault} (ids : List ClientParts) (n : ℕ) (id : ClientParts)

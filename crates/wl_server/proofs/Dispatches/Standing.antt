@@ -13,11 +13,12 @@ use Rattle.wl_server.specs.Reached.{AllSpare, spares}
 use Rattle.wl_server.specs.Runs.{IsNotInserted, Leads, concerns}
 use Rattle.wl_server.specs.Server.{Seen, ServerState, seen}
 use Rattle.wl_server.specs.Steps.{Entry}
-use Rattle.wl_server.proofs.Dispatches.Waiting.{spared_unread}
-use Rattle.wl_server.proofs.OverRuns.Alone.IsolationLaw.{not_again, other_call}
+use Rattle.wl_server.proofs.OverRuns.Alone.IsolationLaw.{other_call}
 use Rattle.wl_server.proofs.OverRuns.Moves.BaseMoves.{Doings, Goes, Kind, Moves, followed, handed_out, notes_taken, moved, stayed, taken_out, unfelt, within}
 use Rattle.wl_server.proofs.OverRuns.Moves.BaseMovesLaw.{call_moves}
 use Rattle.wl_server.proofs.Plain.Base.{none_and_some, one_value}
+use Rattle.wl_server.proofs.OverRuns.Alone.IsolationLaw.{later_differs}
+use Rattle.wl_server.proofs.OverRuns.Alone.IsolationLaw.{numbered}
 
 -- no action is opened, and none is ended
 abbrev standing : Kind
@@ -56,7 +57,7 @@ module _ {T U G C : Type 0} (w : World T G C) (id : ClientParts) where
       go true about =
           goes_stand w.sends w.receives id s t _
           (call_moves standing w id offer call s lacked did t about
-          (grind (arith, true≢false, spared_unread)) h) stands
+          (grind (arith, true≢false)) h) stands
       go false far = subst Stands (sym (ap (λ (x : Seen T U C). x.part) (other_call w id offer call s lacked did t other far h).2)) stands
 
   -- so it is over all calls of a handler, if the id was given before
@@ -65,7 +66,8 @@ module _ {T U G C : Type 0} (w : World T G C) (id : ClientParts) where
   run_stands before after [] born same spared stands = subst (λ (s : ServerState T U G C). Stands (seen id s).part) (sym same) stands
   run_stands before after (e ∷ run) born (mid, by, leads) (spared, others) stands =
       run_stands mid after run (let grown = by.last in omega (arith, born, grown)) leads others
-      (call_stands before.offer e.call (seen id before) (e.lacks id) (e.did id) (seen id mid) spared (not_again w id before mid e born by) (by.each id) stands)
+      (call_stands before.offer e.call (seen id before) (e.lacks id) (e.did id) (seen id mid) spared (λ new inserts. later_differs new id
+      (let next = (numbered before e.call new by.client inserts).2 in omega (arith, born, next))) (by.each id) stands)
 
   pub born_still : (before after : ServerState T U G C) (run : List (Entry T U G C)) → id.serial ≤ before.last_client → Leads w before run after → id.serial ≤ after.last_client
   born_still before after [] born same = let e = ap (λ (s : ServerState T U G C). s.last_client) same in omega (arith, born, e)

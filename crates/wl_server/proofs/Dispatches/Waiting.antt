@@ -35,7 +35,7 @@ use Rattle.wl_server.specs.Ids.{ClientParts, same_client}
 use Rattle.wl_server.specs.Inside.Dispatching.{Fewer, waiting_of, waits}
 use Rattle.wl_server.specs.Part.{Part}
 use Rattle.wl_server.specs.PartStep.{Asked, Call, PartCall, ReadsFor, World, around}
-use Rattle.wl_server.specs.Reached.{AllSpare, spares}
+use Rattle.wl_server.specs.Reached.{AllSpare}
 use Rattle.wl_server.specs.Reading.{Around, NextAction, action_content, action_in, answered, server}
 use Rattle.wl_server.specs.Runs.{Leads}
 use Rattle.wl_server.specs.Server.{Seen, ServerState, seen}
@@ -86,9 +86,6 @@ module _ {T U C : Type 0} where
       → Goes unread_moves sends receives client before d after → waits after ≤ waits before
   goes_no_more sends receives client before after d h1 = grind (arith, unfelt, within, moves_keep, taken_out, notes_taken)
 
-pub spared_unread : {T U G C : Type 0} (id : ClientParts) (call : Call T U G C) → spares id call ≡ true → reads_of id call ≡ false
-spared_unread id call h1 = grind (arith, true≢false)
-
 module _ {T U G C : Type 0} (w : World T G C) (id : ClientParts) (offer : Offer G) (before after : Seen T U C) (lacked : Bool) (did : List (Deed U)) where
   pub unread_goes : (call : Call T U G C) → reads_of id call ≡ false → PartCall w id offer call before lacked did after → AnyGoes unread_moves w id offer before did after
   unread_goes call other h =
@@ -104,7 +101,8 @@ module _ {T U G C : Type 0} (w : World T G C) (id : ClientParts) where
   calls_add_nothing : (before after : ServerState T U G C) (run : List (Entry T U G C)) → Leads w before run after → AllSpare id run
       → waiting_of id after ≤ waiting_of id before
   calls_add_nothing before after [] same spared = let e : waiting_of id after ≡ waiting_of id before = ap (λ (s : ServerState T U G C). waiting_of id s) same in omega (arith, e)
-  calls_add_nothing before after (e ∷ run) (mid, one, leads) (spared, others) = grind (arith, one_adds_nothing, spared_unread, calls_add_nothing mid after run leads others)
+  calls_add_nothing before after (e ∷ run) (mid, one, leads)
+      (spared, others) = grind (arith, one_adds_nothing, true≢false, calls_add_nothing mid after run leads others)
 
 -- ---- what a reading takes
 
@@ -128,10 +126,6 @@ module _ {T Core Event Finish : Type 0} (sends : T → Queue → Result ℕ IoFa
 
   abbrev Less : ℕ → ReaderState T Core → Gives Event → ReaderState T Core → Type 0
   Less left p out end = (out.left < left) ⊎ ((out.left ≡ left) × (length end.link.incoming.bytes < length p.link.incoming.bytes))
-
-  less_behind : (left : ℕ) (p mid end : ReaderState T Core) (out rest : Gives Event) → out.left ≡ rest.left → length mid.link.incoming.bytes < length p.link.incoming.bytes
-      → NotMore left mid rest end → Less left p out end
-  less_behind left p mid end out rest is shorter h9 = grind (arith)
 
   as_much_behind : (left : ℕ) (p mid end : ReaderState T Core) (out rest : Gives Event) → out.left ≡ rest.left → length mid.link.incoming.bytes ≤ length p.link.incoming.bytes
       → NotMore left mid rest end → NotMore left p out end
@@ -173,7 +167,7 @@ module _ {T U G C : Type 0} (sends : T → Queue → Result ℕ IoFault → T �
   reads_less left p end (Handled es ∷ turns) out h (on, (v, link, first, lacked, mid, rest, (m, read, so), carried, split, more)) is =
       let shorter = taken_shorter sends receives reader (reader.signature p.core) p.link link m read in
       let kept = carried_length sends receives reader v link mid es first lacked carried in
-      grind (arith, less_behind, reader, reads_no_more)
+      grind (arith, reader, reads_no_more)
   reads_less left p end (Unread es ∷ turns) out h (on, (v, link, first, lacked, mid, rest, (malformed, same, so), carried, split, more)) is = grind (arith, action_in, ends_garbled, true≢false)
 
 module _ {T U G C : Type 0} (w : World T G C) (id : ClientParts) where

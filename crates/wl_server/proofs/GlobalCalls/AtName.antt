@@ -1,6 +1,6 @@
 -- What becomes of the globals by a change at one name.
-use Rattle.std.proofs.Common.{◌≡◌, ◌<◌, ℕ, ◌+◌, Bool, true, false, List, Option, Some, Bor, Err, Result, is_some, not, refl, ap, ◌∙◌, nat_le, subst, arith, Ok}
-use Rattle.std.specs.Prelude.{MatchOption, option_copied, slice_get}
+use Rattle.std.proofs.Common.{◌≡◌, ◌<◌, ℕ, ◌+◌, true, false, List, Option, Some, Err, Result, is_some, refl, ap, ◌∙◌, nat_le, subst, arith, Ok}
+use Rattle.std.specs.Prelude.{MatchOption, slice_get}
 use Rattle.std.proofs.lemmas.Bool.{eq-eqb, false≢true, ne_eqb}
 use Rattle.wl_wire.specs.declared.interface.InterfaceId.{InterfaceId}
 use Rattle.wl_wire.specs.Table.{InterfaceRow}
@@ -59,7 +59,3 @@ module _ {G : Type 0} where
       at ((name, least, unused), same) =
           let id : GlobalParts = record { name = name; serial = last + 1 } in
           rw (known, fits) (id, (least, left, refl), unused)
-
--- whether something was found
-pub was_found : {A : Type 0} (found : Option (Bor A)) (x : Option A) (none : Bool) → option_copied found ≡ x → is_some found ≡ not none → is_some x ≡ not none
-was_found h1 x none is some = grind (arith)

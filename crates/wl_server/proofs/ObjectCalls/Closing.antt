@@ -27,10 +27,6 @@ module _ {U C : Type 0} where
   abbrev pub telling : Core U C → List Said → (Core U C → List (Told U)) → Verdict (Core U C) (Told U)
   telling c puts events = record (tells c puts) { events = events }
 
-  came_closing : (c : Core U C) (puts : List Said) (events : Core U C → List (Told U)) (told : Result (Unit {0}) IoFault)
-      → came_to speaker (telling c puts events) told ≡ closing c told
-  came_closing c puts events told = grind (arith)
-
 module _ {T U C : Type 0} where
   -- a client of that core and link, with these notes made
   abbrev pub client_of : ℕ → Core U C → LinkState T → List (Happening U) → Stored T U C
@@ -47,7 +43,7 @@ module _ {T U C : Type 0} where
       let t = tells_put sends v before after after told [] false put (refl, refl, refl) in
       subst (λ (d : Core U C). (did : List (Deed U)) × Tells sends v before (lacks_memory told) did (part_of (record { core = d; link = after }))
       × (notes_in did ≡ notes_in (end_deeds d.ended)))
-      (came_closing c puts events told) (
+      (grind (arith)) (
         t.0,
         subst (λ (b : Bool). Tells sends v before b t.0 (part_of (record { core = came_to speaker v told; link = after }))) (or_false (lacks_memory told)) t.1,
         t.2 ∙ ap (λ (l : List (Happening U)). l ++ notes_in (end_deeds (came_to speaker v told).ended)) (silent (came_to speaker v told)),

@@ -26,7 +26,7 @@ use Rattle.wl_server.proofs.CleanupSteps.Outgoing.{if_true}
 known : {A : Type 0} (o : Option A) (X Y : Type 0) → is_some o ≡ true → Y → MatchOption o X (λ _. Y)
 known h1 h2 h3 is y = grind (arith, false≢true)
 
-unknown : {A : Type 0} (o : Option A) (X Y : Type 0) → is_some o ≡ false → X → MatchOption o X (λ _. Y)
+pub unknown : {A : Type 0} (o : Option A) (X Y : Type 0) → is_some o ≡ false → X → MatchOption o X (λ _. Y)
 unknown h1 h2 h3 is x = grind (arith, true≢false)
 
 -- a row of the table is found where the interface is
@@ -44,9 +44,6 @@ module _ {T U C : Type 0} (table : List InterfaceRow) (client : ClientParts) (s 
   abbrev pub Refused : CreateError → Store (Kept U) → Type 0
   Refused e store = Does s (λ p did q. Created (Err e) p did q) (record { serial = s.serial; part = over store; made = s.made; times = no_times })
 
-  pub unknown_interface : is_some (slice_get table i.0) ≡ false → Does s (λ p did q. Created (Err create.UnknownInterface) p did q) s
-  unknown_interface is = does_quietly s (Created (Err create.UnknownInterface)) s.part (refl, unknown (slice_get table i.0) _ _ is (refl, refl))
-
   pub lacks_serial : is_some (slice_get table i.0) ≡ true → s.part.last_serial < 0x10000000000000000 → (s.part.last_serial + 1 < 0x10000000000000000 → ⊥) → (e : CreateError) → LacksSerial s.part.store e
       → Does s (λ p did q. Created (Err e) p did q) s
   lacks_serial is fits last e (inl (full, why)) =
@@ -59,9 +56,6 @@ module _ {T U C : Type 0} (table : List InterfaceRow) (client : ClientParts) (s 
     abbrev pub with_both : Store (Kept U) → ℕ → Part T U C
     with_both store serial = record s.part { store = store; last_serial = serial }
 
-    serial_left : (s.part.last_serial == last_possible_serial) ≡ false
-    serial_left = grind (arith, eqb-true)
-
     -- a number was given
     pub created : (n serial : ℕ) (x : Object (Kept U)) (store : Store (Kept U)) → serial ≡ s.part.last_serial + 1 → x ≡ fresh_object i version serial (Some u)
         → InsertsNew server_range s.part.store x (Ok n) store
@@ -70,7 +64,7 @@ module _ {T U C : Type 0} (table : List InterfaceRow) (client : ClientParts) (s 
     created n serial x store next is (least, put) =
         does_quietly s (Created (Ok (id serial))) (with_both store serial) (
           refl,
-          grind (arith, known, slice_get, if_false, last_possible_serial, serial_left, id, stored, is, next),
+          grind (arith, known, slice_get, if_false, last_possible_serial, eqb-true, id, stored, is, next),
         )
       where
         id : ℕ → IdParts
@@ -86,11 +80,7 @@ module _ {T U C : Type 0} (table : List InterfaceRow) (client : ClientParts) (s 
 
     pub no_memory : (e : NewError) (x : Object (Kept U)) (store : Store (Kept U)) → e ≡ new.OutOfMemory → InsertsNew server_range s.part.store x (Err e) store
         → Refused create.OutOfMemory store
-    no_memory e x store is inserts = at (subst (λ (e : NewError). InsertsNew server_range s.part.store x (Err e) store) is inserts)
-      where
-        at : InsertsNew server_range s.part.store x (Err new.OutOfMemory) store → Refused create.OutOfMemory store
-        at ((n, least, unused), same) =
-            does_quietly s (Created (Err create.OutOfMemory)) (over store) (
-              refl,
-              grind (arith, known, slice_get, if_false, last_possible_serial, serial_left, over),
-            )
+    no_memory e x store is inserts = does_quietly s (Created (Err create.OutOfMemory)) (over store) (
+      refl,
+      grind (arith, known, slice_get, if_false, last_possible_serial, eqb-true, over),
+    )

@@ -1,5 +1,5 @@
 -- How what was done to an object that the program destroys is its destruction.
-use Rattle.std.proofs.Common.{◌≡◌, ◌∙◌, ℕ, true, false, eqb, List, [], ◌++◌, append-nil, Option, None, Some, is_some, IfSome, Result, Ok, Err, MatchResult, refl, sym, ap, subst, inl, inr, arith}
+use Rattle.std.proofs.Common.{◌≡◌, ◌∙◌, ℕ, true, false, eqb, List, [], ◌++◌, append-nil, None, Some, is_some, IfSome, Result, Ok, Err, MatchResult, refl, sym, ap, subst, inl, inr, arith}
 use Rattle.std.proofs.lemmas.Bool.{false≢true}
 use Rattle.wl_wire.specs.declared.error.IoFault.{IoFault}
 use Rattle.wl_wire.specs.declared.error.IoFault.TheVariants as fault
@@ -15,12 +15,12 @@ use Rattle.wl_server.specs.declared.error.DestroyError.TheVariants as destroy
 use Rattle.wl_server.specs.declared.objects.Kept.{Kept}
 use Rattle.wl_server.specs.declared.notes.DisconnectReason.TheVariants.{ConnectionClosed}
 use Rattle.wl_server.specs.declared.notes.Happening.{Happening}
-use Rattle.wl_server.specs.Inside.Carried.{IsCarried, told_notes}
+use Rattle.wl_server.specs.Inside.Carried.{told_notes}
 use Rattle.wl_server.specs.Inside.Client.{Does}
 use Rattle.wl_server.specs.Deeds.{Deed, notes_in}
 use Rattle.wl_server.specs.Inside.Destruction.{lacks_destroy}
 use Rattle.wl_server.specs.Ids.{IdParts}
-use Rattle.wl_server.specs.Objects.{Destroys, destroyable, destroys, told_of_removed, unless_refused}
+use Rattle.wl_server.specs.Objects.{Destroys, destroyable, destroys}
 use Rattle.wl_server.specs.Part.{Part, id_of, named, note_of_end, registries_without, serial_of}
 use Rattle.wl_server.specs.Inside.Puts.{Puts}
 use Rattle.wl_server.specs.Server.{Stored, no_times, untimed}
@@ -36,10 +36,6 @@ module _ {U : Type 0} where
   pub named_is_held : (store : Store (Kept U)) (id : IdParts) (x : Object (Kept U)) → named store id ≡ Some x → held store id.number ≡ Some x
   named_is_held store id x e = grind (arith, eqb, serial_of, eqb id.number 0, id_of id, held store id.number)
 
-  -- nothing that an object leaves behind is a note
-  pub leaves_no_note : {C : Type 0} (id : IdParts) (u : Option U) (c : Core U C) → told_notes (told_of_removed id u c) ≡ []
-  leaves_no_note id u c = grind (arith, is_some, named, id_of)
-
 -- ---- the object that may be destroyed
 
 module _ {T U C : Type 0} (sends : T → Queue → Result ℕ IoFault → T → Type 0) (s : Stored T U C) (id : IdParts) where
@@ -54,20 +50,11 @@ module _ {T U C : Type 0} (sends : T → Queue → Result ℕ IoFault → T → 
     abbrev verdict : Verdict (Core U C) (Told U)
     verdict = destroys id.client (core_of s.part) id x
 
-    carried : (answer : Result (Unit {0}) DestroyError) (after : Stored T U C) → answer ≡ unless_refused destroy.OutOfMemory (lacks_destroy answer)
-        → IsCarried sends verdict s (lacks_destroy answer) after → Does s (λ p did q. Destruction answer p did q) after
-    carried answer after answered done =
-        let t = tells_carried sends verdict s after (lacks_destroy answer) done in
-        (t.0, t.1, (rw is (answered, t.2)), t.3)
-
     silent : (c : Core U C) → told_notes (verdict.events c) ≡ []
-    silent c = leaves_no_note id x.value.user_data c
+    silent c = grind (arith, is_some, named, id_of, x.value.user_data)
 
     abbrev with_notes : Stored T U C → List (Happening U) → Stored T U C
     with_notes a notes = record { serial = a.serial; part = a.part; made = notes; times = no_times }
-
-    no_notes : (made : List (Happening U)) {notes : List (Happening U)} → notes ≡ [] → made ++ (notes ++ []) ≡ made
-    no_notes made none = rw none (append-nil made)
 
     -- other notes wait
     abbrev pub with_waiting : Stored T U C → List (Happening U) → Stored T U C
@@ -76,23 +63,26 @@ module _ {T U C : Type 0} (sends : T → Queue → Result ℕ IoFault → T → 
     -- there was no memory for its note
     pub starved : (waiting : List (Happening U)) → waiting ≡ s.part.waiting → is_some x.value.user_data ≡ true
         → Does s (λ p did q. Destruction (Err destroy.OutOfMemory) p did q) (with_waiting s waiting)
-    starved waiting same asks = carried (Err destroy.OutOfMemory) (with_waiting s waiting) refl (
+    starved waiting same asks = let t = tells_carried sends verdict s (with_waiting s waiting) (lacks_destroy (Err destroy.OutOfMemory)) (
       core_of s.part,
       s.part.link,
       inr (asks, refl, refl, refl),
-      ap (with_waiting s) same ∙ ap (with_notes s) (sym (no_notes s.made (silent (core_of s.part)))),
-    )
+      ap (with_waiting s) same ∙ ap (with_notes s) (sym (rw (silent (core_of s.part)) (append-nil s.made))),
+    ) in
+        (t.0, t.1, (rw is (refl, t.2)), t.3)
 
     -- there was no memory for the message
     pub untold : (link : LinkState T) (waiting : List (Happening U)) (n : ℕ) (wrote : Result (Unit {0}) IoFault) → waiting ≡ s.part.waiting → n ≡ id.number
         → Puts sends s.part.link (deletions n) wrote link → lacks_memory wrote ≡ true
         → Does s (λ p did q. Destruction (Err destroy.OutOfMemory) p did q) (with_waiting (linked s link) waiting)
-    untold link waiting n wrote same number puts lacked = carried (Err destroy.OutOfMemory) (with_waiting (linked s link) waiting) refl (
-      core_of s.part,
-      link,
-      inl (Err fault.OutOfMemory, link, [], false, (grind (arith, false≢true, subst (λ (k : ℕ). Puts sends s.part.link (deletions k) wrote link) number puts)), (refl, refl, refl), refl, refl),
-      ap (with_waiting (linked s link)) same ∙ ap (with_notes (linked s link)) (sym (no_notes s.made (silent (core_of s.part)))),
-    )
+    untold link waiting n wrote same number puts lacked = let t = tells_carried sends verdict s (with_waiting (linked s link) waiting) (lacks_destroy
+        (Err destroy.OutOfMemory)) (
+          core_of s.part,
+          link,
+          inl (Err fault.OutOfMemory, link, [], false, (grind (arith, false≢true, subst (λ (k : ℕ). Puts sends s.part.link (deletions k) wrote link) number puts)), (refl, refl, refl), refl, refl),
+          ap (with_waiting (linked s link)) same ∙ ap (with_notes (linked s link)) (sym (rw (silent (core_of s.part)) (append-nil s.made))),
+        ) in
+        (t.0, t.1, (rw is (refl, t.2)), t.3)
 
     -- it is gone, and this is the link
     abbrev pub gone : LinkState T → Stored T U C
@@ -120,14 +110,15 @@ module _ {T U C : Type 0} (sends : T → Queue → Result ℕ IoFault → T → 
         → Does s (λ p did q. Destruction (Ok tt) p did q) after
     told_destroyed link n wrote after a number is_gone puts lacked told =
         let core : Core U C = came_to speaker verdict wrote in
-        carried (Ok tt) after refl (
+        let t = tells_carried sends verdict s after (lacks_destroy (Ok tt)) (
           core,
           link,
           inl (wrote, link, [], false, subst (λ (k : ℕ). Puts sends s.part.link (deletions k) wrote link) number puts, (refl, refl, refl), refl, rw lacked refl),
           gone_to link wrote after lacked
               (subst (λ (b : Stored T U C). MatchResult wrote (λ _. untimed after ≡ b) (λ _. Does b (λ p did q. Kills p ConnectionClosed did q) after)) is_gone told)
               ∙ ap (λ (notes : List (Happening U)). with_notes (arrived s core link) (s.made ++ (notes ++ notes_in (end_deeds core.ended)))) (sym (silent core)),
-        )
+        ) in
+        (t.0, t.1, (rw is (refl, t.2)), t.3)
 
     abbrev pub with_all : LinkState T → Store (Kept U) → List Id → List (Happening U) → Stored T U C
     with_all link store registries waiting = record {

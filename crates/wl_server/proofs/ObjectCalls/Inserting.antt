@@ -26,9 +26,9 @@ use Rattle.wl_server.specs.Part.{fresh_part, last_possible_serial}
 use Rattle.wl_server.specs.PartStep.{Asked, Inserted, Unfelt, World}
 use Rattle.wl_server.specs.Server.{Seen, ServerState, Stored, client_at, if_serial, no_times, notes_of, seen_as, stored_at, untimed}
 use Rattle.wl_server.specs.Steps.{IsLeastFree, LacksSlot, StepOf}
-use Rattle.wl_server.proofs.CallSteps.Numbering.{all_none}
 use Rattle.wl_sets.proofs.Lists.{get_set_other, get_set_same, other_of}
 use Rattle.wl_server.proofs.CallSteps.Slots.{Are, Serials, Slots, client_absent, client_present, compare, did_at, held_of, same_parts, same_self, same_serials, same_slots}
+use Rattle.wl_server.proofs.CallSteps.Numbering.{turn_still}
 
 module _ {T U C : Type 0} where
   -- ---- slots
@@ -145,24 +145,12 @@ module _ {T U G C : Type 0} (w : World T G C) where
     record { call = Asked (step.InsertClient transport client_data) (reply.InsertClient (Err insert.Full)); refused = false; lacks = λ id. false; did = λ id. [] },
     refl,
     refl,
-    grind (arith, false≢true, was_refused, all_none),
+    grind (arith, false≢true, was_refused, turn_still),
   )
     where
       was_refused : (false ≡ true) ⊎ ((id : ClientParts) × (false ≡ true)) → false ≡ true
       was_refused (inl h) = h
       was_refused (inr (id, h)) = h
-
-  -- there is no memory for the client of this id
-  starved_so : (before : ServerState T U G C) (transport : T) (client_data : C) (new : ClientParts) → IsLeastFree before.clients new.slot
-      → before.last_client < last_possible_serial → new.serial ≡ before.last_client + 1
-      → (numbers' : NoteNumbers) → AllInTime (map times_of before.clients) before.numbers (map times_of before.clients) numbers' → AllNumbered before.clients
-      → StepOf w before (step.InsertClient transport client_data) (reply.InsertClient (Err insert.OutOfMemory)) true (record before { numbers = numbers' })
-  starved_so before transport client_data new free below serial numbers' times all = (
-    record { call = Asked (step.InsertClient transport client_data) (reply.InsertClient (Err insert.OutOfMemory)); refused = true; lacks = λ id. false; did = λ id. [] },
-    refl,
-    refl,
-    grind (arith),
-  )
 
   pub insertion_starved : {was : Bool} (before : ServerState T U G C) (transport : T) (client_data : C) (new : ClientParts) (clients' : List (Option (Stored T U C)))
       → IsLeastFree before.clients new.slot → before.last_client < last_possible_serial → new.serial ≡ before.last_client + 1 → clients' ≡ before.clients
@@ -173,5 +161,9 @@ module _ {T U G C : Type 0} (w : World T G C) where
       calls _ _ _ _ _
       (subst (λ (xs : List (Option (Stored T U C))). StepOf w before (step.InsertClient transport client_data) (reply.InsertClient (Err insert.OutOfMemory)) true
       (record before { clients = xs; numbers = numbers' }))
-      (sym same) (starved_so before transport client_data new free below serial numbers'
-      (subst (λ (xs : List (Option (Stored T U C))). AllInTime (map times_of before.clients) before.numbers (map times_of xs) numbers') same times) all))
+      (sym same) ((
+        record { call = Asked (step.InsertClient transport client_data) (reply.InsertClient (Err insert.OutOfMemory)); refused = true; lacks = λ id. false; did = λ id. [] },
+        refl,
+        refl,
+        grind (arith),
+      )))

@@ -44,10 +44,6 @@ module _ {T U G C R : Type 0} (call : U → R → U → Type 0) (w : World T G C
     abbrev having : Store (Kept U) → Stored T U C
     having store = record { serial = s.serial; part = record s.part { store = store }; made = s.made; times = s.times }
 
-    -- nothing was written
-    kept : (store : Store (Kept U)) → store ≡ s.part.store → at_slot (having store) ≡ record { server = before; refused = false }
-    kept store is = grind (arith, slot_of_client, at_slot, having, set_itself)
-
     abbrev Lent : Option (Object (Kept U)) → Store (Kept U) → Type 0
     Lent found store =
         MatchOption (data_in found) ((answer ≡ Err _) × (at_slot (having store) ≡ record { server = before; refused = false }))
@@ -55,21 +51,18 @@ module _ {T U G C R : Type 0} (call : U → R → U → Type 0) (w : World T G C
         × Calls w (record { server = before; refused = was }) (step.SetObjectData o left) (reply.SetObjectData (Ok tt)) (at_slot (having store))
         × SetsObjectData (record { server = before; refused = was }) o left (Ok tt) (at_slot (having store)))
 
-    set_to : (x : Object (Kept U)) (left : U) (store : Store (Kept U)) → named s.part.store o ≡ Some x → store ≡ rewritten s.part.store o.number (with_user_data left x)
-        → Calls w (record { server = before; refused = was }) (step.SetObjectData o left) (reply.SetObjectData (Ok tt)) (at_slot (having store))
-    set_to x left store found written =
-        done_to _ _ _ _ refl o.client (sets o left (Ok tt)) (◌≡◌ {A = Result (Unit {0}) InvalidId} (Ok tt) (Err _))
-        (λ i l d b a h. (_, refl, h)) read s (having store) false same there
-        (set_does s o left (Ok tt) store (rw found refl) (rw found written)) before.numbers (in_time_none s.times before.numbers) (λ is. is) all
-
     lent_with : (x : Object (Kept U)) (kept_data : Option U) → named s.part.store o ≡ Some x → x.value.user_data ≡ kept_data → (store : Store (Kept U))
         → MatchOption kept_data ((answer ≡ Err _) × (store ≡ s.part.store))
         (λ u. (r : R) × (left : U) × call u r left × (answer ≡ Ok r) × (store ≡ rewritten s.part.store o.number (with_user_data left x)))
         → Lent (Some x) store
-    lent_with x None found is store (err, none) = rw is (err, kept store none)
+    lent_with x None found is store (err, none) = rw is (err, (grind (arith, slot_of_client, at_slot, having, set_itself)))
     lent_with x (Some u) found is store (r, left, called, ok, written) =
-        let set = set_to x left store found written in rw is (r, left, called, ok, set, sets_object_data o left (Ok tt) set)
+        let set = done_to _ _ _ _ refl o.client (sets o left (Ok tt)) (◌≡◌ {A = Result (Unit {0}) InvalidId} (Ok tt) (Err _))
+        (λ i l d b a h. (_, refl, h)) read s (having store) false same there
+        (set_does s o left (Ok tt) store (rw found refl) (rw found written)) before.numbers (in_time_none s.times before.numbers)
+        (λ is. is) all in rw is (r, left, called, ok, set, sets_object_data o left (Ok tt) set)
 
     pub lends_stored : (store : Store (Kept U)) → LendsDataIn call s.part.store o answer store
         → LendsObjectData call w (record { server = before; refused = was }) o answer (at_slot (having store))
-    lends_stored store h = rw (looked_up read (Some s) same there) (grind (arith, kept, lent_with, named s.part.store o))
+    lends_stored store h = rw (looked_up read (Some s) same there)
+        (grind (arith, slot_of_client, at_slot, having, set_itself, lent_with, named s.part.store o))

@@ -1,5 +1,5 @@
 -- How an error that was posted on an object is a verdict that was carried out.
-use Rattle.std.proofs.Common.{◌≡◌, ◌∙◌, ℕ, Bool, true, false, not, ◌||◌, List, [], ◌∷◌, ◌++◌, Option, is_some, option_copied, Bor, Result, Ok, Err, MatchResult, refl, ap, subst, append-nil, inl, inr, arith}
+use Rattle.std.proofs.Common.{◌≡◌, ◌∙◌, ℕ, Bool, true, false, ◌||◌, List, [], ◌∷◌, ◌++◌, is_some, Result, Ok, Err, MatchResult, refl, ap, subst, append-nil, inl, arith}
 use Rattle.std.proofs.lemmas.Bool.{false≢true}
 use Rattle.wl_wire.specs.declared.error.IoFault.{IoFault}
 use Rattle.wl_wire.specs.declared.error.ProtocolError.{ProtocolError}
@@ -47,10 +47,6 @@ module _ {T U C : Type 0} where
   spoken (Ok _) s reason = ended s reason
   spoken (Err _) s reason = ended s ConnectionClosed
 
-  pub told_is : (s after : Stored T U C) (wrote : Result (Unit {0}) IoFault) (reason : DisconnectReason)
-      → MatchResult wrote (λ _. after ≡ s) (λ _. Does s (λ p did q. Kills p ConnectionClosed did q) after) → ended after reason ≡ spoken wrote s reason
-  told_is s after wrote reason h1 = grind (arith, kills_is, with_made, ended, append-nil)
-
   -- the client as it is where its core came to this
   abbrev pub arrived : Stored T U C → Core U C → LinkState T → Stored T U C
   arrived s core link = record {
@@ -59,20 +55,6 @@ module _ {T U C : Type 0} where
     made = s.made ++ notes_in (end_deeds core.ended);
     times = no_times;
   }
-
-  spoken_is : (table : List InterfaceRow) (s : Stored T U C) (link : LinkState T) (id : IdParts) (code : ℕ) (text : List ℕ) (wrote : Result (Unit {0}) IoFault)
-      → spoken wrote (linked s link) (BrokeProtocol (error_of table id code text))
-      ≡ arrived s (came_to speaker (posts table (core_of s.part) id code text) wrote) link
-  spoken_is table s link id code text wrote = grind (arith)
-
-  -- a client that was killed
-  still : (s : Stored T U C) (link : LinkState T) (table : List InterfaceRow) (id : IdParts) (code : ℕ) (text : List ℕ) → s.part.is_killed ≡ true
-      → untimed (linked s link) ≡ arrived s (killed (core_of s.part) (BrokeProtocol (error_of table id code text))) link
-  still s link table id code text dead = grind (arith, core_of, killed, append-nil, false≢true)
-
--- what was found by reference is there where it was found
-pub is_some_copied : {X : Type 0} (found : Option (Bor X)) (x : Option X) (b : Bool) → option_copied found ≡ x → is_some found ≡ b → is_some x ≡ b
-is_some_copied h1 x b is some = grind (arith, is_some)
 
 module _ {T U C : Type 0} (sends : T → Queue → Result ℕ IoFault → T → Type 0) (p : Part T U C) (id : IdParts) (code : ℕ) (text : List ℕ)
     (live : p.is_killed ≡ false) where
@@ -94,17 +76,7 @@ module _ {T U C : Type 0} (sends : T → Queue → Result ℕ IoFault → T → 
     killed (core_of s.part) (BrokeProtocol (error_of table id code text)),
     after.part.link,
     inl (Ok tt, s.part.link, es, lacked, rw dead (puts_none sends s.part.link), flushed, refl, refl),
-    ap untimed rest ∙ still s after.part.link table id code text dead,
-  )
-
-  -- there was no memory for the texts
-  pub posted_starved : (after : Stored T U C) → s.part.is_killed ≡ false → Does s (λ p did q. Kills p ConnectionClosed did q) after
-      → IsCarried sends (posts table (core_of s.part) id code text) s true after
-  posted_starved after live kills = (
-    (posts table (core_of s.part) id code text).starved,
-    s.part.link,
-    inr (ap not live, refl, refl, refl),
-    kills_is s after ConnectionClosed kills,
+    ap untimed rest ∙ (grind (arith, core_of, killed, append-nil, false≢true, after.part.link)),
   )
 
   -- the error was told, then flushed; the answer to the first tells why the client is killed
@@ -120,9 +92,9 @@ module _ {T U C : Type 0} (sends : T → Queue → Result ℕ IoFault → T → 
     flushed.part.link,
     inl (wrote, put.part.link, es, lacked, puts, flushes, refl, ap (λ (b : Bool). b || lacked) refused-is),
     kills_is told after (BrokeProtocol error) kills
-        ∙ told_is flushed told wrote (BrokeProtocol error) tells
+        ∙ (grind (arith, kills_is, with_made, ended, append-nil, BrokeProtocol error))
         ∙ ap (λ (e : ProtocolError). spoken wrote flushed (BrokeProtocol e)) is
         ∙ ap (λ (x : Stored T U C). spoken wrote x (BrokeProtocol (error_of table id code text)))
         (flushed-is ∙ ap (λ (x : Stored T U C). linked x flushed.part.link) put-is)
-        ∙ spoken_is table s flushed.part.link id code text wrote,
+        ∙ (grind (arith, flushed.part.link)),
   )

@@ -1,11 +1,10 @@
 -- What an event that is sent does, from the steps of its sending.
-use Rattle.std.proofs.Common.{◌≡◌, ◌∙◌, ℕ, Bool, true, false, List, [], ◌∷◌, ◌++◌, append-nil, map, Option, Some, IfSome, Result, Ok, Err, MatchBool, MatchResult, refl, sym, ap, subst, inl, inr, arith}
+use Rattle.std.proofs.Common.{◌≡◌, ◌∙◌, ℕ, Bool, true, false, List, [], ◌∷◌, ◌++◌, append-nil, map, Option, Some, IfSome, Result, Ok, Err, MatchBool, refl, sym, ap, subst, inl, inr, arith}
 use Rattle.std.proofs.lemmas.Bool.{false≢true}
 use Rattle.wl_wire.specs.declared.error.IoFault.{IoFault}
 use Rattle.wl_wire.specs.declared.argument.Argument.{Argument}
 use Rattle.wl_wire.specs.declared.argument.Token.{Token}
-use Rattle.wl_wire.specs.declared.message.Message.{Message}
-use Rattle.wl_wire.specs.MapIds.{numbered, with_ids}
+use Rattle.wl_wire.specs.MapIds.{with_ids}
 use Rattle.wl_wire.specs.Table.{InterfaceRow}
 use Rattle.wl_link.specs.declared.object.Object.{Object}
 use Rattle.wl_link.specs.Exchange.{Queue, Sending}
@@ -15,36 +14,33 @@ use Rattle.wl_link.specs.Store.{Store, held}
 use Rattle.wl_server.specs.declared.error.EventError.{EventError}
 use Rattle.wl_server.specs.declared.error.EventError.TheVariants as refused
 use Rattle.wl_server.specs.declared.objects.Kept.{Kept}
-use Rattle.wl_server.specs.declared.notes.DisconnectReason.TheVariants.{ConnectionClosed}
 use Rattle.wl_server.specs.declared.notes.Happening.{Happening}
 use Rattle.wl_server.specs.Inside.Client.{Does}
 use Rattle.wl_server.specs.Deeds.{Deed, Put, Sent, notes_in}
 use Rattle.wl_server.specs.Inside.Ending.{notes_ending, registries_ending, store_ending, told_of_end, PutsEnd, TellsEnd}
-use Rattle.wl_server.specs.Events.{AsksForMemory, SendsEvent, SendsGranted, SentAs, SessionMessage, ends_closed, ends_sender, event_check, said, session_content, wire_argument, wire_message}
+use Rattle.wl_server.specs.Events.{AsksForMemory, SendsEvent, SendsGranted, SentAs, SessionMessage, ends_closed, ends_sender, event_check, said, wire_argument, wire_message}
 use Rattle.wl_server.specs.Ids.{ClientParts, IdParts}
 use Rattle.wl_server.specs.Objects.{told_of_removed}
 use Rattle.wl_server.specs.Part.{Part, named, with_link}
 use Rattle.wl_server.specs.Inside.Puts.{Puts}
 use Rattle.wl_server.specs.Server.{Stored, no_times, untimed}
-use Rattle.wl_server.specs.Telling.{Core, Kills, Tells, closed_down, core_of, end_deeds, part_of, tells}
+use Rattle.wl_server.specs.Telling.{Core, Tells, closed_down, core_of, end_deeds, part_of, tells}
 use Rattle.wl_server.proofs.CallSteps.Doing.{told_untimed}
 use Rattle.wl_server.proofs.ObjectCalls.Closing.{client_of, closing, told_by}
-use Rattle.wl_server.proofs.ObjectCalls.Destroying.{leaves_no_note, named_is_held}
+use Rattle.wl_server.proofs.ObjectCalls.Destroying.{named_is_held}
 use Rattle.wl_server.proofs.Readings.Notes.{notes_append, notes_of_sends}
 use Rattle.wl_server.proofs.GlobalCalls.Putting.{puts_none}
+use Rattle.std.proofs.Common.{is_some}
+use Rattle.wl_server.specs.Part.{id_of}
 
 -- ---- the message that is written
 
 argument_numbered : (a : Argument IdParts Token) → with_ids (λ id. id.number) (λ id. id.number) a ≡ wire_argument a
 argument_numbered h1 = grind (arith)
 
-arguments_numbered : (args : List (Argument IdParts Token)) → map (with_ids (λ id. id.number) (λ id. id.number)) args ≡ map wire_argument args
+pub arguments_numbered : (args : List (Argument IdParts Token)) → map (with_ids (λ id. id.number) (λ id. id.number)) args ≡ map wire_argument args
 arguments_numbered [] = refl
 arguments_numbered (a ∷ args) = rw (argument_numbered a, arguments_numbered args) refl
-
--- where each id has its own number
-pub event_numbered : (m : Message IdParts Token) → numbered (λ id. id.number) (λ id. id.number) m ≡ wire_message (session_content m)
-event_numbered m = grind (arith, arguments_numbered)
 
 module _ {U : Type 0} where
   -- what is said of what the sender's number holds is said of the sender
@@ -83,7 +79,8 @@ module _ {T U C : Type 0} (client : ClientParts) (m : SessionMessage) (sender : 
         (part_of (record { core = closing (ends_sender client (core_of p) m sender ends).core told; link = after }))
         × (notes_in did ≡ notes_in (end_deeds (closing (ends_sender client (core_of p) m sender ends).core told).ended))
     told_of p true mid after told puts =
-        told_by sends (ends_sender client (core_of p) m sender true).core _ (told_of_removed m.sender sender.value.user_data) mid after told (leaves_no_note m.sender sender.value.user_data) puts
+        told_by sends (ends_sender client (core_of p) m sender true).core _ (told_of_removed m.sender sender.value.user_data) mid after told
+        (λ c. grind (arith, is_some, named, id_of, m.sender, sender.value.user_data)) puts
     told_of p false mid after told puts = told_by sends (core_of p) [] (λ d. []) mid after told (λ d. refl) puts
 
     told_closed : (p : Part T U C) (ends : Bool) (mid : LinkState T) (f : IoFault)
@@ -92,7 +89,8 @@ module _ {T U C : Type 0} (client : ClientParts) (m : SessionMessage) (sender : 
         (part_of (record { core = closing (ends_sender client (core_of p) m sender ends).core (Err f); link = mid }))
         × (notes_in did ≡ notes_in (end_deeds (closing (ends_sender client (core_of p) m sender ends).core (Err f)).ended))
     told_closed p true mid f =
-        told_by sends (ends_sender client (closed_down (core_of p)) m sender true).core [] (told_of_removed m.sender sender.value.user_data) mid mid (Ok tt) (leaves_no_note m.sender sender.value.user_data)
+        told_by sends (ends_sender client (closed_down (core_of p)) m sender true).core [] (told_of_removed m.sender sender.value.user_data) mid mid
+        (Ok tt) (λ c. grind (arith, is_some, named, id_of, m.sender, sender.value.user_data))
         (puts_none sends mid)
     told_closed p false mid f = told_by sends (closed_down (core_of p)) [] (λ d. []) mid mid (Ok tt) (λ d. refl) (puts_none sends mid)
 
@@ -113,17 +111,7 @@ module _ {T U C : Type 0} (client : ClientParts) (m : SessionMessage) (sender : 
 
         after-is : (did : List (Deed U)) → notes_in did ≡ notes_in (end_deeds (closing c told).ended)
             → untimed s2 ≡ record { serial = s.serial; part = part_of (record { core = closing c told; link = after }); made = s.made ++ notes_in did; times = no_times }
-        after-is did notes =
-            grind (
-              arith,
-              append-nil,
-              closed_down,
-              s.serial,
-              s.made,
-              subst (λ (x : Stored T U C). MatchResult told (λ _. untimed s2 ≡ x) (λ _. Does x (λ p did q. Kills p ConnectionClosed did q) s2))
-                  (ap (λ (x : Stored T U C). let y : Stored T U C = record x { part = with_link x.part after } in y) ended ∙ after_end_is s ends after) (told_untimed _ told s2 (record s1 { part = with_link s1.part after }) closed),
-            )
-            ∙ ap (λ (l : List (Happening U)). client_of s.serial (closing c told) after (s.made ++ l)) (sym notes)
+        after-is did notes = grind (arith, append-nil, closed_down, untimed, with_link, after_end_is, told_untimed, client_of, closing, c, ends_sender, core_of)
 
         by : (written : Result (Unit {0}) IoFault) → WroteBy sends s.part.link (wire_message m) es written mid → lacks_memory written ≡ false
             → PutsEnd sends mid m.sender.number ends written told after

@@ -19,10 +19,6 @@ use Rattle.wl_sets.proofs.Lists.{get_set_same}
 use Rattle.wl_server.proofs.ObjectCalls.Posting.{kills_is}
 
 module _ {T U C : Type 0} where
-  -- a client that is killed keeps its link
-  pub kills_link : (s after : Stored T U C) (reason : DisconnectReason) → Does s (λ p did q. Kills p reason did q) after → after.part.link ≡ s.part.link
-  kills_link s after reason kills = ap (λ (x : Stored T U C). x.part.link) (kills_is s after reason kills)
-
   -- the error was written, and what waits was flushed
   pub told_exactly : (sends : T → Queue → Result ℕ IoFault → T → Type 0) (before : LinkState T) (put flushed told after : Stored T U C) (reason : DisconnectReason)
       (n code : ℕ) (text : List ℕ) (wrote : Result (Unit {0}) IoFault) (es : List Sending) (refused lacked : Bool)
@@ -30,13 +26,14 @@ module _ {T U C : Type 0} where
       → refused ≡ lacks_memory wrote → MatchResult wrote (λ _. told ≡ flushed) (λ _. Does flushed (λ p did q. Kills p ConnectionClosed did q) told)
       → Does told (λ p did q. Kills p reason did q) after → TellsOrLacks sends before n code text (refused || lacked) after.part.link
   told_exactly sends before put flushed told after reason n code text wrote es refused lacked wrote-is flushes refused-is tells kills =
-      subst (λ (l : LinkState T). TellsOrLacks sends before n code text (refused || lacked) l) (sym (kills_link told after reason kills ∙ (grind (arith, kills_link))))
+      subst (λ (l : LinkState T). TellsOrLacks sends before n code text (refused || lacked) l) (sym ((ap (λ (x : Stored T U C). x.part.link)
+      (kills_is told after reason kills)) ∙ (grind (arith, kills_is))))
       (inl (wrote, put.part.link, es, lacked, wrote-is, flushes, ap (λ (b : Bool). b || lacked) refused-is))
 
   -- there was no memory for the texts
   pub lacked_exactly : (sends : T → Queue → Result ℕ IoFault → T → Type 0) (s after : Stored T U C) (n code : ℕ) (text : List ℕ)
       → Does s (λ p did q. Kills p ConnectionClosed did q) after → TellsOrLacks sends s.part.link n code text true after.part.link
-  lacked_exactly sends s after n code text kills = inr (refl, kills_link s after ConnectionClosed kills)
+  lacked_exactly sends s after n code text kills = inr (refl, (ap (λ (x : Stored T U C). x.part.link) (kills_is s after ConnectionClosed kills)))
 
   -- a killed client is not live
   pub not_live : {P : Type 0} (p : Part T U C) → p.is_killed ≡ true → p.is_killed ≡ false → P

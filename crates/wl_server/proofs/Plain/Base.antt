@@ -1,7 +1,7 @@
 -- What a call is of each client, and what a step leaves of one as it was.
 use Rattle.std.proofs.Common.{◌≡◌, Bool, true, false, List, [], ◌++◌, append-nil, Option, None, Some, refl, sym, ap, subst, ◌∙◌, arith, true≢false}
 use mathlib.Core.Logic.{inl, inr}
-use Rattle.std.specs.Prelude.{◌⊎◌, ◌&&◌, MatchBool}
+use Rattle.std.specs.Prelude.{◌⊎◌, MatchBool}
 use Rattle.wl_link.proofs.Calls.Branches.{either_option}
 use Rattle.wl_server.specs.declared.runs.step.Reply.{Reply}
 use Rattle.wl_server.specs.declared.runs.step.Step.{Step}
@@ -12,7 +12,7 @@ use Rattle.wl_server.specs.Part.{Part}
 use Rattle.wl_server.specs.PartStep.{Asked, Call, OfClient, OnPart, PartStep, World}
 use Rattle.wl_server.specs.Plain.{IsUnchanged}
 use Rattle.wl_server.specs.Server.{Seen, seen}
-use Rattle.wl_server.specs.Steps.{Entry, IsRefused, OneStep, inserted_by, lacks_growth, offer_after}
+use Rattle.wl_server.specs.Steps.{Entry, IsRefused, inserted_by, lacks_growth, offer_after}
 use Rattle.wl_server.proofs.CallSteps.Slots.{compare, same_parts, same_self, same_serials, same_slots}
 
 -- ---- a choice that is known
@@ -53,17 +53,13 @@ module _ {T U G C : Type 0} {w : World T G C} {before after : BackendState T U G
   abbrev Each : ClientParts → Type 0
   Each id = (lacked : Bool) × (did : List (Deed U)) × PartStep w id before.server.offer s answer (seen id before.server) lacked did (seen id after.server)
 
-  each_in : (id : ClientParts) (e : Entry T U G C) → e.call ≡ Asked s answer → OneStep w before.server e after.server
-      → PartStep w id before.server.offer s answer (seen id before.server) (e.lacks id) (e.did id) (seen id after.server)
-  each_in id e is by = grind (arith, seen)
-
   -- what all clients share after the call
   pub offer_of : after.server.offer ≡ offer_after before.server.offer (Asked s answer)
   offer_of = let (e, is, refused, by) = call.step in subst (λ (c : Call T U G C). after.server.offer ≡ offer_after before.server.offer c) is by.offer
 
   -- what the call is of one client
   pub of_each : (id : ClientParts) → Each id
-  of_each id = let (e, is, refused, by) = call.step in (e.lacks id, e.did id, each_in id e is by)
+  of_each id = let (e, is, refused, by) = call.step in (e.lacks id, e.did id, (grind (arith, seen)))
 
   -- nothing has changed
   pub unchanged : offer_after before.server.offer (Asked s answer) ≡ before.server.offer → inserted_by (Asked s answer) ≡ 0
@@ -85,7 +81,7 @@ module _ {T U G C : Type 0} {w : World T G C} {before after : BackendState T U G
       ∙ as_true e.refused (lacks_growth (Asked s answer))
       (λ known. elim (by.refused.0 known) [
         | inl grows ↦ subst (λ (c : Call T U G C). lacks_growth c ≡ true) is grows
-        | inr (id, lacks) ↦ absurd (true≢false (sym lacks ∙ never id (e.lacks id) (e.did id) (each_in id e is by)))
+        | inr (id, lacks) ↦ absurd (true≢false (sym lacks ∙ never id (e.lacks id) (e.did id) (grind (arith, seen))))
       ])
       (λ grows. by.refused.1 (inl (subst (λ (c : Call T U G C). lacks_growth c ≡ true) (sym is) grows)))
 
@@ -103,29 +99,22 @@ module _ {T U G C : Type 0} {w : World T G C} {before after : BackendState T U G
         e.did id,
         subst (λ (b : Bool). PartStep w id before.server.offer s answer (seen id before.server) b (e.did id) (seen id after.server))
             (sym
-            (lacks_as id e by.refused (ap lacks_growth is ∙ growth) (λ other differ. others other (e.lacks other) (e.did other) differ (each_in other e is by))) ∙ refused)
-            (each_in id e is by),
+            (lacks_as id e by.refused (ap lacks_growth is ∙ growth) (λ other differ. others other (e.lacks other) (e.did other) differ
+            (grind (arith, seen)))) ∙ refused)
+            (grind (arith, seen)),
       )
 
   -- to some client, if not for what the call makes of its own
   pub some_lacks : lacks_growth (Asked s answer) ≡ false → after.refused ≡ true
       → (id : ClientParts) × (did : List (Deed U)) × PartStep w id before.server.offer s answer (seen id before.server) true did (seen id after.server)
-  some_lacks growth known = grind (arith, true≢false, lacks_growth, seen, each_in)
+  some_lacks growth known = grind (arith, true≢false, lacks_growth, seen)
 
   -- to this client
   pub refused_to : (id : ClientParts)
       → ((lacked : Bool) (did : List (Deed U)) → PartStep w id before.server.offer s answer (seen id before.server) lacked did (seen id after.server) → lacked ≡ true)
       → after.refused ≡ true
   refused_to id lacks =
-      let (e, is, refused, by) = call.step in sym refused ∙ by.refused.1 (inr (id, lacks (e.lacks id) (e.did id) (each_in id e is by)))
-
-  -- for what the call makes of its own
-  pub refused_growth : lacks_growth (Asked s answer) ≡ true → after.refused ≡ true
-  refused_growth growth = grind (arith, lacks_growth)
-
--- of two ids that differ, and have one client, the number or the serial differs
-pub ids_differ : (b : Bool) {c : Bool} → b ≡ true → (b && c) ≡ false → c ≡ false
-ids_differ h1 is differ = grind (arith, true≢false)
+      let (e, is, refused, by) = call.step in sym refused ∙ by.refused.1 (inr (id, lacks (e.lacks id) (e.did id) (grind (arith, seen))))
 
 -- ---- what is held of one client
 
@@ -136,10 +125,6 @@ module _ {T U C : Type 0} where
   nothing_new s t p q did there same none is = grind (arith, append-nil)
 
 module _ {T U C : Type 0} (b : Bool) (s : Seen T U C) (R : Part T U C → Part T U C → Type 0) (missing : Type 0) (lacked : Bool) (did : List (Deed U)) (t : Seen T U C) where
-  -- a step about a client is one of its part
-  pub meant : b ≡ true → OfClient b s R missing lacked did t → OnPart s R missing lacked did t
-  meant is h = grind (arith, true≢false)
-
   -- another client stays
   pub other_stays : b ≡ false → OfClient b s R missing lacked did t → t ≡ s
   other_stays is h = grind (arith, true≢false, calm)
@@ -164,4 +149,4 @@ module _ {T U C : Type 0} (b : Bool) (s : Seen T U C) (R : Part T U C → Part T
 -- a step about this very client
 pub own : {T U C : Type 0} (id : ClientParts) (s : Seen T U C) (R : Part T U C → Part T U C → Type 0) (missing : Type 0) (lacked : Bool) (did : List (Deed U)) (t : Seen T U C)
     → OfClient (same_client id id) s R missing lacked did t → OnPart s R missing lacked did t
-own id s R missing lacked did t h = meant (same_client id id) s R missing lacked did t (same_self id) h
+own id s R missing lacked did t h = grind (arith, true≢false, same_client id id, same_self id)

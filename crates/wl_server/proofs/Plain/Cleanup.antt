@@ -1,5 +1,5 @@
 -- Killed clients leave, and notes are handed out.
-use Rattle.std.proofs.Common.{◌≡◌, Bool, true, false, List, [], ◌∷◌, ◌++◌, map, Option, None, Some, Result, Ok, Err, refl, sym, ap, subst, ◌∙◌, true≢false, arith}
+use Rattle.std.proofs.Common.{◌≡◌, Bool, true, false, List, [], ◌∷◌, ◌++◌, map, Option, Some, Result, Ok, Err, refl, sym, ap, subst, ◌∙◌, true≢false, arith}
 use mathlib.Core.Logic.{inl, inr}
 use Rattle.std.specs.Prelude.{Vec}
 use Rattle.std.specs.Global.{Global}
@@ -23,8 +23,9 @@ use Rattle.wl_server.specs.PartStep.{Call, CleanedAs, World, share_of}
 use Rattle.wl_server.specs.Plain.{CleansUpClients, HandsOut, TakesNotes}
 use Rattle.wl_server.specs.Server.{Seen, seen}
 use Rattle.wl_server.specs.Steps.{RisesBySlot}
-use Rattle.wl_server.proofs.Plain.Base.{calm, none_and_some, of_each, offer_of, one_value, refused_growth, some_lacks, split_bool, unchanged, when_false, when_true}
+use Rattle.wl_server.proofs.Plain.Base.{calm, none_and_some, of_each, offer_of, one_value, some_lacks, split_bool, unchanged, when_false, when_true}
 use Rattle.wl_server.proofs.Readings.Finishing.{wanted_memory}
+use Rattle.wl_server.specs.Steps.{lacks_growth}
 
 all_noted : {U : Type 0} (notes : List (Happening U)) → notes_in (map Noted notes) ≡ notes
 all_noted [] = refl
@@ -47,9 +48,6 @@ module _ {T U G C : Type 0} (w : World T G C) (id : ClientParts) (offer : Offer 
   pub cleaned_live : (p : Part T U C) → s.part ≡ Some p → p.is_killed ≡ false → CleanedAs w id offer (Ok out) s lacked did t
       → (share_of id out.items ≡ []) × (t.part ≡ Some (record p { waiting = [] })) × (t.made ≡ s.made ++ p.waiting)
   cleaned_live p there live h = grind (arith, cleaned, when_false, all_noted)
-
-  pub cleaned_none : s.part ≡ None → CleanedAs w id offer (Ok out) s lacked did t → (share_of id out.items ≡ []) × (t ≡ s)
-  cleaned_none none h = grind (arith, either_option, none_and_some)
 
 module _ {T U G C : Type 0} {w : World T G C} {before after : BackendState T U G C} where
   cleanup_each : (answer : Result (Vec (ClientParts × T) Global) OutOfMemory) → Calls w before step.Cleanup (reply.Cleanup answer) after → (id : ClientParts)
@@ -82,14 +80,14 @@ module _ {T U G C : Type 0} {w : World T G C} {before after : BackendState T U G
   cleans_up (Ok out) call = record {
     killed = λ id p there killed. let (lacked, did, h) = cleanup_each (Ok out) call id in cleaned_killed w id before.server.offer out _ _ lacked did p there killed h;
     live = λ id p there live. let (lacked, did, h) = cleanup_each (Ok out) call id in cleaned_live w id before.server.offer out _ _ lacked did p there live h;
-    unknown = λ id none. let (lacked, did, h) = cleanup_each (Ok out) call id in cleaned_none w id before.server.offer out _ _ lacked did none h;
+    unknown = λ id none. let (lacked, did, h) = cleanup_each (Ok out) call id in grind (arith, either_option, none_and_some, before.server.offer);
     by_slot = let (e, is, refused, by) = call.step in subst (λ (c : Call T U G C). RisesBySlot c) is by.order;
     globals = offer_of call;
     memory = λ known. cleanup_memory out call known;
   }
-  cleans_up (Err e) call = grind (arith, unchanged, cleanup_each, refused_growth)
+  cleans_up (Err e) call = grind (arith, unchanged, cleanup_each, lacks_growth)
 
   -- ---- notes
 
   pub takes_notes : (answer : Result (Vec (Note U) Global) OutOfMemory) → Calls w before step.TakeNotes (reply.TakeNotes answer) after → TakesNotes before answer after
-  takes_notes answer h1 = grind (arith, offer_of, calm, unchanged, refused_growth)
+  takes_notes answer h1 = grind (arith, offer_of, calm, unchanged, lacks_growth)

@@ -24,8 +24,9 @@ use Rattle.wl_server.specs.Part.{Part, fresh_object, id_at, id_of, last_possible
 use Rattle.wl_server.specs.PartStep.{OfClient, World, lacks_create}
 use Rattle.wl_server.specs.Plain.{CreatedAs, CreatesObject}
 use Rattle.wl_server.specs.Server.{Seen, seen}
-use Rattle.wl_server.proofs.Plain.Base.{ids_differ, keeps, notes_stay, nothing_new, of_each, of_own, offer_of, other_stays, own, unchanged, when_false}
+use Rattle.wl_server.proofs.Plain.Base.{keeps, notes_stay, nothing_new, of_each, of_own, offer_of, other_stays, own, unchanged, when_false}
 use Rattle.wl_server.proofs.Plain.Naming.{both_none, named_here, nothing_has, other_named}
+use Rattle.std.proofs.Common.{true≢false}
 
 -- the object was put at a number that held none
 record IsNew {T U C : Type 0} (client : ClientParts) (p : Part T U C) (i : InterfaceId) (version : ℕ) (u : U) (id : IdParts) (q : Part T U C) : Type 0 where
@@ -38,18 +39,12 @@ module _ {T U C : Type 0} (table : List InterfaceRow) (client : ClientParts) (p 
   made_new : (id : IdParts) (q : Part T U C) → Creates table client p i version u (Ok id) q → IsNew client p i version u id q
   made_new id q h = grind (arith, slice_get, last_possible_serial)
 
-  made_none : (e : CreateError) (q : Part T U C) → Creates table client p i version u (Err e) q → q ≡ p
-  made_none e q h = grind (arith, slice_get, last_possible_serial)
-
 module _ {T U C : Type 0} {client : ClientParts} {p : Part T U C} {i : InterfaceId} {version : ℕ} {u : U} {id : IdParts} {q : Part T U C} (new : IsNew client p i version u id q) where
   abbrev made : Object (Kept U)
   made = new_object p i version u
 
   new_after : named q.store id ≡ Some (fresh_object i version id.serial (Some u))
   new_after = grind (arith, named, stored, made, named_here, id_at, ne_eqb, stored_here, eq-eqb, fresh_object)
-
-  new_others : (other : IdParts) → same_id (id_of id) (id_of other) ≡ false → named q.store other ≡ named p.store other
-  new_others other differ = grind (arith, named, other_named, stored, made, held_stored, nothing_has, held, same_id, id_of)
 
   new_client : id.client ≡ client
   new_client = ap (λ (o : IdParts). o.client) new.id_is
@@ -83,7 +78,7 @@ not_created false table client i version u e s t lacked did (calm, none, same) =
 not_created true table client i version u e s t lacked did h =
     elim (either_option s.part h) [
       | inl (none, (is, (calm, nothing, same))) ↦ same
-      | inr (p, there, (q, (memory, none, makes), same)) ↦ nothing_new s t p q did there (made_none table client p i version u e q makes) (ap notes_in none) same
+      | inr (p, there, (q, (memory, none, makes), same)) ↦ nothing_new s t p q did there (grind (arith, slice_get, last_possible_serial)) (ap notes_in none) same
     ]
 
 module _ {T U G C : Type 0} {w : World T G C} {before after : BackendState T U G C} (target : ClientParts) (i : InterfaceId) (version : ℕ) (u : U) where
@@ -108,7 +103,7 @@ module _ {T U G C : Type 0} {w : World T G C} {before after : BackendState T U G
         λ other differ.
             let (lacked, did, h) = create_each (Ok id) call other.client in
             keeps (same_client target other.client) _ _ _ lacked did _ (λ x. and_then x (λ p. named p.store other))
-            (grind (arith, new_others, made_new, ids_differ, same_client)) h,
+            (grind (arith, named, other_named, stored, made, held_stored, nothing_has, held, same_id, id_of, made_new, true≢false, same_client)) h,
       )
   created_as (Err e) call =
       unchanged call refl refl (λ id.

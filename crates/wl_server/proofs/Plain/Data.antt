@@ -13,13 +13,14 @@ use Rattle.wl_server.specs.Identified.{named_of}
 use Rattle.wl_server.specs.Ids.{ClientParts, IdParts, same_client}
 use Rattle.wl_server.specs.Lookups.{and_then}
 use Rattle.wl_server.specs.Objects.{DataSet}
-use Rattle.wl_server.specs.Part.{Part, id_of, named, same_id, with_user_data}
+use Rattle.wl_server.specs.Part.{Part, named, with_user_data}
 use Rattle.wl_server.specs.PartStep.{OfClient, Quietly, World}
 use Rattle.wl_server.specs.Plain.{IsUnchanged, SetsObjectData, without_objects}
 use Rattle.wl_server.specs.Plain.DataInPlace.{LendsObjectData, SetsWhatIsLeft}
 use Rattle.wl_server.specs.Server.{Seen, seen}
-use Rattle.wl_server.proofs.Plain.Base.{calm, ids_differ, keeps, never, notes_stay, nothing_new, of_each, offer_of, other_stays, own, unchanged}
+use Rattle.wl_server.proofs.Plain.Base.{calm, keeps, never, notes_stay, nothing_new, of_each, offer_of, other_stays, own, unchanged}
 use Rattle.wl_server.proofs.Plain.Naming.{names_so, rewritten_named, rewritten_others}
+use Rattle.std.proofs.Common.{true≢false}
 
 abbrev Refused : Result (Unit {0}) InvalidId → Type 0
 Refused answer = answer ≡ Err _
@@ -27,20 +28,6 @@ Refused answer = answer ≡ Err _
 module _ {T U C : Type 0} (o : IdParts) (u : U) (answer : Result (Unit {0}) InvalidId) where
   abbrev Sets : Bool → List (Deed U) → Part T U C → Part T U C → Type 0
   Sets lacked did p q = Quietly lacked did (DataSet p o u answer q)
-
-  -- an id of another number or serial
-  set_others : (lacked : Bool) (did : List (Deed U)) (p q : Part T U C) → Sets lacked did p q → (other : IdParts) → same_id (id_of o) (id_of other) ≡ false
-      → named q.store other ≡ named p.store other
-  set_others lacked did p q (calm, none, h) other differ = grind (arith, either_option, named, rewritten_others, with_user_data, names_so)
-
-  -- all of the client but its objects
-  set_rest : (lacked : Bool) (did : List (Deed U)) (p q : Part T U C) → Sets lacked did p q → without_objects q ≡ without_objects p
-  set_rest lacked did p q (calm, none, h) = grind (arith, either_option, named)
-
-  -- the object of the id
-  set_here : (lacked : Bool) (did : List (Deed U)) (s t : Seen T U C) → OfClient (same_client o.client o.client) s (Sets lacked did) (Refused answer) lacked did t
-      → MatchResult answer (λ _. (x : Object (Kept U)) × (named_of s o ≡ Some x) × (named_of t o ≡ Some (with_user_data u x))) (λ _. named_of s o ≡ None)
-  set_here lacked did s t h = grind (arith, either_option, own, named, calm, rewritten_named, with_user_data, names_so)
 
   -- a refusal changes nothing
   set_refused : Refused answer → (b : Bool) (lacked : Bool) (did : List (Deed U)) (s t : Seen T U C) → OfClient b s (Sets lacked did) (Refused answer) lacked did t → t ≡ s
@@ -67,12 +54,12 @@ module _ {T U G C : Type 0} {w : World T G C} {before after : BackendState T U G
   pub sets_object_data : (o : IdParts) (u : U) (answer : Result (Unit {0}) InvalidId) → Calls w before (step.SetObjectData o u) (reply.SetObjectData answer) after
       → SetsObjectData before o u answer after
   sets_object_data o u answer call = record {
-    object = object answer call (let (lacked, did, h) = set_each o u answer call o.client in set_here o u answer lacked did _ _ h);
+    object = object answer call (let (lacked, did, h) = set_each o u answer call o.client in (grind (arith, either_option, own, named, calm, rewritten_named, with_user_data, names_so)));
     objects = λ other differ.
         let (lacked, did, h) = set_each o u answer call other.client in
         keeps (same_client o.client other.client) _ _ _ lacked did _ (λ x. and_then x (λ p. named p.store other))
-        (λ about p q r. set_others o u answer lacked did p q r other (ids_differ (same_client o.client other.client) about differ)) h;
-    rest = grind (arith, set_each, keeps, same_client, option_map, without_objects, set_rest);
+        (λ about p q r. (grind (arith, either_option, named, rewritten_others, with_user_data, names_so, true≢false, same_client o.client other.client))) h;
+    rest = grind (arith, set_each, keeps, same_client, option_map, without_objects, either_option, named);
     clients = λ other differ. let (lacked, did, h) = set_each o u answer call other in other_stays (same_client o.client other) _ _ _ lacked did _ differ h;
     notes = grind (arith, set_each, notes_stay, same_client, notes_in);
     globals = offer_of call;

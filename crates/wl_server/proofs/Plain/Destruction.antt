@@ -1,7 +1,6 @@
 -- An object that the program destroys.
 use Rattle.std.proofs.Common.{◌≡◌, ℕ, Bool, true, false, cond, eqb-true, List, ◌++◌, Option, None, Some, is_some, Result, Ok, Err, refl, sym, ap, subst, ◌∙◌, arith}
 use mathlib.Core.Logic.{inl, inr}
-use Rattle.std.specs.Prelude.{◌⊎◌}
 use Rattle.wl_wire.specs.declared.error.IoFault.{IoFault}
 use Rattle.wl_link.proofs.Calls.Branches.{either_option}
 use Rattle.wl_link.specs.declared.object.Object.{Object}
@@ -24,22 +23,16 @@ use Rattle.wl_server.specs.PartStep.{OfClient, World}
 use Rattle.wl_server.specs.Plain.{DestroyedAs, DestroysObject}
 use Rattle.wl_server.specs.Server.{Seen, seen}
 use Rattle.wl_server.specs.Telling.{Tells, core_of}
-use Rattle.wl_server.proofs.Plain.Base.{calm, ids_differ, keeps, never, nothing_new, of_each, offer_of, other_stays, own, refused_to, unchanged}
+use Rattle.wl_server.proofs.Plain.Base.{calm, keeps, never, nothing_new, of_each, offer_of, other_stays, own, refused_to, unchanged}
 use Rattle.wl_server.proofs.Plain.Naming.{names_so, removed_named, removed_others}
 use Rattle.wl_server.proofs.Plain.Verdicts.{told}
+use Rattle.std.proofs.Common.{true≢false}
 
 abbrev Refused : Result (Unit {0}) DestroyError → Type 0
 Refused answer = answer ≡ Err destroy.InvalidId
 
 starved_refused : {answer : Result (Unit {0}) DestroyError} → answer ≡ Err destroy.OutOfMemory → Refused answer → ⊥
 starved_refused starved refused = absurd cc
-
--- an accepted call met no want of memory, and one that was refused for that did
-ok_calm : (lacked : Bool) → ◌≡◌ {A = Result (Unit {0}) DestroyError} (Ok tt) (unless_refused destroy.OutOfMemory lacked) → lacked ≡ false
-ok_calm h1 is = grind (arith)
-
-never_refused : (lacked : Bool) → ◌≡◌ {A = Result (Unit {0}) DestroyError} (Err destroy.InvalidId) (unless_refused destroy.OutOfMemory lacked) → ⊥
-never_refused h1 is = grind (arith)
 
 module _ {T U C : Type 0} where
   destroyable_named : (p : Part T U C) (o : IdParts) (x : Object (Kept U)) → destroyable p o ≡ Some x → named p.store o ≡ Some x
@@ -54,19 +47,10 @@ module _ {T U C : Type 0} (sends : T → Queue → Result ℕ IoFault → T → 
       → q.store ≡ cond lacked p.store (removed p.store o.number)
   left_store p x lacked did q h = grind (arith, told, destroys, core_of)
 
-  left_waiting : (p : Part T U C) (x : Object (Kept U)) (lacked : Bool) (did : List (Deed U)) (q : Part T U C) → Tells sends (destroys client (core_of p) o x) p.link lacked did q
-      → q.waiting ≡ cond lacked p.waiting (p.waiting ++ note_of_end client o.number x)
-  left_waiting p x lacked did q h = grind (arith, told, destroys, core_of)
-
   -- an id of another number or serial
   destroy_others : (answer : Result (Unit {0}) DestroyError) (lacked : Bool) (did : List (Deed U)) (p q : Part T U C) → Does answer lacked did p q → (other : IdParts)
       → same_id (id_of o) (id_of other) ≡ false → named q.store other ≡ named p.store other
   destroy_others answer lacked did p q h1 other h2 = grind (arith, either_option, destroyable, named, left_store, removed_others, names_so, destroyable_named, removed, told, destroys, core_of, eqb-true)
-
-  -- no memory is refused where the answer is another
-  destroy_calm : (answer : Result (Unit {0}) DestroyError) → ((lacked : Bool) → answer ≡ unless_refused destroy.OutOfMemory lacked → lacked ≡ false) → (lacked : Bool)
-      (did : List (Deed U)) (p q : Part T U C) → Does answer lacked did p q → lacked ≡ false
-  destroy_calm answer so lacked did p q h = grind (arith, either_option, calm)
 
   abbrev Of : Result (Unit {0}) DestroyError → Bool → Seen T U C → Bool → List (Deed U) → Seen T U C → Type 0
   Of answer b s lacked did t = OfClient b s (Does answer lacked did) (Refused answer) lacked did t
@@ -80,7 +64,7 @@ module _ {T U C : Type 0} (sends : T → Queue → Result ℕ IoFault → T → 
         | inr (p, there, (q, r, same)) ↦
             elim (either_option (destroyable p o) r) [
               | inl (unknown, (is, calm, none, stays)) ↦ nothing_new s t p q did there stays (ap notes_in none) same
-              | inr (x, is, (answered, tells)) ↦ absurd (never_refused lacked answered)
+              | inr (x, is, (answered, tells)) ↦ absurd (grind (arith))
             ]
       ]
 
@@ -104,14 +88,11 @@ module _ {T U C : Type 0} (sends : T → Queue → Result ℕ IoFault → T → 
               | inr (x, is, (answered, tells)) ↦ (
                 x,
                 in_part (λ p. named p.store o) p there ∙ destroyable_named p o x is,
-                grind (arith, named_of, named, left_store, cond, removed, ok_calm, removed_named),
-                grind (arith, waiting_of, left_waiting, cond, note_of_end, ok_calm),
+                grind (arith, named_of, named, left_store, cond, removed, removed_named),
+                grind (arith, waiting_of, told, destroys, core_of, cond, note_of_end),
               )
             ]
       ]
-
-  destroyed_unknown : Own (Err destroy.InvalidId) → (o.number ≡ 1) ⊎ (named_of s o ≡ None)
-  destroyed_unknown h = grind (arith, either_option, own, named, calm, eqb-true, in_part, never_refused)
 
   destroyed_starved : Own (Err destroy.OutOfMemory) → (named_of t o ≡ named_of s o) × (lacked ≡ true)
   destroyed_starved h = grind (arith, either_option, own, starved_refused, calm, named, left_store, in_part)
@@ -125,19 +106,19 @@ module _ {T U G C : Type 0} {w : World T G C} {before after : BackendState T U G
 
   destroy_memory : (answer : Result (Unit {0}) DestroyError) → ((lacked : Bool) → answer ≡ unless_refused destroy.OutOfMemory lacked → lacked ≡ false)
       → Calls w before (step.DestroyObject o) (reply.DestroyObject answer) after → after.refused ≡ false
-  destroy_memory answer h1 h2 = grind (arith, calm, never, same_client, destroy_calm, either_option)
+  destroy_memory answer h1 h2 = grind (arith, calm, never, same_client, either_option)
 
   destroyed_as : (answer : Result (Unit {0}) DestroyError) → Calls w before (step.DestroyObject o) (reply.DestroyObject answer) after → DestroyedAs before o answer after
   destroyed_as (Ok ok) call =
       let (lacked, did, h) = destroy_each (Ok tt) call o.client in
       let (x, was, gone, notes) = destroyed_ok w.sends o _ _ lacked did h in
-      (x, was, gone, notes, destroy_memory (Ok tt) (λ l is. ok_calm l is) call)
+      (x, was, gone, notes, destroy_memory (Ok tt) (λ l is. (grind (arith))) call)
   destroyed_as (Err destroy.InvalidId) call =
       let (lacked, did, h) = destroy_each (Err destroy.InvalidId) call o.client in (
-        destroyed_unknown w.sends o _ _ lacked did h,
+        (grind (arith, either_option, own, named, calm, eqb-true, in_part, w.sends)),
         unchanged call refl refl (λ id.
             let (lacked, did, h) = destroy_each (Err destroy.InvalidId) call id in destroy_refused w.sends o id (same_client o.client id) lacked did _ _ h),
-        destroy_memory (Err destroy.InvalidId) (λ l is. absurd (never_refused l is)) call,
+        destroy_memory (Err destroy.InvalidId) (λ l is. absurd (grind (arith))) call,
       )
   destroyed_as (Err destroy.OutOfMemory) call =
       let (lacked, did, h) = destroy_each (Err destroy.OutOfMemory) call o.client in (
@@ -151,4 +132,4 @@ module _ {T U G C : Type 0} {w : World T G C} {before after : BackendState T U G
       as_starved lacked did r is h = grind (arith, same_client, seen)
 
   pub destroys_object : (answer : Result (Unit {0}) DestroyError) → Calls w before (step.DestroyObject o) (reply.DestroyObject answer) after → DestroysObject before o answer after
-  destroys_object answer call = grind (arith, destroyed_as, destroy_each, keeps, same_client, and_then, named, destroy_others, ids_differ, other_stays, is_some, offer_of)
+  destroys_object answer call = grind (arith, destroyed_as, destroy_each, keeps, same_client, and_then, named, destroy_others, true≢false, other_stays, is_some, offer_of)

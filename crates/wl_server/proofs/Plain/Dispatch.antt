@@ -1,5 +1,5 @@
 -- A dispatch: what it leaves of its client, and of the others.
-use Rattle.std.proofs.Common.{◌≡◌, ℕ, Bool, true, false, cond, eqb, List, [], ◌∷◌, Option, None, Some, IsSome, is_some, Result, Ok, Err, refl, sym, ap, subst, ◌∙◌, true≢false, arith}
+use Rattle.std.proofs.Common.{◌≡◌, ℕ, Bool, true, false, eqb, List, [], ◌∷◌, Option, None, Some, IsSome, is_some, Result, Ok, Err, refl, sym, ap, subst, ◌∙◌, true≢false, arith}
 use mathlib.Core.Logic.{inl, inr}
 use Rattle.std.proofs.lemmas.Bool.{cases_lt, eq-eqb}
 use Rattle.std.specs.Prelude.{◌⊎◌, ◌≤◌, ◌<◌, Vec}
@@ -42,7 +42,7 @@ use Rattle.wl_server.specs.Steps.{Entry, OneStep, lacks_growth, offer_after}
 use Rattle.wl_server.specs.Telling.{Core, Told}
 use Rattle.wl_server.proofs.Dispatches.Standing.{Stands, born_still, run_stands}
 use Rattle.wl_server.proofs.Plain.Base.{none_and_some, own}
-use Rattle.wl_server.proofs.Plain.Cleanup.{cleaned_killed, cleaned_live, cleaned_none}
+use Rattle.wl_server.proofs.Plain.Cleanup.{cleaned_killed, cleaned_live}
 use Rattle.wl_server.proofs.Plain.Reading.{reads_as}
 use Rattle.wl_server.proofs.Plain.ReadingEnds.{reading_ends, split_result, or_true}
 use Rattle.wl_server.proofs.Plain.Requests.{own_lacks}
@@ -58,9 +58,7 @@ module _ {H T U G C : Type 0} (w : World T G C) (answers : Answering H T U G C) 
   module _ (id : ClientParts) where
     round_keeps : (h h' : H) (r r' : Reading) (before after : ServerState T U G C) (run : List (Entry T U G C)) (lacked : Bool) (why : Option FinishError)
         → Round w answers id h r before run lacked why h' r' after → after.offer ≡ before.offer
-    round_keeps h h' r r' before after run lacked why round =
-        grind (arith, kept_by, round.found, round.handed, round.rest, round.end_lacked, round.handles)
-        ∙ kept_by before round.found.server round.read _ round.reads round.read_is refl
+    round_keeps h h' r r' before after run lacked why round = grind (arith, kept_by, offer_after)
 
     rounds_keep : (h h' : H) (r r' : Reading) (before after : ServerState T U G C) (run : List (Entry T U G C)) (lacked : Bool)
         → Rounds w answers id h r before run lacked h' r' after → after.offer ≡ before.offer
@@ -78,21 +76,16 @@ module _ {H T U G C : Type 0} (w : World T G C) (answers : Answering H T U G C) 
   clients_keep ids h h' before after run lacked total (one_round {earlier = earlier} {h1 = h1} {s1 = s1} {first = first} {next = next} {before = was} {now = now} {count = count} id answer each serves ids_are run_is lacked_is total_is) =
       client_keeps id h1 h' s1 after next now answer serves ∙ clients_keep earlier h h1 before s1 first was count each
 
-  -- the cleanup at the end
-  end_keeps : (before mid : ServerState T U G C) (after : BackendState T U G C) (calls : List (Entry T U G C)) (lacked : Bool) (answer result : Result ℕ IoFault)
-      → EndsDispatch w before calls lacked mid answer result after → after.server.offer ≡ mid.offer
-  end_keeps before mid after calls lacked answer result ends = kept_by mid after.server ends.cleanup _ ends.cleans ends.cleanup_is refl
-
   pub dispatch_keeps : (id : ClientParts) (h h' : H) (before mid : ServerState T U G C) (after : BackendState T U G C) (calls : List (Entry T U G C)) (lacked : Bool)
       (answer result : Result ℕ IoFault) → IsDispatched w answers id h before calls lacked answer h' mid → EndsDispatch w before calls lacked mid answer result after
       → after.server.offer ≡ before.offer
   dispatch_keeps id h h' before mid after calls lacked answer result serves ends =
-      end_keeps before mid after calls lacked answer result ends ∙ client_keeps id h h' before mid calls lacked answer serves
+      (kept_by mid after.server ends.cleanup _ ends.cleans ends.cleanup_is refl) ∙ client_keeps id h h' before mid calls lacked answer serves
 
   pub dispatches_keep : (ids : List ClientParts) (h h' : H) (before mid : ServerState T U G C) (after : BackendState T U G C) (calls : List (Entry T U G C)) (lacked : Bool)
       (total : ℕ) (result : Result ℕ IoFault) → EachIsDispatched w answers ids h before calls lacked total h' mid → EndsDispatch w before calls lacked mid (Ok total) result after
       → after.server.offer ≡ before.offer
-  dispatches_keep ids h h' before mid after calls lacked total result each ends = grind (arith, end_keeps, clients_keep)
+  dispatches_keep ids h h' before mid after calls lacked total result each ends = grind (arith, kept_by, clients_keep)
 
 -- ---- the cleanup
 
@@ -101,14 +94,9 @@ split h1 = grind (arith)
 
 module _ {T U G C : Type 0} (w : World T G C) (id : ClientParts) (offer : Offer G) (out : Vec (ClientParts × T) Global) (s t : Seen T U C) (lacked : Bool) (did : List (Deed U))
     (h : CleanedAs w id offer (Ok out) s lacked did t) where
-  -- a live client without an open action stays so
-  idle_still : IsIdle s.part → IsIdle t.part
-  idle_still (p, was, live, idle) =
-      let (handed, is, made) = cleaned_live w id offer out s t lacked did p was live h in (record p { waiting = [] }, is, live, idle)
-
   -- nor is one that was not stored, or killed
   gone_then : (s.part ≡ None) ⊎ ((p : Part T U C) × (s.part ≡ Some p) × (p.is_killed ≡ true)) → t.part ≡ None
-  gone_then h1 = grind (arith, cleaned_none, cleaned_killed)
+  gone_then h1 = grind (arith, either_option, none_and_some, cleaned_killed)
 
 module _ {T U G C : Type 0} (w : World T G C) (mid : ServerState T U G C) (after : BackendState T U G C) (e : Entry T U G C) (out : Reply T U) (by : OneStep w mid e after.server)
     (is : e.call ≡ Asked step.Cleanup out) where
@@ -124,7 +112,7 @@ module _ {T U G C : Type 0} (w : World T G C) (mid : ServerState T U G C) (after
       record { r = r; answer_is = answer_is; cleans = h }
 
   all_live : (o : Vec (ClientParts × T) Global) → out ≡ reply.Cleanup (Ok o) → AllLive after
-  all_live o fine id p there = grind (arith, of_client, cleaned_none, split, cleaned_killed, cleaned_live, seen)
+  all_live o fine id p there = grind (arith, of_client, either_option, none_and_some, split, cleaned_killed, cleaned_live, seen)
 
   refused_as : (l : OutOfMemory) → out ≡ reply.Cleanup (Err l) → e.refused ≡ true
   refused_as l failed = by.refused.1 (inl (ap lacks_growth (is ∙ ap (λ (o : Reply T U). Asked step.Cleanup o) failed)))
@@ -186,9 +174,6 @@ module _ {T U C : Type 0} where
   stands_shut found (inl none) = inl none
   stands_shut found (inr (p, is, some)) = inr (p, is, inr some)
 
-ok_no_err : {h : Handed} {e : ActionError} → ◌≡◌ {A = Result Handed ActionError} (Ok h) (Err e) → ⊥
-ok_no_err is = absurd cc
-
 module _ {T U C : Type 0} (table : List InterfaceRow) (id : ClientParts) (s t : Seen T U C) where
   open_shut : ReadAs table id (Err ActionOpen) s t → Shut t.part
   open_shut (inl (none, is, same)) = absurd (not_open (sym is))
@@ -201,9 +186,9 @@ module _ {T U C : Type 0} (table : List InterfaceRow) (id : ClientParts) (s t : 
   read_shut (Io f) h is = gone_shut t.part (read_killed table id s t fault.InvalidInput (λ q k. k) (subst (λ (x : IoFault). ReadAs table id (Err (Io x)) s t) is h))
 
   read_stands : (h : Handed) → ReadAs table id (Ok h) s t → Stands t.part
-  read_stands h (inl (none, is, same)) = absurd (ok_no_err is)
-  read_stands h (inr (p, was, inl (some, is, same))) = absurd (ok_no_err is)
-  read_stands h (inr (p, was, inr (inl (idle, dead, is, same)))) = absurd (ok_no_err is)
+  read_stands h (inl (none, is, same)) = absurd (absurd cc)
+  read_stands h (inr (p, was, inl (some, is, same))) = absurd (absurd cc)
+  read_stands h (inr (p, was, inr (inl (idle, dead, is, same)))) = absurd (absurd cc)
   read_stands h (inr (p, was, inr (inr (idle, live, (q, (handed, (lives, is))))))) = inr (q, ap (λ (x : Seen T U C). x.part) is, (grind (arith, is_some)))
 
 -- ---- whether memory was refused
@@ -301,13 +286,9 @@ module _ {H T U G C : Type 0} (w : World T G C) (answers : Answering H T U G C) 
       inside given left is = cc
 
   module _ (why : FinishError) (is_not : why ≡ finish.OutOfMemory → ⊥) where
-    module _ (s s' : ServerState T U G C) (e : Entry T U G C) (by : OneStep w s e s') (answer : Reply T U) (so : Some why ≡ refusal_in answer) where
-      bind_stays : (u : U) → e.call ≡ Asked (step.FinishBind id u) answer → (seen id s').part ≡ (seen id s).part
-      bind_stays u is = grind (arith, seen, either_option, own, refusal_in)
-
     end_stays : {h h' : H} {before : BackendState T U G C} {a : Action} {run : List (Entry T U G C)} {lacked : Bool} {after : ServerState T U G C}
         → (x : Handles w answers id h before a run lacked (Some why) h' after) → (seen id after).part ≡ (seen id x.left.server).part
-    end_stays {h} {h'} {before} {a} {after = after} x = grind (arith, seen, either_option, own, refusal, refusal_in, bind_stays)
+    end_stays {h} {h'} {before} {a} {after = after} x = grind (arith, seen, either_option, own, refusal, refusal_in)
 
   born_rounds : {h h' : H} {r r' : Reading} {s s' : ServerState T U G C} {run : List (Entry T U G C)} {lacked : Bool}
       → Rounds w answers id h r s run lacked h' r' s' → id.serial ≤ s.last_client → id.serial ≤ s'.last_client
@@ -376,13 +357,10 @@ module _ {H T U G C : Type 0} (w : World T G C) (answers : Answering H T U G C) 
 
   swept : (before : ServerState T U G C) (offer : Offer G) (out : Vec (ClientParts × T) Global) (s t : Seen T U C) (lacked : Bool) (did : List (Deed U)) → CleanedAs w id offer (Ok out) s lacked did t
       → (f : IoFault) (read : ℕ) → EndedBy f s.part → (f ≡ fault.InvalidInput → Refused before t.part) → LeftBy before id t.part (dispatched f read)
-  swept before offer out s t lacked did h fault.WouldBlock read idle shut = at (eqb read 0) refl
+  swept before offer out s t lacked did h fault.WouldBlock read idle shut = grind (arith, still, true≢false, eq-eqb, eqb read 0)
     where
       still : IsIdle t.part
-      still = idle_still w id offer out s t lacked did h idle
-
-      at : (b : Bool) → eqb read 0 ≡ b → LeftBy before id t.part (cond b (Err fault.WouldBlock) (Ok read))
-      at h1 is = grind (arith, still, true≢false, eq-eqb)
+      still = let (handed, is, made) = cleaned_live w id offer out s t lacked did idle.0 idle.1 idle.2 h in (record idle.0 { waiting = [] }, is, idle.2, idle.3)
   swept before offer out s t lacked did h fault.InvalidInput read ended shut = shut refl
   swept before offer out s t lacked did h fault.OutOfMemory read ended shut = tt
   swept before offer out s t lacked did h fault.Pipe read gone shut = gone_then w id offer out s t lacked did h gone
@@ -445,13 +423,10 @@ module _ {H T U G C : Type 0} (w : World T G C) (answers : Answering H T U G C) 
   dispatches_leave ids h h' before result after (calls, lacked, total, mid, each, ends) =
       let c = of_client w mid after ends.cleanup ends.out ends.cleans ends.cleanup_is (record { slot = 0; serial = 0 }) in at c.r c.answer_is
     where
-      result_as : (r : Result (Vec (ClientParts × T) Global) OutOfMemory) → ends.out ≡ reply.Cleanup r → result ≡ after_cleanup r (Ok total)
-      result_as r is = ends.result_is ∙ ap (λ (o : Reply T U). cleaned o (Ok total)) is
-
       kept : KeepsGlobals answers → after.server.offer ≡ before.offer
       kept keeps = dispatches_keep w answers keeps ids h h' before mid after calls lacked total result each ends
 
       at : (r : Result (Vec (ClientParts × T) Global) OutOfMemory) → ends.out ≡ reply.Cleanup r → DispatchOfSeveralLeaves answers before result after
-      at (Ok out) is = subst (λ (a : Result ℕ IoFault). DispatchOfSeveralLeaves answers before a after) (sym (result_as (Ok out) is))
+      at (Ok out) is = subst (λ (a : Result ℕ IoFault). DispatchOfSeveralLeaves answers before a after) (sym (ends.result_is ∙ ap (λ (o : Reply T U). cleaned o (Ok total)) is))
           (record { all = all_live w mid after ends.cleanup ends.out ends.cleans ends.cleanup_is out is; globals = kept })
-      at (Err l) is = grind (arith, result_as, or_true, refused_as, kept, cleaned, lacks_growth, dispatches_keep)
+      at (Err l) is = grind (arith, cleaned, or_true, refused_as, kept, lacks_growth, dispatches_keep)

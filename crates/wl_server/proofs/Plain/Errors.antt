@@ -8,7 +8,7 @@ use Rattle.wl_wire.specs.Table.{InterfaceRow}
 use Rattle.wl_link.proofs.Calls.Branches.{either_option}
 use Rattle.wl_link.specs.Exchange.{Queue}
 use Rattle.wl_link.specs.Puts.{Said}
-use Rattle.wl_link.specs.Reader.{CarriesOut, ReaderState, Verdict, came_to, put_and_gave}
+use Rattle.wl_link.specs.Reader.{CarriesOut, Verdict, came_to, put_and_gave}
 use Rattle.wl_server.specs.declared.notes.DisconnectReason.{DisconnectReason}
 use Rattle.wl_server.specs.declared.notes.DisconnectReason.TheVariants.{ConnectionClosed, ProtocolError as BrokeProtocol}
 use Rattle.wl_server.specs.declared.notes.Happening.TheVariants.{Disconnected}
@@ -70,8 +70,7 @@ module _ {T U C : Type 0} (sends : T → Queue → Result ℕ IoFault → T → 
       carried : CarriesOut sends speaker (verdict p) p.link es gave lacked end → IsEnded p did q
       carried (inl (first, others, put, wrote, mid, lacks, puts, flushes, sent, is, given, memory)) =
           of_core put given (subst (λ (c : Core U C). Dies (core_of p) c) (sym is) (came (core_of p) wrote))
-      carried (inr (asks, refused, silent, given, starves)) =
-          of_core [] given (subst (λ (c : Core U C). Dies (core_of p) c) (sym (ap (λ (x : ReaderState T (Core U C)). x.core) starves)) (closes (core_of p)))
+      carried (inr (asks, refused, silent, given, starves)) = grind (arith, of_core, core_of, closes, part_of, notes_in, deeds_of, map, notes_told, end_deeds)
 
   -- ---- of one client
 
@@ -81,10 +80,6 @@ module _ {T U C : Type 0} (sends : T → Queue → Result ℕ IoFault → T → 
   -- the objects stay
   stores_stay : (lacked : Bool) (did : List (Deed U)) (p q : Part T U C) → Does lacked did p q → q.store ≡ p.store
   stores_stay lacked did p q h = grind (arith, split_bool, ends)
-
-  -- a null id does nothing
-  null_same : (id.number == 0) ≡ true → (b : Bool) (s t : Seen T U C) (lacked : Bool) (did : List (Deed U)) → OfClient b s (Does lacked did) (Unit {0}) lacked did t → t ≡ s
-  null_same h1 b s t lacked did h2 = grind (arith, either_option, when_true, nothing_new, notes_in, true≢false, append-nil)
 
   -- another id is told of its client
   ended : (id.number == 0) ≡ false → (client : ClientParts) (s t : Seen T U C) (lacked : Bool) (did : List (Deed U)) → OfClient (same_client client client) s (Does lacked did) (Unit {0}) lacked did t
@@ -113,6 +108,6 @@ module _ {T U G C : Type 0} {w : World T G C} {before after : BackendState T U G
   }
     where
       by_number : (b : Bool) → (id.number == 0) ≡ b → MatchBool b (IsUnchanged before after) (ErrorPostedAs before id code text after)
-      by_number true null = grind (arith, unchanged, of_each, null_same, same_client, offer_of, either_option, when_true, nothing_new, notes_in, true≢false, append-nil)
+      by_number true null = grind (arith, unchanged, of_each, either_option, when_true, nothing_new, notes_in, true≢false, append-nil, same_client, offer_of)
       by_number false some =
           let (lacked, did, (is, h)) = of_each call id.client in ended w.sends before.server.offer.table id code text some id.client _ _ lacked did h

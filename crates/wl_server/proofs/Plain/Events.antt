@@ -44,7 +44,7 @@ use Rattle.wl_server.specs.Plain.Events.{ChecksTo, EmitsEvent, EventIsPut, Event
 use Rattle.wl_server.specs.Server.{Seen, seen}
 use Rattle.wl_server.specs.Telling.{Core, Did, Tells, Told, core_of, end_deeds}
 use Rattle.wl_server.proofs.OverRuns.Moves.MovesOfCalls.{granted_named}
-use Rattle.wl_server.proofs.Plain.Base.{ids_differ, keeps, nothing_new, of_each, of_own, offer_of, one_value, other_stays, own, refused_to, same_is, unchanged, when_false, split_bool}
+use Rattle.wl_server.proofs.Plain.Base.{keeps, nothing_new, of_each, of_own, offer_of, one_value, other_stays, own, refused_to, same_is, unchanged, when_false, split_bool}
 use Rattle.wl_server.proofs.Plain.Naming.{names_so, removed_named, removed_others}
 use Rattle.wl_server.proofs.Plain.Verdicts.{IsStarved, IsTold, told_ended, told_nothing, told_starved}
 use Rattle.wl_server.proofs.Plain.Globals.{split, which}
@@ -59,18 +59,14 @@ pub data MemoryBy {T U C : Type 0} (p q : Part T U C) (answer : Result (Unit {0}
   is_sent : answer ≡ Ok tt → (lacked ≡ true → (p.is_killed ≡ false) × (q.is_killed ≡ true)) → MemoryBy p q answer lacked
 
 module _ {T U C : Type 0} (sends : T → Queue → Result ℕ IoFault → T → Type 0) (client : ClientParts) (m : SessionMessage) (p q : Part T U C) where
-  -- the event could not be put for another reason
-  unput : (answer : Result (Unit {0}) EventError) (lacked : Bool) → answer ≡ Ok tt → lacked ≡ false → MemoryBy p q answer lacked
-  unput answer lacked is calm = is_sent is (λ lacks. absurd (true≢false (sym lacks ∙ calm)))
-
   pub event_memory_of : (table : List InterfaceRow) (answer : Result (Unit {0}) EventError) (lacked : Bool) (did : List (Deed U))
       → (event_check client p.store table m ≡ Err refused.OutOfMemory → ⊥) → SendsEvent sends client table p m answer lacked did q → MemoryBy p q answer lacked
   event_memory_of table answer lacked did never h =
       elim (split_bool p.is_killed h) [
-        | inl (dead, (is, calm, none, same)) ↦ unput answer lacked is calm
+        | inl (dead, (is, calm, none, same)) ↦ is_sent is (λ lacks. absurd (true≢false (sym lacks ∙ calm)))
         | inr (live, checked) ↦
             elim (split_result (event_check client p.store table m) checked) [
-              | inl (g, is, granted) ↦ grind (arith, ends_sender, core_of, unput, told_nothing, ends_closed, g.0, g.1)
+              | inl (g, is, granted) ↦ grind (arith, ends_sender, core_of, true≢false, told_nothing, ends_closed, g.0, g.1)
               | inr (e, is, (answered, calm, none, same)) ↦
                   refusing e (λ memory. never (is ∙ ap (λ (x : EventError). let y : Result (Object (Kept U) × Bool) EventError = Err x in y) memory)) answered calm
             ]
@@ -157,13 +153,6 @@ module _ {T U C : Type 0} (client : ClientParts) (p : Part T U C) (m : SessionMe
     starved_same true = refl
     starved_same false = refl
 
-    was_put : (ends : Bool) (link : LinkState T) (lacked : Bool) (did : List (Deed U)) (q : Part T U C) → Tells sends (verdict ends) link lacked did q → IsPut ends did q
-    was_put ends link lacked did q h =
-        elim (which lacked) [
-          | inl lacks ↦ put_starved ends (starved_same ends) did q (told_starved sends (verdict ends) (flushes_none ends) link lacked did q lacks h)
-          | inr calm ↦ put_live ends did q (told_ended sends (verdict ends) (lasts ends) link lacked did q calm h)
-        ]
-
     -- the event could not be put: the client is closed down
     was_closed : (ends : Bool) (link : LinkState T) (lacked : Bool) (did : List (Deed U)) (q : Part T U C) → Tells sends (ends_closed client (core_of p) m x ends) link lacked did q
         → IsPut ends did q
@@ -181,22 +170,22 @@ module _ {T U C : Type 0} (client : ClientParts) (p : Part T U C) (m : SessionMe
 
     granted_comes : (ends : Bool) (answer : Result (Unit {0}) EventError) (lacked : Bool) (did : List (Deed U)) (q : Part T U C)
         → SendsGranted sends client p m x ends answer lacked did q → Comes ends answer did q
-    granted_comes ends answer lacked did q (inl (asks, is, lacks, none, same)) =
-        subst (λ (r : Result (Unit {0}) EventError). Comes ends r did q) (sym is) (record { core_is = ap core_of same; silent = ap notes_in none })
+    granted_comes ends answer lacked did q (inl (asks, is, lacks, none, same)) = grind (arith, core_of, notes_in)
     granted_comes ends answer lacked did q (inr (es, rest, wrote, link, by, sent, did_so)) = at wrote sent
       where
-        behind : notes_in did ≡ notes_in rest
-        behind = ap notes_in did_so ∙ behind_sends es rest
-
         closed : Tells sends (ends_closed client (core_of p) m x ends) link lacked rest q → answer ≡ Ok tt → Comes ends answer did q
         closed h is =
-            subst (λ (r : Result (Unit {0}) EventError). Comes ends r did q) (sym is) (put_noted ends did rest q behind (was_closed ends link lacked rest q h))
+            subst (λ (r : Result (Unit {0}) EventError). Comes ends r did q) (sym is) (put_noted ends did rest q (ap notes_in did_so
+            ∙ behind_sends es rest) (was_closed ends link lacked rest q h))
 
         at : (wrote : Result (Unit {0}) IoFault) → SentAs sends client p m x ends wrote link answer lacked rest q → Comes ends answer did q
         at (Ok u) (more, tells, is, put) =
             subst (λ (r : Result (Unit {0}) EventError). Comes ends r did q) (sym is)
-            (put_noted ends did more q (behind ∙ ap notes_in put) (was_put ends link lacked more q tells))
-        at (Err fault.OutOfMemory) (is, lacks, none, same) = grind (arith, core_of, behind, notes_in)
+            (put_noted ends did more q ((ap notes_in did_so ∙ behind_sends es rest) ∙ ap notes_in put) (elim (which lacked) [
+              | inl lacks ↦ put_starved ends (starved_same ends) more q (told_starved sends (verdict ends) (flushes_none ends) link lacked more q lacks tells)
+              | inr calm ↦ put_live ends more q (told_ended sends (verdict ends) (lasts ends) link lacked more q calm tells)
+            ]))
+        at (Err fault.OutOfMemory) (is, lacks, none, same) = grind (arith, core_of, behind_sends, notes_in)
         at (Err fault.WouldBlock) (tells, is) = closed tells is
         at (Err fault.Pipe) (tells, is) = closed tells is
         at (Err fault.TooBig) (tells, is) = closed tells is
@@ -243,11 +232,8 @@ module _ {U : Type 0} (client : ClientParts) (store : Store (Kept U)) where
   found_calm is_asked None = refl
   found_calm is_asked (Some x) = when_calm (not (is_asked x.interface)) refused.WrongInterface refl
 
-  id_calm : (is_asked : InterfaceId → Bool) (id : IdParts) → is_memory (id_fault client store is_asked id) ≡ false
-  id_calm is_asked id = grind (arith, first_calm, when, not, same_client, client, found_fault, named, when_calm, found_calm)
-
   argument_calm : (row : MessageRow) (k : ArgumentType) (asked : InterfaceId) (x : Argument IdParts Token) → is_memory (argument_fault client store row k asked x) ≡ false
-  argument_calm row k asked x = grind (arith, is_memory, null_fault, id_fault, client, fits, null_calm, id_calm, is_child, first_calm, when, not, same_client, found_fault, named, when_calm, found_calm)
+  argument_calm row k asked x = grind (arith, is_memory, null_fault, id_fault, client, fits, null_calm, first_calm, when, not, same_client, found_fault, named, when_calm, found_calm, is_child)
 
   arguments_calm : (row : MessageRow) (kinds : List ArgumentType) (asked : List InterfaceId) (args : List (Argument IdParts Token))
       → is_memory (first_refusal (argument_faults client store row kinds asked args)) ≡ false
@@ -434,7 +420,8 @@ module _ {T U G C : Type 0} (w : World T G C) (before after : BackendState T U G
                       ap (option_map (λ (y : Part T U C). y.is_killed)) there ∙ ap Some d.dead,
                       unchanged_by (λ id lacked' did' h'.
                           dropped_same w.sends id before.server.offer.table m answer (same_client client id) _ _ lacked' did'
-                          (λ about r here. ap (λ (y : Part T U C). y.is_killed) (one_value (client_of before.server id) here (of_same id about p there)) ∙ d.dead) h'),
+                          (λ about r here. ap (λ (y : Part T U C). y.is_killed) (one_value (client_of before.server id) here
+                          (subst (λ (i : ClientParts). client_of before.server i ≡ Some p) (same_is client id about) there)) ∙ d.dead) h'),
                     )
                 | inr (inl r) ↦ absurd (not_ok r.e (sym r.answer_is ∙ ok))
                 | inr (inr g) ↦
@@ -444,9 +431,6 @@ module _ {T U G C : Type 0} (w : World T G C) (before after : BackendState T U G
               ]
         ]
       where
-        of_same : (id : ClientParts) → same_client client id ≡ true → (p : Part T U C) → client_of before.server client ≡ Some p → client_of before.server id ≡ Some p
-        of_same id about p there = subst (λ (i : ClientParts). client_of before.server i ≡ Some p) (same_is client id about) there
-
         event_put : (p q : Part T U C) (x : Object (Kept U)) (ends : Bool) (did : List (Deed U)) → client_of before.server client ≡ Some p
             → seen client after.server ≡ record { part = Some q; made = (seen client before.server).made ++ notes_in did } → named p.store m.sender ≡ Some x
             → IsPut client p m x ends did q → EventIsPut before m.sender x ends after
@@ -472,8 +456,7 @@ module _ {T U G C : Type 0} (w : World T G C) (before after : BackendState T U G
         → EventMemory before client answer after
     memory_by p q was is (lacking says lacks) = subst (λ (a : Result (Unit {0}) EventError). EventMemory before client a after) (sym says) lacks
     memory_by p q was is (refusing e never says calm) = subst (λ (a : Result (Unit {0}) EventError). EventMemory before client a after) (sym says) (error_memory e never calm)
-    memory_by p q was is (is_sent says so) =
-        subst (λ (a : Result (Unit {0}) EventError). EventMemory before client a after) (sym says) (λ known. let (live, dead) = so known in (was ∙ ap Some live, is ∙ ap Some dead))
+    memory_by p q was is (is_sent says so) = grind (arith, client)
 
     event_memory : EventMemory before client answer after
     event_memory =
@@ -494,7 +477,8 @@ module _ {T U G C : Type 0} (w : World T G C) (before after : BackendState T U G
       objects = λ other differ.
           let (lacked, did, h) = event_each other.client in
           keeps (same_client client other.client) _ _ _ lacked did _ (λ x. and_then x (λ p. named p.store other))
-          (λ about p q does. others_stay w.sends other.client before.server.offer.table m answer lacked did p q does other (ids_differ (same_client client other.client) about differ)) h;
+          (λ about p q does. others_stay w.sends other.client before.server.offer.table m answer lacked did p q does other
+          (grind (arith, true≢false, same_client client other.client))) h;
       clients = λ other differ. let (lacked, did, h) = event_each other in other_stays (same_client client other) _ _ _ lacked did _ differ h;
       stored = λ id.
           let (lacked, did, h) = event_each id in keeps (same_client client id) _ _ _ lacked did _ (λ x. is_some x) (λ about p q r. refl) h;

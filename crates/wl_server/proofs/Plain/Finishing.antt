@@ -3,11 +3,9 @@ use Rattle.std.proofs.Common.{◌≡◌, Bool, true, false, List, [], None, Some
 use mathlib.Core.Logic.{inl, inr}
 use Rattle.std.specs.Prelude.{option_map}
 use Rattle.wl_link.proofs.Calls.Branches.{either_option}
-use Rattle.wl_link.specs.Store.{Store}
 use Rattle.wl_server.specs.declared.error.FinishError.{FinishError}
 use Rattle.wl_server.specs.declared.error.FinishError.TheVariants as finish
 use Rattle.wl_server.specs.declared.error.FinishRefused.{FinishRefused}
-use Rattle.wl_server.specs.declared.objects.Kept.{Kept}
 use Rattle.wl_server.specs.declared.reading.action.OpenAction.TheVariants as opened
 use Rattle.wl_server.specs.declared.runs.step.Reply.TheVariants as reply
 use Rattle.wl_server.specs.declared.runs.step.Step.TheVariants as step
@@ -22,15 +20,6 @@ use Rattle.wl_server.specs.Plain.{BindEndedAs, EndsBind}
 use Rattle.wl_server.specs.Server.{Seen, seen}
 use Rattle.wl_server.proofs.Plain.Base.{calm, never, notes_stay, nothing_new, of_each, offer_of, other_stays, own, unchanged}
 use Rattle.wl_server.proofs.Plain.Naming.{names_so, rewritten_named, rewritten_others}
-
--- ---- data are given to the object that an id names
-
-module _ {U : Type 0} (store : Store (Kept U)) (id : IdParts) (u : U) where
-  pub given_named : named (data_given store id.number (named store id) u) id ≡ option_map (with_user_data u) (named store id)
-  given_named = grind (arith, named, option_map, with_user_data, rewritten_named, names_so)
-
-  pub given_others : (other : IdParts) → same_id (id_of id) (id_of other) ≡ false → named (data_given store id.number (named store id) u) other ≡ named store other
-  given_others other differ = grind (arith, named, rewritten_others, with_user_data, names_so)
 
 -- ---- a bind
 
@@ -68,7 +57,7 @@ module _ {T U C : Type 0} (client : ClientParts) (u : U) (s t : Seen T U C) (lac
       → (object : IdParts) × (and_then s.part (λ p. p.action) ≡ Some (opened.Bind object)) × (and_then t.part (λ p. p.action) ≡ None)
       × (and_then t.part (λ p. named p.store object) ≡ option_map (with_user_data u) (and_then s.part (λ p. named p.store object)))
       × ((other : IdParts) → same_id (id_of object) (id_of other) ≡ false → and_then t.part (λ p. named p.store other) ≡ and_then s.part (λ p. named p.store other))
-  bind_ended h = grind (arith, either_option, own, ok_refused, bound_ok, and_then, named, given_named, option_map, with_user_data, given_others)
+  bind_ended h = grind (arith, either_option, own, ok_refused, bound_ok, and_then, named, option_map, with_user_data, rewritten_named, names_so, rewritten_others)
 
   bind_given_back : (r : FinishRefused U) → OfBind client client u (Err r) s lacked did t → r.user_data ≡ u
   bind_given_back r h = grind (arith, either_option, own, bound_refused)

@@ -4,7 +4,6 @@ use mathlib.Core.Logic.{inl, inr}
 use Rattle.std.specs.Prelude.{◌==◌, MatchBool, nat_le, option_map, slice_get}
 use Rattle.std.proofs.lemmas.Bool.{eq-eqb, ne_eqb}
 use Rattle.wl_wire.specs.declared.interface.InterfaceId.{InterfaceId}
-use Rattle.wl_wire.specs.Table.{InterfaceRow}
 use Rattle.wl_link.proofs.Calls.Branches.{either_bool, either_option}
 use Rattle.wl_link.proofs.Ids.StoreLaws.{removed_here, rewritten_here, stored_here}
 use Rattle.wl_link.specs.declared.object.Object.{Object}
@@ -25,8 +24,7 @@ use Rattle.wl_server.specs.declared.runs.step.Step.TheVariants as step
 use Rattle.wl_server.specs.Backend.{BackendState, Calls}
 use Rattle.wl_server.specs.Deeds.{Deed, notes_in}
 use Rattle.wl_server.specs.Felt.{Hears, news, removals}
-use Rattle.wl_server.specs.Globals.{CreatesGlobal, Globals, IsNextGlobal, Offer, as_disabled, disabled, disabled_at, freed, freed_at, global_of, global_serial, is_enabled, new_global}
-use Rattle.wl_server.specs.GivenOnce.{same_global}
+use Rattle.wl_server.specs.Globals.{IsNextGlobal, Offer, as_disabled, disabled, freed, global_of, global_serial, is_enabled, new_global}
 use Rattle.wl_server.specs.Ids.{ClientParts, GlobalParts, IdParts}
 use Rattle.wl_server.specs.Lookups.{and_then}
 use Rattle.wl_server.specs.Part.{Part, named, with_link}
@@ -36,7 +34,7 @@ use Rattle.wl_server.specs.Plain.Globals.{DisablesGlobal, GlobalCreatedAs, IsTol
 use Rattle.wl_server.specs.Server.{Seen, seen}
 use Rattle.wl_server.specs.Steps.{AnswersShared}
 use Rattle.wl_server.specs.Telling.{Core, core_of, end_deeds, part_of, tells}
-use Rattle.wl_server.proofs.OverRuns.Ids.GivenLaws.{Changes, created_elsewhere, disabled_changes, freed_changes}
+use Rattle.wl_server.proofs.OverRuns.Ids.GivenLaws.{created_elsewhere, disabled_changes, freed_changes}
 use Rattle.wl_server.proofs.Plain.Base.{by_growth, keeps, of_each, offer_of, some_lacks}
 use Rattle.wl_server.proofs.Plain.Verdicts.{told, told_ended, told_starved}
 
@@ -49,9 +47,6 @@ pub which : (b : Bool) → (b ≡ true) ⊎ (b ≡ false)
 which h1 = grind (arith)
 
 module _ {T U C : Type 0} (sends : T → Queue → Result ℕ IoFault → T → Type 0) (messages : List Said) (lacked : Bool) (did : List (Deed U)) where
-  hears_store : (p q : Part T U C) → Hears sends p messages lacked did q → q.store ≡ p.store
-  hears_store p q h = grind (arith, either_bool, told, tells, core_of)
-
   -- told, or killed
   hears_as : (s t : Seen T U C) (p q : Part T U C) → s.part ≡ Some p → Hears sends p messages lacked did q → t ≡ record { part = Some q; made = s.made ++ notes_in did }
       → (link : LinkState T)
@@ -129,20 +124,6 @@ module _ {G : Type 0} where
       → cond (id.number == 0) None (named_in global_serial id (held store id.number)) ≡ Some x
   global_here store id x numbered holds tells' = grind (arith, cond, named_in, global_serial, held)
 
-  disabled_in : (globals : Globals G) (id : GlobalParts) (o : Option (Object (KeptGlobal G))) → global_of globals id ≡ o
-      → global_of (disabled_at globals id.name o) id ≡ option_map as_disabled o
-  disabled_in globals id o h1 = grind (arith, held, global_here, rewritten, as_disabled, rewritten_here)
-
-  freed_in : (globals : Globals G) (id : GlobalParts) (o : Option (Object (KeptGlobal G))) → global_of globals id ≡ o → global_of (freed_at globals id.name o) id ≡ None
-  freed_in globals id o h1 = grind (arith, global_serial, removed_here)
-
-  next_of : (table : List InterfaceRow) (globals : Globals G) (i : InterfaceId) (version : ℕ) (g : GlobalParts) → CreatesGlobal table globals i version (Ok g) → IsNextGlobal globals g
-  next_of table globals i version g h = grind (arith, either_option, slice_get, no_error, nat_le)
-
-  created_in : (globals : Globals G) (g : GlobalParts) (x : Object (KeptGlobal G)) → IsNextGlobal globals g → x.value.serial ≡ g.serial
-      → cond (g.name == 0) None (named_in global_serial (record { number = g.name; serial = g.serial }) (held (stored globals.store g.name x) g.name)) ≡ Some x
-  created_in globals g x next serial = grind (arith, global_here, stored, ne_eqb, stored_here, eq-eqb)
-
 -- ---- the calls
 
 module _ {T U G C : Type 0} {w : World T G C} {before after : BackendState T U G C} {s : Step T U G C} {answer : Reply T U} (call : Calls w before s answer after) where
@@ -165,13 +146,8 @@ module _ {T U G C : Type 0} (w : World T G C) (before after : BackendState T U G
       × ((o : IdParts) → and_then (seen id after.server).part (λ p. named p.store o) ≡ and_then (seen id before.server).part (λ p. named p.store o))
   felt_by id messages lacked did h = (
     feels_any w.sends messages lacked did (seen id before.server) (seen id after.server) h,
-    grind (arith, keeps, seen, and_then, named, hears_store),
+    grind (arith, keeps, seen, and_then, named, either_bool, told, tells, core_of),
   )
-
-  unfelt_by : (id : ClientParts) → seen id after.server ≡ seen id before.server
-      → IsToldOrKilled (seen id before.server) (seen id after.server)
-      × ((o : IdParts) → and_then (seen id after.server).part (λ p. named p.store o) ≡ and_then (seen id before.server).part (λ p. named p.store o))
-  unfelt_by id same = (unfelt_as _ _ same, λ o. ap (λ (x : Seen T U C). and_then x.part (λ p. named p.store o)) same)
 
   loss_each : (g : GlobalParts) → ((id : ClientParts) → (lacked : Bool) × (did : List (Deed U)) × FeelsLoss w id before.server.offer g (seen id before.server) lacked did (seen id after.server)) → Each
   loss_each g each id =
@@ -184,7 +160,7 @@ module _ {T U G C : Type 0} (w : World T G C) (before after : BackendState T U G
           → IsToldOrKilled (seen id before.server) (seen id after.server)
           × ((o : IdParts) → and_then (seen id after.server).part (λ p. named p.store o) ≡ and_then (seen id before.server).part (λ p. named p.store o))
       at id lacked did true felt = felt_by id (λ p. removals p g.name) lacked did felt
-      at id lacked did false (calm, none, same) = unfelt_by id same
+      at id lacked did false (calm, none, same) = (unfelt_as _ _ same, λ o. ap (λ (x : Seen T U C). and_then x.part (λ p. named p.store o)) same)
 
   new_each : (i : InterfaceId) (version : ℕ) (handler : G) (r : Result GlobalParts GlobalError)
       → ((id : ClientParts) → (lacked : Bool) × (did : List (Deed U)) × FeelsGlobal w id before.server.offer i version handler r (seen id before.server) lacked did (seen id after.server))
@@ -192,12 +168,8 @@ module _ {T U G C : Type 0} (w : World T G C) (before after : BackendState T U G
   new_each i version handler (Ok g) each id =
       let (lacked, did, h) = each id in
       felt_by id (λ p. news before.server.offer.table p (w.views handler id p.client_data g) (record { name = g.name; interface = i; version = version })) lacked did h
-  new_each i version handler (Err e) each id = let (lacked, did, (calm, none, same)) = each id in unfelt_by id same
-
-  -- another id names what it named, where what one names was changed
-  by_change : (change : Option (Object (KeptGlobal G)) → Option (Object (KeptGlobal G))) (changed : Globals G) (target other : GlobalParts) → same_global target other ≡ false
-      → Changes change before.server.offer.globals target changed → global_of changed other ≡ global_of before.server.offer.globals other
-  by_change change changed target other differ by = grind (arith, cond, global_of)
+  new_each i version handler (Err e) each id = let (lacked, did, (calm, none, same)) = each id in
+      (unfelt_as _ _ same, λ o. ap (λ (x : Seen T U C). and_then x.part (λ p. named p.store o)) same)
 
   -- a loss is told where the global was enabled, and memory was refused to a client that is killed now
   loss_lacked : (g : GlobalParts) (id : ClientParts) (did : List (Deed U)) → FeelsLoss w id before.server.offer g (seen id before.server) true did (seen id after.server)
@@ -211,16 +183,18 @@ module _ {T U G C : Type 0} (w : World T G C) (before after : BackendState T U G
 module _ {T U G C : Type 0} {w : World T G C} {before after : BackendState T U G C} where
   pub disables_global : (g : GlobalParts) → Calls w before (step.DisableGlobal g) reply.DisableGlobal after → DisablesGlobal before g after
   disables_global g call = record {
-    global = ap (λ (o : Offer G). global_of o.globals g) (offer_of call) ∙ disabled_in before.server.offer.globals g (global_of before.server.offer.globals g) refl;
-    others = grind (arith, global_of, offer_of, by_change, option_map, as_disabled, disabled, disabled_changes);
+    global = ap (λ (o : Offer G). global_of o.globals g) (offer_of call) ∙
+        (grind (arith, held, global_here, rewritten, as_disabled, rewritten_here, before.server.offer.globals, global_of before.server.offer.globals g));
+    others = grind (arith, global_of, offer_of, cond, option_map, as_disabled, disabled, disabled_changes);
     clients = may_be_told w before after (loss_each w before after g (λ id. let (lacked, did, (is, h)) = of_each call id in (lacked, did, h)));
     memory = λ known. let (id, did, (is, h)) = some_lacks call refl known in loss_lacked w before after g id did h;
   }
 
   pub removes_global : (g : GlobalParts) → Calls w before (step.RemoveGlobal g) reply.RemoveGlobal after → RemovesGlobal before g after
   removes_global g call = record {
-    global = ap (λ (o : Offer G). global_of o.globals g) (offer_of call) ∙ freed_in before.server.offer.globals g (global_of before.server.offer.globals g) refl;
-    others = grind (arith, global_of, offer_of, by_change, freed, freed_changes);
+    global = ap (λ (o : Offer G). global_of o.globals g) (offer_of call) ∙
+        (grind (arith, global_serial, removed_here, before.server.offer.globals, global_of before.server.offer.globals g));
+    others = grind (arith, global_of, offer_of, cond, freed, freed_changes);
     clients = may_be_told w before after (loss_each w before after g (λ id. let (lacked, did, (is, h)) = of_each call id in (lacked, did, h)));
     memory = λ known. let (id, did, (is, h)) = some_lacks call refl known in loss_lacked w before after g id did h;
   }
@@ -232,14 +206,14 @@ module _ {T U G C : Type 0} {w : World T G C} {before after : BackendState T U G
         let (lacked, did, (r, is, h)) = of_each call id in grind (arith, seen)
 
     next : (g : GlobalParts) → Calls w before (step.CreateGlobal i version handler) (reply.CreateGlobal (Ok g)) after → IsNextGlobal before.server.offer.globals g
-    next g call = next_of before.server.offer.table before.server.offer.globals i version g (shared_of call)
+    next g call = grind (arith, either_option, slice_get, no_error, nat_le, before.server.offer.table, before.server.offer.globals, shared_of call)
 
     created_as : (answer : Result GlobalParts GlobalError) → Calls w before (step.CreateGlobal i version handler) (reply.CreateGlobal answer) after
         → GlobalCreatedAs before i version handler answer after
     created_as (Ok g) call = (
       (grind (arith, global_serial, next)),
       ap (λ (o : Offer G). global_of o.globals g) (offer_of call)
-          ∙ created_in before.server.offer.globals g (new_global i version g.serial handler) (next g call) refl,
+          ∙ (grind (arith, global_here, stored, ne_eqb, stored_here, eq-eqb, before.server.offer.globals, new_global i version g.serial handler, next g call)),
       λ other differ.
           ap (λ (o : Offer G). global_of o.globals other) (offer_of call)
           ∙ created_elsewhere before.server.offer.globals i version handler g (next g call) g.serial other differ,

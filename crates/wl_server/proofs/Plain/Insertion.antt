@@ -1,21 +1,17 @@
 -- A client that is inserted, limits, and interfaces that are added.
-use Rattle.std.proofs.Common.{◌≡◌, ℕ, Bool, false, List, [], ◌++◌, Option, None, Some, Result, Ok, Err, MatchOption, refl, ap, ◌∙◌, true≢false, arith}
-use Rattle.wl_wire.specs.declared.protocol.TableError.{TableError}
-use Rattle.wl_wire.specs.Table.{InterfaceRow, grown, refused_growth}
+use Rattle.std.proofs.Common.{◌≡◌, ℕ, Bool, false, List, [], ◌++◌, Option, None, Some, Result, Ok, Err, MatchOption, refl, ap, ◌∙◌, arith}
 use Rattle.wl_link.specs.Link.{LimitSet, LinkState}
 use Rattle.wl_server.specs.declared.error.InsertClientError.{InsertClientError}
 use Rattle.wl_server.specs.declared.runs.step.Reply.TheVariants as reply
 use Rattle.wl_server.specs.declared.runs.step.Step.TheVariants as step
-use Rattle.wl_server.specs.Backend.{BackendState, Calls, IsGrowth}
+use Rattle.wl_server.specs.Backend.{BackendState, Calls}
 use Rattle.wl_server.specs.Deeds.{Deed, notes_in}
-use Rattle.wl_server.specs.Globals.{with_table}
 use Rattle.wl_server.specs.Ids.{ClientParts, same_client}
 use Rattle.wl_server.specs.Lookups.{and_then}
 use Rattle.wl_server.specs.Part.{Part, named, with_link}
 use Rattle.wl_server.specs.PartStep.{InsertedAs, OfClient, Quietly, World}
-use Rattle.wl_server.specs.Plain.Calls.{AddsInterfaces, InsertsClient, NewClientAs, SetsDefaultLimit, SetsLimit}
+use Rattle.wl_server.specs.Plain.Calls.{InsertsClient, NewClientAs, SetsDefaultLimit, SetsLimit}
 use Rattle.wl_server.specs.Server.{Seen, seen}
-use Rattle.wl_server.specs.Steps.{lacks_growth}
 use Rattle.wl_server.proofs.CallSteps.Slots.{same_self}
 use Rattle.wl_server.proofs.Plain.Base.{by_growth, calm, keeps, never, notes_stay, of_each, offer_of, other_stays, own, when_false, when_true}
 
@@ -71,10 +67,3 @@ module _ {T U G C : Type 0} {w : World T G C} {before after : BackendState T U G
 
   pub sets_default_limit : (limit : ℕ) → Calls w before (step.SetDefaultMaxBufferSize limit) reply.SetDefaultMaxBufferSize after → SetsDefaultLimit before limit after
   sets_default_limit limit call = grind (arith, offer_of, of_each, calm)
-
--- ---- interfaces
-
-module _ {T U G C : Type 0} (w : World T G C) (before after : BackendState T U G C) (rows : List InterfaceRow) (answer : Result (Unit {0}) TableError) where
-  pub adds_interfaces : IsGrowth w before rows answer after
-      → after.server ≡ record before.server { offer = with_table before.server.offer (grown before.server.offer.table rows answer) } → AddsInterfaces before rows answer after
-  adds_interfaces growth same = grind (arith, refused_growth, lacks_growth, true≢false, seen)

@@ -26,7 +26,7 @@ use Rattle.wl_server.specs.Lookups.{and_then}
 use Rattle.wl_server.specs.Part.{Part, fresh_object, id_at, named, id_of, serial_of}
 use Rattle.wl_server.specs.PartStep.{ReadsFor, World, around}
 use Rattle.wl_server.specs.Plain.{killed_in}
-use Rattle.wl_server.specs.Plain.Reading.{IsHandedOut, IsOld, OpenReadAs, ReadAs, ReadingMemory, ReadsClient, ReadsWithin}
+use Rattle.wl_server.specs.Plain.Reading.{IsHandedOut, IsOld, ReadAs, ReadingMemory, ReadsClient, ReadsWithin}
 use Rattle.wl_server.specs.Reading.{Around, NextAction, action_content, answered, new_reading, read_on, action_in, binds, breaks, converted, garbled, new_at, other_request, reads_on, replies, server, stops_if, synced, with_registry, registers, syncs}
 use Rattle.wl_server.specs.ReadingEnds.{ComesOfLast, ReadingEnds}
 use Rattle.wl_server.specs.Server.{Seen, seen}
@@ -45,7 +45,7 @@ use Rattle.wl_server.specs.Errors.{since_text}
 use Rattle.wl_server.specs.Requests.{Outcome, convert, start, Whole, Wrong, is_valid_new, made_object, with_made}
 use Rattle.wl_server.specs.Telling as telling
 use Rattle.wl_server.proofs.OverRuns.Announced.RequestCases.{request_case}
-use Rattle.wl_server.proofs.Plain.Verdicts.{no_flush, nothing_put}
+use Rattle.wl_server.proofs.Plain.Verdicts.{no_flush}
 use Rattle.wl_server.proofs.ObjectCalls.Closing.{or_false}
 use Rattle.wl_server.proofs.Readings.Handling.{behind_puts}
 use Rattle.wl_server.proofs.Readings.Finishing.{wanted_memory}
@@ -59,9 +59,6 @@ use Rattle.wl_server.proofs.OverRuns.Moves.MovesOfRequests.{Came, converts, vali
 
 -- ---- what ids name after a reading: what they named, but for those that it made
 
-both_none : {U : Type 0} (b : Bool) → ◌≡◌ {A = Option (Object (Kept U))} (cond b None None) None
-both_none h1 = grind (arith)
-
 module _ {U : Type 0} where
   -- ---- what ids name
 
@@ -74,9 +71,6 @@ module _ {U : Type 0} where
 
   ids_same : (a : Objects (Kept U)) → IdsStay a a
   ids_same a = record { serials = omega arith; ids = λ id old. refl }
-
-  ids_then : (a b c : Objects (Kept U)) → IdsStay a b → IdsStay b c → IdsStay a c
-  ids_then a b c first second = grind (arith, is_some)
 
   -- what the id names where its number holds this
   abbrev names_at : IdParts → Option (Object (Kept U)) → Option (Object (Kept U))
@@ -92,17 +86,17 @@ module _ {U : Type 0} where
 
   module _ (a : Objects (Kept U)) (n : ℕ) (i : InterfaceId) (version : ℕ) (valid : is_valid_new a n ≡ true) where
     none_at : (id : IdParts) → names_at id (held a.store n) ≡ None
-    none_at id = ap (names_at id) (valid_new a n valid).0 ∙ both_none (id.number == 0)
+    none_at id = ap (names_at id) (valid_new a n valid).0 ∙ (grind (arith, id.number == 0))
 
     ids_by_new : IdsStay a (with_made a n i version)
-    ids_by_new = grind (arith, by_number, with_made, made_object, held_stored, ne_eqb, both_none, none_at, true≢false, is_some)
+    ids_by_new = grind (arith, by_number, with_made, made_object, held_stored, ne_eqb, none_at, true≢false, is_some)
 
     -- it is gone again at once
     ids_by_brief : IdsStay a (record (with_made a n i version) { store = removed (with_made a n i version).store n })
     ids_by_brief = record {
       serials = omega arith;
       ids = λ id old.
-          by_number a.store (removed (with_made a n i version).store n) n None holds id (λ same. both_none (id.number == 0) ∙ sym (none_at id));
+          by_number a.store (removed (with_made a n i version).store n) n None holds id (λ same. (grind (arith, id.number == 0)) ∙ sym (none_at id));
     }
       where
         holds : (m : ℕ) → held (removed (with_made a n i version).store n) m ≡ cond (eqb m n) None (held a.store m)
@@ -144,7 +138,8 @@ module _ {U G C : Type 0} (a : Around G C) (c : Core U C) where
       go false =
           converted_keeps m receiver row (convert a.client receiver.version (start (objects_in c) row) [] m.args)
           (converts a.client receiver.version (λ ids objects. IdsStay (objects_in c) objects)
-          (λ ids o n i valid so. ids_then (objects_in c) o _ so (ids_by_new o n i receiver.version valid)) (λ ids o n x there so. so) (λ ids o so. so)
+          (λ ids o n i valid so. (grind (arith, is_some, objects_in c, ids_by_new o n i receiver.version valid))) (λ ids o n x there so. so)
+          (λ ids o so. so)
           (start (objects_in c) row) [] m.args (ids_same (objects_in c), λ id among. among))
 
   garbled_keeps : Keeps (garbled c)
@@ -170,7 +165,7 @@ module _ {T U G C : Type 0} (sends : T → Queue → Result ℕ IoFault → T �
       reads_respect sends receives (server a) (λ c gave d. IdsStay (objects_in c) (objects_in d))
       (record {
         same = λ c. ids_same (objects_in c);
-        joins = λ c d e gave others. ids_then (objects_in c) (objects_in d) (objects_in e);
+        joins = λ c d e gave others. (λ first second. grind (arith, is_some, objects_in c, objects_in d, objects_in e));
         handles = λ c m on. verdict_keeps c ((server a).handles c m) (handles_keeps a c m);
         malformed = λ c on. verdict_keeps c (garbled c) (garbled_keeps a c);
         faulted = λ c f on. (grind (arith, ids_same, objects_in));
@@ -197,7 +192,7 @@ module _ {T U G C : Type 0} (sends : T → Queue → Result ℕ IoFault → T �
 
   -- a verdict that puts nothing and asks for nothing
   quiet_lacks : (v : Verdict (Core U C) (Told U)) → v.puts ≡ [] → v.flushes ≡ false → v.asks ≡ false → Lacking v
-  quiet_lacks v h1 h2 h3 = grind (arith, true≢false, lacks_memory, nothing_put, no_flush)
+  quiet_lacks v h1 h2 h3 = grind (arith, true≢false, lacks_memory, no_flush)
 
   breaks_lacks : (c : Core U C) (code : ℕ) (text : List ℕ) → Lacking (breaks a c code text)
   breaks_lacks c code text = grind (arith, action_in, behind_puts, came_to, server, breaks)
@@ -269,10 +264,6 @@ module _ {T U G C : Type 0} (sends : T → Queue → Result ℕ IoFault → T �
     handed_out (Request sender opcode args is_destructor created) start turns (earlier, es, before, split, led, (m, link, read, its)) = grind (arith, held, id_at, request_row)
     handed_out (Bind global object) start turns (earlier, es, before, split, led, (m, link, read, (x, interface, version, kept, held_before, registry, args, there, named', may, of, of_interface, free, holds, open'))) = grind (arith, fresh_object)
 
-    open_read : (start : ReaderState T (Core U C)) (turns : List Turn) (answer : Result Handed ActionError) (refused : Bool) (left : ℕ) → ReadingEnds sends receives a start turns answer refused left end
-        → OpenReadAs a.table a.client answer s (part_of end) t
-    open_read start turns h3 refused left so = grind (arith, handed_out, notes_in, end_deeds, append-nil, part_of, true≢false)
-
   next_as : (s t : Seen T U C) (p q : Part T U C) (r r' : Reading) (answer : Result Handed ActionError) (lacked : Bool) (did : List (Deed U)) → s.part ≡ Some p
       → t ≡ record { part = Some q; made = s.made ++ notes_in did } → NextAction sends receives a r p answer r' lacked did q → ReadAs a.table a.client answer s t
   next_as s t p q r r' answer lacked did there is h =
@@ -292,7 +283,7 @@ module _ {T U G C : Type 0} (sends : T → Queue → Result ℕ IoFault → T �
                       live,
                       (
                         part_of end,
-                        grind (arith, part_of, open_read, reader_part, answered, reading_ends),
+                        grind (arith, part_of, handed_out, notes_in, end_deeds, append-nil, true≢false, reader_part, answered, reading_ends),
                       ),
                     )),
                   )
@@ -339,23 +330,22 @@ module _ {T U G C : Type 0} (w : World T G C) (before after : BackendState T U G
                   elim (split_bool p.is_killed g) [
                     | inl (dead, (says, same, calm, none, stays)) ↦ as_said (Err (Io fault.Pipe)) says (λ known. absurd (true≢false (sym known ∙ calm)))
                     | inr (live, (turns, out, end, reads, says, same, calm, did_so, ends)) ↦
-                        let memory = reads_memory w.sends w.receives here r.turns_left (reader_part p) turns out end (record { live = live; idle = idle; fresh = refl }) reads in
+                        let memory = reads_memory w.sends w.receives (around w id before.server.offer) r.turns_left (reader_part p) turns out end
+                        (record { live = live; idle = idle; fresh = refl }) reads in
                         memory_by answer
                         (subst (λ (x : Result Handed ActionError). MemoryOf x after.refused) (sym says) (subst (λ (b : Bool). MemoryOf (answered out.stopped out.gave) b) (sym calm) memory))
                         (λ pipe known. (
                           ap (option_map (λ (x : Part T U C). x.is_killed)) there ∙ ap Some live,
                           ap (λ (x : Seen T U C). option_map (λ (p : Part T U C). p.is_killed) x.part) is ∙ ap (λ (x : Part T U C). Some x.is_killed) ends
                               ∙ ap Some
-                              (subst (λ (x : Result Handed ActionError). ReadingEnds w.sends w.receives here (reader_part p) turns x out.refused out.left end) (sym says ∙ pipe)
-                              (reading_ends w.sends w.receives here r.turns_left p turns out end live idle reads)).1.0,
+                              (subst (λ (x : Result Handed ActionError). ReadingEnds w.sends w.receives (around w id before.server.offer)
+                              (reader_part p) turns x out.refused out.left end) (sym says ∙ pipe)
+                              (reading_ends w.sends w.receives (around w id before.server.offer) r.turns_left p turns out end live idle reads)).1.0,
                         ))
                   ]
             ]
       ]
     where
-      here : Around G C
-      here = around w id before.server.offer
-
       as_said : (said : Result Handed ActionError) → answer ≡ said → ReadingMemory before id said after → ReadingMemory before id answer after
       as_said said says memory = subst (λ (x : Result Handed ActionError). ReadingMemory before id x after) (sym says) memory
 
@@ -390,15 +380,6 @@ module _ {T U G C : Type 0} (w : World T G C) (before after : BackendState T U G
       (λ other.
       let (lacked, did, (r, left, is, h)) = of_each call other in grind (arith, new_reading, action_content, seen))
 
-  pub next_action_within_reads : (reading left : Reading) (answer : Result Action ActionError)
-      → Calls w before (step.NextActionWithin id reading) (reply.NextActionWithin answer left) after → ReadsClient before id answer after
-  next_action_within_reads reading left answer call =
-      reads_all reading answer (offer_of call)
-      (let (did, (r, l, is, h)) = of_own call id refl (λ other lacked did differ (r, l, is, h). (when_false _ (same_client id other) differ h).0) in
-      grind (arith, memory_as, action_content, seen))
-      (λ other.
-      let (lacked, did, (r, l, is, h)) = of_each call other in grind (arith, action_content, seen))
-
   -- ---- a reading that goes on with what an earlier one left
 
   goes_on : (r r' : Reading) (answer : Result Handed ActionError) (lacked : Bool) (did : List (Deed U))
@@ -408,7 +389,11 @@ module _ {T U G C : Type 0} (w : World T G C) (before after : BackendState T U G
   pub reads_within : (reading left : Reading) (answer : Result Action ActionError) → Calls w before (step.NextActionWithin id reading) (reply.NextActionWithin answer left) after
       → ReadsWithin before id reading answer left after
   reads_within reading left answer call = record {
-    reads = next_action_within_reads reading left answer call;
+    reads = reads_all reading answer (offer_of call)
+        (let (did, (r, l, is, h)) = of_own call id refl (λ other lacked did differ (r, l, is, h). (when_false _ (same_client id other) differ h).0) in
+        grind (arith, memory_as, action_content, seen))
+        (λ other.
+        let (lacked, did, (r, l, is, h)) = of_each call other in grind (arith, action_content, seen));
     turns = (
         let (e, is, refused, by) = call.step in
         let few = reading_bounded w id before.server after.server e reading left answer is by in omega (arith, few)

@@ -14,7 +14,7 @@ use Rattle.wl_link.proofs.Ids.StoreLaws.{stored_here, held_stored}
 use Rattle.wl_link.specs.Exchange.{Queue, Sending}
 use Rattle.wl_link.specs.Link.{FilledBy, LinkState, count_of, counted_answer}
 use Rattle.wl_link.specs.Puts.{Said}
-use Rattle.wl_link.specs.Reader.{CarriesOut, Given, Gives, Handled, HandedOut, Halts, Queued, Reads, ReadsAs, Received, Turn, Unread, Verdict, came_to, given_first, put_and_gave, stops, with_link, ReaderState}
+use Rattle.wl_link.specs.Reader.{CarriesOut, Given, Gives, Handled, HandedOut, Halts, Reads, ReadsAs, Received, Turn, Unread, Verdict, came_to, given_first, put_and_gave, stops, with_link, ReaderState}
 use Rattle.wl_link.specs.Store.{held, Store}
 use Rattle.wl_server.specs.declared.error.ActionError.{ActionError}
 use Rattle.wl_server.specs.declared.error.ActionError.TheVariants.{ActionOpen, Io}
@@ -31,7 +31,7 @@ use Rattle.wl_server.specs.Globals.{global_at, shown}
 use Rattle.wl_server.specs.Ids.{IdParts, ClientParts}
 use Rattle.wl_server.specs.Part.{Part, id_at, fresh_object, null_id}
 use Rattle.wl_server.specs.Reading.{Around, action_in, answered, binds, binds_to, breaks, converted, display_request, garbled, hands_out, may_bind, new_at, other_request, reads_on, registry_request, replies, request, row_in, server, stops_if, synced, with_registry, registers, syncs}
-use Rattle.wl_server.specs.ReadingEnds.{ComesOfFront, FoundNoMessage, LastReceiveFailed, LeavesClient, MakesItsObject, OfLast, ReadingEnds, StopsItself, TookMessage, TurnLeads, ObjectsFit, new_id_in}
+use Rattle.wl_server.specs.ReadingEnds.{ComesOfFront, FoundNoMessage, LastReceiveFailed, LeavesClient, MakesItsObject, ReadingEnds, StopsItself, TookMessage, TurnLeads, ObjectsFit, new_id_in}
 use Rattle.wl_server.specs.Requests.{Outcome, Whole, Wrong, convert, is_valid_new, made_id, made_object, start, with_made, Converted, Converting, allows_null, convert_one, going_on, kinds_after, object_found, with_new_argument, with_object_argument}
 use Rattle.wl_server.specs.Telling.{Core, Did, Told, deletions, done_message, introductions, objects_in, reader_part, with_objects}
 use Rattle.wl_server.specs.Telling as telling
@@ -46,11 +46,8 @@ use Rattle.wl_wire.specs.declared.argument.Token.{Token}
 use Rattle.wl_wire.specs.declared.interface.InterfaceId.{InterfaceId}
 use Rattle.wl_wire.specs.Reading.{Reads as ReadsArguments}
 use Rattle.wl_wire.proofs.Spelling.CursorLaws.{piece_fits}
-use Rattle.wl_link.specs.Identity.{Objects}
 use Rattle.wl_server.specs.declared.reading.response.RequestFault.TheVariants as wrong
 use Rattle.wl_server.specs.Events.{wire_argument}
-
--- ---- the arguments of a request that is handed out: those of its message, with the ids of kept objects
 
 -- ---- new ids among arguments
 
@@ -61,8 +58,7 @@ new_in_both : (signature : List ArgumentType) (args : List WireArgument) (payloa
     → list_any is_new_id signature ≡ list_any is_new args
 unfolding ReadsArguments
 new_in_both [] [] payload fds r = refl
-new_in_both (k ∷ signature) (a ∷ args) payload fds r =
-    ap₂ (λ (x y : Bool). x || y) (sym (grind (arith)) ∙ ap is_new_id (piece_fits k a r.0 r.5).0) (new_in_both signature args r.1 r.2 r.6)
+new_in_both (k ∷ signature) (a ∷ args) payload fds r = grind (arith, is_new_id, piece_fits, new_in_both signature args r.1 r.2 r.6)
 new_in_both _ _ payload fds r = absurd r
 
 new_on_the_wire : (args : List (Argument IdParts Token)) → is_some (new_id_in args) ≡ list_any is_new (map wire_argument args)
@@ -93,10 +89,6 @@ module _ {U : Type 0} where
   -- each object that was kept still is, at its number
   abbrev pub Grown : Store (Kept U) → Store (Kept U) → Type 0
   Grown s t = (k : ℕ) (x : Object (Kept U)) → held s k ≡ Some x → held t k ≡ Some x
-
-  -- a new object takes a number that was free
-  pub grown_new : (o : Objects (Kept U)) (n : ℕ) (i : InterfaceId) (version : ℕ) → is_valid_new o n ≡ true → Grown o.store (with_made o n i version).store
-  grown_new o n i version valid k x there = grind (arith, held_stored, made_object, eqb, none-some, valid_new, held, eqb-true)
 
 module _ {U : Type 0} (client : ClientParts) (version : ℕ) where
   -- The object of this id is new, and of this version.
@@ -141,7 +133,7 @@ module _ {U : Type 0} (client : ClientParts) (version : ℕ) where
           (Err (wrong.InvalidNewId n)))
       go true valid = (
         refl,
-        grown_new d.objects n i version valid,
+        (λ k x there. grind (arith, held_stored, made_object, eqb, none-some, valid_new, held, eqb-true, d.objects)),
         λ s more grown rest. rest,
         λ e more grown made. elim made [
           | inl (none, created) ↦
@@ -190,12 +182,6 @@ module _ {U : Type 0} (client : ClientParts) (version : ℕ) where
   converts d done [] = ([], sym (append-nil done), refl, λ k x there. there, tt, inl (refl, refl))
   converts d done (x ∷ args) = goes_on d done x args (convert_one client version d x) (grind (arith, one_object, allows_null, eqb, one_new)) (λ next all. converts next all args)
 
-module _ {U : Type 0} (client : ClientParts) (version : ℕ) (row : MessageRow) (objects : Objects (Kept U)) (e : Converting U) (args : List (Argument IdParts Token)) (wire : List WireArgument) where
-  -- all arguments were gone through: the object that they made, if any, is that of the new id among them
-  pub made_by_all : Making client version (start objects row) e args → map wire_argument args ≡ wire → creates row ≡ list_any is_new wire
-      → MakesItsObject client e.objects.store row version args e.created × MatchOption e.created (Unit {0}) (λ id. held objects.store id.number ≡ None)
-  made_by_all h1 h2 h3 = grind (arith, is_some, new_on_the_wire, is_new)
-
 reason_if : (b : Bool) (o : Option DisconnectReason) (reason : DisconnectReason) → b ≡ false → cond b o (Some reason) ≡ Some reason
 reason_if false o reason is = refl
 reason_if true o reason is = absurd (true≢false is)
@@ -227,9 +213,6 @@ module _ {U : Type 0} where
   abbrev Silent : List (Given (Told U)) → Type 0
   Silent first = (rest : List (Given (Told U))) → action_in (first ++ rest) ≡ action_in rest
 
-  silent_puts : (put : List Said) (events : List (Told U)) → Silent (map HandedOut events) → Silent (put_and_gave put events)
-  silent_puts put events silent rest = ap action_in (append_assoc (map Queued put) (map HandedOut events) rest) ∙ behind_puts put (map HandedOut events ++ rest) ∙ silent rest
-
 -- ---- a core that is read
 
 module _ {U C : Type 0} where
@@ -256,10 +239,7 @@ module _ {U G C : Type 0} (a : Around G C) (c : Core U C) (P : Verdict (Core U C
   AreUnbound args = (g version n : ℕ) (name : Option (List ℕ)) → ¬ (args ≡ arg.Uint g ∷ arg.Str name ∷ arg.Uint version ∷ arg.NewId n ∷ [])
 
   bound_case : (args : List WireArgument) → (AreUnbound args → P (garbled c)) → ((code : ℕ) (text : List ℕ) → P (breaks a c code text)) → Bound args → P (registry_request a c args)
-  bound_case (arg.Uint g ∷ arg.Str None ∷ arg.Uint version ∷ arg.NewId n ∷ []) garbled' breaks' bound = at (held a.globals.store g)
-    where
-      at : (o : Option (Object (KeptGlobal G))) → P (binds_to a c g None version n o)
-      at h1 = grind (arith)
+  bound_case (arg.Uint g ∷ arg.Str None ∷ arg.Uint version ∷ arg.NewId n ∷ []) garbled' breaks' bound = grind (arith, held, binds_to)
   bound_case (arg.Uint g ∷ arg.Str (Some interface) ∷ arg.Uint version ∷ arg.NewId n ∷ []) garbled' breaks' bound = at (held a.globals.store g) refl
     where
       at : (o : Option (Object (KeptGlobal G))) → held a.globals.store g ≡ o → P (binds_to a c g (Some interface) version n o)
@@ -343,7 +323,7 @@ module _ {T U G C : Type 0} (sends : T → Queue → Result ℕ IoFault → T �
 
   replies_turns : (turn : List Sending → Turn) (before : ReaderState T (Core U C)) (m : Core U C) (puts : List Said) (did : List (Deed U)) → Mute did → IsRead m
       → ((es : List Sending) → TookMessage sends a (turn es) before) → (link : LinkState T) → Turns turn before (replies m puts did) link
-  replies_turns turn before m puts did h1 h2 h3 link = grind (arith, true≢false, some_is, reason_if, is_some, put_and_gave, map, stops_if, stops_when, append-nil, silent_puts, came_to, server, replies, ended_turned, action_in, behind_puts, handed_both, append_assoc, not_read)
+  replies_turns turn before m puts did h1 h2 h3 link = grind (arith, true≢false, some_is, reason_if, is_some, put_and_gave, map, stops_if, stops_when, append-nil, append_assoc, behind_puts, came_to, server, replies, ended_turned, action_in, handed_both, not_read)
 
   -- ---- an action
 
@@ -388,7 +368,7 @@ module _ {T U G C : Type 0} (sends : T → Queue → Result ℕ IoFault → T �
         by_row = ap (λ (o : Option (Object (Kept U))). row_in a.table o m.opcode) holds ∙ has
 
         made_so : MakesItsObject a.client d.objects.store row receiver.version more d.created × MatchOption d.created (Unit {0}) (λ id. held c.store id.number ≡ None)
-        made_so = made_by_all a.client receiver.version row (objects_in c) d more m.args made numbers (makes_new sends a here m link read row by_row)
+        made_so = grind (arith, is_some, new_on_the_wire, is_new, a.client, receiver.version, objects_in c, m.args, makes_new sends a here m link read row by_row)
 
     other_turns : (receiver : Object (Kept U)) (row : MessageRow) → held c.store m.sender ≡ Some receiver → request_row a.table receiver.interface m.opcode ≡ Some row
         → Turns Handled here (other_request a c m receiver row) link
@@ -404,7 +384,8 @@ module _ {T U G C : Type 0} (sends : T → Queue → Result ℕ IoFault → T �
 
     binds_turns : (x : Object (Kept U)) → held c.store m.sender ≡ Some x → eqb x.interface.0 registry_id.0 ≡ true → Bound a c (λ v. Turns Handled here v link) m.args
     binds_turns x holds registry g interface version n kept args there may valid =
-        hands_out_turns here (with_objects c (with_made (objects_in c) n kept.interface version)) (opened.Bind id) (deeds.Bind (global_at g kept) id) r.live r.fresh
+        hands_out_turns here (with_objects c (with_made (objects_in c) n kept.interface version)) (opened.Bind (made_id a.client
+        (objects_in c) n kept.interface)) (deeds.Bind (global_at g kept) (made_id a.client (objects_in c) n kept.interface)) r.live r.fresh
         (λ l. (
           m,
           link,
@@ -427,9 +408,6 @@ module _ {T U G C : Type 0} (sends : T → Queue → Result ℕ IoFault → T �
             refl,
           ),
         )) link
-      where
-        id : IdParts
-        id = made_id a.client (objects_in c) n kept.interface
 
     pub request_turns : Turns Handled here ((server a).handles c m) link
     request_turns = whole (held c.store m.sender) (row_in a.table (held c.store m.sender) m.opcode) refl refl
@@ -437,14 +415,10 @@ module _ {T U G C : Type 0} (sends : T → Queue → Result ℕ IoFault → T �
         P : Verdict (Core U C) (Told U) → Type 0
         P v = Turns Handled here v link
 
-        -- the table has the message, since it was read
-        never : row_in a.table (held c.store m.sender) m.opcode ≡ None → ⊥
-        never none = grind (arith, read_signed, here, none_and_some, option_map, row_in, held)
-
         whole : (receiver : Option (Object (Kept U))) (row : Option MessageRow) → held c.store m.sender ≡ receiver → row_in a.table receiver m.opcode ≡ row
             → P (request a c m receiver row)
-        whole None row holds has = absurd (never (ap (λ (o : Option (Object (Kept U))). row_in a.table o m.opcode) holds))
-        whole (Some receiver) None holds has = absurd (never (ap (λ (o : Option (Object (Kept U))). row_in a.table o m.opcode) holds ∙ has))
+        whole None row holds has = absurd (grind (arith, read_signed, here, none_and_some, option_map, row_in, held, ap (λ (o : Option (Object (Kept U))). row_in a.table o m.opcode) holds))
+        whole (Some receiver) None holds has = absurd (grind (arith, read_signed, here, none_and_some, option_map, row_in, held, ap (λ (o : Option (Object (Kept U))). row_in a.table o m.opcode) holds ∙ has))
         whole (Some receiver) (Some row) holds has = go (eqb receiver.interface.0 display_id.0) (eqb receiver.interface.0 registry_id.0) refl refl
           where
             go : (b t : Bool) → eqb receiver.interface.0 display_id.0 ≡ b → eqb receiver.interface.0 registry_id.0 ≡ t
@@ -463,16 +437,13 @@ module _ {T U G C : Type 0} (sends : T → Queue → Result ℕ IoFault → T �
 
   -- ---- over the turns
 
-  last_later : (P : Turn → ReaderState T (Core U C) → Type 0) (t : Turn) (turns : List Turn) (start mid : ReaderState T (Core U C)) → TurnLeads sends receives a t start mid
-      → OfLast sends receives a P mid turns → OfLast sends receives a P start (t ∷ turns)
-  last_later P t turns start mid leads (earlier, last, before, split, led, so) =
-      (t ∷ earlier, last, before, ap (λ (us : List Turn). t ∷ us) split, (mid, leads, led), so)
-
   itself_later : (f : IoFault) (t : Turn) (turns : List Turn) (lacked refused : Bool) (left : ℕ) (end start mid : ReaderState T (Core U C)) → TurnLeads sends receives a t start mid
       → StopsItself sends receives a f mid turns refused left end → StopsItself sends receives a f start (t ∷ turns) (lacked || refused) left end
   itself_later fault.OutOfMemory t turns lacked refused left end start mid leads (so, asks) = (or_true lacked refused so, asks)
-  itself_later fault.Proto t turns lacked refused left end start mid leads (found, so) = (last_later (FoundNoMessage sends a) t turns start mid leads found, so)
-  itself_later fault.Pipe t turns lacked refused left end start mid leads (took, so) = (last_later (TookMessage sends a) t turns start mid leads took, so)
+  itself_later fault.Proto t turns lacked refused left end start mid leads
+      (found, so) = ((t ∷ found.0, found.1, found.2, ap (λ (us : List Turn). t ∷ us) found.3, (mid, leads, found.4), found.5), so)
+  itself_later fault.Pipe t turns lacked refused left end start mid leads
+      (took, so) = ((t ∷ took.0, took.1, took.2, ap (λ (us : List Turn). t ∷ us) took.3, (mid, leads, took.4), took.5), so)
   itself_later _ t turns lacked refused left end start mid leads so = so
 
   -- another turn stands before
@@ -519,8 +490,7 @@ module _ {T U G C : Type 0} (sends : T → Queue → Result ℕ IoFault → T �
 
   pub read_ends : (left : ℕ) (before : ReaderState T (Core U C)) (turns : List Turn) (out : Gives (Told U)) (end : ReaderState T (Core U C)) → IsRead before.core
       → Reads sends (server a) receives left before turns out end → Done before turns out end
-  read_ends left before [] out end r (same, stops') =
-      done_at before [] out out end before refl same (halts_end left before out r (when_true _ (reads_on before.core) (reads_of before.core r) stops'))
+  read_ends left before [] out end r (same, stops') = grind (arith, done_at, halts_end, when_true, reads_on, reads_of, true≢false, not, is_none)
   read_ends left before (Received got ∷ turns) out end r (on, lacks, (n, is, (link, filled, room, h))) =
       elim (split_result (counted_answer (count_of got)) h) [
         | inl (u, ok, more) ↦

@@ -12,7 +12,7 @@ use Rattle.wl_link.proofs.Readings.RespectLaws.{reads_respect}
 use Rattle.wl_link.specs.Respect.{Keeps}
 use Rattle.wl_server.specs.declared.objects.Kept.{Kept}
 use Rattle.wl_server.specs.Deeds.{Deed, Put, came_in, notes_in}
-use Rattle.wl_server.specs.Reading.{Around, breaks, converted, exchanges_in, garbled, server, stops_if}
+use Rattle.wl_server.specs.Reading.{Around, breaks, converted, exchanges_in, garbled, server}
 use Rattle.wl_server.specs.Requests.{Outcome, Whole, Wrong, convert, start}
 use Rattle.wl_server.specs.Telling.{Core, Told, deeds_in, deeds_of, end_deeds, objects_in}
 use Rattle.wl_server.proofs.OverRuns.Announced.RequestCases.{request_case}
@@ -47,17 +47,9 @@ module _ {T U G C : Type 0} (sends : T → Queue → Result ℕ IoFault → T �
   abbrev IsBare : Verdict (Core U C) (Told U) → Type 0
   IsBare v = (d : Core U C) → Bare (told_deeds (v.events d))
 
-  stops_bare : (d : Core U C) → Bare (told_deeds (stops_if d))
-  stops_bare d = grind (arith, told_deeds)
-
   converted_bare : (c : Core U C) (m : WireMessage) (receiver : Object (Kept U)) (row : MessageRow) (o : Outcome U) → IsBare (converted a c m receiver row o)
   converted_bare c m receiver row (Wrong w objects) d = (refl, refl)
   converted_bare c m receiver row (Whole e args) d = (refl, refl)
-
-  handles_bare : (c : Core U C) (m : WireMessage) → IsBare ((server a).handles c m)
-  handles_bare c m =
-      request_case a c IsBare (λ d. (refl, refl)) (λ code text d. (refl, refl)) (λ n valid. stops_bare) (λ n valid. stops_bare) (λ g version n x valid d. (refl, refl)) m
-      (λ receiver row holds other. (grind (arith, nat_lt, breaks, converted, convert, start, objects_in, converted_bare)))
 
   verdict_bare : (c : Core U C) (v : Verdict (Core U C) (Told U)) → IsBare v → Keeps (server a) (λ c gave d. Bare (deeds_in gave)) c v
   verdict_bare c v bare = record {
@@ -72,7 +64,10 @@ module _ {T U G C : Type 0} (sends : T → Queue → Result ℕ IoFault → T �
       (record {
         same = λ c. (refl, refl);
         joins = λ c d e gave others x y. subst Bare (sym (deeds_append gave others)) (bare_both (deeds_in gave) (deeds_in others) x y);
-        handles = λ c m on. verdict_bare c ((server a).handles c m) (handles_bare c m);
+        handles = λ c m on. verdict_bare c ((server a).handles c m) (request_case a c IsBare (λ d. (refl, refl)) (λ code text d. (refl, refl))
+            (λ n valid. (λ d. grind (arith, told_deeds))) (λ n valid.
+            (λ d. grind (arith, told_deeds))) (λ g version n x valid d. (refl, refl)) m
+            (λ receiver row holds other. (grind (arith, nat_lt, breaks, converted, convert, start, objects_in, converted_bare))));
         malformed = λ c on. verdict_bare c (garbled c) (λ d. (refl, refl));
         faulted = λ c f on. (refl, refl);
       })

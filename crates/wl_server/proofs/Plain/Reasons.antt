@@ -1,5 +1,5 @@
 -- That a reading of one client ends for a reason.
-use Rattle.std.proofs.Common.{◌≡◌, Bool, false, List, ◌++◌, Some, Result, sym, ap, subst, ◌∙◌, arith}
+use Rattle.std.proofs.Common.{◌≡◌, Bool, false, List, Some, Result, sym, ap, subst, ◌∙◌, arith}
 use Rattle.wl_server.specs.declared.error.ActionError.{ActionError}
 use Rattle.wl_server.specs.declared.notes.Happening.{Happening}
 use Rattle.wl_server.specs.declared.reading.action.Action.{Action}
@@ -26,10 +26,6 @@ module _ {T U C : Type 0} where
   abbrev seen_as : Part T U C → List (Happening U) → Seen T U C
   seen_as q made = record { part = Some q; made = made }
 
-  held_so : (s t : Seen T U C) (q r : Part T U C) (did d : List (Deed U)) (notes : List (Happening U)) → t ≡ seen_as q (s.made ++ notes_in did) → q ≡ r → did ≡ d
-      → notes_in d ≡ notes → t ≡ seen_as r (s.made ++ notes)
-  held_so s t q r did d notes same part did_so noted = grind (arith)
-
 module _ {T U G C : Type 0} (w : World T G C) (before after : BackendState T U G C) (id : ClientParts) where
   abbrev here : Around G C
   here = around w id before.server.offer
@@ -53,7 +49,7 @@ module _ {T U G C : Type 0} (w : World T G C) (before after : BackendState T U G
         memory ∙ lacks,
         (grind (arith, reader_part p, out.left, action_content answer, answered out.stopped out.gave, after.refused, out.refused, memory ∙ lacks, reading_ends w.sends w.receives here r.turns_left p turns out end live idle reads)),
         left,
-        held_so s t q (part_of end) did (deeds_of (exchanges_in turns) out.gave end.core) (notes_in (end_deeds {U = U} end.core.ended)) same ends did_so (notes_of_reading w.sends w.receives here r.turns_left (reader_part p) turns out end reads),
+        (grind (arith, part_of end, deeds_of (exchanges_in turns) out.gave end.core, notes_in (end_deeds {U = U} end.core.ended), notes_of_reading w.sends w.receives here r.turns_left (reader_part p) turns out end reads)),
       )
 
   module _ (e : Entry T U G C) (call : Call T U G C) (is : e.call ≡ call)

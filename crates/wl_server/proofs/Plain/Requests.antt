@@ -15,7 +15,6 @@ use Rattle.wl_server.specs.declared.notes.DisconnectReason.TheVariants.{Connecti
 use Rattle.wl_server.specs.declared.notes.Happening.TheVariants.{Disconnected}
 use Rattle.wl_server.specs.declared.objects.Kept.{Kept}
 use Rattle.wl_server.specs.declared.reading.action.OpenAction.TheVariants as opened
-use Rattle.wl_server.specs.declared.runs.step.Reply.{Reply}
 use Rattle.wl_server.specs.declared.runs.step.Reply.TheVariants as reply
 use Rattle.wl_server.specs.declared.runs.step.Step.TheVariants as step
 use Rattle.wl_server.specs.Backend.{BackendState, Calls}
@@ -28,13 +27,15 @@ use Rattle.wl_server.specs.Lookups.{and_then}
 use Rattle.wl_server.specs.Objects.{unless_refused}
 use Rattle.wl_server.specs.Part.{Part, id_of, named, same_id, serial_of, end_note, id_at, note_of_end}
 use Rattle.wl_server.specs.PartStep.{OfClient, World}
-use Rattle.wl_server.specs.Plain.{EndsOpenRequest, IsRefusedWhole, RequestEndedAs, RequestIsEnded, RequestRefusedAs, is_ended, is_made, with_given, EndIsTold, end_note_of, notes_if_kept, sender_notes}
+use Rattle.wl_server.specs.Plain.{EndsOpenRequest, IsRefusedWhole, RequestEndedAs, RequestIsEnded, RequestRefusedAs, is_made, with_given, EndIsTold, end_note_of, notes_if_kept, sender_notes}
 use Rattle.wl_server.specs.Server.{Seen, seen}
 use Rattle.wl_server.specs.Telling.{Tells, Told, core_of, Core, closed_down, end_deeds}
 use Rattle.wl_server.proofs.Plain.Base.{calm, keeps, never, nothing_new, of_each, offer_of, other_stays, own, refused_to, unchanged}
-use Rattle.wl_server.proofs.Plain.Finishing.{given_named, given_others}
 use Rattle.wl_server.proofs.Plain.Naming.{names_so, removed_named, removed_others}
 use Rattle.wl_server.proofs.Plain.Verdicts.{told, told_nothing, told_starved, IsTold, told_ended}
+use Rattle.wl_server.proofs.Plain.Naming.{rewritten_named}
+use Rattle.wl_server.specs.Part.{with_user_data}
+use Rattle.wl_server.proofs.Plain.Naming.{rewritten_others}
 
 -- ---- two ids of a client that are the same name the same
 
@@ -42,11 +43,11 @@ module _ {U : Type 0} where
   -- ---- the object that was made gets its data
 
   made_named : (store : Store (Kept U)) (id : IdParts) (u : Option U) → named (store_with_data store (Some id) u) id ≡ option_map (with_given u) (named store id)
-  made_named store id u = grind (arith, given_named, named, option_map, with_given)
+  made_named store id u = grind (arith, named, option_map, with_user_data, rewritten_named, names_so, with_given)
 
   made_others : (store : Store (Kept U)) (created : Option IdParts) (u : Option U) (other : IdParts) → is_made created other ≡ false
       → named (store_with_data store created u) other ≡ named store other
-  made_others store created u other h1 = grind (arith, given_others)
+  made_others store created u other h1 = grind (arith, named, rewritten_others, with_user_data, names_so)
 
   -- what names none goes on to
   made_none : (store : Store (Kept U)) (created : Option IdParts) (u : Option U) (o : IdParts) → named store o ≡ None → named (store_with_data store created u) o ≡ None
@@ -61,14 +62,6 @@ module _ {U : Type 0} where
   ended_named : (store : Store (Kept U)) (sender : IdParts) (is_destructor : Bool) (x : Object (Kept U)) → ended_by store sender is_destructor ≡ Some x
       → (is_destructor ≡ true) × (named store sender ≡ Some x)
   ended_named store sender h3 x is = grind (arith)
-
-  sender_gone : (store : Store (Kept U)) (sender : IdParts) (is_destructor : Bool) (o : Option (Object (Kept U))) → ended_by store sender is_destructor ≡ o → is_destructor ≡ true
-      → named (left_by store sender.number o) sender ≡ None
-  sender_gone store sender is_destructor o h1 h2 = grind (arith, removed_named, true≢false)
-
-  sender_others : (store : Store (Kept U)) (sender : IdParts) (is_destructor : Bool) (o : Option (Object (Kept U))) → ended_by store sender is_destructor ≡ o → (other : IdParts)
-      → is_ended is_destructor sender other ≡ false → named (left_by store sender.number o) other ≡ named store other
-  sender_others store sender is_destructor o h1 other h2 = grind (arith, ended_named, removed_others, names_so, true≢false, same_id, id_of)
 
 -- ---- what a finish comes to
 
@@ -111,10 +104,6 @@ module _ {T U C : Type 0} where
     answer_is : answer ≡ unless_refused (record { error = finish.OutOfMemory; user_data = u }) lacked
     tells : Tells sends (ends_request client (core_of p) sender is_destructor created u) p.link lacked did q
 
-  reason : (p : Part T U C) (sender : IdParts) (is_destructor : Bool) (created : Option IdParts) (u : Option U) (e : FinishError)
-      → p.action ≡ Some (opened.Request sender is_destructor created) → refusal p.is_killed created u ≡ Some e → Why p u e
-  reason p sender is_destructor created u e is_open refused = grind (arith, refusal)
-
   why_calm : (p : Part T U C) (u : Option U) (e : FinishError) → Why p u e → is_out_of_memory e ≡ false
   why_calm p u e h1 = grind (arith)
 
@@ -124,11 +113,7 @@ module _ {T U C : Type 0} (sends : T → Queue → Result ℕ IoFault → T → 
 
   comes_to : (answer : Answer U) (lacked : Bool) (did : List (Deed U)) (p q : Part T U C) → Does answer lacked did p q
       → IsRefused p u answer lacked did q ⊎ IsTaken sends client p u answer lacked did q
-  comes_to answer lacked did p q h = grind (arith, either_option, refusal, reason)
-
-  -- whether memory was refused is told by the answer
-  lacks_by : (answer : Answer U) (lacked : Bool) (did : List (Deed U)) (p q : Part T U C) → Does answer lacked did p q → lacked ≡ lacks_finish answer
-  lacks_by answer lacked did p q h = grind (arith, comes_to, why_calm)
+  comes_to answer lacked did p q h = grind (arith, either_option, refusal)
 
   -- ---- the client behind a finish
 
@@ -180,11 +165,11 @@ module _ {T U C : Type 0} (sends : T → Queue → Result ℕ IoFault → T → 
 
   -- a refusal that is for no want of memory changes nothing
   refused_same : (b : Bool) (s t : Seen T U C) (lacked : Bool) (did : List (Deed U)) → (answer ≡ Ok tt → ⊥) → lacks_finish answer ≡ false → Of b s lacked did t → t ≡ s
-  refused_same b s t lacked did h1 h2 h3 = grind (arith, either_option, comes_to, nothing_new, notes_in, unless_refused, lacks_by, refusal, reason, append-nil, why_calm)
+  refused_same b s t lacked did h1 h2 h3 = grind (arith, either_option, comes_to, nothing_new, notes_in, unless_refused, why_calm, refusal, append-nil)
 
   -- whether memory is refused is told by the answer
   pub own_lacks : (s t : Seen T U C) (lacked : Bool) (did : List (Deed U)) → lacks_finish answer ≡ true → Of (same_client client client) s lacked did t → lacked ≡ true
-  own_lacks s t lacked did lacks h = grind (arith, either_option, own, true≢false, lacks_by)
+  own_lacks s t lacked did lacks h = grind (arith, either_option, own, true≢false, comes_to, why_calm)
 
 module _ {U : Type 0} (u : Option U) where
   not_ok : (r : FinishRefused (Option U)) → ◌≡◌ {A = Answer U} (Err r) (Ok tt) → ⊥
@@ -200,13 +185,7 @@ module _ {U : Type 0} (u : Option U) where
       → (lacked ≡ true) × (r.error ≡ finish.OutOfMemory) × (r.user_data ≡ u)
   was_starved r h2 is = grind (arith, was_refused_for, not_ok)
 
-  was_taken : (lacked : Bool) → ◌≡◌ {A = Answer U} (Ok tt) (unless_refused (record { error = finish.OutOfMemory; user_data = u }) lacked) → lacked ≡ false
-  was_taken h1 is = grind (arith, no_refusal)
-
 -- ---- of a call
-
-inside : {T U : Type 0} (answer r : Answer U) → ◌≡◌ {A = Reply T U} (reply.FinishRequest answer) (reply.FinishRequest r) → answer ≡ r
-inside answer r is = cc
 
 module _ {T U G C : Type 0} (w : World T G C) (before after : BackendState T U G C) (target : ClientParts) (u : Option U) where
   abbrev IsAnswered : Answer U → Type 0
@@ -220,12 +199,12 @@ module _ {T U G C : Type 0} (w : World T G C) (before after : BackendState T U G
         did,
         subst
             (λ (a : Answer U). OfClient (same_client target id) (seen id before.server) (Does w.sends id u a lacked did) (Unknown u a) lacked did (seen id after.server))
-            (sym (inside answer r is)) h,
+            (sym (cc)) h,
       )
 
   request_memory : (answer : Answer U) → lacks_finish answer ≡ false → IsAnswered answer → after.refused ≡ false
   request_memory answer quiet call =
-      calm call refl (grind (arith, never, same_client, lacks_by, lacks_finish, inside))
+      calm call refl (grind (arith, never, same_client, comes_to, why_calm, lacks_finish))
 
   request_same : (r : FinishRefused (Option U)) → is_out_of_memory r.error ≡ false → IsAnswered (Err r) → IsRefusedWhole before after
   request_same r quiet call = (
@@ -254,7 +233,7 @@ module _ {T U G C : Type 0} (w : World T G C) (before after : BackendState T U G
   ended_as p q lacked did e there same =
       let now : (seen target after.server).part ≡ Some q = ap (λ (x : Seen T U C). x.part) same in
       let o : Option (Object (Kept U)) = ended_by p.store e.sender e.is_destructor in
-      let (store, none_open) = ended_part w.sends target u p q e.sender e.created o lacked did (was_taken u lacked e.answer_is) e.tells in
+      let (store, none_open) = ended_part w.sends target u p q e.sender e.created o lacked did (grind (arith, no_refusal, e.answer_is)) e.tells in
       let left : Store (Kept U) = left_by p.store e.sender.number o in
       let found : (id : IdParts) → and_then (seen target after.server).part (λ p. named p.store id) ≡ named (store_with_data left e.created u) id =
       λ id. ap (λ (x : Option (Part T U C)). and_then x (λ p. named p.store id)) now ∙ ap (λ (s : Store (Kept U)). named s id) store in
@@ -264,11 +243,11 @@ module _ {T U G C : Type 0} (w : World T G C) (before after : BackendState T U G
         was_open = ap (λ (x : Option (Part T U C)). and_then x (λ p. p.action)) there ∙ e.was_open;
         is_finished = ap (λ (x : Option (Part T U C)). and_then x (λ p. p.action)) now ∙ none_open;
         fits = grind (arith, refusal, option_map, e.created, e.fits);
-        gone = λ ends. found e.sender ∙ made_none left e.created u e.sender (sender_gone p.store e.sender e.is_destructor o refl ends);
-        made = grind (arith, named, store_with_data, made_named, option_map, with_given, sender_others);
-        others = grind (arith, made_others, sender_others);
+        gone = λ ends. found e.sender ∙ made_none left e.created u e.sender (grind (arith, removed_named, true≢false, p.store, e.sender, e.is_destructor));
+        made = grind (arith, named, store_with_data, made_named, option_map, with_given, ended_named, removed_others, names_so, true≢false, same_id, id_of);
+        others = grind (arith, made_others, ended_named, removed_others, names_so, true≢false, same_id, id_of);
         told = end_told p q did e.sender e.is_destructor there same
-            (part_noted w.sends target u p q e.sender e.is_destructor e.created o refl lacked did (was_taken u lacked e.answer_is) e.tells);
+            (part_noted w.sends target u p q e.sender e.is_destructor e.created o refl lacked did (grind (arith, no_refusal, e.answer_is)) e.tells);
       }
 
   request_ended_as : (answer : Answer U) → IsAnswered answer → RequestEndedAs before target u answer after
@@ -294,7 +273,7 @@ module _ {T U G C : Type 0} (w : World T G C) (before after : BackendState T U G
               | inl x ↦ grind (arith, was_refused_for, because, is_some, option_map, request_same, is_out_of_memory, why_calm)
               | inr e ↦
                   let (lacks, error, back) = was_starved u r lacked e.answer_is in
-                  (back, because error (starved_as p q lacked did r e lacks there same (refused_to call target (grind (arith, own_lacks, lacks_finish, inside)))))
+                  (back, because error (starved_as p q lacked did r e lacks there same (refused_to call target (grind (arith, own_lacks, lacks_finish)))))
             ]
       ]
     where

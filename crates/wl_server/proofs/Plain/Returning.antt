@@ -13,8 +13,11 @@ use Rattle.wl_server.specs.Inside.Finishing.{BindLeaves, DataHeld, RequestLeaves
 use Rattle.wl_server.specs.Part.{Part, named}
 use Rattle.wl_server.specs.Plain.{EndsBind, EndsOpenRequest, ReturnsBindData, ReturnsRequestData, client_in}
 use Rattle.wl_server.specs.Server.{Stored, client_at}
-use Rattle.wl_server.proofs.Plain.Finishing.{given_named}
 use Rattle.wl_sets.proofs.Lists.{get_set_same}
+use Rattle.std.specs.Prelude.{option_map}
+use Rattle.wl_server.proofs.Plain.Naming.{names_so}
+use Rattle.wl_server.proofs.Plain.Naming.{rewritten_named}
+use Rattle.wl_server.specs.Part.{with_user_data}
 
 -- ---- data that are given
 
@@ -22,7 +25,7 @@ module _ {U : Type 0} where
   -- the object that is kept has them, or they come back
   pub given_held : (store after : Store (Kept U)) (id : IdParts) (u : U) (back : Option U) → MatchOption (named store id) (back ≡ Some u) (λ _. back ≡ None)
       → after ≡ data_given store id.number (named store id) u → HoldsData (named after id) u back
-  given_held store after id u back returned given = grind (arith, named, given_named)
+  given_held store after id u back returned given = grind (arith, named, option_map, with_user_data, rewritten_named, names_so)
 
 -- ---- the open action
 

@@ -11,7 +11,7 @@ use Rattle.wl_server.specs.declared.runs.step.Reply.TheVariants as reply
 use Rattle.wl_server.specs.declared.runs.step.Step.TheVariants as step
 use Rattle.wl_server.specs.Backend.{BackendState, Calls}
 use Rattle.wl_server.specs.Deeds.{Deed, Sent, notes_in}
-use Rattle.wl_server.specs.Felt.{FlushedTo, FlushesLive}
+use Rattle.wl_server.specs.Felt.{FlushedTo}
 use Rattle.wl_server.specs.Globals.{Offer}
 use Rattle.wl_server.specs.Ids.{ClientParts, same_client}
 use Rattle.wl_server.specs.Lookups.{and_then, client_of}
@@ -32,12 +32,6 @@ module _ {T U C : Type 0} (sends : T → Queue → Result ℕ IoFault → T → 
       → FlushedTo sends p answer lacked did q → f q ≡ f p
   flushed_keeps f answer stays (es, link, by, memory, did_so, same) = ap f same ∙ stays link
 
-  flushed_silent : (answer : Result (Unit {0}) IoFault) → FlushedTo sends p answer lacked did q → notes_in did ≡ []
-  flushed_silent answer (es, link, by, memory, did_so, same) = ap notes_in did_so ∙ silent es
-
-  live_silent : FlushesLive sends p lacked did q → notes_in did ≡ []
-  live_silent h1 = grind (arith, either_bool, notes_in, flushed_silent, silent)
-
 module _ {T U G C : Type 0} (w : World T G C) (id : ClientParts) (offer : Offer G) (s t : Seen T U C) (lacked : Bool) (did : List (Deed U)) where
   -- a part of each client that its link does not change
   pub flush_keeps : {A : Type 0} (f : Option (Part T U C) → A) → ((p : Part T U C) (link : LinkState T) → f (Some (with_link p link)) ≡ f (Some p))
@@ -45,8 +39,8 @@ module _ {T U G C : Type 0} (w : World T G C) (id : ClientParts) (offer : Offer 
   flush_keeps f h1 target answer h2 = grind (arith, keeps, either_bool, flushed_keeps)
 
   flush_notes : (target : Option ClientParts) (answer : Result (Unit {0}) IoFault) → FlushedFor w id offer target answer s lacked did t → t.made ≡ s.made
-  flush_notes None answer (ok, h) = notes_stay true s _ (Unit {0}) lacked did t (λ p q r. live_silent w.sends lacked did p q r) h
-  flush_notes (Some target) answer h = notes_stay (same_client target id) s _ _ lacked did t (λ p q r. flushed_silent w.sends lacked did p q answer r) h
+  flush_notes None answer (ok, h) = notes_stay true s _ (Unit {0}) lacked did t (λ p q r. (grind (arith, either_bool, notes_in, silent, w.sends))) h
+  flush_notes (Some target) answer h = notes_stay (same_client target id) s _ _ lacked did t (λ p q r. (ap notes_in r.4 ∙ silent r.0)) h
 
   -- a killed client is not flushed with all
   killed_stays : (answer : Result (Unit {0}) IoFault) (p : Part T U C) → s.part ≡ Some p → p.is_killed ≡ true → FlushedFor w id offer None answer s lacked did t → t ≡ s

@@ -78,8 +78,9 @@ module _ {T U G C : Type 0} (w : World T G C) (before : BackendState T U G C) (i
 
   pub leaves_transport : (s : Stored T U C) → Some s ≡ client_at id before.server.clients → LeavesTransport before id t (state_over before id t)
   leaves_transport s is = record {
-    transport = ap (option_map (λ p. p.link.transport)) (changed_part s.part stored);
-    client = changed_part s.part stored ∙ ap (option_map (changed_to t)) (sym stored);
+    transport = ap (option_map (λ p. p.link.transport)) (changed_part s.part (ap (option_map (λ (x : Stored T U C). x.part)) (sym is)));
+    client = changed_part s.part (ap (option_map (λ (x : Stored T U C). x.part)) (sym is)) ∙ ap (option_map (changed_to t)) (sym (ap (option_map
+        (λ (x : Stored T U C). x.part)) (sym is)));
     clients = λ other differ. let (lacked, did, h) = of_change other in other_stays (same_client id other) _ _ _ lacked did _ differ h;
     objects = λ o. keeps_all (λ x. and_then x (λ p. named p.store o)) (λ p link. refl) o.client;
     notes = λ other.
@@ -97,6 +98,3 @@ module _ {T U G C : Type 0} (w : World T G C) (before : BackendState T U G C) (i
     };
     memory = refl;
   }
-    where
-      stored : (seen id before.server).part ≡ Some s.part
-      stored = ap (option_map (λ (x : Stored T U C). x.part)) (sym is)

@@ -6,7 +6,7 @@ use Rattle.wl_wire.specs.declared.error.IoFault.{IoFault}
 use Rattle.wl_wire.specs.declared.error.IoFault.TheVariants as fault
 use Rattle.wl_link.specs.Exchange.{Queue, Sending}
 use Rattle.wl_link.specs.Link.{LinkState}
-use Rattle.wl_link.specs.Puts.{FlushesOut, PutsOut, Said, lacks_memory}
+use Rattle.wl_link.specs.Puts.{FlushesOut, Said, lacks_memory}
 use Rattle.wl_link.specs.Reader.{CarriesOut, Given, Verdict, came_to, put_and_gave, ReaderState}
 use Rattle.wl_server.specs.Deeds.{Deed, Sent, notes_in}
 use Rattle.wl_server.specs.Inside.Carried.{told_notes}
@@ -26,14 +26,11 @@ pub told : {T U C A : Type 0} (sends : T → Queue → Result ℕ IoFault → T 
     → f q ≡ cond lacked (g v.starved) (g v.core)
 told {T} {U} {C} {A} sends g f agree v none last closed link lacked did q h17 = grind (arith, cond, no_flush)
 
-pub nothing_put : {T : Type 0} (sends : T → Queue → Result ℕ IoFault → T → Type 0) (link : LinkState T) (ms : List Said) → ms ≡ [] → (es : List Sending) (put : List Said)
-    (wrote : Result (Unit {0}) IoFault) (mid : LinkState T) → PutsOut sends link ms es put wrote mid → wrote ≡ Ok tt
-nothing_put sends link h3 is es put wrote mid h = grind (arith)
-
 -- no memory is refused where a verdict puts nothing and asks for none
 pub told_nothing : {T U C : Type 0} (sends : T → Queue → Result ℕ IoFault → T → Type 0) (v : Verdict (Core U C) (Told U)) → v.puts ≡ [] → v.flushes ≡ false → v.asks ≡ false
     → (link : LinkState T) (lacked : Bool) (did : List (Deed U)) (q : Part T U C) → Tells sends v link lacked did q → lacked ≡ false
-told_nothing {T} {U} {C} sends v nothing none unasked link lacked did q (es, gave, end, carries, did_so, same) = grind (arith, speaker, nothing_put, no_flush, true≢false)
+told_nothing {T} {U} {C} sends v nothing none unasked link lacked did q
+    (es, gave, end, carries, did_so, same) = grind (arith, speaker, no_flush, true≢false)
 
 -- what a verdict leaves where memory is refused, and what was noted in that
 pub record IsStarved {T U C : Type 0} (v : Verdict (Core U C) (Told U)) (did : List (Deed U)) (q : Part T U C) : Type 0 where
@@ -98,6 +95,6 @@ told_ended {T} {U} {C} sends v last link lacked did q calm (es, gave, end, carri
         let gives : gave ≡ put_and_gave put (v.events end.core) = given ∙ ap (λ (c : Core U C). put_and_gave put (v.events c)) (sym is) in
         elim (came wrote lacks (sym memory ∙ calm)) [
           | inl all ↦ of_core put gives (inl (is ∙ all))
-          | inr (unput, closes) ↦ of_core put gives (inr (λ nothing. unput (nothing_put sends link v.puts nothing first put wrote mid puts), is ∙ closes))
+          | inr (unput, closes) ↦ of_core put gives (inr (λ nothing. unput (grind (arith, v.puts)), is ∙ closes))
         ]
     carried (inr (asks, refused, silent, given, starves)) = absurd (true≢false (sym refused ∙ calm))

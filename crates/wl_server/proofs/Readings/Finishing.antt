@@ -27,7 +27,7 @@ use Rattle.wl_server.specs.Finish.{FinishesOpen, Refuses, core_finished, data_gi
 use Rattle.wl_server.specs.Inside.Finishing.{EndsObject, EndsSender, is_out_of_memory, part_finished, part_without}
 use Rattle.wl_server.specs.Objects.{unless_refused, without}
 use Rattle.wl_server.specs.Ids.{ClientParts, IdParts}
-use Rattle.wl_server.specs.Part.{id_at, id_of, named, note_of_end, registries_without, serial_of, with_link, with_user_data, Part}
+use Rattle.wl_server.specs.Part.{id_of, named, note_of_end, registries_without, serial_of, with_link, with_user_data, Part}
 use Rattle.wl_server.specs.Inside.Puts.{Puts}
 use Rattle.wl_server.specs.Server.{NoteTimes, Stored, no_times, untimed}
 use Rattle.wl_server.specs.Telling.{Core, Kills, killed, closed_down, core_of, deletions, end_deeds, part_of, speaker}
@@ -71,14 +71,6 @@ module _ {U : Type 0} where
       → named (store_with_data (removed store sender.number) created u) sender ≡ None
   not_named store sender created u = grind (arith, eqb, serial_of, id_of, store_with_data, still_gone, removed_here)
 
-  module _ {C : Type 0} (client : ClientParts) (sender : IdParts) (x : Object (Kept U)) (c : Core U C) where
-    -- the note of an object that left, and none of one that stayed
-    note_where_gone : named c.store sender ≡ None → told_notes (ending client sender x c) ≡ note_of_end client sender.number x
-    note_where_gone gone = rw gone (grind (arith, id_at client sender.number x, id_of sender, x.value.user_data))
-
-    none_where_kept : (y : Object (Kept U)) → named c.store sender ≡ Some y → told_notes (ending client sender x c) ≡ []
-    none_where_kept y kept = rw kept refl
-
 -- ---- a write's answer
 
 pub wanted_memory : (wrote : Result (Unit {0}) IoFault) → lacks_memory wrote ≡ true → wrote ≡ Err fault.OutOfMemory
@@ -89,15 +81,6 @@ module _ {U C : Type 0} where
   abbrev closing : Core U C → Result (Unit {0}) IoFault → Core U C
   closing c (Ok _) = c
   closing c (Err _) = closed_down c
-
-  module _ (client : ClientParts) (c : Core U C) (id : IdParts) (x : Object (Kept U)) (created : Option IdParts) (u : Option U) where
-    came_closing : (wrote : Result (Unit {0}) IoFault) → lacks_memory wrote ≡ false
-        → closing (core_finished (without c id.number x) created u) wrote ≡ came_to speaker (ends client c id (Some x) created u) wrote
-    came_closing h1 is = grind (arith, false≢true)
-
-    closing_store : (wrote : Result (Unit {0}) IoFault)
-        → (closing (core_finished (without c id.number x) created u) wrote).store ≡ store_with_data (removed c.store id.number) created u
-    closing_store h1 = grind (arith)
 
 -- a write that failed kills the client, and changes none of its objects
 pub store_unless_written : {T U C : Type 0} (s after : Stored T U C) (wrote : Result (Unit {0}) IoFault)
@@ -141,7 +124,7 @@ module _ {T U C : Type 0} (sends : T → Queue → Result ℕ IoFault → T → 
     core_of s.part,
     s.part.link,
     inr (asks, refl, refl, refl),
-    ap untimed same ∙ quietly s.part (told_notes (ending client sender x (core_of s.part))) (none_where_kept client sender x (core_of s.part) x kept),
+    ap untimed same ∙ quietly s.part (told_notes (ending client sender x (core_of s.part))) (rw kept refl),
   )
   stays x e after kept (inr (wrote, lacks, puts, is)) = (
     core_of s.part,
@@ -156,7 +139,7 @@ module _ {T U C : Type 0} (sends : T → Queue → Result ℕ IoFault → T → 
       sym (ap (came_to speaker (ends client (core_of s.part) sender (Some x) created u)) (wanted_memory wrote lacks)),
       sym (ap (λ (b : Bool). b || false) lacks),
     ),
-    ap untimed is ∙ quietly (with_link s.part after.part.link) (told_notes (ending client sender x (core_of s.part))) (none_where_kept client sender x (core_of s.part) x kept),
+    ap untimed is ∙ quietly (with_link s.part after.part.link) (told_notes (ending client sender x (core_of s.part))) (rw kept refl),
   )
 
   -- it leaves
@@ -164,7 +147,7 @@ module _ {T U C : Type 0} (sends : T → Queue → Result ℕ IoFault → T → 
       → MatchResult wrote (λ _. untimed after ≡ finished mid) (λ _. Does (finished mid) (λ p did q. Kills p ConnectionClosed did q) after)
       → ReachedBy (Some x) false after
   leaves x wrote mid after (puts, lacks, is) tells = (
-    closing core wrote,
+    closing (core_finished (without (core_of s.part) sender.number x) created u) wrote,
     mid.part.link,
     inl (
       wrote,
@@ -173,15 +156,12 @@ module _ {T U C : Type 0} (sends : T → Queue → Result ℕ IoFault → T → 
       false,
       puts,
       (refl, refl, refl),
-      came_closing client (core_of s.part) sender x created u wrote lacks,
+      (grind (arith, false≢true, core_of s.part)),
       sym (ap (λ (b : Bool). b || false) lacks),
     ),
-    grind (arith, finished, is, gone, append-nil, note, append_assoc, end_deeds, killed, core_of, noting, part_of, core, closing, notes_in, note_where_gone, named, closing_store, not_named),
+    grind (arith, finished, is, gone, append-nil, note, append_assoc, end_deeds, killed, core_of, noting, part_of, x, created, closing, notes_in, id_of, named, not_named),
   )
     where
-      core : Core U C
-      core = core_finished (without (core_of s.part) sender.number x) created u
-
       note : List (Happening U)
       note = note_of_end client sender.number x
 
@@ -217,11 +197,6 @@ module _ {T U C : Type 0} (sends : T → Queue → Result ℕ IoFault → T → 
             ∙ ap finished h.1 ∙ quietly (part_finished s.part created u) [] refl,
       )
       at (Some x) is h tells = leaves x wrote mid after h tells
-
-  -- a request that is no destructor ends nothing
-  pub ends_none : (after : Stored T U C) → is_destructor ≡ false → untimed after ≡ finished s → ReachedBy (ended_by s.part.store sender is_destructor) false after
-  ends_none after plain same =
-      ends_done (Ok tt) s after (subst (λ (b : Bool). EndsSender sends client s sender b (Ok (Ok tt)) s) (sym plain) (refl, refl)) same
 
   -- ---- a request that is finished with these data, or refused
 

@@ -1,7 +1,7 @@
 -- What a flush of a live client comes to.
-use Rattle.std.proofs.Common.{◌≡◌, ℕ, Bool, true, false, List, [], Result, refl, sym, ap, append-nil, subst}
+use Rattle.std.proofs.Common.{◌≡◌, ℕ, Bool, false, List, [], Result, sym, ap, append-nil, subst}
 use Rattle.wl_wire.specs.declared.error.IoFault.{IoFault}
-use Rattle.wl_link.proofs.Calls.Branches.{at_false, at_true}
+use Rattle.wl_link.proofs.Calls.Branches.{at_false}
 use Rattle.wl_link.specs.Exchange.{Queue}
 use Rattle.wl_link.specs.Puts.{lacks_memory}
 use Rattle.wl_server.specs.declared.notes.Happening.{Happening}
@@ -18,9 +18,6 @@ module _ {T U C : Type 0} where
       ([], s.part, stays, ap (λ (made : List (Happening U)). let x : Stored T U C = record { serial = s.serial; part = s.part; made = made; times = no_times } in x) (sym (append-nil s.made)))
 
   module _ (sends : T → Queue → Result ℕ IoFault → T → Type 0) where
-    pub killed_stays : (s : Stored T U C) → s.part.is_killed ≡ true → Does s (λ p did q. FlushesLive sends p false did q) s
-    killed_stays s killed = does_nothing s (λ p did q. FlushesLive sends p false did q) (at_true _ s.part.is_killed killed (refl, refl, refl))
-
     pub live_flushed : (s s' : Stored T U C) (answer : Result (Unit {0}) IoFault) (lacked : Bool) → s.part.is_killed ≡ false → lacked ≡ lacks_memory answer
         → Does s (λ p did q. FlushedTo sends p answer (lacks_memory answer) did q) s' → Does s (λ p did q. FlushesLive sends p lacked did q) s'
     live_flushed s s' answer lacked live is (did, q, flushed, made) =

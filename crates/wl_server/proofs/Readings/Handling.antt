@@ -47,9 +47,6 @@ module _ {U : Type 0} where
     pub silent : (stops : List (Told U)) (rest : List (Given (Told U))) → action_in (map HandedOut (map Did did ++ stops) ++ rest) ≡ action_in (map HandedOut stops ++ rest)
     pub no_note : (stops : List (Told U)) → notes_in (deeds_in (map HandedOut (map Did did ++ stops))) ≡ notes_in (deeds_in (map HandedOut stops))
 
-  pub none_quiet : AreQuiet []
-  none_quiet = record { silent = λ stops rest. refl; no_note = λ stops. refl }
-
   pub remembered_quiet : (id : Id) → AreQuiet (Remembered id ∷ [])
   remembered_quiet id = record { silent = λ stops rest. refl; no_note = λ stops. refl }
 

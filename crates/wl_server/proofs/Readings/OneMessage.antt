@@ -6,7 +6,6 @@ use Rattle.wl_wire.specs.declared.argument.Token.{Token}
 use Rattle.wl_wire.specs.declared.error.IoFault.{IoFault}
 use Rattle.wl_wire.specs.declared.error.IoFault.TheVariants as fault
 use Rattle.wl_wire.specs.declared.error.MessageParseError.{MessageParseError}
-use Rattle.wl_wire.specs.declared.error.MessageParseError.TheVariants as parse
 use Rattle.wl_wire.specs.Message.{WireMessage}
 use Rattle.wl_link.proofs.Calls.Branches.{at_false, at_true}
 use Rattle.wl_link.specs.Exchange.{Queue, Sending}
@@ -38,22 +37,16 @@ use Rattle.wl_server.specs.Ids.{IdParts}
 use Rattle.wl_server.specs.Inside.Responses.{TookRequest, core_with, response_to}
 use Rattle.wl_server.specs.Deeds.{Deed, Handed, Sent, notes_in}
 use Rattle.wl_server.specs.Part.{Part}
-use Rattle.wl_server.specs.Reading.{Around, action_in, NextAction, ReadsNone, ReadsTo, answered, exchanges_in, faulted, read_on, reads_on, request, request_to, row_asks, row_in, server}
+use Rattle.wl_server.specs.Reading.{Around, action_in, NextAction, ReadsNone, ReadsTo, answered, exchanges_in, faulted, read_on, reads_on, request, request_to, row_in, server}
 use Rattle.wl_server.specs.Server.{Stored, no_times, untimed}
 use Rattle.wl_server.specs.Telling.{Core, Kills, Told, core_of, deeds_in, deeds_of, end_deeds, part_of, reader_part}
-use Rattle.wl_server.specs.Inside.ReadingLoop.{Acts, Ended, EndsAs, Fills, ReadsOn, WentOn, HasNoNote, IsHandled, IsFront, IsSenderOf, IsSilent, LacksIn, LacksMore, Live, NotTaken, ReadsIn, MessageResult, HandlesMessage, answer_of, counted, linked, refused_of, stored_as}
+use Rattle.wl_server.specs.Inside.ReadingLoop.{Acts, Ended, EndsAs, Fills, ReadsOn, WentOn, HasNoNote, IsHandled, IsFront, IsSilent, LacksIn, LacksMore, Live, ReadsIn, MessageResult, HandlesMessage, answer_of, counted, linked, refused_of, stored_as}
 use Rattle.wl_server.proofs.Readings.Handling.{from_there}
 use Rattle.wl_server.proofs.Readings.Notes.{notes_append, notes_of_sends}
 use Rattle.wl_server.proofs.ObjectCalls.Posting.{kills_is}
 
 abbrev most : ℕ
 most = 0xFFFFFFFFFFFFFFFF
-
-counted_none : (n : ℕ) → n ≤ most → n ≡ counted n 0
-counted_none n within = omega (arith, within)
-
-counted_twice : (n a b m : ℕ) → m ≡ counted n a → counted m b ≡ counted n (a + b)
-counted_twice n a b m is = omega (arith, is)
 
 handled_append : (a b : List Turn) → handled_in (a ++ b) ≡ handled_in a + handled_in b
 handled_append [] b = omega arith
@@ -71,9 +64,6 @@ module _ {U : Type 0} where
   deeds_append (Rattle.wl_link.specs.Reader.Queued m ∷ a) b = ap (λ (l : List (Deed U)). Rattle.wl_server.specs.Deeds.Put m ∷ l) (deeds_append a b)
   deeds_append (Rattle.wl_link.specs.Reader.HandedOut (Rattle.wl_server.specs.Telling.Did d) ∷ a) b = ap (λ (l : List (Deed U)). d ∷ l) (deeds_append a b)
   deeds_append (Rattle.wl_link.specs.Reader.HandedOut (Rattle.wl_server.specs.Telling.Stops f) ∷ a) b = deeds_append a b
-
-  no_note_append : (a b : List (Given (Told U))) → HasNoNote a → HasNoNote b → HasNoNote (a ++ b)
-  no_note_append a b one two = grind (arith, notes_in, deeds_append, notes_append, deeds_in)
 
   made_none : (made : List (Happening U)) (o : Option DisconnectReason) → o ≡ None → made ++ notes_in (end_deeds {U = U} o) ≡ made
   made_none made o is = ap (λ (r : Option DisconnectReason). made ++ notes_in (end_deeds {U = U} r)) is ∙ append-nil made
@@ -99,14 +89,11 @@ module _ {T U : Type 0} (table : List InterfaceRow) (store : Store (Kept U)) (li
   read_in answer read = grind (arith, nat_le, option_map, row_in)
 
   module _ (m : WireMessage) (read : ReadOne (λ _ _ f. AsAsked f) link (Ok m) after) where
-    header_is : (m.sender ≡ sender_of link.incoming.bytes) × (m.opcode ≡ opcode_of link.incoming.bytes)
+    pub header_is : (m.sender ≡ sender_of link.incoming.bytes) × (m.opcode ≡ opcode_of link.incoming.bytes)
     header_is = grind (arith, true≢false, is_ok)
 
     pub row_read : row_in table (held store m.sender) m.opcode ≡ Some (message_row r.desc.now)
     row_read = ap₂ (λ (n o : ℕ). row_in table (held store n) o) header_is.0 header_is.1 ∙ sym front.row
-
-    pub sender_read : (x : Object (Kept U)) → held store m.sender ≡ Some x → IsSenderOf r.sender x
-    sender_read x is = front.sender x (ap (held store) (sym header_is.0) ∙ is)
 
 module _ {T U G C : Type 0} (sends : T → Queue → Result ℕ IoFault → T → Type 0) (receives : T → ℕ → Result Queue IoFault → T → Type 0) (a : Around G C) where
   -- ---- joining
@@ -118,7 +105,7 @@ module _ {T U G C : Type 0} (sends : T → Queue → Result ℕ IoFault → T �
     leads = λ turns rest end reads. reads;
     silent = λ rest. refl;
     no_note = refl;
-    read = counted_none r.read within;
+    read = omega (arith, within, r.read);
     live = live;
     serial = refl;
     made = refl;
@@ -134,8 +121,9 @@ module _ {T U G C : Type 0} (sends : T → Queue → Result ℕ IoFault → T �
     leads = λ turns rest end reads. rw (append_assoc one.first two.first turns, ← behind_twice one.gave two.gave false rest)
         (one.leads (two.first ++ turns) (given_first two.gave false rest) end (two.leads turns rest end reads));
     silent = λ rest. ap action_in (append_assoc one.gave two.gave rest) ∙ one.silent (two.gave ++ rest) ∙ two.silent rest;
-    no_note = no_note_append one.gave two.gave one.no_note two.no_note;
-    read = two.read ∙ counted_twice r.read (handled_in one.first) (handled_in two.first) q.read one.read ∙ ap (counted r.read) (sym (handled_append one.first two.first));
+    no_note = grind (arith, notes_in, deeds_append, notes_append, deeds_in, one.gave, two.gave, one.no_note, two.no_note);
+    read = two.read ∙ (omega (arith, one.read, r.read, handled_in one.first, handled_in two.first, q.read)) ∙ ap (counted r.read) (sym
+        (handled_append one.first two.first));
     live = two.live;
     serial = two.serial ∙ one.serial;
     made = two.made ∙ one.made;
@@ -151,8 +139,9 @@ module _ {T U G C : Type 0} (sends : T → Queue → Result ℕ IoFault → T �
     answer_is = two.answer_is ∙ quiet two.out.stopped;
     refused_is = two.refused_is;
     left = two.left;
-    read = two.read ∙ counted_twice r.read (handled_in one.first) (handled_in two.turns) q.read one.read ∙ ap (counted r.read) (sym (handled_append one.first two.turns));
-    no_note = no_note_append one.gave two.out.gave one.no_note two.no_note;
+    read = two.read ∙ (omega (arith, one.read, r.read, handled_in one.first, handled_in two.turns, q.read)) ∙ ap (counted r.read) (sym
+        (handled_append one.first two.turns));
+    no_note = grind (arith, notes_in, deeds_append, notes_append, deeds_in, one.gave, two.out.gave, one.no_note, two.no_note);
     after_is = two.after_is ∙ rw (one.serial, one.made) refl;
   }
     where
@@ -235,7 +224,8 @@ module _ {T U G C : Type 0} (sends : T → Queue → Result ℕ IoFault → T �
   message_unread s r end after live within leaves i =
       ends_so s r r live ((server a).malformed (core_of s.part)) s.part.link (λ es. Unread es)
       (λ m es first lacked mid turns rest last carried reads. (on s r r live, ((server a).malformed (core_of s.part), s.part.link, first, lacked, mid, rest, leaves, carried, refl, reads)))
-      refl (λ es. counted_none r.read within) (Err end) i.gave i.refused i.end i.es after i.carried i.says.1 (sym i.says.2) (sym i.says.0) i.no_note i.after_is
+      refl (λ es. (omega (arith, within, r.read))) (Err end) i.gave i.refused i.end i.es after i.carried i.says.1 (sym i.says.2)
+      (sym i.says.0) i.no_note i.after_is
 
   -- ---- where it halts
 
@@ -252,29 +242,15 @@ module _ {T U G C : Type 0} (sends : T → Queue → Result ℕ IoFault → T �
         answer_is = refl;
         refused_is = refl;
         left = refl;
-        read = counted_none r.read within;
+        read = omega (arith, within, r.read);
         no_note = refl;
         after_is = stored_live s s.part;
       }
-
-  -- the message at the front asks for memory
-  pub front_asks : (s : Stored T U C) (r : Reading) → Live s.part → r.read ≤ most → FrontAsks sends (server a) (reader_part s.part)
-      → EndsAs sends receives a s r (Err (record { fault = fault.OutOfMemory; refused = true })) s r
-  front_asks s r live within asks = halts_so s r fault.OutOfMemory true live within (inr (inl (asks, refl)))
 
   -- no receive is left
   pub none_left : (s : Stored T U C) (r : Reading) → Live s.part → r.read ≤ most → LacksIn sends receives a s.part → r.turns_left ≡ 0
       → EndsAs sends receives a s r (Err (record { fault = fault.WouldBlock; refused = false })) s r
   none_left s r live within lacks none = halts_so s r fault.WouldBlock false live within (inl (lacks, none, refl))
-
-  -- ---- no message was taken
-
-  pub is_malformed : (s : Stored T U C) → NotTaken a.table s.part.store s.part.link parse.Malformed
-      → Leaves sends (server a) (reader_part s.part) ((server a).malformed (core_of s.part)) s.part.link
-  is_malformed s h1 = grind (arith)
-
-  pub does_ask : (s : Stored T U C) → NotTaken a.table s.part.store s.part.link parse.OutOfMemory → FrontAsks sends (server a) (reader_part s.part)
-  does_ask s h2 = grind (arith, row_asks, option_map)
 
   -- ---- a message was taken
 
@@ -316,9 +292,6 @@ module _ {T U G C : Type 0} (sends : T → Queue → Result ℕ IoFault → T �
     abbrev reads_none : List Turn
     reads_none = []
 
-    is_read : q.read ≡ counted r.read 0
-    is_read = read ∙ counted_none r.read within
-
     -- a receive after which it goes on
     pub fills_goes : (after : Stored T U C) → Fills receives s None after → ReadsOn sends receives a s r after q
     fills_goes after (inr (impossible, same, asks), finds, is) = grind (arith)
@@ -341,7 +314,7 @@ module _ {T U G C : Type 0} (sends : T → Queue → Result ℕ IoFault → T �
       );
       silent = λ rest. refl;
       no_note = refl;
-      read = is_read;
+      read = read ∙ (omega (arith, within, r.read));
       live = (ap (λ (x : Stored T U C). x.part.is_killed) is ∙ live.0, ap (λ (x : Stored T U C). x.part.action) is ∙ live.1);
       serial = ap (λ (x : Stored T U C). x.serial) is;
       made = ap (λ (x : Stored T U C). x.made) is;
@@ -373,7 +346,7 @@ module _ {T U G C : Type 0} (sends : T → Queue → Result ℕ IoFault → T �
           answer_is = refl;
           refused_is = refused;
           left = refl;
-          read = is_read;
+          read = read ∙ (omega (arith, within, r.read));
           no_note = refl;
           after_is = is;
         }
@@ -388,7 +361,7 @@ module _ {T U G C : Type 0} (sends : T → Queue → Result ℕ IoFault → T �
           answer_is = ap (λ (f : IoFault). let r : Result Handed ActionError = Err (Io f) in r) memory;
           refused_is = refused ∙ ap (λ (f : IoFault). lacks_memory (Err f)) memory;
           left = refl;
-          read = is_read;
+          read = read ∙ (omega (arith, within, r.read));
           no_note = refl;
           after_is = grind (arith, stored_as, faulted, core_of);
         }

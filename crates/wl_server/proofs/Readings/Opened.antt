@@ -40,11 +40,6 @@ module _ {T U C : Type 0} (sends : T → Queue → Result ℕ IoFault → T → 
       does_quietly s (λ p did q. FinishesRequest sends client p u (Err (record { error = finish.NoOpenAction; user_data = u })) false did q) s.part
       (none_open s u (λ a did q. FinishesOpen sends client s.part a u (Err (record { error = finish.NoOpenAction; user_data = u })) false did q) none)
 
-  pub not_a_request : (object : IdParts) → s.part.action ≡ Some (opened.Bind object) → FinishDoes (Err (record { error = finish.WrongKind; user_data = u })) false s
-  not_a_request object is =
-      does_quietly s (λ p did q. FinishesRequest sends client p u (Err (record { error = finish.WrongKind; user_data = u })) false did q) s.part
-      (grind (arith, is_open))
-
   pub a_request : (a : OpenAction) (answer : Result (Unit {0}) (FinishRefused (Option U))) (refused : Bool) (after : Stored T U C) → s.part.action ≡ Some a
       → Does s (λ p did q. FinishesOpen sends client p a u answer refused did q) after → FinishDoes answer refused after
   a_request a answer refused after is (did, q, does, same) =
@@ -58,12 +53,6 @@ module _ {T U C : Type 0} (s : Stored T U C) (u : U) where
   no_bind none =
       does_quietly s (λ p did q. FinishesBind p u (Err (record { error = finish.NoOpenAction; user_data = u })) false did q) s.part
       (none_open s u (λ a did q. FinishesOpenBind s.part a u (Err (record { error = finish.NoOpenAction; user_data = u })) false did q) none)
-
-  pub not_a_bind : (sender : IdParts) (is_destructor : Bool) (created : Option IdParts) → s.part.action ≡ Some (opened.Request sender is_destructor created)
-      → BindDoes (Err (record { error = finish.WrongKind; user_data = u })) s
-  not_a_bind sender is_destructor created is =
-      does_quietly s (λ p did q. FinishesBind p u (Err (record { error = finish.WrongKind; user_data = u })) false did q) s.part
-      (grind (arith, is_open))
 
   pub a_bind : (object : IdParts) (after : Stored T U C) → s.part.action ≡ Some (opened.Bind object)
       → after ≡ record s { part = part_finished s.part (Some object) (Some u) } → BindDoes (Ok tt) after

@@ -1,7 +1,6 @@
 -- What requests to displays and registries come to, by their arguments.
-use Rattle.std.proofs.Common.{◌≡◌, ◌≢◌, ◌∙◌, ℕ, Bool, true, ◌==◌, if◌then◌else◌, List, [], ◌∷◌, Option, None, Some, refl}
+use Rattle.std.proofs.Common.{◌≡◌, ◌∙◌, ℕ, Bool, true, ◌==◌, if◌then◌else◌, List, [], ◌∷◌, Option, None, Some, refl}
 use Rattle.std.specs.List.{list_any}
-use Rattle.std.proofs.lemmas.Bool.{ne_eqb}
 use Rattle.wl_wire.specs.declared.argument.Argument.TheVariants as arg
 use Rattle.wl_wire.specs.Argument.{WireArgument, type_of}
 use Rattle.wl_wire.specs.Table.{is_new_id}
@@ -31,13 +30,6 @@ module _ {U G C : Type 0} (a : Around G C) (c : Core U C) where
       → made_at a c n (syncs a c n) ≡ v → display_request a c opcode args ≡ v
   display_sync opcode args n v is zero same = display_is opcode args ∙ rw (is, zero) same
 
-  pub display_registry : (opcode : ℕ) (args : List WireArgument) (n : ℕ) (v : Verdict (Core U C) (Told U)) → only_new_id args ≡ Some n → opcode ≢ 0
-      → made_at a c n (registers a c n) ≡ v → display_request a c opcode args ≡ v
-  display_registry opcode args n v is other same = display_is opcode args ∙ rw (is, ne_eqb opcode 0 other) same
-
-  pub display_garbled : (opcode : ℕ) (args : List WireArgument) → only_new_id args ≡ None → display_request a c opcode args ≡ garbled c
-  display_garbled opcode args is = display_is opcode args ∙ rw is refl
-
   abbrev pub by_parts : Option (ℕ × (Option (List ℕ) × (ℕ × ℕ))) → Verdict (Core U C) (Told U)
   by_parts None = garbled c
   by_parts (Some (g, (name, (version, n)))) = binds_to a c g name version n (held a.globals.store g)
@@ -45,7 +37,3 @@ module _ {U G C : Type 0} (a : Around G C) (c : Core U C) where
   pub registry_is : (args : List WireArgument) → registry_request a c args ≡ by_parts (bind_parts args)
   registry_is (arg.Uint a ∷ arg.Str b ∷ arg.Uint c ∷ arg.NewId d ∷ []) = refl
   registry_is _ = refl
-
-  pub registry_bound : (args : List WireArgument) (parts : Option (ℕ × (Option (List ℕ) × (ℕ × ℕ)))) (v : Verdict (Core U C) (Told U))
-      → parts ≡ bind_parts args → by_parts parts ≡ v → registry_request a c args ≡ v
-  registry_bound args parts v is same = registry_is args ∙ rw (← is) same

@@ -10,7 +10,6 @@ use Rattle.wl_wire.specs.declared.error.IoFault.{IoFault}
 use Rattle.wl_wire.specs.Message.{WireMessage}
 use Rattle.wl_wire.specs.MessageRows.{request_in}
 use Rattle.wl_wire.specs.Parse.{IsWhole, length_of, opcode_of, payload_of, sender_of}
-use Rattle.std.specs.Prelude.{IfSome, MatchOption}
 use Rattle.wl_wire.specs.Reading.{IsPiece, IsWord, Reads as ReadsArgs}
 use Rattle.wl_wire.specs.Table.{InterfaceRow, IsAcceptedTable, MessageRow, display_id, display_row, first_message, callback_id, message_row}
 use Rattle.wl_link.specs.declared.object.Object.{Object}
@@ -18,7 +17,6 @@ use Rattle.wl_link.specs.Exchange.{Queue}
 use Rattle.wl_link.specs.Identity.{Objects}
 use Rattle.wl_link.specs.Link.{LinkState, after_first, with_incoming}
 use Rattle.wl_link.specs.Puts.{Said}
-use Rattle.wl_link.specs.Reader.{ReadsAs, Takes}
 use Rattle.wl_link.specs.Store.{Store, held, is_server_number}
 use Rattle.wl_server.specs.declared.objects.Kept.{Kept}
 use Rattle.wl_server.specs.declared.reading.action.Reading.{Reading}
@@ -27,11 +25,11 @@ use Rattle.wl_server.specs.Inside.Puts.{Puts}
 use Rattle.wl_server.specs.Inside.ReadingLoop.{HandlesMessage, IsFront, IsHandled, Live, WentOn, counted, linked}
 use Rattle.wl_server.specs.Inside.Syncing.{IsSyncOf, LeavesNoTrace}
 use Rattle.wl_server.specs.Part.{Part, objects_of}
-use Rattle.wl_server.specs.Reading.{Around, made_at, new_at, replies, request, request_to, row_in, server, synced, syncs}
+use Rattle.wl_server.specs.Reading.{Around, made_at, new_at, replies, request, request_to, row_in, syncs}
 use Rattle.wl_server.specs.Requests.{made_object}
 use Rattle.wl_server.specs.Server.{Stored}
-use Rattle.wl_server.specs.Telling.{Core, core_of, deletions, done_message, objects_in, reader_part, with_objects}
-use Rattle.wl_server.proofs.Readings.Handling.{from_there, none_quiet, replied_all}
+use Rattle.wl_server.specs.Telling.{Core, core_of, deletions, done_message, objects_in, with_objects}
+use Rattle.wl_server.proofs.Readings.Handling.{from_there, replied_all}
 use Rattle.wl_server.proofs.Readings.OneMessage.{message_handled}
 
 -- the row of a sync
@@ -57,17 +55,6 @@ record SyncWaits {T U : Type 0} (table : List InterfaceRow) (store : Store (Kept
   twelve : length_of link.incoming.bytes ≡ 12
   word : IsWord n (payload_of link.incoming.bytes)
 
-module _ {T : Type 0} (link : LinkState T) (r : FrontRequest) where
-  -- what the word after the header shows
-  pub sync_of : r.sender.interface ≡ display_id → r.opcode ≡ 0 → (o : Option ℕ)
-      → MatchOption o (¬ (IsWhole link.incoming.bytes × (length_of link.incoming.bytes ≡ 12)))
-      (λ word. IsWhole link.incoming.bytes × (length_of link.incoming.bytes ≡ 12) × IsWord word (payload_of link.incoming.bytes))
-      → IfSome o (λ n. IsSyncOf link r n)
-  sync_of display h2 h3 none = grind (arith)
-
-  sync_waits : {U : Type 0} (table : List InterfaceRow) (store : Store (Kept U)) (n : ℕ) → IsFront table store link r → IsSyncOf link r n → SyncWaits table store link n
-  sync_waits table store n front sync = grind (arith, sender_of, opcode_of, message_row)
-
 -- the link without the message at its front
 abbrev pub taken : {T : Type 0} → LinkState T → LinkState T
 taken l = with_incoming l l.transport (after_first [] l.incoming)
@@ -88,7 +75,7 @@ module _ {T U G C : Type 0} (sends : T → Queue → Result ℕ IoFault → T �
     (s : Stored T U C) (n : ℕ) (live : Live s.part) (r : FrontRequest) (front : IsFront a.table s.part.store s.part.link r) (sync : IsSyncOf s.part.link r n)
     (no_trace : LeavesNoTrace (objects_of s.part) n) where
   waits : SyncWaits a.table s.part.store s.part.link n
-  waits = sync_waits s.part.link r a.table s.part.store n front sync
+  waits = grind (arith, sender_of, opcode_of, message_row, s.part.link, a.table, s.part.store)
 
   abbrev bytes : List ℕ
   bytes = s.part.link.incoming.bytes
@@ -102,28 +89,14 @@ module _ {T U G C : Type 0} (sends : T → Queue → Result ℕ IoFault → T �
   row_at_front : (opcode : ℕ) → opcode ≡ 0 → row_in a.table (held s.part.store (sender_of bytes)) opcode ≡ sync_row
   row_at_front opcode zero = row_is a.table waits.accepted (held s.part.store (sender_of bytes)) waits.receiver opcode waits.holds waits.display zero
 
-  reads : ReadsAs sends (server a) (reader_part s.part) (Ok message) (taken s.part.link)
-  reads =
-      rw (le-leb 8 (length bytes) waits.whole.header) (
-        Some one_new_id,
-        ap (λ (o : Option MessageRow). option_map (λ row. row.signature) o) (sym (row_at_front (opcode_of bytes) waits.opcode)),
-        (record { whole = waits.whole; sender = refl; opcode = sym waits.opcode; args = one_word bytes s.part.link.incoming.tokens n waits.word }, refl),
-      )
-
   to_display : (x : Object (Kept U)) (row : MessageRow) → x.interface ≡ display_id → request_to a core message x row ≡ made_at a core n (syncs a core n)
   to_display x row is = rw is refl
 
   valid : made_at a core n (syncs a core n) ≡ syncs a core n
   valid = rw no_trace.valid refl
 
-  takes : Takes sends (server a) (reader_part s.part) (syncs a core n) (taken s.part.link)
-  takes = (message, reads, (grind (arith, valid, to_display, waits, first_message, callback_id, ap₂, request, row_at_front)))
-
   abbrev mid : Stored T U C
   mid = record s { part = after_sync s.part (taken s.part.link) }
-
-  kept : synced a core n ≡ core_of mid.part
-  kept = ap (λ (store : Store (Kept U)). with_objects core (record { store = store; last_serial = s.part.last_serial + 1 })) (no_trace.stays (made_object (objects_in core) callback_id 1))
 
   pub sync_answered : (reading reading' : Reading) (link : LinkState T) (after : Stored T U C)
       → Puts sends (taken s.part.link) (done_message (new_at a core n) ∷ deletions n) (Ok tt) link
@@ -132,7 +105,17 @@ module _ {T U G C : Type 0} (sends : T → Queue → Result ℕ IoFault → T �
   sync_answered reading reading' link after puts is left read =
       let puts_all : List Said = done_message (new_at a core n) ∷ deletions n in
       let there : IsHandled sends (syncs a core n) mid WentOn after
-      = subst (λ (c : Core U C). IsHandled sends (replies c puts_all []) mid WentOn after) (sym kept) (replied_all sends mid after link puts_all [] none_quiet live puts is) in
-      message_handled sends receives a s reading reading' live (syncs a core n) (taken s.part.link) WentOn after takes
+      = subst (λ (c : Core U C). IsHandled sends (replies c puts_all []) mid WentOn after) (sym (ap (λ (store : Store (Kept U)). with_objects core
+      (record { store = store; last_serial = s.part.last_serial + 1 })) (no_trace.stays (made_object (objects_in core) callback_id 1))))
+      (replied_all sends mid after link puts_all [] (record { silent = λ stops rest. refl; no_note = λ stops. refl }) live puts is) in
+      message_handled sends receives a s reading reading' live (syncs a core n) (taken s.part.link) WentOn after (
+        message,
+        (rw (le-leb 8 (length bytes) waits.whole.header) (
+          Some one_new_id,
+          ap (λ (o : Option MessageRow). option_map (λ row. row.signature) o) (sym (row_at_front (opcode_of bytes) waits.opcode)),
+          (record { whole = waits.whole; sender = refl; opcode = sym waits.opcode; args = one_word bytes s.part.link.incoming.tokens n waits.word }, refl),
+        )),
+        (grind (arith, valid, to_display, waits, first_message, callback_id, ap₂, request, row_at_front)),
+      )
       (from_there sends (syncs a core n) (linked s (taken s.part.link)) mid after WentOn refl refl refl there)
       (let long = waits.twelve in let there = waits.whole.there in omega (arith, length-drop (length_of bytes) bytes, long, there)) left read

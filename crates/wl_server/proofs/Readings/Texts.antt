@@ -22,19 +22,13 @@ use Rattle.wl_server.specs.Reading.{row_in}
 abbrev pub IsFree : List ℕ → Type 0
 IsFree text = holds_zero text ≡ false
 
-neither : (a b : Bool) → a ≡ false → b ≡ false → (a || b) ≡ false
-neither h1 b h k = grind (arith)
-
 not_first : (a b : Bool) → (a || b) ≡ false → a ≡ false
 not_first h1 b h = grind (arith)
-
-not_second : (a b : Bool) → (a || b) ≡ false → b ≡ false
-not_second h1 b h = grind (arith, false≢true)
 
 -- ---- pieces of a text
 
 pub free_both : (a b : List ℕ) → IsFree a → IsFree b → IsFree (a ++ b)
-free_both a b h k = list_any-append (λ byte. byte == 0) a b ∙ neither (holds_zero a) (holds_zero b) h k
+free_both a b h k = list_any-append (λ byte. byte == 0) a b ∙ (grind (arith, holds_zero a, holds_zero b))
 
 free_parts : (n : ℕ) (text : List ℕ) → IsFree text → (holds_zero (take n text) || holds_zero (drop n text)) ≡ false
 free_parts n text h = sym (list_any-append (λ byte. byte == 0) (take n text) (drop n text)) ∙ ap holds_zero (take-append-drop n text) ∙ h
@@ -43,13 +37,13 @@ free_take : (n : ℕ) (text : List ℕ) → IsFree text → IsFree (take n text)
 free_take n text h = not_first (holds_zero (take n text)) (holds_zero (drop n text)) (free_parts n text h)
 
 free_drop : (n : ℕ) (text : List ℕ) → IsFree text → IsFree (drop n text)
-free_drop n text h = not_second (holds_zero (take n text)) (holds_zero (drop n text)) (free_parts n text h)
+free_drop n text h = grind (arith, false≢true, holds_zero (take n text), holds_zero (drop n text), free_parts n text h)
 
 -- ---- numbers
 
 free_digits : (k n : ℕ) (acc : List ℕ) → IsFree acc → IsFree (digits_onto k 10 false n acc)
 free_digits zero n acc h = h
-free_digits (suc k) n acc h = grind (arith, digit_glyph, neither, holds_zero, nat_lt, free_digits k (n / 10))
+free_digits (suc k) n acc h = grind (arith, digit_glyph, holds_zero, nat_lt, free_digits k (n / 10))
 
 pub free_decimal : (n : ℕ) → IsFree (decimal n)
 unfolding digits
@@ -82,16 +76,14 @@ same_some h = cc
 free_of : (n : ℕ) (rows : List MessageRow) (row : MessageRow) → slice_get rows n ≡ Some row → list_any (λ m. holds_zero m.name) rows ≡ false → IsFree row.name
 free_of n [] row here h = absurd (none-some _ here)
 free_of zero (m ∷ rows) row here h = ap (λ (m : MessageRow). holds_zero m.name) (sym (same_some here)) ∙ not_first (holds_zero m.name) _ h
-free_of (suc n) (m ∷ rows) row here h = free_of n rows row here (not_second (holds_zero m.name) _ h)
+free_of (suc n) (m ∷ rows) row here h = free_of n rows row here (grind (arith, false≢true, holds_zero m.name))
 
 module _ (table : List InterfaceRow) (accepted : IsAcceptedTable table) where
-  split : table ≡ fixed_rows ++ drop 4 table
-  split = sym (take-append-drop 4 table) ∙ ap (λ (t : List InterfaceRow). t ++ drop 4 table) accepted.fixed
-
   -- a fixed interface
   is_fixed : (n : ℕ) (row fixed : InterfaceRow) → slice_get (fixed_rows ++ drop 4 table) n ≡ Some fixed → has_zero fixed ≡ false → slice_get table n ≡ Some row
       → has_zero row ≡ false
-  is_fixed n row fixed at free here = ap has_zero (same_some (sym here ∙ ap (λ (t : List InterfaceRow). slice_get t n) split ∙ at)) ∙ free
+  is_fixed n row fixed at free here = ap has_zero (same_some (sym here ∙ ap (λ (t : List InterfaceRow). slice_get t n) (sym
+      (take-append-drop 4 table) ∙ ap (λ (t : List InterfaceRow). t ++ drop 4 table) accepted.fixed) ∙ at)) ∙ free
 
   free_rest : (k : ℕ) (row : InterfaceRow) → slice_get table (4 + k) ≡ Some row → has_zero row ≡ false
   free_rest k row here = at (has_zero row) refl
@@ -125,50 +117,35 @@ module _ (table : List InterfaceRow) (accepted : IsAcceptedTable table) where
           free_of opcode interface.requests row there
           (not_first (list_any (λ m. holds_zero m.name) interface.requests) (list_any (λ m. holds_zero m.name) interface.events)
           (sym (list_any-append (λ m. holds_zero m.name) interface.requests interface.events)
-          ∙ not_second (holds_zero interface.name) (list_any (λ m. holds_zero m.name) (messages interface)) (free_row i.0 interface is)))
+          ∙ (grind (arith, false≢true, holds_zero interface.name, list_any (λ m. holds_zero m.name) (messages interface), free_row i.0 interface is))))
 
 -- ---- texts
 
 -- a text behind a piece that computes
-behind : (piece text : List ℕ) → IsFree piece → IsFree text → IsFree (piece ++ text)
+pub behind : (piece text : List ℕ) → IsFree piece → IsFree text → IsFree (piece ++ text)
 behind piece text h k = free_both piece text h k
 
-number_then : (n : ℕ) (text : List ℕ) → IsFree text → IsFree (decimal n ++ text)
-number_then n text h = free_both (decimal n) text (free_decimal n) h
-
-dot : IsFree (codes ".")
-dot = refl
-
 pub free_new_id_text : (n : ℕ) → IsFree (new_id_text n)
-free_new_id_text n = behind (codes "Invalid new_id: ") (decimal n ++ codes ".") refl (number_then n (codes ".") dot)
-
--- the interface's name stands there as a text
-pub free_bind_text : (name : List ℕ) (version global : ℕ) → IsFree name
-    → IsFree (codes "Invalid binding of " ++ (name ++ (codes " version " ++ (decimal version ++ (codes " for global " ++ (decimal global ++ codes "."))))))
-free_bind_text name version global free = grind (arith, behind, free_both, number_then, dot)
+free_new_id_text n = behind (codes "Invalid new_id: ") (decimal n ++ codes ".") refl (free_both (decimal n) (codes ".") (free_decimal n) refl)
 
 pub free_since_text : (opcode version since : ℕ) (interface : List ℕ) (number : ℕ) → IsFree interface → IsFree (since_text opcode version since interface number)
-free_since_text opcode version since interface number free = grind (arith, behind, number_then, free_both, free_decimal)
+free_since_text opcode version since interface number free = grind (arith, behind, free_both, free_decimal)
 
 pub free_unknown_text : (n : ℕ) → IsFree (codes "Unknown id: " ++ (decimal n ++ codes "."))
-free_unknown_text n = behind (codes "Unknown id: ") (decimal n ++ codes ".") refl (number_then n (codes ".") dot)
+free_unknown_text n = behind (codes "Unknown id: ") (decimal n ++ codes ".") refl (free_both (decimal n) (codes ".") (free_decimal n) refl)
 
 -- the names of the interface, of the request, and of the interfaces asked for and got
 pub free_interface_text : (n : ℕ) (interface request asked got : List ℕ) → IsFree interface → IsFree request → IsFree asked → IsFree got
     → IsFree (codes "Invalid object " ++ (decimal n ++ (codes " in request " ++ (interface ++ (codes "." ++ (request ++ (codes ": expected " ++ (asked ++ (codes " but got " ++ (got ++ codes "."))))))))))
-free_interface_text n interface request asked got i r a g = grind (arith, free_both, dot, behind, number_then)
+free_interface_text n interface request asked got i r a g = grind (arith, free_both, behind, free_decimal)
 
 pub free_null_text : (interface request : List ℕ) → IsFree interface → IsFree request
     → IsFree (codes "Invalid null object in request " ++ (interface ++ (codes "." ++ (request ++ codes "."))))
-free_null_text interface request i r = grind (arith, behind, free_both, dot)
+free_null_text interface request i r = grind (arith, behind, free_both)
 
 -- an interface's name, a dot and a request's are one name
 pub one_name : (interface request rest : List ℕ) → interface ++ (codes "." ++ (request ++ rest)) ≡ (interface ++ (codes "." ++ request)) ++ rest
 one_name interface request rest = sym (append_assoc interface (codes "." ++ request) rest)
-
--- a name that was looked up in the table
-pub free_found : (table : List InterfaceRow) (i : InterfaceId) (name : List ℕ) → IsAcceptedTable table → name ≡ name_of table i.0 → IsFree name
-free_found table i name accepted is = ap holds_zero is ∙ free_name table accepted i.0
 
 -- the name of a request that was looked up for an object
 pub free_looked_up : {U : Type 0} (table : List InterfaceRow) (accepted : IsAcceptedTable table) (x : Option (Object (Kept U))) (opcode : ℕ) (row : MessageRow)

@@ -1,5 +1,5 @@
 -- A request that is handed out where it stands is handled as any other.
-use Rattle.std.proofs.Common.{◌≡◌, ◌∙◌, ℕ, ◌*◌, ◌<◌, ◌≤◌, true, false, ◌==◌, nat_le, nat_lt, List, [], ◌∷◌, ◌++◌, append-nil, append_assoc, drop, length, take, Option, None, Some, option_map, Result, Ok, refl, sym, ap, ap₂, subst, arith, true≢false}
+use Rattle.std.proofs.Common.{◌≡◌, ◌∙◌, ℕ, ◌*◌, ◌≤◌, true, false, ◌==◌, nat_le, nat_lt, List, [], ◌∷◌, ◌++◌, append-nil, append_assoc, drop, length, take, Option, None, Some, option_map, Result, Ok, refl, sym, ap, ap₂, subst, arith, true≢false}
 use Rattle.std.proofs.lemmas.List.{length-drop, length-take-le, take-append-drop}
 use Rattle.std.proofs.lemmas.Bool.{and_parts, le-leb, le-ltb, leb-true}
 use Rattle.std.specs.Int.{w32, cast_signed}
@@ -21,7 +21,7 @@ use Rattle.wl_link.specs.declared.object.Object.{Object}
 use Rattle.wl_link.specs.Exchange.{Queue}
 use Rattle.wl_link.specs.Identity.{Objects}
 use Rattle.wl_link.specs.Link.{LinkState}
-use Rattle.wl_link.specs.Reader.{ReadsAs, Takes}
+use Rattle.wl_link.specs.Reader.{ReadsAs}
 use Rattle.wl_link.specs.Store.{Store, held}
 use Rattle.wl_server.specs.declared.objects.Kept.{Kept}
 use Rattle.wl_server.specs.declared.reading.action.OpenAction.{OpenAction}
@@ -296,12 +296,6 @@ module _ {T U G C : Type 0} (sends : T → Queue → Result ℕ IoFault → T �
   to_receiver : request a core message (Some waits.receiver) (Some row) ≡ verdict hands.done.created hands.done.objects
   to_receiver = rw ((ap (λ (i : InterfaceId). i.0 == display_id.0) waits.is_sender.1 ∙ waits.stands.no_display), no_registry, has_request, converts) refl
 
-  takes : Takes sends (server a) (reader_part s.part) (verdict created objects) (taken s.part.link)
-  takes = (message, reads, (sym (to_receiver ∙ ap₂ verdict hands.created_is hands.objects_are) ∙ sym (ap₂ (request a core message) waits.holds row_is)))
-
-  fewer : length (drop (length_of bytes) bytes) < length bytes
-  fewer = let header = waits.whole.counts_header in let there = waits.whole.there in omega (arith, length-drop (length_of bytes) bytes, header, there)
-
   -- the client once the objects are so, and the message is taken
   abbrev mid : Stored T U C
   mid = record s { part = record s.part { link = taken s.part.link; store = objects.store; last_serial = objects.last_serial } }
@@ -326,5 +320,7 @@ module _ {T U G C : Type 0} (sends : T → Queue → Result ℕ IoFault → T �
       = subst (λ (x : Stored T U C). IsHandled sends (verdict created objects) mid (Acts (handed created)) x) (ap₂ acted (sym link_is) id_is ∙ sym after_is)
       (handed_out sends mid (action created) (handed created)) in
       subst (λ (h : Handed). HandlesMessage sends receives a s r (Acts h) after r') handed_is
-      (message_handled sends receives a s r r' live (verdict created objects) (taken s.part.link) (Acts (handed created)) after takes
-      (from_there sends (verdict created objects) (linked s (taken s.part.link)) mid after (Acts (handed created)) refl refl refl there) fewer left read)
+      (message_handled sends receives a s r r' live (verdict created objects) (taken s.part.link) (Acts (handed created)) after
+      (message, reads, (sym (to_receiver ∙ ap₂ verdict hands.created_is hands.objects_are) ∙ sym (ap₂ (request a core message) waits.holds row_is)))
+      (from_there sends (verdict created objects) (linked s (taken s.part.link)) mid after (Acts (handed created)) refl refl refl there)
+      (let header = waits.whole.counts_header in let there = waits.whole.there in omega (arith, length-drop (length_of bytes) bytes, header, there)) left read)

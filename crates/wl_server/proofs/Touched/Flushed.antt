@@ -1,6 +1,5 @@
 -- A flush of clients, of which only those that were touched are looked at.
 use Rattle.std.proofs.Common.{◌≡◌, ◌∙◌, ℕ, ◌+◌, ◌<◌, ◌≤◌, Bool, true, false, ◌||◌, List, [], ◌∷◌, length, Option, None, Some, Result, Ok, refl, ap, subst, arith}
-use Rattle.std.specs.Prelude.{slice_get}
 use Rattle.wl_wire.specs.declared.error.IoFault.{IoFault}
 use Rattle.wl_link.specs.Exchange.{Queue, Sending}
 use Rattle.wl_link.specs.Link.{Flushes}
@@ -14,34 +13,22 @@ use Rattle.wl_server.specs.Inside.Touched.{AllSent, HasSent, IsCalm}
 use Rattle.wl_server.specs.Part.{Part}
 use Rattle.wl_server.specs.Server.{Stored}
 use Rattle.wl_server.proofs.CallSteps.Feeling.{one_more_felt}
-use Rattle.wl_server.proofs.CallSteps.Slots.{Kind}
 use Rattle.wl_server.proofs.CleanupSteps.Gathering.{set_itself}
-use Rattle.wl_server.proofs.Readings.Flushing.{does_nothing, killed_stays, live_flushed}
+use Rattle.wl_server.proofs.Readings.Flushing.{does_nothing, live_flushed}
 use Rattle.wl_server.proofs.Readings.Notes.{notes_of_sends}
 use Rattle.wl_server.proofs.Touched.Kept.{carry, out_here, there}
+use Rattle.wl_link.proofs.Calls.Branches.{at_true}
 
 module _ {T U C : Type 0} where
-  -- a client that does not feel a step is passed over
-  pub passed_over : (R : Kind T U C) (refused : Bool) (slot : ℕ) (start now : List (Option (Stored T U C))) (place : Option (Stored T U C)) → slice_get now slot ≡ Some place
-      → PlaceFeels R slot place false place → AllFeel R refused slot start now → AllFeel R refused (slot + 1) start now
-  passed_over R refused slot start now place here none all =
-      subst (λ (b : Bool). AllFeel R b (slot + 1) start now) (grind (arith))
-      (subst (λ (xs : List (Option (Stored T U C))). AllFeel R (refused || false) (slot + 1) start xs) (set_itself now slot place here)
-      (one_more_felt R refused false slot start now place place all here none))
-
   module _ (sends : T → Queue → Result ℕ IoFault → T → Type 0) where
-    -- where no bytes wait, a flush does nothing
-    flushed_none : (s : Stored T U C) → s.part.link.outgoing.bytes ≡ [] → Does s (λ p did q. FlushedTo sends p (Ok tt) (lacks_memory (Ok tt)) did q) s
-    flushed_none s none =
-        does_nothing s (λ p did q. FlushedTo sends p (Ok tt) (lacks_memory (Ok tt)) did q) ([], s.part.link, (refl, (none, refl, refl), refl), refl, refl, refl)
-
     pub sent_felt : (slot : ℕ) (place : Option (Stored T U C)) → HasSent place → PlaceFeels (λ id p lacked did q. FlushesLive sends p lacked did q) slot place false place
     sent_felt slot None sent = (refl, refl)
     sent_felt slot (Some s) sent = (s, at s.part.is_killed refl, refl)
       where
         at : (b : Bool) → s.part.is_killed ≡ b → Does s (λ p did q. FlushesLive sends p false did q) s
-        at true killed = killed_stays sends s killed
-        at false live = live_flushed sends s s (Ok tt) false live refl (flushed_none s sent)
+        at true killed = does_nothing s (λ p did q. FlushesLive sends p false did q) (at_true _ s.part.is_killed killed (refl, refl, refl))
+        at false live = live_flushed sends s s (Ok tt) false live refl (does_nothing s (λ p did q. FlushedTo sends p (Ok tt) (lacks_memory
+            (Ok tt)) did q) ([], s.part.link, (refl, (sent, refl, refl), refl), refl, refl, refl))
 
     -- a flush of a client that has sent all leaves it so
     pub sent_flushed : (s s' : Stored T U C) (answer : Result (Unit {0}) IoFault) (lacked : Bool) → Does s (λ p did q. FlushedTo sends p answer lacked did q) s'
@@ -66,5 +53,8 @@ module _ {T U C : Type 0} where
         carry (λ k. AllFeel (λ id p lacked did q. FlushesLive sends p lacked did q) refused k start now) from to up all
         (λ k low high before.
         (let (place, here) = there now k (omega (arith, within, high)) in
-        passed_over (λ id p lacked did q. FlushesLive sends p lacked did q) refused k start now place here
-        (sent_felt k place (out_here HasSent words now k place here (out k low high) sent)) before))
+        (subst (λ (b : Bool). AllFeel (λ id p lacked did q. FlushesLive sends p lacked did q) b (k + 1) start now) (grind (arith))
+        (subst (λ (xs : List (Option (Stored T U C))). AllFeel (λ id p lacked did q. FlushesLive sends p lacked did q) (refused || false)
+        (k + 1) start xs) (set_itself now k place here)
+        (one_more_felt (λ id p lacked did q. FlushesLive sends p lacked did q) refused false k start now place place before here (sent_felt k place
+        (out_here HasSent words now k place here (out k low high) sent)))))))

@@ -86,10 +86,6 @@ module _ {T U C : Type 0} where
   pub stay_touched : (touched touched' : Touched) (clients : List (Option (Stored T U C))) → StayTouched touched touched' → AreTouched touched clients → AreTouched touched' clients
   stay_touched touched touched' clients stay are = grind (arith, out_more)
 
-  pub all_touched : (touched : Touched) (clients : List (Option (Stored T U C))) → ((k : ℕ) → IsOut touched.to_send.words.items k → ⊥)
-      → ((k : ℕ) → IsOut touched.to_note.words.items k → ⊥) → AreTouched touched clients
-  all_touched touched clients send note = record { sent = out_none HasSent _ clients send; quiet = out_none IsQuiet _ clients note }
-
   pub none_touched : (touched : Touched) → AreTouched {T = T} {U = U} {C = C} touched []
   none_touched touched = record { sent = out_of_none HasSent _ tt; quiet = out_of_none IsQuiet _ tt }
 
@@ -99,8 +95,7 @@ module _ {T U C : Type 0} where
       → AreTouched touched clients
       → MatchOption o (AreTouched touched' clients) (λ _. (s : Stored T U C) → AreTouched touched' (slice_set clients slot' (Some s)))
   looked_up None touched touched' clients slot slot' same send note are = stay_touched touched touched' clients (record { to_send = λ k out. (send k out).1; to_note = λ k out. (note k out).1 }) are
-  looked_up (Some x) touched touched' clients slot slot' same send note are =
-      λ s. subst (λ (n : ℕ). AreTouched touched' (slice_set clients n (Some s))) same (grind (arith, out_touched))
+  looked_up (Some x) touched touched' clients slot slot' same send note are = grind (arith, slice_set, out_touched, get_set_other)
 
   pub put_touched : (touched touched' : Touched) (clients clients' : List (Option (Stored T U C))) (slot : ℕ) (s : Stored T U C)
       → Adds slot touched.to_send.words.items touched'.to_send.words.items → Adds slot touched.to_note.words.items touched'.to_note.words.items

@@ -3,23 +3,22 @@ use Rattle.std.proofs.Common.{false, Result, List, [], ◌∷◌, ◌++◌, refl
 use Rattle.wl_wire.specs.declared.protocol.TableError.{TableError}
 use Rattle.wl_wire.specs.Table.{InterfaceRow}
 use Rattle.wl_link.specs.Exchange.{IsWithinOffer}
-use Rattle.wl_link.specs.Runs.{RunEntry}
 use Rattle.wl_server.specs.declared.runs.step.Reply.{Reply}
 use Rattle.wl_server.specs.declared.runs.step.Step.{Step}
-use Rattle.wl_server.specs.Accounts.{AreAccountedFor, IsAccountedFor, StaysAccountedFor}
+use Rattle.wl_server.specs.Accounts.{IsAccountedFor}
 use Rattle.wl_server.proofs.OverRuns.Announced.AnnouncedLaw.{each_announces}
 use Rattle.wl_server.specs.Backend.{BackendState, Calls, IsChange, IsGrowth}
 use Rattle.wl_server.proofs.OverRuns.Ids.GivenLaws.{gives_once}
 use Rattle.wl_server.proofs.OverRuns.Ids.IdentityLaws.{each_has_own_ids}
-use Rattle.wl_server.proofs.OverRuns.Alone.IsolationLaw.{is_isolated, join_runs, performed}
+use Rattle.wl_server.proofs.OverRuns.Alone.IsolationLaw.{is_isolated, join_runs}
 use Rattle.wl_server.proofs.OverRuns.Killed.KilledLaws.{each_stays_killed}
 use Rattle.wl_server.proofs.OverRuns.Log.LogLaws.{each_log}
 use Rattle.wl_server.proofs.OverRuns.Noted.NotedLaws.{each_is_noted}
 use Rattle.wl_server.specs.Ids.{ClientParts}
 use Rattle.wl_server.specs.PartStep.{Changed, Grown, World}
-use Rattle.wl_server.specs.Runs.{Leads, Performs}
+use Rattle.wl_server.specs.Runs.{Leads}
 use Rattle.wl_server.specs.Server.{ServerState, new_server}
-use Rattle.wl_server.specs.Steps.{Entry, Makes, OneStep, StepOf}
+use Rattle.wl_server.specs.Steps.{Entry, Makes, StepOf}
 
 pub is_accounted_for : {T U G C : Type 0} (w : World T G C) → IsWithinOffer w.sends → (table : List InterfaceRow) (run : List (Entry T U G C)) (after : ServerState T U G C)
     → Leads w (new_server table) run after → IsAccountedFor w table run after
@@ -33,36 +32,30 @@ is_accounted_for w within table run after leads = record {
   given = gives_once w table run after leads;
 }
 
-pub are_accounted_for : {T U G C : Type 0} (w : World T G C) → IsWithinOffer w.sends → (table : List InterfaceRow) (steps : List (RunEntry (Step T U G C) (Reply T U)))
-    (after : ServerState T U G C) → Performs w (new_server table) steps after → AreAccountedFor w table steps after
-are_accounted_for w within table steps after performs =
-    let (run, are, leads) = performed w (new_server table) after steps performs in (run, are, leads, is_accounted_for w within table run after leads)
-
 -- ---- a public call
-
-stays_accounted_for : {T U G C : Type 0} (w : World T G C) → IsWithinOffer w.sends → (before : ServerState T U G C) (e : Entry T U G C) (after : ServerState T U G C)
-    → OneStep w before e after → StaysAccountedFor w before e after
-stays_accounted_for w within before e after one table run leads =
-    let longer = join_runs w (new_server table) before after run (e ∷ []) leads (after, one, refl) in
-    (longer, is_accounted_for w within table (run ++ e ∷ []) after longer)
 
 pub calls : {T U G C : Type 0} (w : World T G C) (before : BackendState T U G C) (call : Step T U G C) (answer : Reply T U) (after : BackendState T U G C)
     → StepOf w before.server call answer after.refused after.server → Calls w before call answer after
 calls w before call answer after (e, is, refused, one) = record {
   step = (e, is, refused, one);
-  accounted = λ within. stays_accounted_for w within before.server e after.server one;
+  accounted = λ within. (λ table run leads. let longer = join_runs w (new_server table) before.server after.server run (e ∷ []) leads
+      (after.server, one, refl) in
+      (longer, is_accounted_for w within table (run ++ e ∷ []) after.server longer));
 }
 
 pub is_change : {T U G C : Type 0} (w : World T G C) (before : ServerState T U G C) (id : ClientParts) (t : T) (after : ServerState T U G C)
     → Makes w before (Changed id t) false after → IsChange w before id t after
 is_change w before id t after (e, is, refused, one) = record {
   step = (e, is, refused, one);
-  accounted = λ within. stays_accounted_for w within before e after one;
+  accounted = λ within. (λ table run leads. let longer = join_runs w (new_server table) before after run (e ∷ []) leads (after, one, refl) in
+      (longer, is_accounted_for w within table (run ++ e ∷ []) after longer));
 }
 
 pub is_growth : {T U G C : Type 0} (w : World T G C) (before : BackendState T U G C) (rows : List InterfaceRow) (answer : Result (Unit {0}) TableError)
     (after : BackendState T U G C) → Makes w before.server (Grown rows answer) after.refused after.server → IsGrowth w before rows answer after
 is_growth w before rows answer after (e, is, refused, one) = record {
   step = (e, is, refused, one);
-  accounted = λ within. stays_accounted_for w within before.server e after.server one;
+  accounted = λ within. (λ table run leads. let longer = join_runs w (new_server table) before.server after.server run (e ∷ []) leads
+      (after.server, one, refl) in
+      (longer, is_accounted_for w within table (run ++ e ∷ []) after.server longer));
 }

@@ -16,47 +16,29 @@ use Rattle.wl_server.specs.Deeds.{Deed}
 use Rattle.wl_server.specs.Globals.{Offer}
 use Rattle.wl_server.specs.Ids.{ClientParts, same_client}
 use Rattle.wl_server.specs.Part.{Part, fresh_part}
-use Rattle.wl_server.specs.PartStep.{Asked, Call, Inserted, InsertedAs, PartCall, PartStep, Unfelt, World}
+use Rattle.wl_server.specs.PartStep.{Call, Inserted, InsertedAs, PartCall, PartStep, Unfelt, World}
 use Rattle.wl_server.specs.Runs.{Alone, AreOf, EachAlone, Inserts, IsIsolated, IsNeverInserted, IsNotInserted, Leads, Performs, SharedAlone, just_inserted, concerns, mine, offer_over, own_of}
 use Rattle.wl_server.specs.Server.{Seen, ServerState, new_server, nothing_seen, seen}
-use Rattle.wl_server.specs.Steps.{Entry, InsertsNext, NumbersClient, OneStep, inserted_by, offer_after}
+use Rattle.wl_server.specs.Steps.{Entry, InsertsNext, NumbersClient, inserted_by, offer_after}
 
 -- ---- ids
 
 pub same_self : (id : ClientParts) → same_client id id ≡ true
 same_self id = rw (eq-eqb id.slot id.slot refl) (eq-eqb id.serial id.serial refl)
 
-pub same_serial : (a b : ClientParts) → same_client a b ≡ true → a.serial ≡ b.serial
-same_serial a b same = grind (arith, eqb-true, false≢true)
-
-later_differs : (new id : ClientParts) → id.serial < new.serial → same_client new id ≡ false
-later_differs new id later = grind (arith, same_serial)
+pub later_differs : (new id : ClientParts) → id.serial < new.serial → same_client new id ≡ false
+later_differs new id later = grind (arith, eqb-true, false≢true)
 
 -- ---- one step, of a client that is not there or is not meant
 
-module _ {T U C : Type 0} where
-  own_nothing : (b : Bool) (missing : Type 0) (lacked : Bool) (did : List (Deed U)) (after : Seen T U C)
-      → MatchBool b (missing × Unfelt (nothing_seen {T = T} {U = U} {C = C}) lacked did after) (Unfelt nothing_seen lacked did after)
-      → Unfelt nothing_seen lacked did after
-  own_nothing h1 missing lacked did after h = grind (arith)
-
 module _ {T U G C : Type 0} (w : World T G C) (id : ClientParts) (offer : Offer G) where
-  inserted_other : (transport : T) (client_data : C) (r : Result ClientParts InsertClientError) (before : Seen T U C) (lacked : Bool) (did : List (Deed U)) (after : Seen T U C)
-      → ((new : ClientParts) → r ≡ Ok new → same_client new id ≡ false)
-      → InsertedAs w id offer transport client_data r before lacked did after → Unfelt before lacked did after
-  inserted_other transport client_data r before lacked did after h1 h2 = grind (arith, true≢false)
-
-  inserts_other : (transport : T) (client_data : C) (answer : Reply T U) (r : Result ClientParts InsertClientError) → answer ≡ reply.InsertClient r
-      → IsNotInserted {T = T} {U = U} {G = G} {C = C} id (Asked (step.InsertClient transport client_data) answer) → (new : ClientParts) → r ≡ Ok new → same_client new id ≡ false
-  inserts_other transport client_data answer r is other new e = grind (arith)
-
   nothing_call : (call : Call T U G C) (lacked : Bool) (did : List (Deed U)) (after : Seen T U C)
       → IsNotInserted id call → PartCall w id offer call nothing_seen lacked did after → Unfelt nothing_seen lacked did after
-  nothing_call call lacked did after h1 h2 = grind (arith, inserted_other, nothing_seen, inserts_other, own_nothing)
+  nothing_call call lacked did after h1 h2 = grind (arith, true≢false, nothing_seen)
 
   pub other_call : (call : Call T U G C) (before : Seen T U C) (lacked : Bool) (did : List (Deed U)) (after : Seen T U C)
       → IsNotInserted id call → concerns id call ≡ false → PartCall w id offer call before lacked did after → Unfelt before lacked did after
-  other_call call before lacked did after h1 h2 h3 = grind (arith, inserted_other, inserts_other, true≢false)
+  other_call call before lacked did after h1 h2 h3 = grind (arith, true≢false)
 
 module _ {T U : Type 0} where
   -- what an insertion answers
@@ -65,9 +47,6 @@ module _ {T U : Type 0} where
   inserted_in _ = Err insert.Full
 
 module _ {T U G C : Type 0} where
-  pub offer_of_other : (id : ClientParts) (offer : Offer G) (call : Call T U G C) → concerns id call ≡ false → offer_after offer call ≡ offer
-  offer_of_other id offer call h1 = grind (arith, true≢false)
-
   -- ---- clients that were not inserted yet
 
   pub numbered : (before : ServerState T U G C) (call : Call T U G C) (new : ClientParts) → NumbersClient before call → Inserts new call
@@ -86,7 +65,8 @@ module _ {T U G C : Type 0} where
   unborn_run : (w : World T G C) (before after : ServerState T U G C) (run : List (Entry T U G C)) → Unborn before → Leads w before run after
       → Unborn after
   unborn_run w before after [] born same = subst (λ (s : ServerState T U G C). Unborn s) (sym same) born
-  unborn_run w before after (e ∷ run) born (mid, by, leads) = unborn_run w mid after run (grind (arith, nothing_call, seen, same_serial, numbered, one_more)) leads
+  unborn_run w before after (e ∷ run) born (mid, by, leads) = unborn_run w mid after run
+      (grind (arith, nothing_call, seen, eqb-true, false≢true, numbered, one_more)) leads
 
   pub offer_run : (w : World T G C) (before after : ServerState T U G C) (run : List (Entry T U G C)) → Leads w before run after
       → after.offer ≡ offer_over before.offer run
@@ -115,12 +95,7 @@ module _ {T U G C : Type 0} where
       → PartCall w id offer e.call before (e.lacks id) (e.did id) mid
       → Alone w id (offer_after offer e.call) mid (mine id run) after
       → Alone w id offer before (if b then (own_of id e ∷ mine id run) else mine id run) after
-  alone_more w id before mid after offer e run b h1 h2 h3 h4 = grind (arith, mine, other_call, offer_of_other)
-
-  -- an id that was given is not given again
-  pub not_again : (w : World T G C) (id : ClientParts) (before after : ServerState T U G C) (e : Entry T U G C) → id.serial ≤ before.last_client → OneStep w before e after
-      → IsNotInserted id e.call
-  not_again w id before after e born by new inserts = later_differs new id (let next = (numbered before e.call new by.client inserts).2 in omega (arith, born, next))
+  alone_more w id before mid after offer e run b h1 h2 h3 h4 = grind (arith, mine, other_call, true≢false)
 
   -- what is held of a client that was inserted before is what its own calls and the shared ones lead to
   pub alone_run : (w : World T G C) (id : ClientParts) (before after : ServerState T U G C) (run : List (Entry T U G C)) → id.serial ≤ before.last_client
@@ -128,7 +103,7 @@ module _ {T U G C : Type 0} where
   alone_run w id before after [] born same = ap (λ (s : ServerState T U G C). seen id s) same
   alone_run w id before after (e ∷ run) born (mid, by, leads) =
       alone_more w id (seen id before) (seen id mid) (seen id after) before.offer e run (concerns id e.call) refl
-      (not_again w id before mid e born by)
+      (λ new inserts. later_differs new id (let next = (numbered before e.call new by.client inserts).2 in omega (arith, born, next)))
       (by.each id)
       (subst (λ (o : Offer G). Alone w id o (seen id mid) (mine id run) (seen id after)) by.offer
       (alone_run w id mid after run (let grown = by.last in omega (arith, born, grown)) leads))

@@ -30,17 +30,17 @@ use Rattle.wl_server.specs.Deeds.{Deed, NoteTaken, Noted, log_of, registries_in,
 use Rattle.wl_server.specs.Felt.{Hears, news, removals, announcements, is_first}
 use Rattle.wl_server.specs.Globals.{CreatesGlobal, Globals, Offer, disabled, freed, global_of, is_enabled, new_offer, with_created, with_globals, with_table, Shown, new_global, shown_as}
 use Rattle.wl_server.specs.Ids.{ClientParts, GlobalParts, same_client}
-use Rattle.wl_server.proofs.OverRuns.Alone.IsolationLaw.{is_isolated, offer_of_other, offer_run, shared_run, split_run}
+use Rattle.wl_server.proofs.OverRuns.Alone.IsolationLaw.{is_isolated, offer_run, shared_run, split_run}
 use Rattle.wl_server.specs.Moves.{Move, Moved}
 use Rattle.wl_server.proofs.OverRuns.Alone.OwnRuns.{AreMine, are_mine}
 use Rattle.wl_server.specs.Part.{Part, display_object, id_of}
 use Rattle.wl_server.specs.PartStep.{Asked, Call, Changed, CleanedAs, FeelsGlobal, FeelsLoss, FlushedFor, Grown, MovedFor, NotesTaken, OfClient, OnPart, PartCall, PartStep, ReadsFor, Unfelt, World}
 use Rattle.wl_server.specs.Runs.{Alone, Leads, Own, SharedAlone, just_inserted, concerns, history, is_about, mine, offer_over, own_of}
 use Rattle.wl_server.specs.Server.{Seen, ServerState, new_server, seen}
-use Rattle.wl_server.proofs.OverRuns.Announced.InterfaceLaws.{HasInterfaces, after_call, after_run, at_first, keeps_name}
+use Rattle.wl_server.proofs.OverRuns.Announced.InterfaceLaws.{HasInterfaces, after_call, after_run, at_first}
 use Rattle.wl_server.proofs.OverRuns.Announced.ShownLaws.{among_shown, disabled_one, disabled_stays, freed_one, freed_stays, shown_among, Hides, StaysShown, IsShown, created_new, created_old, created_only, hidden_old, hidden_only}
 use Rattle.wl_server.specs.Steps.{Entry, AnswersShared, inserted_by, offer_after}
-use Rattle.wl_server.proofs.OverRuns.Announced.WatchedCalls.{creates_lives, data_set_lives, destroys_lives, finishes_bind_lives, finishes_lives, flushed_lives, flushes_lives, kills_lives, posts_lives, relinked_lives, sends_lives}
+use Rattle.wl_server.proofs.OverRuns.Announced.WatchedCalls.{creates_lives, destroys_lives, finishes_bind_lives, finishes_lives, relinked_lives, sends_lives}
 use Rattle.wl_server.proofs.OverRuns.Announced.WatchedReadings.{next_action_lives}
 use Rattle.wl_server.proofs.OverRuns.Announced.WatchedVerdicts.{PartLives, log_both, registries_both, CameTo, carried_to, exchanged}
 use Rattle.wl_server.proofs.OverRuns.Announced.Watching.{Watch, part_scene, Scene, TellsShown, scene_of, told_all, told_none}
@@ -48,6 +48,20 @@ use Rattle.wl_link.specs.Exchange.{Queue}
 use Rattle.wl_link.specs.Reader.{Given}
 use Rattle.wl_server.proofs.OverRuns.Announced.AnnouncementLaws.{adding_adds, adding_keeps, adding_only, announced-append, removing_keeps, removing_only, removing_removes}
 use Rattle.wl_server.specs.Telling.{Core, Tells, Told, core_of, deeds_in, global_message, making, removal_message, speaker, tells}
+use Rattle.std.proofs.Common.{eqb}
+use Rattle.wl_server.proofs.OverRuns.Announced.WatchedCalls.{none_done}
+use Rattle.wl_server.proofs.OverRuns.Announced.WatchedVerdicts.{lives_not}
+use Rattle.wl_server.proofs.OverRuns.Announced.WatchedVerdicts.{tells_lives}
+use Rattle.std.proofs.Common.{codes}
+use Rattle.std.specs.Option.{option_map_or}
+use Rattle.wl_server.proofs.OverRuns.Announced.WatchedCalls.{quietly}
+use Rattle.wl_server.proofs.OverRuns.Announced.WatchedCalls.{silent_sends}
+use Rattle.wl_server.proofs.OverRuns.Announced.Watching.{steady_same}
+use Rattle.wl_server.specs.Part.{with_link}
+use Rattle.wl_wire.proofs.Growth.{row_stays}
+use Rattle.wl_server.proofs.ObjectCalls.Destroying.{named_is_held}
+use Rattle.wl_server.proofs.OverRuns.Announced.Watching.{wrote_goes}
+use Rattle.wl_server.specs.Part.{named}
 
 -- ---- a registry that is watched over the calls that each client feels: globals that come and go
 
@@ -102,12 +116,13 @@ module _ {G C : Type 0} (views : G → ClientParts → C → GlobalParts → Boo
         → TellsShown views client r created s.client_data (log ++ announcements offer.table s.registries new)
     global_told log among visible w = record {
       told = λ a there.
-          elim (adding_only offer.table new first r (announced log r) s.registries a (subst (λ (l : List Announced). IsAmong l a) whole there)) [
+          elim (adding_only offer.table new first r (announced log r) s.registries a (subst (λ (l : List Announced). IsAmong l a)
+          (announced-append r [] log (announcements offer.table s.registries new)) there)) [
             | inl old ↦ created_old views client s.client_data offer g.name x g.serial free a (w.told a old)
             | inr is ↦
                 subst (λ (z : Announced). IsShown views client s.client_data created z) is (created_new views client s.client_data offer g.name x g.serial free visible)
           ];
-      tells = λ a shown'. subst (λ (l : List Announced). IsAmong l a) (sym whole)
+      tells = λ a shown'. subst (λ (l : List Announced). IsAmong l a) (sym (announced-append r [] log (announcements offer.table s.registries new)))
           (elim (created_only views client s.client_data offer g.name x g.serial free a shown') [
             | inl old ↦ adding_keeps offer.table new first r (announced log r) s.registries a (w.tells a old)
             | inr (passes, is) ↦
@@ -115,10 +130,6 @@ module _ {G C : Type 0} (views : G → ClientParts → C → GlobalParts → Boo
                 (adding_adds offer.table new first r (announced log r) s.registries among)
           ]);
     }
-      where
-        whole : announced (log ++ announcements offer.table s.registries new) r
-            ≡ announced_over r (announced log r) (announcements offer.table s.registries new)
-        whole = announced-append r [] log (announcements offer.table s.registries new)
 
     global_hidden : (log : List Said) → views handler client s.client_data g ≡ false → TellsShown views client r offer s.client_data log → TellsShown views client r created s.client_data log
     global_hidden log unseen w = record {
@@ -154,11 +165,6 @@ module _ {G C : Type 0} (views : G → ClientParts → C → GlobalParts → Boo
       tells = grind (arith, hidden_only, announced-append, removing_keeps, announced);
     }
 
-    pub loss_watch : Hides views client s.client_data offer name after → (log : List Said) (made : List Id) → SceneWatched offer s log made
-        → SceneWatched (with_globals offer after) s (log ++ map (removal_message name) s.registries) made
-    loss_watch hides log made w =
-        told_all views client r offer (with_globals offer after) s (removal_message name) (λ y. refl) log made (λ among tells'. loss_told hides log among tells') w
-
   pub stay_watch : (offer : Offer G) (s : Scene U C) (g : GlobalParts) (hidden : is_enabled (global_of offer.globals g) ≡ false) (after : Globals G)
       → StaysShown views client s.client_data offer g hidden after → (log : List Said) (made : List Id) → SceneWatched offer s log made → SceneWatched (with_globals offer after) s log made
   stay_watch offer s g hidden after stays log made w =
@@ -179,19 +185,18 @@ module _ {G C : Type 0} (views : G → ClientParts → C → GlobalParts → Boo
   -- nor are more interfaces: each global has the same name of its interface
   pub growth_watch : (offer : Offer G) → HasInterfaces offer → (new : List InterfaceRow) (s : Scene U C) (log : List Said) (made : List Id) → SceneWatched offer s log made
       → SceneWatched (with_table offer (offer.table ++ new)) s log made
-  growth_watch offer known new s log made w = told_none views client r offer longer s log made (λ tells'. record { told = λ a there. to a (tells'.told a there); tells = λ a h. tells'.tells a (from a h) }) w
+  growth_watch offer known new s log made w = told_none views client r offer (with_table offer (offer.table ++ new)) s log made
+      (λ tells'. record { told = λ a there. to a (tells'.told a there); tells = λ a h. tells'.tells a (from a h) }) w
     where
-      longer : Offer G
-      longer = with_table offer (offer.table ++ new)
-
       renamed : (a : Announced) (x : Object (KeptGlobal G)) → held offer.globals.store a.name ≡ Some x
           → announced_as (offer.table ++ new) (shown_as (a.name, x)) ≡ announced_as offer.table (shown_as (a.name, x))
-      renamed a x at = ap (λ (name : List ℕ). let g : Announced = record { name = a.name; interface = name; version = x.version } in g) (keeps_name offer known new a.name x at)
+      renamed a x at = ap (λ (name : List ℕ). let g : Announced = record { name = a.name; interface = name; version = x.version } in g) (grind (arith, option_map_or, codes, row_stays, a.name))
 
-      to : (a : Announced) → IsShown views client s.client_data offer a → IsShown views client s.client_data longer a
+      to : (a : Announced) → IsShown views client s.client_data offer a → IsShown views client s.client_data (with_table offer (offer.table ++ new)) a
       to a h = record { global = h.global; at = h.at; passes = h.passes; is = renamed a h.global h.at ∙ h.is }
 
-      from : (a : Announced) → IsShown views client s.client_data longer a → IsShown views client s.client_data offer a
+      from : (a : Announced) → IsShown views client s.client_data (with_table offer
+          (offer.table ++ new)) a → IsShown views client s.client_data offer a
       from a h = record { global = h.global; at = h.at; passes = h.passes; is = sym (renamed a h.global h.at) ∙ h.is }
 
 -- ---- notes put nothing
@@ -226,7 +231,7 @@ module _ {T U G C : Type 0} where
       go : (b : Bool) → concerns id e.call ≡ b
           → AreNumbered (offer_after offer e.call) (mine id run) × (own_offer (offer_after offer e.call) (mine id run) ≡ offer')
           → AreNumbered offer (if b then (own_of id e ∷ mine id run) else mine id run) × (own_offer offer (if b then (own_of id e ∷ mine id run) else mine id run) ≡ offer')
-      go b h1 h2 = grind (arith, mine, offer_of_other)
+      go b h1 h2 = grind (arith, mine, true≢false)
 
 module _ {T U G C : Type 0} (w : World T G C) (id : ClientParts) (r : Id) where
   abbrev Watched : Offer G → Part T U C → List Said → List Id → Type 0
@@ -247,24 +252,19 @@ module _ {T U G C : Type 0} (w : World T G C) (id : ClientParts) (r : Id) where
       (log : List Said) (made : List Id) → (p.is_killed ≡ false → Watched offer p log made) → q.is_killed ≡ false
       → Watched offer' q (log ++ log_of did) (made ++ registries_in did)
 
-  lives_leads : (offer : Offer G) (p : Part T U C) (did : List (Deed U)) (q : Part T U C) → PartLives w.views id r offer p did q → Leads' offer offer p did q
-  lives_leads offer p did q lives log made was on = (lives.goes on).watch log made (was (lives.live on))
-
   unfelt_follows : (offer : Offer G) (s : Seen T U C) (lacked : Bool) (did : List (Deed U)) (t : Seen T U C) → Unfelt s lacked did t → Follows offer offer s did t
   unfelt_follows offer s lacked did t (no_memory, none, same) = grind (arith, log_of, registries_in, append-nil)
-
-  out_follows : (offer offer' : Offer G) (s : Seen T U C) (did : List (Deed U)) (t : Seen T U C) → t.part ≡ None → Follows offer offer' s did t
-  out_follows offer offer' s did t none = grind (arith, log_of, registries_in)
 
   -- a step that each client feels, where the offer becomes this
   feels_follows : (offer offer' : Offer G) (s : Seen T U C) (R : Part T U C → Part T U C → Type 0) (missing : Type 0) (lacked : Bool) (did : List (Deed U)) (t : Seen T U C)
       → ((p q : Part T U C) → R p q → Leads' offer offer' p did q) → OnPart s R missing lacked did t → Follows offer offer' s did t
-  feels_follows offer offer' s R missing lacked did t leads h = grind (arith, either_option, out_follows, log_of, registries_in)
+  feels_follows offer offer' s R missing lacked did t leads h = grind (arith, either_option, log_of, registries_in)
 
   -- a step that is about this client or about another
   of_client : (offer : Offer G) (b : Bool) (s : Seen T U C) (R : Part T U C → Part T U C → Type 0) (missing : Type 0) (lacked : Bool) (did : List (Deed U)) (t : Seen T U C)
       → ((p q : Part T U C) → R p q → PartLives w.views id r offer p did q) → OfClient b s R missing lacked did t → Follows offer offer s did t
-  of_client offer true s R missing lacked did t lives h = feels_follows offer offer s R missing lacked did t (λ p q by. lives_leads offer p did q (lives p q by)) h
+  of_client offer true s R missing lacked did t lives h = feels_follows offer offer s R missing lacked did t (λ p q by. (λ log made was on.
+      ((lives p q by).goes on).watch log made (was ((lives p q by).live on)))) h
   of_client offer false s R missing lacked did t lives h = unfelt_follows offer s lacked did t h
 
   -- ---- globals
@@ -306,7 +306,8 @@ module _ {T U G C : Type 0} (w : World T G C) (id : ClientParts) (r : Id) where
           feels_follows offer (with_globals offer after) s _ (Unit {0}) lacked did t
           (λ p q heard.
           hears_leads offer (with_globals offer after) (λ y. removals y g.name) p q lacked did
-          (λ log made was. loss_watch w.views id r offer (part_scene p) g.name after (hides p.client_data x is) log made was) heard) felt
+          (λ log made was. (told_all w.views id r offer (with_globals offer after) (part_scene p) (removal_message g.name) (λ y. refl) log made
+          (λ among tells'. loss_told w.views id r offer (part_scene p) g.name after (hides p.client_data x is) log among tells') was)) heard) felt
       go false off (no_memory, none, same) = grind (arith, with_globals, log_of, registries_in, append-nil, still)
         where
           still : (o : Option (Part T U C)) (log : List Said) (made : List Id) → MatchOption o (Unit {0}) (λ p. p.is_killed ≡ false → Watched offer p log made)
@@ -319,13 +320,15 @@ module _ {T U G C : Type 0} (w : World T G C) (id : ClientParts) (r : Id) where
   flushed_follows : (offer : Offer G) (target : Option ClientParts) (answer : Result (Unit {0}) IoFault) (s : Seen T U C) (lacked : Bool) (did : List (Deed U)) (t : Seen T U C)
       → FlushedFor w id offer target answer s lacked did t → Follows offer offer s did t
   flushed_follows offer None answer s lacked did t (is, h) =
-      of_client offer true s _ (Unit {0}) lacked did t (λ p q f. flushes_lives w.views id r offer w.sends p lacked did q f) h
+      of_client offer true s _ (Unit {0}) lacked did t (λ p q f.
+      (grind (arith, either_bool, none_done, quietly, with_link, log_of, silent_sends, registries_in, steady_same, part_scene, w.views, w.sends))) h
   flushed_follows offer (Some target) answer s lacked did t h =
-      of_client offer (same_client target id) s _ _ lacked did t (λ p q f. flushed_lives w.views id r offer w.sends p answer lacked did q f) h
+      of_client offer (same_client target id) s _ _ lacked did t (λ p q f.
+      (grind (arith, quietly, with_link, log_of, silent_sends, registries_in, steady_same, part_scene, w.views, w.sends))) h
 
   cleanup_follows : (offer : Offer G) (answer : Result (Vec (ClientParts × T) Global) OutOfMemory) (s : Seen T U C) (lacked : Bool) (did : List (Deed U)) (t : Seen T U C)
       → CleanedAs w id offer answer s lacked did t → Follows offer offer s did t
-  cleanup_follows offer answer s lacked did t h1 = grind (arith, unfelt_follows, either_option, either_bool, out_follows, log_of, registries_in, silent_notes, append-nil)
+  cleanup_follows offer answer s lacked did t h1 = grind (arith, unfelt_follows, either_option, either_bool, log_of, registries_in, silent_notes, append-nil)
 
   taken_follows : (offer : Offer G) (answer : Result (Vec (Note U) Global) OutOfMemory) (s : Seen T U C) (lacked : Bool) (did : List (Deed U)) (t : Seen T U C)
       → NotesTaken w id offer answer s lacked did t → Follows offer offer s did t
@@ -351,7 +354,12 @@ module _ {T U G C : Type 0} (w : World T G C) (id : ClientParts) (r : Id) where
       → PartStep w id offer call answer s lacked did t → Follows offer (offer_after {T = T} {U = U} {C = C} offer (Asked call answer)) s did t
   step_follows offer known (step.InsertClient transport client_data) answer s lacked did t about numbered alone h = absurd (true≢false (sym about))
   step_follows offer known (step.SetObjectData o u) answer s lacked did t about numbered alone (a, is, h) =
-      of_client offer (same_client o.client id) s _ _ lacked did t (λ p q (no_memory, none, set). data_set_lives w.views id r offer p o u a did q none set) h
+      of_client offer (same_client o.client id) s _ _ lacked did t (λ p q (no_memory, none, set). (elim (either_option (named p.store o) set) [
+        | inl (nobody, (is, same)) ↦ none_done w.views id r offer p q did none same
+        | inr (x, some, (is, same)) ↦
+            quietly w.views id r offer p q _ did (ap log_of none, ap registries_in none) same refl (wrote_goes w.views id r offer
+            (part_scene p) o.number x u (named_is_held p.store o x some))
+      ])) h
   step_follows offer known (step.CreateObject target i version u) answer s lacked did t about numbered alone (a, is, h) =
       of_client offer (same_client target id) s _ _ lacked did t (λ p q (no_memory, none, created). creates_lives w.views id r offer p i version u a did q none created) h
   step_follows offer known (step.DestroyObject o) answer s lacked did t about numbered alone (a, is, h) =
@@ -361,8 +369,9 @@ module _ {T U G C : Type 0} (w : World T G C) (id : ClientParts) (r : Id) where
       let left : id_of m.sender_id ≡ r → a ≢ Ok tt = subst (λ (x : Reply T U). IsLeftAlone {T = T} {U = U} {G = G} {C = C} r (Asked (step.SendEvent m) x)) is alone in
       of_client offer (same_client m.sender_id.client id) s _ _ lacked did t (λ p q d. sends_lives w.views id r offer w.sends p _ a lacked did q left d) h
   step_follows offer known (step.PostError o code text) answer s lacked did t about numbered alone (is, h) =
-      of_client offer (same_client o.client id) s _ _ lacked did t (λ p q d. posts_lives w.views id r offer w.sends p o _ _ lacked did q d) h
-  step_follows offer known (step.KillClient target reason) answer s lacked did t about numbered alone (is, h) = grind (arith, of_client, same_client, kills_lives)
+      of_client offer (same_client o.client id) s _ _ lacked did t (λ p q d. (grind (arith, either_bool, eqb, none_done, tells_lives, core_of, lives_not, part_scene, w.views, w.sends))) h
+  step_follows offer known (step.KillClient target reason) answer s lacked did t about numbered alone
+      (is, h) = grind (arith, of_client, same_client, lives_not, part_scene, log_of, registries_in)
   step_follows offer known (step.CreateGlobal i version handler) answer s lacked did t about numbered alone (a, is, h) = grind (arith, offer_after, global_follows)
   step_follows offer known (step.DisableGlobal g) answer s lacked did t about numbered alone (is, h) =
       loss_follows offer g (disabled offer.globals g) s lacked did t (λ client_data x kept. disabled_one w.views id client_data offer g x kept)

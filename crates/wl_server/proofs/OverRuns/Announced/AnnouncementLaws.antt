@@ -14,14 +14,11 @@ use Rattle.wl_server.specs.Telling.{global_message, introductions, making, remov
 
 -- ---- ids
 
-pub same_id_is : (a b : Id) → same_id a b ≡ true → a ≡ b
-same_id_is a b e = grind (arith, eqb, eqb-true, true≢false)
-
 pub same_id_self : (a : Id) → same_id a a ≡ true
 same_id_self a = rw (eq-eqb a.number a.number refl, eq-eqb a.serial a.serial refl) refl
 
 pub other_id : (a b : Id) → a ≢ b → same_id a b ≡ false
-other_id a b other = grind (arith, same_id_is)
+other_id a b other = grind (arith, eqb, eqb-true, true≢false)
 
 -- ---- one list behind another
 
@@ -41,9 +38,6 @@ AreOfOthers r (m ∷ log) = (sender_of m ≢ r) × AreOfOthers r log
 pub others_say : (r : Id) (log : List Said) → AreOfOthers r log → SaysNothing r log
 others_say r [] others = record { same = λ told. refl }
 others_say r (m ∷ log) others = grind (arith, announced_over, announced_after, other_id, sender_of, others_say r log others.1)
-
-pub say_then : (r : Id) (a b : List Said) → SaysNothing r a → SaysNothing r b → SaysNothing r (a ++ b)
-say_then r a b first second = grind (arith, announced-append, announced_over)
 
 -- ---- a registry is told of globals one after another
 

@@ -1,23 +1,20 @@
 -- The table has the interface of each global, so each global keeps its interface's name as the table grows.
-use Rattle.std.proofs.Common.{◌≡◌, ◌<◌, ◌+◌, ◌++◌, ◌∙◌, ℕ, List, [], ◌∷◌, length, length-append, Some, Result, sym, subst, arith, codes}
+use Rattle.std.proofs.Common.{◌≡◌, ◌<◌, ◌+◌, ◌∙◌, ℕ, List, [], ◌∷◌, length, length-append, Some, sym, subst, arith}
 use Rattle.std.specs.Prelude.{slice_get}
-use Rattle.std.specs.Option.{option_map_or}
 use Rattle.std.proofs.lemmas.Bool.{cases_eq}
 use Rattle.std.proofs.lemmas.Option.{same_Some, slice_get_within, none-some}
-use Rattle.wl_wire.specs.declared.interface.InterfaceId.{InterfaceId}
-use Rattle.wl_wire.specs.Table.{InterfaceRow, name_of}
-use Rattle.wl_wire.proofs.Growth.{row_stays}
+use Rattle.wl_wire.specs.Table.{InterfaceRow}
 use Rattle.wl_link.specs.declared.object.Object.{Object}
 use Rattle.wl_link.specs.Store.{held}
 use Rattle.wl_link.proofs.Ids.StoreLaws.{held_empty, removed_here, removed_other, rewritten_here, rewritten_other, stored_here, stored_other}
-use Rattle.wl_server.specs.declared.error.GlobalError.{GlobalError}
 use Rattle.wl_server.specs.declared.globals.KeptGlobal.{KeptGlobal}
-use Rattle.wl_server.specs.Globals.{CreatesGlobal, Offer, as_disabled, disabled, freed, global_of, new_global, new_offer, with_created, with_globals}
+use Rattle.wl_server.specs.Globals.{Offer, as_disabled, disabled, freed, global_of, new_global, new_offer, with_globals}
 use Rattle.wl_server.specs.Ids.{GlobalParts}
 use Rattle.wl_server.specs.PartStep.{Call}
 use Rattle.wl_server.specs.Runs.{SharedAlone}
 use Rattle.wl_server.specs.Steps.{Entry, AnswersShared, inserted_by, offer_after}
-use Rattle.wl_server.proofs.OverRuns.Announced.ShownLaws.{global_held}
+use Rattle.std.proofs.Common.{eqb}
+use Rattle.wl_server.specs.Globals.{global_serial}
 
 -- a row is there for the interface of each global that is kept
 pub record HasInterfaces {G : Type 0} (offer : Offer G) : Type 0 where
@@ -28,27 +25,17 @@ module _ {G : Type 0} where
   at_first table = record { row = λ name x there. absurd (none-some _ (sym (held_empty name) ∙ there)) }
 
   module _ (offer : Offer G) (known : HasInterfaces offer) where
-    -- a longer table has the same name for it
-    pub keeps_name : (new : List InterfaceRow) (name : ℕ) (x : Object (KeptGlobal G)) → held offer.globals.store name ≡ Some x
-        → name_of (offer.table ++ new) x.interface.0 ≡ name_of offer.table x.interface.0
-    keeps_name new name x there = grind (arith, option_map_or, codes, row_stays)
-
     -- ---- what a call leaves
 
     after_disabled : (g : GlobalParts) → HasInterfaces (with_globals offer (disabled offer.globals g))
-    after_disabled g = grind (arith, global_of, cases_eq, same_Some, as_disabled, rewritten_here, held, global_held, rewritten_other)
+    after_disabled g = grind (arith, global_of, cases_eq, same_Some, as_disabled, rewritten_here, held, eqb, global_serial, rewritten_other)
 
     after_freed : (g : GlobalParts) → HasInterfaces (with_globals offer (freed offer.globals g))
     after_freed g = grind (arith, global_of, removed_here, removed_other)
 
-    -- a global is created of an interface that is there
-    after_created : (i : InterfaceId) (version : ℕ) (handler : G) (r : Result GlobalParts GlobalError) → CreatesGlobal offer.table offer.globals i version r
-        → HasInterfaces (with_globals offer (with_created offer.globals i version handler r))
-    after_created i version handler h4 creates = grind (arith, cases_eq, same_Some, stored_here, length, slice_get, stored_other, new_global, slice_get_within)
-
 module _ {T U G C : Type 0} where
   pub after_call : (offer : Offer G) (call : Call T U G C) → HasInterfaces offer → AnswersShared offer call → HasInterfaces (offer_after offer call)
-  after_call offer h2 known n = grind (arith, after_created, after_disabled, after_freed, length-append)
+  after_call offer h2 known n = grind (arith, cases_eq, same_Some, stored_here, length, slice_get, stored_other, new_global, slice_get_within, after_disabled, after_freed, length-append)
 
   pub after_run : (offer : Offer G) (last : ℕ) (run : List (Entry T U G C)) (offer' : Offer G) (last' : ℕ) → HasInterfaces offer
       → SharedAlone offer last run offer' last' → HasInterfaces offer'

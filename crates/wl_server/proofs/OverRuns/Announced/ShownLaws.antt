@@ -15,11 +15,6 @@ use Rattle.wl_server.specs.Deeds.{IsAmong}
 use Rattle.wl_server.specs.Globals.{Globals, Offer, as_disabled, disabled, disabled_at, freed, freed_at, global_of, global_serial, is_enabled, is_shown, shown, shown_as, with_globals}
 use Rattle.wl_server.specs.Ids.{ClientParts, GlobalParts}
 
-module _ {G : Type 0} where
-  -- the global that an id names has its name
-  pub global_held : (globals : Globals G) (g : GlobalParts) (x : Object (KeptGlobal G)) → global_of globals g ≡ Some x → held globals.store g.name ≡ Some x
-  global_held globals g x e = grind (arith, eqb, global_serial)
-
 module _ {G C : Type 0} (views : G → ClientParts → C → GlobalParts → Bool) (client : ClientParts) (client_data : C) where
   -- a global is shown under its name
   pub record IsShown (offer : Offer G) (g : Announced) : Type 0 where
@@ -117,23 +112,20 @@ module _ {G C : Type 0} (views : G → ClientParts → C → GlobalParts → Boo
 
     stays_where_hidden : (after : Globals G) (x : Object (KeptGlobal G)) → global_of offer.globals g ≡ Some x → Hides offer g.name after → StaysShown after
     stays_where_hidden after x is hides = record {
-      kept = λ a h. hidden_old offer g.name after hides a h (λ same. grind (arith, global_held, is_enabled, is_shown, true≢false));
+      kept = λ a h. hidden_old offer g.name after hides a h (λ same. grind (arith, eqb, global_serial, is_enabled, is_shown, true≢false));
       only = λ a h. (hidden_only offer g.name after hides a h).0;
     }
-
-    stays_same : StaysShown offer.globals
-    stays_same = record { kept = λ a h. h; only = λ a h. h }
 
     pub disabled_stays : StaysShown (disabled offer.globals g)
     disabled_stays = go (global_of offer.globals g) refl
       where
         go : (o : Option (Object (KeptGlobal G))) → global_of offer.globals g ≡ o → StaysShown (disabled_at offer.globals g.name o)
-        go None is = stays_same
+        go None is = record { kept = λ a h. h; only = λ a h. h }
         go (Some x) is = stays_where_hidden (disabled_at offer.globals g.name (Some x)) x is (disabled_hides offer g.name x)
 
     pub freed_stays : StaysShown (freed offer.globals g)
     freed_stays = go (global_of offer.globals g) refl
       where
         go : (o : Option (Object (KeptGlobal G))) → global_of offer.globals g ≡ o → StaysShown (freed_at offer.globals g.name o)
-        go None is = stays_same
+        go None is = record { kept = λ a h. h; only = λ a h. h }
         go (Some x) is = stays_where_hidden (freed_at offer.globals g.name (Some x)) x is (removed_hides offer g.name)

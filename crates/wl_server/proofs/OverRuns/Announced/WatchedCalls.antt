@@ -11,33 +11,28 @@ use Rattle.wl_link.specs.Exchange.{Queue, Sending}
 use Rattle.wl_link.specs.Identity.{Id}
 use Rattle.wl_link.specs.Link.{LinkState}
 use Rattle.wl_link.specs.Puts.{Said}
-use Rattle.wl_link.specs.Store.{Store}
 use Rattle.wl_server.specs.declared.reading.action.OpenAction.TheVariants as opened
 use Rattle.wl_server.specs.declared.error.CreateError.{CreateError}
 use Rattle.wl_server.specs.declared.error.DestroyError.{DestroyError}
 use Rattle.wl_server.specs.declared.error.EventError.{EventError}
-use Rattle.wl_server.specs.declared.error.FinishError.{FinishError}
 use Rattle.wl_server.specs.declared.error.FinishRefused.{FinishRefused}
-use Rattle.wl_server.specs.declared.error.InvalidId.{InvalidId}
 use Rattle.wl_server.specs.declared.objects.Kept.{Kept}
-use Rattle.wl_server.specs.declared.notes.DisconnectReason.{DisconnectReason}
 use Rattle.wl_server.proofs.OverRuns.Moves.BaseMoves.{Doings}
 use Rattle.wl_server.specs.Deeds.{Deed, Sent, left_if, log_of, registries_in}
 use Rattle.wl_server.proofs.OverRuns.Moves.DoingsLaws.{doings_sends, told_deeds}
-use Rattle.wl_server.specs.Errors.{PostsError}
 use Rattle.wl_server.specs.Events.{SendsEvent, SendsGranted, SentAs, SessionMessage, ends_closed, ends_sender, event_check, said}
-use Rattle.wl_server.specs.Felt.{FlushedTo, FlushesLive}
-use Rattle.wl_server.specs.Finish.{FinishesBind, FinishesRequest, Refuses, core_finished, finish_verdict, data_given, ended_by, ends, refusal, store_with_data}
+use Rattle.wl_server.specs.Finish.{FinishesBind, FinishesRequest, core_finished, finish_verdict, data_given, ended_by, ends, refusal, store_with_data}
 use Rattle.wl_server.specs.Globals.{Offer}
 use Rattle.wl_server.specs.Ids.{ClientParts, GlobalParts, IdParts}
-use Rattle.wl_server.proofs.OverRuns.Moves.MovesOfCalls.{destroyable_named, ended_named, granted_named, leaving_by, left_deeds, named_serial}
-use Rattle.wl_server.specs.Objects.{Creates, DataSet, Destroys, destroyable, new_object, unless_refused, without, without_noted}
+use Rattle.wl_server.proofs.OverRuns.Moves.MovesOfCalls.{granted_named, leaving_by, left_deeds, named_serial}
+use Rattle.wl_server.specs.Objects.{Creates, Destroys, destroyable, new_object, unless_refused, without, without_noted}
 use Rattle.wl_server.specs.Part.{Part, end_note, id_at, id_of, last_possible_serial, named, with_link}
-use Rattle.wl_server.specs.Telling.{Core, Did, Kills, Tells, core_of, delete_message, deletions, tells}
+use Rattle.wl_server.specs.Telling.{Core, Did, Tells, core_of, delete_message, deletions, tells}
 use Rattle.wl_server.proofs.OverRuns.Announced.WatchedReadings.{deletions_other}
 use Rattle.wl_server.proofs.OverRuns.Announced.WatchedVerdicts.{Lives, PartLives, lives_not, lives_same, lives_so, lives_then, log_both, registries_both, tells_lives}
-use Rattle.wl_server.proofs.OverRuns.Announced.Watching.{Goes, Scene, Steady, born_goes, display_other, goes_then, id_at_number, others_goes, part_scene, scene_of, set_action_goes, steady_goes, steady_same, steady_then, went_goes, wrote_goes}
+use Rattle.wl_server.proofs.OverRuns.Announced.Watching.{Goes, Scene, Steady, born_goes, goes_then, others_goes, part_scene, scene_of, set_action_goes, steady_goes, steady_same, steady_then, went_goes, wrote_goes}
 use Rattle.wl_server.proofs.ObjectCalls.Destroying.{named_is_held}
+use Rattle.std.proofs.lemmas.Option.{none-some}
 
 -- ---- deeds that put nothing
 
@@ -49,10 +44,7 @@ module _ {U : Type 0} where
   silent_left : (client : ClientParts) (waits : Bool) (id : IdParts) (x : Object (Kept U)) (b : Bool) → IsSilent (told_deeds (cond b [] (map Did (left_deeds client waits id x))))
   silent_left client waits id x b = grind (arith, end_note, id_at, left_if, id_of)
 
-  named_at : (store : Store (Kept U)) (id : IdParts) (x : Object (Kept U)) → named store id ≡ Some x → id_at_number id.number x ≡ id_of id
-  named_at store id x is = ap (λ (s : ℕ). record { number = id.number; serial = s }) (named_serial store id x is)
-
-silent_sends : (U : Type 0) (es : List Sending) → IsSilent {U = U} (map Sent es)
+pub silent_sends : (U : Type 0) (es : List Sending) → IsSilent {U = U} (map Sent es)
 silent_sends U es = (ap (λ (d : Doings U). d.put) (doings_sends es), ap (λ (d : Doings U). d.registries) (doings_sends es))
 
 module _ {G C : Type 0} (views : G → ClientParts → C → GlobalParts → Bool) (client : ClientParts) (r : Id) {U : Type 0} (offer : Offer G) where
@@ -68,7 +60,7 @@ module _ {G C : Type 0} (views : G → ClientParts → C → GlobalParts → Boo
   -- ---- forms of a call
 
   -- nothing is put, and the client stays as live as it was
-  quietly : {T : Type 0} (p q e : Part T U C) (did : List (Deed U)) → IsSilent did → q ≡ e → e.is_killed ≡ p.is_killed → Still (part_scene p) (part_scene e) → Run p did q
+  pub quietly : {T : Type 0} (p q e : Part T U C) (did : List (Deed U)) → IsSilent did → q ≡ e → e.is_killed ≡ p.is_killed → Still (part_scene p) (part_scene e) → Run p did q
   quietly p q e did silent same live still = grind (arith, lives_so, part_scene, log_of, registries_in, steady_goes)
 
   pub none_done : {T : Type 0} (p q : Part T U C) (did : List (Deed U)) → did ≡ [] → q ≡ p → Run p did q
@@ -80,15 +72,6 @@ module _ {G C : Type 0} (views : G → ClientParts → C → GlobalParts → Boo
   speaks_then c e puts told same none says still = grind (arith, lives_so, scene_of, registries_in, append-nil, goes_then, steady_goes)
 
   -- ---- data, and new objects
-
-  pub data_set_lives : {T : Type 0} (p : Part T U C) (id : IdParts) (u : U) (answer : Result (Unit {0}) InvalidId) (did : List (Deed U)) (q : Part T U C) → did ≡ []
-      → DataSet p id u answer q → Run p did q
-  data_set_lives p id u answer did q none h =
-      elim (either_option (named p.store id) h) [
-        | inl (nobody, (is, same)) ↦ none_done p q did none same
-        | inr (x, some, (is, same)) ↦
-            quietly p q _ did (ap log_of none, ap registries_in none) same refl (wrote_goes views client r offer (part_scene p) id.number x u (named_is_held p.store id x some))
-      ]
 
   pub creates_lives : {T : Type 0} (p : Part T U C) (i : InterfaceId) (version : ℕ) (u : U) (answer : Result IdParts CreateError) (did : List (Deed U)) (q : Part T U C)
       → did ≡ [] → Creates offer.table client p i version u answer q → Run p did q
@@ -112,7 +95,8 @@ module _ {G C : Type 0} (views : G → ClientParts → C → GlobalParts → Boo
   without_still : (c : Core U C) (id : IdParts) (x : Object (Kept U)) → named c.store id ≡ Some x → (id_of id ≢ r)
       → Still (scene_of c) (scene_of (without c id.number x))
   without_still c id x is other =
-      went_goes views client r offer (scene_of c) id.number x (named_is_held c.store id x is) (λ log made w among same. other (sym (named_at c.store id x is) ∙ same))
+      went_goes views client r offer (scene_of c) id.number x (named_is_held c.store id x is) (λ log made w among same. other (sym
+      (ap (λ (s : ℕ). record { number = id.number; serial = s }) (named_serial c.store id x is)) ∙ same))
 
   -- an object leaves, and its number is told
   leaves_lives : {T : Type 0} (sends : T → Queue → Result ℕ IoFault → T → Type 0) (p : Part T U C) (e starved : Core U C) (waits asks : Bool) (id : IdParts) (x : Object (Kept U))
@@ -128,7 +112,8 @@ module _ {G C : Type 0} (views : G → ClientParts → C → GlobalParts → Boo
       })
       (λ fits.
       speaks_then (core_of p) e (deletions id.number) (told_deeds (cond (is_some (named e.store id)) [] (map Did (left_deeds client waits id x)))) live
-      (silent_left client waits id x (is_some (named e.store id))).1 (grind (arith, others_goes, deletions, deletions_other, display_other, part_scene p, id.number)) (still (fits refl)))
+      (silent_left client waits id x (is_some (named e.store id))).1
+      (grind (arith, others_goes, deletions, deletions_other, part_scene p, id.number)) (still (fits refl)))
       tells'
 
   pub destroys_lives : {T : Type 0} (sends : T → Queue → Result ℕ IoFault → T → Type 0) (p : Part T U C) (id : IdParts) (answer : Result (Unit {0}) DestroyError) (lacked : Bool)
@@ -138,30 +123,13 @@ module _ {G C : Type 0} (views : G → ClientParts → C → GlobalParts → Boo
         | inl (none, (is, no_memory, nothing, same)) ↦ none_done p q did nothing same
         | inr (x, some, (is, tells')) ↦
             leaves_lives sends p (without_noted client (core_of p) id.number x) (core_of p) true (is_some x.value.user_data) id x p.link lacked did q refl (inr refl)
-            (λ fine. without_still (core_of p) id x (destroyable_named p id x some) (λ same. alone same (is ∙ ap (unless_refused _) fine))) tells'
+            (λ fine. without_still (core_of p) id x (grind (arith, eqb, named)) (λ same. alone same (is ∙ ap (unless_refused _) fine))) tells'
       ]
-
-  -- ---- errors, and the end of a client
-
-  pub posts_lives : {T : Type 0} (sends : T → Queue → Result ℕ IoFault → T → Type 0) (p : Part T U C) (id : IdParts) (code : ℕ) (text : List ℕ) (lacked : Bool) (did : List (Deed U))
-      (q : Part T U C) → PostsError sends offer.table p id code text lacked did q → Run p did q
-  posts_lives sends p id code text lacked did q h = grind (arith, either_bool, eqb, none_done, tells_lives, core_of, lives_not, part_scene)
-
-  pub kills_lives : {T : Type 0} (p : Part T U C) (reason : DisconnectReason) (did : List (Deed U)) (q : Part T U C) → Kills p reason did q → Run p did q
-  kills_lives p reason did q h5 = grind (arith, lives_not, part_scene, log_of, registries_in)
 
   -- ---- flushes, and what the program does to a transport
 
   pub relinked_lives : {T : Type 0} (p : Part T U C) (link : LinkState T) (did : List (Deed U)) (q : Part T U C) → did ≡ [] → q ≡ with_link p link → Run p did q
   relinked_lives p link did q none same = grind (arith, quietly, with_link, log_of, registries_in, steady_same, part_scene)
-
-  pub flushed_lives : {T : Type 0} (sends : T → Queue → Result ℕ IoFault → T → Type 0) (p : Part T U C) (answer : Result (Unit {0}) IoFault) (lacked : Bool) (did : List (Deed U))
-      (q : Part T U C) → FlushedTo sends p answer lacked did q → Run p did q
-  flushed_lives sends p answer lacked did q (es, link, by, no_memory, did_so, same) = grind (arith, quietly, with_link, log_of, silent_sends, registries_in, steady_same, part_scene)
-
-  pub flushes_lives : {T : Type 0} (sends : T → Queue → Result ℕ IoFault → T → Type 0) (p : Part T U C) (lacked : Bool) (did : List (Deed U)) (q : Part T U C)
-      → FlushesLive sends p lacked did q → Run p did q
-  flushes_lives sends p lacked did q h1 = grind (arith, either_bool, none_done, flushed_lives, quietly, log_of, registries_in, steady_same, part_scene, with_link, silent_sends)
 
   -- ---- an event
 
@@ -181,12 +149,10 @@ module _ {G C : Type 0} (views : G → ClientParts → C → GlobalParts → Boo
       sent_lives : (w : Result (Unit {0}) IoFault) → SentAs sends client p m sender b w link answer lacked rest q → Run p did q
       sent_lives (Ok u) (more, tells', is_ok, rest_so) =
           let other : id_of m.sender ≢ r = λ same. alone same is_ok in
-          let then' = sender_lives b more other tells' in
-          let says = others_goes views client r offer (part_scene p) (said m ∷ []) (λ log made w ours. (other, tt)) in
           after_sends (lives_so views client r offer p.is_killed q.is_killed (part_scene p) (part_scene q) (said m ∷ log_of more) (log_of rest) (registries_in more) (registries_in rest)
           (ap log_of rest_so) (ap registries_in rest_so)
           (lives_then views client r offer p.is_killed p.is_killed q.is_killed (part_scene p) (part_scene p) (part_scene q) (said m ∷ []) (log_of more) [] (registries_in more)
-          (record { live = λ on. on; goes = λ on. says }) then'))
+          (record { live = λ on. on; goes = λ on. (others_goes views client r offer (part_scene p) (said m ∷ []) (λ log made w ours. (other, tt))) }) (sender_lives b more other tells')))
       sent_lives (Err fault.OutOfMemory) (is_err, no_memory, none, same) = grind (arith, after_sends, part_scene, log_of, registries_in, lives_so, lives_same)
       sent_lives _ h = grind (arith, after_sends, tells_lives, ends_closed, core_of, silent_left, is_some, named, lives_not, part_scene, h.0)
 
@@ -219,17 +185,6 @@ module _ {G C : Type 0} (views : G → ClientParts → C → GlobalParts → Boo
           go None e = steady_same views client r offer (scene_of (record c { action = None }))
           go (Some x) e = wrote_goes views client r offer (scene_of (record c { action = None })) id.number x u (named_is_held c.store id x e)
 
-  -- the sender of an open request is not the registry
-  ends_still : (c : Core U C) (id : IdParts) (b : Bool) (created : Option IdParts) (x : Object (Kept U)) → c.action ≡ Some (opened.Request id b created)
-      → named c.store id ≡ Some x → Still (scene_of c) (scene_of (without c id.number x))
-  ends_still c id b created x open' is =
-      went_goes views client r offer (scene_of c) id.number x (named_is_held c.store id x is)
-      (λ log made w among same. w.open_other id b created open' among (sym (named_at c.store id x is) ∙ same))
-
-  refuses_lives : {T D : Type 0} (p : Part T U C) (d : D) (e : FinishError) (answer : Result (Unit {0}) (FinishRefused D)) (lacked : Bool) (did : List (Deed U)) (q : Part T U C)
-      → Refuses p d e answer lacked did q → Run p did q
-  refuses_lives p d e answer lacked did q (is, no_memory, none, same) = none_done p q did none same
-
   module _ {T : Type 0} (sends : T → Queue → Result ℕ IoFault → T → Type 0) (p : Part T U C) (sender : IdParts) (b : Bool) (created : Option IdParts) (u : Option U)
       (open' : p.action ≡ Some (opened.Request sender b created)) (lacked : Bool) (did : List (Deed U)) (q : Part T U C) where
     ends_lives : (o : Option (Object (Kept U))) → ((x : Object (Kept U)) → o ≡ Some x → named p.store sender ≡ Some x)
@@ -246,19 +201,23 @@ module _ {G C : Type 0} (views : G → ClientParts → C → GlobalParts → Boo
         leaves_lives sends p (core_finished (without (core_of p) sender.number x) created u) (core_of p) false (is_some x.value.user_data) sender x p.link lacked did q refl (inr refl)
         (λ fine.
         steady_then views client r offer (part_scene p) (scene_of (without (core_of p) sender.number x)) (scene_of (core_finished (without (core_of p) sender.number x) created u))
-        (ends_still (core_of p) sender b created x open' (is x refl)) (finish_still (without (core_of p) sender.number x) created u)) tells'
+        (went_goes views client r offer (scene_of (core_of p)) sender.number x (named_is_held (core_of p).store sender x (is x refl))
+        (λ log made w among same. w.open_other sender b created open' among (sym (ap (λ (s : ℕ). record { number = sender.number; serial = s })
+        (named_serial (core_of p).store sender x (is x refl))) ∙ same)))
+        (finish_still (without (core_of p) sender.number x) created u)) tells'
 
   pub finishes_lives : {T : Type 0} (sends : T → Queue → Result ℕ IoFault → T → Type 0) (p : Part T U C) (u : Option U) (answer : Result (Unit {0}) (FinishRefused (Option U)))
       (lacked : Bool) (did : List (Deed U)) (q : Part T U C) → FinishesRequest sends client p u answer lacked did q → Run p did q
   finishes_lives sends p u answer lacked did q h =
       elim (either_option p.action h) [
-        | inl (none, refuses) ↦ refuses_lives p u _ answer lacked did q refuses
-        | inr (opened.Bind object, is, refuses) ↦ refuses_lives p u _ answer lacked did q refuses
+        | inl (none, refuses) ↦ none_done p q did refuses.2 refuses.3
+        | inr (opened.Bind object, is, refuses) ↦ none_done p q did refuses.2 refuses.3
         | inr (opened.Request sender b created, is, g) ↦
             elim (either_option (refusal p.is_killed created u) g) [
-              | inr (e, why, refuses) ↦ refuses_lives p u e answer lacked did q refuses
+              | inr (e, why, refuses) ↦ none_done p q did refuses.2 refuses.3
               | inl (none, (is', tells')) ↦
-                  ends_lives sends p sender b created u is lacked did q (ended_by p.store sender b) (λ x e. ended_named p.store sender b x e) tells'
+                  ends_lives sends p sender b created u is lacked did q (ended_by p.store sender b) (λ x e.
+                  (grind (arith, none-some, p.store))) tells'
             ]
       ]
 
@@ -266,8 +225,8 @@ module _ {G C : Type 0} (views : G → ClientParts → C → GlobalParts → Boo
       → FinishesBind p u answer lacked did q → Run p did q
   finishes_bind_lives p u answer lacked did q h =
       elim (either_option p.action h) [
-        | inl (none, refuses) ↦ refuses_lives p u _ answer lacked did q refuses
-        | inr (opened.Request sender b created, is, refuses) ↦ refuses_lives p u _ answer lacked did q refuses
+        | inl (none, refuses) ↦ none_done p q did refuses.2 refuses.3
+        | inr (opened.Request sender b created, is, refuses) ↦ none_done p q did refuses.2 refuses.3
         | inr (opened.Bind object, is, (is', no_memory, none, same)) ↦
             quietly p q (record p { action = None; store = store_with_data p.store (Some object) (Some u) }) did (ap log_of none, ap registries_in none) same refl
             (finish_still (core_of p) (Some object) (Some u))

@@ -30,13 +30,14 @@ use Rattle.wl_server.specs.Ids.{ClientParts, GlobalParts, IdParts}
 use Rattle.wl_server.proofs.OverRuns.Moves.MovesOfReadings.{gave_none}
 use Rattle.wl_server.proofs.OverRuns.Moves.MovesOfRequests.{Came, converts, valid_new}
 use Rattle.wl_server.specs.Part.{Part, id_at}
-use Rattle.wl_server.specs.Reading.{Around, NextAction, binds, breaks, converted, faulted, garbled, hands_out, new_at, other_request, registers, replies, server, stops_if, synced, syncs, with_registry}
+use Rattle.wl_server.specs.Reading.{Around, NextAction, binds, breaks, converted, faulted, garbled, hands_out, new_at, other_request, replies, server, stops_if, synced, syncs, with_registry}
 use Rattle.wl_server.proofs.OverRuns.Announced.RequestCases.{request_case}
 use Rattle.wl_server.specs.Requests.{Outcome, Whole, Wrong, convert, is_valid_new, made_id, made_object, start, with_made}
 use Rattle.wl_server.specs.Telling.{Core, Did, Told, deeds_in, delete_message, deletions, done_message, objects_in, reader_part, with_objects}
 use Rattle.wl_server.proofs.OverRuns.Announced.WatchedVerdicts.{CoreLives, Forms, Leads, PartLives, carried_to, lives_not, lives_same, lives_so, lives_then, log_both, registries_both, told_stops, turned, verdict_lives}
-use Rattle.wl_server.proofs.OverRuns.Announced.Watching.{Goes, Scene, Steady, born_goes, display_other, goes_then, kept_other, opens_goes, others_goes, part_scene, registers_goes, scene_of, set_action_goes, steady_goes, steady_same, steady_then, went_goes}
+use Rattle.wl_server.proofs.OverRuns.Announced.Watching.{Goes, Scene, Steady, born_goes, goes_then, kept_other, others_goes, part_scene, registers_goes, scene_of, set_action_goes, steady_goes, steady_same, steady_then, went_goes}
 use Rattle.wl_server.proofs.Readings.OneMessage.{deeds_append}
+use Rattle.wl_server.specs.Part.{id_of}
 
 -- the messages that a display sends are of no registry
 pub deletions_other : (r : Id) (n : ℕ) → ((k : ℕ) → record { number = k; serial = 0 } ≢ r) → AreOfOthers r (deletions n)
@@ -91,7 +92,7 @@ module _ {G C : Type 0} (views : G → ClientParts → C → GlobalParts → Boo
       (steady_goes views client r offer (scene_of c) made (born_goes views client r offer (scene_of c) n x (valid_new (objects_in c) n valid).0 refl))
       (subst (λ (l : List Said). Goes' made l [] (scene_of (synced (around_of views client offer) c n))) (append-nil (done_message (new_at (around_of views client offer) c n) ∷ deletions n))
       (goes_then views client r offer made made (scene_of (synced (around_of views client offer) c n)) (done_message (new_at (around_of views client offer) c n) ∷ deletions n) [] [] []
-      (grind (arith, others_goes, made, done_message, new_at, around_of, deletions, kept_other, x, stored_here, deletions_other, display_other))
+      (grind (arith, others_goes, made, done_message, new_at, around_of, deletions, kept_other, x, stored_here, deletions_other))
       (steady_goes views client r offer made (scene_of (synced (around_of views client offer) c n))
       (went_goes views client r offer made n x (stored_here c.store n x n refl)
       (λ log regs w is. kept_other views client r offer made log regs w (inl is) n x (stored_here c.store n x n refl) refl))))))
@@ -101,13 +102,6 @@ module _ {G C : Type 0} (views : G → ClientParts → C → GlobalParts → Boo
 
       made : Scene U C
       made = scene_of (with_objects c (with_made (objects_in c) n callback_id 1))
-
-  registers_handles : (c : Core U C) (n : ℕ) → is_valid_new (objects_in c) n ≡ true → Handles c (registers (around_of views client offer) c n)
-  registers_handles c n valid =
-      replies_handles c (with_registry (around_of views client offer) c n) _ (Remembered (new_at (around_of views client offer) c n) ∷ []) refl refl
-      (ap (λ (did : List (Deed U)). Remembered (new_at (around_of views client offer) c n) ∷ did) (told_stops (with_registry (around_of views client offer) c n)))
-      (λ e. ap log_of (told_stops e))
-      (registers_goes views client r offer (scene_of c) n (made_object (objects_in c) registry_id 1) (valid_new (objects_in c) n valid).0 refl refl)
 
   -- ---- a registry's
 
@@ -144,11 +138,10 @@ module _ {G C : Type 0} (views : G → ClientParts → C → GlobalParts → Boo
     converted_handles (Wrong w objects) came = breaks_handles c (with_objects c objects) 0 (fault_text offer.table receiver.interface row w)
     converted_handles (Whole d args) came =
         hands_out_handles c (with_objects c d.objects) (opened.Request id row.is_destructor d.created) _ refl
-        (steady_then views client r offer (scene_of c) (scene_of opening) (scene_of (with_objects opening d.objects))
-        (opens_goes views client r offer (scene_of c) id row.is_destructor d.created receiver holds refl other) (came opening).0)
-      where
-        opening : Core U C
-        opening = record c { action = Some (opened.Request id row.is_destructor d.created) }
+        (steady_then views client r offer (scene_of c) (scene_of (record c { action = Some (opened.Request id row.is_destructor d.created) }))
+        (scene_of (with_objects (record c { action = Some (opened.Request id row.is_destructor d.created) }) d.objects))
+        (grind (arith, id_of, scene_of c, row.is_destructor, d.created)) (came
+        (record c { action = Some (opened.Request id row.is_destructor d.created) })).0)
 
     other_handles : Handles c (other_request (around_of views client offer) c m receiver row)
     other_handles = go (nat_lt receiver.version row.since)
@@ -166,7 +159,14 @@ module _ {G C : Type 0} (views : G → ClientParts → C → GlobalParts → Boo
 
   handles : (c : Core U C) (m : WireMessage) → Handles c ((server (around_of views client offer)).handles c m)
   handles c m =
-      request_case (around_of views client offer) c (Handles c) (garbled_handles c) (λ code text. breaks_handles c c code text) (syncs_handles c) (registers_handles c) (binds_handles c) m
+      request_case (around_of views client offer) c (Handles c) (garbled_handles c) (λ code text. breaks_handles c c code text) (syncs_handles c)
+      (λ n valid. replies_handles c (with_registry (around_of views client offer) c n) _ (Remembered (new_at
+      (around_of views client offer) c n) ∷ []) refl refl
+      (ap (λ (did : List (Deed U)). Remembered (new_at (around_of views client offer) c n) ∷ did) (told_stops (with_registry
+      (around_of views client offer) c n)))
+      (λ e. ap log_of (told_stops e))
+      (registers_goes views client r offer (scene_of c) n (made_object (objects_in c) registry_id 1) (valid_new (objects_in c) n valid).0 refl refl))
+      (binds_handles c) m
       (λ receiver row holds other. other_handles c m receiver row holds other)
 
   -- ---- a reading

@@ -15,13 +15,14 @@ use Rattle.wl_server.specs.declared.reading.action.OpenAction.TheVariants as ope
 use Rattle.wl_server.specs.declared.objects.Kept.{Kept}
 use Rattle.wl_server.proofs.OverRuns.Ids.AmongLaws.{among_both, among_filter, among_first, among_later, filter_among}
 use Rattle.wl_server.specs.Announced.{Announced, announced, announced_over, sender_of, shown_of}
-use Rattle.wl_server.proofs.OverRuns.Announced.AnnouncementLaws.{AreOfOthers, SaysNothing, announced-append, greeted, greeted_other, other_id, others_say, same_id_is, same_id_self, say_then, told_others}
+use Rattle.wl_server.proofs.OverRuns.Announced.AnnouncementLaws.{AreOfOthers, SaysNothing, announced-append, greeted, greeted_other, other_id, others_say, same_id_self, told_others}
 use Rattle.wl_server.specs.Deeds.{IsAmong}
 use Rattle.wl_server.specs.Globals.{Offer, shown}
 use Rattle.wl_server.specs.Ids.{ClientParts, GlobalParts, IdParts}
 use Rattle.wl_server.specs.Part.{Part, id_of, registries_without, same_id, with_user_data}
 use Rattle.wl_server.proofs.OverRuns.Announced.ShownLaws.{IsShown, among_shown, shown_among}
 use Rattle.wl_server.specs.Telling.{Core, introductions}
+use Rattle.std.proofs.lemmas.Bool.{eqb-true}
 
 -- what of a client its registries depend on
 pub record Scene (U C : Type 0) : Type 0 where
@@ -94,10 +95,6 @@ module _ {G C : Type 0} (views : G → ClientParts → C → GlobalParts → Boo
 
     -- ---- who speaks
 
-    -- the display is no registry
-    pub display_other : (s : Scene U C) (log : List Said) (made : List Id) → Watch offer s log made → IsOurs s made → (n : ℕ) → record { number = n; serial = 0 } ≢ r
-    display_other s log made h1 h2 n = grind (arith)
-
     -- nor is a kept object of another interface
     pub kept_other : (s : Scene U C) (log : List Said) (made : List Id) → Watch offer s log made → IsOurs s made → (n : ℕ) (x : Object (Kept U))
         → held s.store n ≡ Some x → eqb x.interface.0 registry_id.0 ≡ false → id_at_number n x ≢ r
@@ -113,7 +110,7 @@ module _ {G C : Type 0} (views : G → ClientParts → C → GlobalParts → Boo
             listed = w.listed;
             open_bounded = w.open_bounded;
             open_other = w.open_other;
-            silent = λ later. say_then r log put (w.silent later) (others_say r put (others log made w (inr later)));
+            silent = λ later. (grind (arith, announced-append, announced_over, w.silent later, others_say r put (others log made w (inr later))));
             unborn = w.unborn;
             known = w.known;
             tells = λ is. (
@@ -164,11 +161,6 @@ module _ {G C : Type 0} (views : G → ClientParts → C → GlobalParts → Boo
 
     -- ---- actions
 
-    -- a request of a kept object that is no registry is handed out, and open
-    pub opens_goes : (s : Scene U C) (sender : IdParts) (b : Bool) (created : Option IdParts) (x : Object (Kept U)) → held s.store sender.number ≡ Some x
-        → x.value.serial ≡ sender.serial → eqb x.interface.0 registry_id.0 ≡ false → Steady s (record s { action = Some (opened.Request sender b created) })
-    opens_goes s sender b created x holds serial other = grind (arith, id_of)
-
     -- a bind is open, or nothing is
     pub set_action_goes : (s : Scene U C) (action : Option OpenAction)
         → ((sender : IdParts) (b : Bool) (created : Option IdParts) → action ≡ Some (opened.Request sender b created) → ⊥) → Steady s (record s { action = action })
@@ -201,7 +193,7 @@ module _ {G C : Type 0} (views : G → ClientParts → C → GlobalParts → Boo
               listed = λ y among. (grind (arith, w.listed, among_both s.registries (new_id ∷ []) y among));
               open_bounded = born.open_bounded;
               open_other = λ sender b created is among. w.open_other sender b created is (old among);
-              silent = λ later. say_then r log greeting (born.silent later) (others_say r greeting others);
+              silent = λ later. (grind (arith, announced-append, announced_over, born.silent later, others_say r greeting others));
               unborn = λ later among. born.unborn later (old among);
               known = grind (arith, among_first, new_id);
               tells = λ among. (
@@ -247,7 +239,7 @@ module _ {G C : Type 0} (views : G → ClientParts → C → GlobalParts → Boo
       registers_goes = go (same_id new_id r) refl
         where
           go : (b : Bool) → same_id new_id r ≡ b → Goes s greeting (new_id ∷ []) after
-          go true is = registers_this (same_id_is new_id r is)
+          go true is = registers_this (grind (arith, eqb, eqb-true, true≢false))
           go false is = registers_other (λ same. true≢false (sym (ap (same_id new_id) (sym same) ∙ same_id_self new_id) ∙ is))
 
   -- ---- globals come and go
@@ -257,7 +249,7 @@ module _ {G C : Type 0} (views : G → ClientParts → C → GlobalParts → Boo
     pub told_all : (message : Id → Said) → ((y : Id) → sender_of (message y) ≡ y) → (log : List Said) (made : List Id)
         → (IsAmong s.registries r → TellsShown offer s.client_data log → TellsShown offer' s.client_data (log ++ map message s.registries))
         → Watch offer s log made → Watch offer' s (log ++ map message s.registries) made
-    told_all message by log made tells w = grind (arith, say_then, map, others_say, told_others)
+    told_all message by log made tells w = grind (arith, announced-append, announced_over, map, others_say, told_others)
 
     -- none is told
     pub told_none : (log : List Said) (made : List Id) → (TellsShown offer s.client_data log → TellsShown offer' s.client_data log) → Watch offer s log made → Watch offer' s log made

@@ -34,7 +34,7 @@ use Rattle.wl_server.specs.Ids.{IdParts}
 use Rattle.wl_server.specs.Reading.{Around, action_in, binds, binds_to, breaks, display_request, exchanges_in, faulted, garbled, hands_out, made_at, may_bind, other_request, reads_on, registry_request, request, row_in, server, synced, with_registry}
 use Rattle.wl_server.specs.Requests.{convert, is_valid_new, start}
 use Rattle.wl_server.specs.Stretches.{answers_in, beside_exchanges, was_killed}
-use Rattle.wl_server.specs.Telling.{Core, Did, Finish, Stops, Told, closed_down, deeds_in, deeds_of, end_deeds, killed, objects_in, with_objects}
+use Rattle.wl_server.specs.Telling.{Core, Did, Finish, Stops, Told, closed_down, deeds_in, killed, objects_in, with_objects}
 use Rattle.wl_server.proofs.Readings.OneMessage.{deeds_append}
 
 -- ---- lists of what was given
@@ -44,9 +44,6 @@ abbrev pub first_of : List (Result Handed IoFault) → Result Handed ActionError
 first_of [] = Err (Io fault.Pipe)
 first_of (Ok h ∷ answers) = Ok h
 first_of (Err f ∷ answers) = Err (Io f)
-
-pipe_not : fault.Pipe ≢ fault.WouldBlock
-pipe_not same = cc
 
 module _ {U : Type 0} where
   pub answers_both : (gave others : List (Given (Told U))) → answers_in (gave ++ others) ≡ answers_in gave ++ answers_in others
@@ -87,7 +84,7 @@ module _ {U : Type 0} where
   beside_puts [] others = refl
   beside_puts (m ∷ put) others = ap (λ (l : List (Deed U)). Put m ∷ l) (beside_puts put others)
 
-  killed_later : (did others : List (Deed U)) → was_killed others ≡ true → was_killed (did ++ others) ≡ true
+  pub killed_later : (did others : List (Deed U)) → was_killed others ≡ true → was_killed (did ++ others) ≡ true
   killed_later [] others is = is
   killed_later (Noted (Disconnected reason) ∷ did) others is = refl
   killed_later (d ∷ did) others is = killed_later did others is
@@ -96,22 +93,10 @@ module _ {U : Type 0} where
   abbrev pub IsBeside : List (Given (Told U)) → Type 0
   IsBeside gave = beside_exchanges (deeds_in gave) ≡ deeds_in gave
 
-  beside_gave : (gave others : List (Given (Told U))) → IsBeside gave → IsBeside others → IsBeside (gave ++ others)
-  beside_gave gave others first second = grind (arith, deeds_append, beside_both, deeds_in, ap₂)
-
   beside_given : (put : List Said) (events : List (Told U)) → IsBeside (map HandedOut events) → IsBeside (put_and_gave put events)
   beside_given put events quiet = grind (arith, deeds_given, beside_puts, deeds_in)
 
 module _ {U C : Type 0} where
-  -- of a call's deeds these are what was given, and the end of the client
-  pub beside_deeds : (exchanges : List (Deed U)) (gave : List (Given (Told U))) (c : Core U C) → beside_exchanges exchanges ≡ [] → IsBeside gave
-      → beside_exchanges (deeds_of exchanges gave c) ≡ deeds_in gave ++ end_deeds c.ended
-  beside_deeds exchanges gave c none quiet = grind (arith, beside_both, deeds_in, end_deeds, ap₂)
-
-  pub killed_deeds : (exchanges : List (Deed U)) (gave : List (Given (Told U))) (c : Core U C) (reason : DisconnectReason) → c.ended ≡ Some reason
-      → was_killed (deeds_of exchanges gave c) ≡ true
-  killed_deeds exchanges gave c reason is = grind (arith, killed_later, deeds_in, end_deeds, was_killed)
-
   -- ---- how a client stands
 
   -- it is live, and has no end; or it was killed, with no action open, for a reason
@@ -128,9 +113,6 @@ module _ {U C : Type 0} where
     live : c.is_killed ≡ false
     unopened : c.action ≡ None
     none : c.ended ≡ None
-
-  ready : (c : Core U C) → reads_on c ≡ true → IsSound c → IsReady c
-  ready c on sound = grind (arith, is_none, true≢false)
 
   pub on_of : (c : Core U C) → c.is_killed ≡ false → c.action ≡ None → reads_on c ≡ true
   on_of c live unopened = ap₂ (λ (b : Bool) (o : Option OpenAction). not b && is_none o) live unopened
@@ -163,7 +145,7 @@ module _ {U G C : Type 0} (a : Around G C) where
     broken : (v.puts ≢ []) → Says (map HandedOut (v.events (v.last (closed_down v.core)))) (v.last (closed_down v.core))
 
   stops_speaks : (c : Core U C) (code : ℕ) (text : List ℕ) → IsReady c → Speaks (breaks a c code text)
-  stops_speaks c code text r = grind (arith, sound_killed, says_stops, pipe_not, closed_down)
+  stops_speaks c code text r = grind (arith, sound_killed, says_stops, closed_down)
 
   garbled_speaks : (c : Core U C) → IsReady c → Speaks (garbled c)
   garbled_speaks c r = grind (arith, sound_killed, says_stops, closed_down)
@@ -197,7 +179,8 @@ module _ {U G C : Type 0} (a : Around G C) where
   objects_ready c o r = record { live = r.live; unopened = r.unopened; none = r.none }
 
   display_speaks : (c : Core U C) (opcode : ℕ) (args : List WireArgument) → IsReady c → Speaks (display_request a c opcode args)
-  display_speaks c opcode (arg.NewId n ∷ []) r = made_speaks c n _ r (grind (arith, on_of, sound_killed, pipe_not, synced, synced_ready, with_registry, registry_ready, eqb opcode 0))
+  display_speaks c opcode (arg.NewId n ∷ []) r = made_speaks c n _ r
+      (grind (arith, on_of, sound_killed, synced, synced_ready, with_registry, registry_ready, eqb opcode 0))
   display_speaks c opcode _ r = garbled_speaks c r
 
   -- ---- requests to a registry
@@ -225,9 +208,6 @@ module _ {U G C : Type 0} (a : Around G C) where
       go true t = display_speaks c m.opcode m.args r
       go false true = registry_speaks c m.args r
       go false false = grind (arith, nat_lt, stops_speaks, with_objects, objects_ready, action_speaks, convert, start, objects_in)
-
-  handles_speaks : (c : Core U C) (m : WireMessage) → IsReady c → Speaks ((server a).handles c m)
-  handles_speaks c m r = request_speaks c m (held c.store m.sender) (row_in a.table (held c.store m.sender) m.opcode) r
 
   -- ---- a verdict that was carried out
 
@@ -258,13 +238,10 @@ module _ {U C : Type 0} where
     pub quiet : IsBeside out.gave
     pub answered : IsAnswered c out e
 
-  faulted_sound : (c : Core U C) (f : IoFault) → IsReady c → IsSound (faulted c f)
-  faulted_sound c f h1 = grind (arith, sound_killed)
-
   -- what a verdict said, and then the rest
   joins_so : (c mid e : Core U C) (first : List (Given (Told U))) (lacked : Bool) (rest out : Gives (Told U)) → out ≡ given_first first lacked rest → Says first mid
       → ReadsSo mid rest e → (reads_on mid ≡ false → (rest.stopped ≡ None) × (rest.gave ≡ []) × (e ≡ mid)) → ReadsSo c out e
-  joins_so c mid e first lacked rest out h1 h2 h3 h4 = grind (arith, beside_gave, answers_in, answers_both, reads_on, given_first, true≢false, append-nil, deeds_append, beside_both, deeds_in)
+  joins_so c mid e first lacked rest out h1 h2 h3 h4 = grind (arith, deeds_append, beside_both, deeds_in, ap₂, answers_in, answers_both, reads_on, given_first, true≢false, append-nil)
 
 module _ {T U G C : Type 0} (sends : T → Queue → Result ℕ IoFault → T → Type 0) (receives : T → ℕ → Result Queue IoFault → T → Type 0)
     (a : Around G C) where
@@ -285,12 +262,15 @@ module _ {T U G C : Type 0} (sends : T → Queue → Result ℕ IoFault → T �
           → MatchResult c (λ _. Reads sends (server a) receives n (with_link p link) turns out after)
           (λ f. (turns ≡ []) × (out ≡ stops (Some f) (lacks_memory (Err f)) n) × (after ≡ record { core = faulted p.core f; link = link }))
           → (Reads sends (server a) receives n (with_link p link) turns out after → ReadsSo p.core out after.core) → ReadsSo p.core out after.core
-      go h1 more goes = grind (arith, faulted_sound, ready)
+      go h1 more goes = grind (arith, sound_killed, is_none, true≢false)
   reads_so left p after (Handled es ∷ turns) out (on, (v, link, first, lacked, mid, rest, (m, read, is), carried, split, more)) ample sound =
       let calm = both_false lacked rest.refused (sym ample ∙ ap (λ (o : Gives (Told U)). o.refused) split) in
-      let says = carried_says a sends v (subst (λ (w : Verdict (Core U C) (Told U)). Speaks a w) (sym is) (handles_speaks a p.core m (ready p.core on sound))) link es first lacked mid calm.0 carried in
+      let says = carried_says a sends v (subst (λ (w : Verdict (Core U C) (Told U)). Speaks a w) (sym is) (request_speaks a p.core m
+      (held p.core.store m.sender) (row_in a.table (held p.core.store m.sender) m.opcode)
+      (grind (arith, is_none, true≢false, p.core)))) link es first lacked mid calm.0 carried in
       joins_so p.core mid.core after.core first lacked rest out split says (reads_so left mid after turns rest more calm.1 says.sound) (λ off. reads_off left mid after turns rest off more)
-  reads_so left p after (Unread es ∷ turns) out (on, (v, link, first, lacked, mid, rest, (read, same, is), carried, split, more)) ample sound = grind (arith, both_false, garbled_speaks, ready, carried_says, joins_so, reads_off, reads_so left mid after turns rest more)
+  reads_so left p after (Unread es ∷ turns) out
+      (on, (v, link, first, lacked, mid, rest, (read, same, is), carried, split, more)) ample sound = grind (arith, both_false, garbled_speaks, is_none, true≢false, carried_says, joins_so, reads_off, reads_so left mid after turns rest more)
 
 -- ---- the end of an action
 

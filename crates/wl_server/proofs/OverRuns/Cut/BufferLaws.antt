@@ -3,24 +3,19 @@
 use Rattle.std.proofs.Common.{◌≡◌, ℕ, ◌<◌, List, [], ◌∷◌, Option, Some, Result, sym, subst, arith, true, refl}
 use Rattle.std.specs.Prelude.{MatchOption}
 use Rattle.wl_wire.specs.declared.error.IoFault.{IoFault}
-use Rattle.wl_wire.specs.Table.{InterfaceRow}
 use Rattle.wl_link.specs.Exchange.{Queue}
 use Rattle.wl_link.proofs.Readings.HoldingLaws.{puts_hold}
 use Rattle.wl_link.specs.Link.{IsFresh, LinkState}
 use Rattle.wl_server.proofs.OverRuns.Moves.BaseMoves.{Doings, Goes, Moves, any, doings_of, followed, handed_by, handed_out, notes_taken, moved, stayed, taken_out, unfelt, within}
 use Rattle.wl_server.proofs.OverRuns.Moves.BaseMovesLaw.{call_goes}
-use Rattle.wl_server.specs.Cutting.{EachIsServed}
-use Rattle.wl_server.proofs.OverRuns.Cut.CuttingLaws.{some_served}
-use Rattle.wl_server.specs.Globals.{Offer, new_offer}
+use Rattle.wl_server.specs.Globals.{Offer}
 use Rattle.wl_server.specs.Ids.{ClientParts}
-use Rattle.wl_server.proofs.OverRuns.Alone.IsolationLaw.{is_isolated}
-use Rattle.wl_server.proofs.OverRuns.Alone.OwnRuns.{AreMine, are_mine}
+use Rattle.wl_server.proofs.OverRuns.Alone.OwnRuns.{AreMine}
 use Rattle.wl_server.specs.Part.{Part}
-use Rattle.wl_server.specs.PartStep.{World, around}
-use Rattle.wl_server.specs.Runs.{Alone, Leads, Own, just_inserted, mine, offer_over}
-use Rattle.wl_server.specs.Server.{Seen, ServerState, new_server, seen}
-use Rattle.wl_server.specs.Steps.{Entry, offer_after}
-use Rattle.wl_server.specs.Telling.{reader_part}
+use Rattle.wl_server.specs.PartStep.{World}
+use Rattle.wl_server.specs.Runs.{Alone, Own}
+use Rattle.wl_server.specs.Server.{Seen}
+use Rattle.wl_server.specs.Steps.{offer_after}
 
 alike : {T : Type 0} (l k : LinkState T) → k.outgoing_capacity ≡ l.outgoing_capacity → 0 < l.outgoing_capacity → 0 < k.outgoing_capacity
 alike l k same holds = subst (λ (n : ℕ). 0 < n) (sym same) holds
@@ -33,11 +28,8 @@ module _ {T U C : Type 0} where
   abbrev SeenHolds : Seen T U C → Type 0
   SeenHolds s = MatchOption s.part (Unit {0}) (λ p. Holds p)
 
-  holds_at : (s : Seen T U C) (p : Part T U C) → s.part ≡ Some p → SeenHolds s → Holds p
+  pub holds_at : (s : Seen T U C) (p : Part T U C) → s.part ≡ Some p → SeenHolds s → Holds p
   holds_at s p there holds = subst (λ (x : Option (Part T U C)). MatchOption x (Unit {0}) (λ q. Holds q)) {x = s.part} {y = Some p} there holds
-
-  as_before : (p q : Part T U C) → q ≡ p → Holds p → Holds q
-  as_before p q same holds = subst Holds (sym same) holds
 
   over_link : (p q : Part T U C) (link : LinkState T) → q ≡ record p { link = link } → 0 < link.outgoing_capacity → Holds q
   over_link p q link same holds = subst Holds (sym same) holds
@@ -45,7 +37,7 @@ module _ {T U C : Type 0} where
 module _ {T U C : Type 0} (sends : T → Queue → Result ℕ IoFault → T → Type 0) (receives : T → ℕ → Result Queue IoFault → T → Type 0)
     (client : ClientParts) where
   moves_hold : (p q : Part T U C) (d : Doings U) → Moves (any true) sends receives client p d q → Holds p → Holds q
-  moves_hold p q d (stayed is same) holds = as_before p q same holds
+  moves_hold p q d (stayed is same) holds = subst Holds (sym same) holds
   moves_hold p q d (followed {m = m} {a = a} {b = b} first second is) holds = moves_hold m q b second (moves_hold p m a first holds)
   moves_hold p q d (handed_out {a = a} ids moves among is) holds = moves_hold p q a moves holds
   moves_hold p q d (moved move) holds = grind (arith, puts_hold)
@@ -54,19 +46,11 @@ module _ {T U C : Type 0} (sends : T → Queue → Result ℕ IoFault → T → 
   goes_hold s t d h1 h2 = grind (arith, unfelt, notes_taken, within, moves_hold, holds_at, taken_out)
 
 module _ {T U G C : Type 0} (w : World T G C) (id : ClientParts) where
-  run_holds : (offer : Offer G) (s : Seen T U C) (run : List (Own T U G C)) (t : Seen T U C) → AreMine id run → Alone w id offer s run t → SeenHolds s → SeenHolds t
+  pub run_holds : (offer : Offer G) (s : Seen T U C) (run : List (Own T U G C)) (t : Seen T U C) → AreMine id run → Alone w id offer s run t → SeenHolds s → SeenHolds t
   run_holds offer s [] t own same holds = subst SeenHolds (sym same) holds
   run_holds offer s (e ∷ run) t own (mid, by, alone) holds =
       run_holds (offer_after offer e.call) mid run t own.1 alone
       (goes_hold w.sends w.receives id s mid (doings_of (handed_by id e.call e.did) e.did) (call_goes true w id offer e.call s e.lacked e.did mid own.0 by (λ cleans. refl)) holds)
 
-fresh_holds : {T : Type 0} (transport : T) (limit : Option ℕ) (link : LinkState T) → IsFresh transport limit link → 0 < link.outgoing_capacity
+pub fresh_holds : {T : Type 0} (transport : T) (limit : Option ℕ) (link : LinkState T) → IsFresh transport limit link → 0 < link.outgoing_capacity
 fresh_holds {T = T} transport limit link h5 = grind (arith)
-
-module _ {T U G C : Type 0} where
-  pub each_served : (w : World T G C) (table : List InterfaceRow) (run : List (Entry T U G C)) (after : ServerState T U G C) → Leads w (new_server table) run after
-      → EachIsServed w run after
-  each_served w table run after leads id transport client_data earlier later e split inserts p there more finishes =
-      let (link, fresh, alone) = (is_isolated w table run after leads).each id transport client_data earlier later e split inserts in
-      some_served (around w id after.offer) (reader_part p) more finishes
-      (grind (arith, holds_at, seen, run_holds, offer_over, new_offer, just_inserted, mine, are_mine, fresh_holds))

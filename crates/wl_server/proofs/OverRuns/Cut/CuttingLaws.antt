@@ -7,7 +7,7 @@ use Rattle.wl_wire.specs.declared.error.IoFault.{IoFault}
 use Rattle.wl_link.proofs.Readings.AnsweringLaws.{some_answered}
 use Rattle.wl_link.proofs.Readings.CuttingLaws.{finish_law, reading_law}
 use Rattle.wl_link.specs.Exchange.{Queue, Sending, nothing}
-use Rattle.wl_link.specs.Reader.{AllFed, CarriesOut, Ends, Given, Gives, Reads, Turn, Verdict, received_in, sends_in, ReaderState}
+use Rattle.wl_link.specs.Reader.{AllFed, CarriesOut, Ends, Given, Gives, Reads, Turn, received_in, sends_in, ReaderState}
 use Rattle.wl_link.specs.Served.{Answers, AsTold, state_as}
 use Rattle.wl_link.proofs.Readings.ServedLaws.{served_one, told_function}
 use Rattle.wl_server.specs.declared.reading.action.Reading.{Reading}
@@ -27,11 +27,11 @@ use Rattle.wl_server.proofs.OverRuns.Alone.IsolationLaw.{same_self}
 use Rattle.wl_server.specs.Part.{Part}
 use Rattle.wl_server.specs.PartStep.{Asked, Call, OfClient, OnPart, PartCall, ReadsFor, World, around}
 use Rattle.wl_server.proofs.OverRuns.Cut.ReaderLaws.{EndsAlike, bind_ends_alike, request_ends_alike}
-use Rattle.wl_server.specs.Reading.{Around, NextAction, ReadsTo, action_content, new_reading, reads_on, server, takes}
+use Rattle.wl_server.specs.Reading.{Around, NextAction, ReadsTo, action_content, new_reading, server}
 use Rattle.wl_server.proofs.OverRuns.Ids.ReplyLaws.{own_step}
 use Rattle.wl_server.specs.Server.{Seen, ServerState, seen}
 use Rattle.wl_server.specs.Steps.{Entry, IsRefused, OneStep}
-use Rattle.wl_server.specs.Telling.{Core, Finish, OfBind, OfRequest, Told, core_of, deeds_of, part_of, reader_part}
+use Rattle.wl_server.specs.Telling.{Core, Finish, OfBind, OfRequest, Told, core_of, deeds_of, reader_part}
 
 -- ---- a reading, and the end of an action
 
@@ -43,11 +43,6 @@ module _ {T U G C : Type 0} (sends : T → Queue → Result ℕ IoFault → T �
   reading_cuts left p end turns out reads fed ample finishes =
       reading_law sends receives AsTold (server a) told_function (λ c. refl) left p end turns out reads fed ample finishes
 
-  -- so does what is ended
-  pub ending_cuts : (p end : ReaderState T (Core U C)) (u : Finish U) (es : List Sending) (gave : List (Given (Told U))) → reads_on p.core ≡ false
-      → Ends sends (server a) p u es gave false end → (finishes : List (Finish U)) → GoesOn a p nothing es (u ∷ finishes) gave end finishes
-  ending_cuts p end u es gave off ends finishes = finish_law sends receives AsTold (server a) told_function p end u es gave off ends finishes
-
   -- ---- of a client
 
   -- a reading of a live client with no action open is one of the reader
@@ -57,28 +52,9 @@ module _ {T U G C : Type 0} (sends : T → Queue → Result ℕ IoFault → T �
 
 -- ---- what is open
 
-module _ {U C : Type 0} where
-  -- a client of which something is ended is not read on
-  pub taken_off : (client : ClientParts) (c : Core U C) (u : Finish U) (v : Verdict (Core U C) (Told U)) → takes client c u ≡ Some v → reads_on c ≡ false
-  taken_off client c u v is = grind (arith, finishing, is_none, none-some)
-
-module _ {T U C : Type 0} where
-  -- a finish that is accepted lacked no memory
-  accepted_ample : (sends : T → Queue → Result ℕ IoFault → T → Type 0) (client : ClientParts) (p : Part T U C) (u : Option U) (lacked : Bool) (did : List (Deed U)) (q : Part T U C)
-      → FinishesRequest sends client p u (Ok tt) lacked did q → lacked ≡ false
-  accepted_ample sends client p u lacked did q h = grind (arith, refusal, true≢false, is_ok)
-
-  bound_ample : (p : Part T U C) (u : U) (lacked : Bool) (did : List (Deed U)) (q : Part T U C) → FinishesBind p u (Ok tt) lacked did q → lacked ≡ false
-  bound_ample p u lacked did q h = grind (arith)
-
 module _ {T U G C : Type 0} (w : World T G C) (id : ClientParts) (offer : Offer G) (before after : Seen T U C) where
   abbrev here : Around G C
   here = around w id offer
-
-  -- what is held of a client, by its part
-  held_so : (q : Part T U C) (end : ReaderState T (Core U C)) (did : List (Deed U)) → after ≡ record { part = Some q; made = before.made ++ notes_in did }
-      → q ≡ part_of end → after ≡ seen_after here before end did
-  held_so q end did same is = same ∙ ap (λ (x : Part T U C). let s : Seen T U C = record { part = Some x; made = before.made ++ notes_in did } in s) is
 
   pub of_part : (R : Part T U C → Part T U C → Type 0) (missing : Type 0) (lacked : Bool) (did : List (Deed U)) (p : Part T U C) → before.part ≡ Some p
       → OnPart before R missing lacked did after → (q : Part T U C) × R p q × (after ≡ record { part = Some q; made = before.made ++ notes_in did })
@@ -95,7 +71,7 @@ module _ {T U G C : Type 0} (w : World T G C) (id : ClientParts) (offer : Offer 
         reads,
         is,
         did_so,
-        held_so q end did same ends,
+        (same ∙ ap (λ (x : Part T U C). let s : Seen T U C = record { part = Some x; made = before.made ++ notes_in did } in s) ends),
         λ fed finishes. reading_cuts w.sends w.receives here r.turns_left (reader_part p) end turns out reads fed (sym lacks ∙ unlacked) finishes,
       )
 
@@ -115,8 +91,9 @@ module _ {T U G C : Type 0} (w : World T G C) (id : ClientParts) (offer : Offer 
         end,
         by,
         did_so,
-        held_so q end did same ends,
-        λ finishes. ending_cuts w.sends w.receives here (reader_part p) end u es gave (taken_off id (core_of p) u v taken) by finishes,
+        (same ∙ ap (λ (x : Part T U C). let s : Seen T U C = record { part = Some x; made = before.made ++ notes_in did } in s) ends),
+        λ finishes. (finish_law w.sends w.receives AsTold (server here) told_function (reader_part p) end u es gave
+            (grind (arith, finishing, is_none, none-some, core_of p)) by finishes),
       )
 
   pub seen_finishes : (u : Option U) (answer : Result (Unit {0}) (FinishRefused (Option U))) (lacked : Bool) (did : List (Deed U))
@@ -126,7 +103,7 @@ module _ {T U G C : Type 0} (w : World T G C) (id : ClientParts) (offer : Offer 
   seen_finishes u answer lacked did h p there live accepted =
       let (q, next, same) = of_part _ _ lacked did p there (own_step (same_client id id) before _ _ lacked did after (same_self id) h) in
       let done = subst (λ (r : Result (Unit {0}) (FinishRefused (Option U))). FinishesRequest w.sends id p u r lacked did q) accepted next in
-      seen_ends (OfRequest u) lacked did p q (accepted_ample w.sends id p u lacked did q done) (request_ends_alike w.sends here p u lacked did q live done) same
+      seen_ends (OfRequest u) lacked did p q (grind (arith, refusal, true≢false, is_ok, w.sends)) (request_ends_alike w.sends here p u lacked did q live done) same
 
   pub seen_finishes_bind : (u : U) (answer : Result (Unit {0}) (FinishRefused U)) (lacked : Bool) (did : List (Deed U))
       → OfClient (same_client id id) before (λ p q. FinishesBind p u answer lacked did q)
@@ -135,7 +112,7 @@ module _ {T U G C : Type 0} (w : World T G C) (id : ClientParts) (offer : Offer 
   seen_finishes_bind u answer lacked did h p there live accepted =
       let (q, next, same) = of_part _ _ lacked did p there (own_step (same_client id id) before _ _ lacked did after (same_self id) h) in
       let done = subst (λ (r : Result (Unit {0}) (FinishRefused U)). FinishesBind p u r lacked did q) accepted next in
-      seen_ends (OfBind u) lacked did p q (bound_ample p u lacked did q done) (bind_ends_alike w.sends here p u lacked did q live done) same
+      seen_ends (OfBind u) lacked did p q (grind (arith)) (bind_ends_alike w.sends here p u lacked did q live done) same
 
 -- ---- the calls of a server
 

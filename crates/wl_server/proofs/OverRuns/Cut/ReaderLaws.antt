@@ -1,6 +1,6 @@
 -- That what is told to a client outside a reading is told as in one, and that the end of an action is what the reader makes
 -- of it.
-use Rattle.std.proofs.Common.{◌≡◌, ℕ, inl, Bool, false, List, [], Option, None, Some, Result, Ok, Err, is_ok, map, refl, ap, true≢false, arith}
+use Rattle.std.proofs.Common.{◌≡◌, ℕ, inl, Bool, false, List, [], Option, None, Some, Result, Ok, is_ok, map, refl, ap, true≢false, arith}
 use Rattle.std.specs.Prelude.{MatchOption}
 use Rattle.wl_wire.specs.declared.error.IoFault.{IoFault}
 use Rattle.wl_link.specs.Exchange.{Queue, Sending}
@@ -11,16 +11,12 @@ use Rattle.wl_server.specs.declared.reading.action.OpenAction.{OpenAction}
 use Rattle.wl_server.specs.declared.reading.action.OpenAction.TheVariants as opened
 use Rattle.wl_server.specs.declared.error.FinishError.{FinishError}
 use Rattle.wl_server.specs.declared.error.FinishError.TheVariants as finish
-use Rattle.wl_server.specs.declared.error.FinishRefused.{FinishRefused}
 use Rattle.wl_server.specs.Deeds.{Deed, Sent}
 use Rattle.wl_server.specs.Finish.{EndsRequest, FinishesBind, FinishesOpenBind, FinishesRequest, Refuses, core_finished, finish_verdict, ends_request, refusal}
 use Rattle.wl_server.specs.Ids.{IdParts}
 use Rattle.wl_server.specs.Part.{Part}
 use Rattle.wl_server.specs.Reading.{Around, server}
 use Rattle.wl_server.specs.Telling.{Core, Finish, OfBind, OfRequest, Told, core_of, deeds_of, part_of, reader_part, speaker}
-
-pub answered_not : {D : Type 0} (e : FinishRefused D) → ◌≡◌ {A = Result (Unit {0}) (FinishRefused D)} (Ok tt) (Err e) → ⊥
-answered_not e is = true≢false (ap is_ok is)
 
 module _ {T U G C : Type 0} (sends : T → Queue → Result ℕ IoFault → T → Type 0) (a : Around G C) where
   pub carried_alike : (v : Verdict (Core U C) (Told U)) (link : LinkState T) (es : List Sending) (gave : List (Given (Told U))) (refused : Bool)
@@ -36,13 +32,13 @@ module _ {T U G C : Type 0} (sends : T → Queue → Result ℕ IoFault → T �
 
   pub request_ends_alike : (before : Part T U C) (u : Option U) (refused : Bool) (did : List (Deed U)) (after : Part T U C) → before.is_killed ≡ false
       → FinishesRequest sends a.client before u (Ok tt) refused did after → EndsAlike before (OfRequest u) refused did after
-  request_ends_alike before u refused did after live h = grind (arith, answered_not, ended, refusal, before.action)
+  request_ends_alike before u refused did after live h = grind (arith, true≢false, is_ok, ended, refusal, before.action)
     where
       ended : (sender : IdParts) (d : Bool) (created : Option IdParts) (e : Option FinishError) → before.action ≡ Some (opened.Request sender d created)
           → refusal before.is_killed created u ≡ e
           → MatchOption e (EndsRequest sends a.client before sender d created u (Ok tt) refused did after) (λ e. Refuses before u e (Ok tt) refused did after)
           → EndsAlike before (OfRequest u) refused did after
-      ended sender d created (Some e) is_open accepted h = absurd (answered_not _ h.0)
+      ended sender d created (Some e) is_open accepted h = absurd (true≢false (ap is_ok h.0))
       ended sender d created None is_open accepted (answer, (es, gave, end, carried, did_so, is)) = (
         es,
         gave,
@@ -60,8 +56,8 @@ module _ {T U G C : Type 0} (sends : T → Queue → Result ℕ IoFault → T �
       at : (action : Option OpenAction) → before.action ≡ action
           → MatchOption action (Refuses before u finish.NoOpenAction (Ok tt) refused did after) (λ a'. FinishesOpenBind before a' u (Ok tt) refused did after)
           → EndsAlike before (OfBind u) refused did after
-      at None is_open h = absurd (answered_not _ h.0)
-      at (Some (opened.Request sender d created)) is_open h = absurd (answered_not _ h.0)
+      at None is_open h = absurd (true≢false (ap is_ok h.0))
+      at (Some (opened.Request sender d created)) is_open h = absurd (true≢false (ap is_ok h.0))
       at (Some (opened.Bind object)) is_open (answer, no_memory, did_so, is) = (
         [],
         [],

@@ -11,8 +11,6 @@ use Rattle.wl_link.specs.Puts.{lacks_memory}
 use Rattle.wl_link.specs.Reader.{Gives, Handled, Reads, Received, Turn, Unread, stops, with_link, ReaderState}
 use Rattle.wl_server.specs.declared.reading.action.Reading.{Reading}
 use Rattle.wl_server.specs.declared.error.ActionError.{ActionError}
-use Rattle.wl_server.specs.declared.runs.step.Reply.{Reply}
-use Rattle.wl_server.specs.declared.runs.step.Step.TheVariants as step
 use Rattle.wl_server.specs.Deeds.{IsAmong, came_in, Deed, Handed, Sent}
 use Rattle.wl_server.proofs.OverRuns.Moves.BaseMoves.{Doings}
 use Rattle.wl_server.proofs.OverRuns.Moves.DoingsLaws.{doings_in_both}
@@ -20,10 +18,10 @@ use Rattle.wl_server.specs.Globals.{Offer}
 use Rattle.wl_server.specs.Ids.{ClientParts, same_client}
 use Rattle.wl_server.proofs.Plain.ReadingNotes.{reads_bare}
 use Rattle.wl_server.specs.Part.{Part}
-use Rattle.wl_server.specs.PartStep.{Asked, ReadsFor, World, around}
-use Rattle.wl_server.specs.Reading.{Around, NextAction, action_content, exchanges_in, faulted, new_reading, server}
-use Rattle.wl_server.specs.Room.{BringsNone, HasRoom, LeavesRoom}
-use Rattle.wl_server.specs.Server.{Seen, ServerState, seen}
+use Rattle.wl_server.specs.PartStep.{ReadsFor, World, around}
+use Rattle.wl_server.specs.Reading.{Around, NextAction, exchanges_in, faulted, server}
+use Rattle.wl_server.specs.Room.{BringsNone, LeavesRoom}
+use Rattle.wl_server.specs.Server.{Seen}
 use Rattle.wl_server.specs.Telling.{Core, Told, deeds_in, deeds_of, end_deeds, reader_part}
 
 -- ---- a receive
@@ -93,7 +91,7 @@ module _ {T U G C : Type 0} (sends : T → Queue → Result ℕ IoFault → T �
 -- ---- a call
 
 module _ {T U G C : Type 0} (w : World T G C) where
-  reads_for_room : (id target : ClientParts) (offer : Offer G) (reading : Reading) (answer : Result Handed ActionError) (left : Reading) (before after : Seen T U C)
+  pub reads_for_room : (id target : ClientParts) (offer : Offer G) (reading : Reading) (answer : Result Handed ActionError) (left : Reading) (before after : Seen T U C)
       (lacked : Bool) (did : List (Deed U)) (p : Part T U C) → ReadsFor w id offer target reading answer left before lacked did after → after.part ≡ Some p
       → LeavesRoom did p.link
   reads_for_room id target offer reading answer left before after lacked did p h there =
@@ -107,11 +105,3 @@ module _ {T U G C : Type 0} (w : World T G C) where
                   (next_action_room w.sends w.receives (around w id offer) reading q answer left lacked did r read)
             ]
       ]
-
-  pub next_has_room : (before after : ServerState T U G C) (target : ClientParts) (answer : Reply T U)
-      → HasRoom w before (Asked (step.NextAction target) answer) after
-  next_has_room before after target answer e id p call by there = grind (arith, seen, reads_for_room, new_reading, action_content)
-
-  pub within_has_room : (before after : ServerState T U G C) (target : ClientParts) (reading : Reading) (answer : Reply T U)
-      → HasRoom w before (Asked (step.NextActionWithin target reading) answer) after
-  within_has_room before after target reading answer e id p call by there = grind (arith, seen, reads_for_room, action_content)

@@ -1,7 +1,7 @@
 -- That what a stretch of a client's own run gives is what is served of all that arrived.
 --
 -- Its entries are acts of the client as a reader: those that are refused change nothing, and are none.
-use Rattle.std.proofs.Common.{◌≡◌, ◌≢◌, ◌⊎◌, ℕ, Bool, true, false, List, [], ◌∷◌, ◌++◌, append_assoc, append-nil, Option, None, Some, Result, Ok, Err, map, refl, sym, ap, ap₂, subst, ◌∙◌, true≢false, arith}
+use Rattle.std.proofs.Common.{◌≡◌, ◌⊎◌, ℕ, Bool, true, false, List, [], ◌∷◌, ◌++◌, append_assoc, append-nil, Option, None, Some, Result, Ok, Err, map, refl, sym, ap, ap₂, subst, ◌∙◌, true≢false, arith}
 use mathlib.Core.Logic.{inl, inr}
 use Rattle.std.proofs.lemmas.Option.{same_Some, none-some}
 use Rattle.std.specs.Prelude.{MatchBool}
@@ -22,34 +22,35 @@ use Rattle.wl_link.proofs.Stretches.StretchLaws.{acts_pieces, arrived-append, cu
 use Rattle.wl_server.specs.declared.reading.action.Reading.{Reading}
 use Rattle.wl_server.specs.declared.error.ActionError.{ActionError}
 use Rattle.wl_server.specs.declared.error.ActionError.TheVariants.{Io}
-use Rattle.wl_server.specs.declared.error.FinishRefused.{FinishRefused}
 use Rattle.wl_server.specs.declared.error.ScriptError.{ScriptError}
 use Rattle.wl_server.specs.declared.notes.DisconnectReason.{DisconnectReason}
 use Rattle.wl_server.specs.declared.runs.step.Reply.{Reply}
 use Rattle.wl_server.specs.declared.runs.step.Reply.TheVariants as reply
 use Rattle.wl_server.specs.declared.runs.step.Step.{Step}
 use Rattle.wl_server.specs.declared.runs.step.Step.TheVariants as step
-use Rattle.wl_server.proofs.OverRuns.Cut.AnswerLaws.{IsSound, ReadsSo, action_first, answers_both, beside_both, beside_deeds, beside_sends, beside_turns, ends_so, first_of, killed_deeds, on_of, reads_so}
-use Rattle.wl_server.proofs.OverRuns.Cut.CuttingLaws.{of_part, taken_off}
+use Rattle.wl_server.proofs.OverRuns.Cut.AnswerLaws.{IsSound, ReadsSo, action_first, answers_both, beside_both, beside_sends, beside_turns, ends_so, first_of, on_of, reads_so}
+use Rattle.wl_server.proofs.OverRuns.Cut.CuttingLaws.{of_part}
 use Rattle.wl_server.specs.Deeds.{Deed, Handed, Sent}
 use Rattle.wl_server.specs.Finish.{FinishesBind, FinishesRequest}
 use Rattle.wl_server.specs.Globals.{Offer}
 use Rattle.wl_server.specs.Ids.{ClientParts, GlobalParts}
 use Rattle.wl_server.proofs.OverRuns.Alone.IsolationLaw.{alone_run}
-use Rattle.wl_server.specs.Moves.{ArrivesWith, Becomes, nothing_taken}
-use Rattle.wl_server.specs.Moves as moves
+use Rattle.wl_server.specs.Moves.{ArrivesWith, nothing_taken}
 use Rattle.wl_server.specs.Part.{Part, with_link}
 use Rattle.wl_server.specs.PartStep.{Asked, Call, OfClient, PartCall, World, around, over_scripts}
 use Rattle.wl_server.proofs.OverRuns.Cut.ReaderLaws.{EndsAlike, bind_ends_alike, request_ends_alike}
 use Rattle.wl_server.specs.Reading.{Around, NextAction, ReadsNone, ReadsTo, action_content, answered as answered_so, exchanges_in, new_reading, reads_on, server}
 use Rattle.wl_server.proofs.OverRuns.Ids.ReplyLaws.{own_step}
-use Rattle.wl_server.specs.Runs.{Alone, Leads, Own, concerns, history, mine}
+use Rattle.wl_server.specs.Runs.{Alone, Own, concerns, history, mine}
 use Rattle.wl_server.specs.Server.{Seen, ServerState, seen}
 use Rattle.wl_server.specs.Steps.{Entry}
-use Rattle.wl_server.specs.Stretches.{AllHeard, EachIsCut, EachPartIsCut, EndsWaiting, IsHeard, StretchIsServed, IsStretch, IsStretchWithin, SameLeft, handed_out, answers_in, arrived, arrived_by, beside_exchanges, finished, finished_by, left_in, reading_by, told_by, was_killed}
+use Rattle.wl_server.specs.Stretches.{AllHeard, EachPartIsCut, EndsWaiting, IsHeard, StretchIsServed, IsStretch, IsStretchWithin, SameLeft, handed_out, answers_in, arrived, arrived_by, beside_exchanges, finished, finished_by, left_in, reading_by, told_by, was_killed}
 use Rattle.wl_server.specs.Telling.{Core, Finish, OfBind, OfRequest, Told, core_of, deeds_in, deeds_of, end_deeds, part_of, reader_part}
 use Rattle.wl_server.proofs.Readings.OneMessage.{deeds_append}
-use Rattle.wl_server.proofs.OverRuns.Cut.ReaderLaws.{answered_not}
+use Rattle.wl_server.proofs.OverRuns.Cut.AnswerLaws.{killed_later}
+use Rattle.std.proofs.Common.{is_none}
+use Rattle.std.proofs.Common.{is_ok}
+use Rattle.wl_server.specs.Finish.{finishing}
 
 -- ---- what a reading told
 
@@ -57,10 +58,6 @@ use Rattle.wl_server.proofs.OverRuns.Cut.ReaderLaws.{answered_not}
 abbrev fault_of : Result Handed ActionError → Option IoFault
 fault_of (Err (Io f)) = Some f
 fault_of _ = None
-
-module _ {U : Type 0} where
-  told_killed : (f : IoFault) (did : List (Deed U)) → f ≢ fault.WouldBlock → was_killed did ≡ true → told_by (Some (Err (Io f))) did ≡ Err f ∷ []
-  told_killed f did h1 h2 = grind (arith)
 
 module _ {U C : Type 0} (c e : Core U C) (out : Gives (Told U)) (on : reads_on c ≡ true) (so : ReadsSo c out e) (answer : Result Handed ActionError)
     (is : answer ≡ answered_so out.stopped out.gave) where
@@ -72,28 +69,12 @@ module _ {U C : Type 0} (c e : Core U C) (out : Gives (Told U)) (on : reads_on c
   stopped_is f stopped = is ∙ ap (λ (o : Option IoFault). answered_so o out.gave) stopped
 
   told_so : (exchanges : List (Deed U)) → ((f : IoFault) → out.stopped ≡ Some f → f ≡ fault.WouldBlock) → told_by (Some answer) (deeds_of exchanges out.gave e) ≡ answers_in out.gave
-  told_so exchanges h1 = grind (arith, told_by, deeds_of, answers_in, stopped_is, true≢false, over_is, told_killed, killed_deeds, answered_so, action_first, first_of)
+  told_so exchanges h1 = grind (arith, told_by, deeds_of, answers_in, stopped_is, true≢false, over_is, killed_later, deeds_in, end_deeds, was_killed, answered_so, action_first, first_of)
 
   blocks_so : answer ≡ Err (Io fault.WouldBlock) → out.stopped ≡ Some fault.WouldBlock
   blocks_so h1 = grind (arith, fault_of, stopped_is, true≢false, none-some, over_is, same_Some, answered_so, action_first, first_of)
 
 -- ---- finishes that are refused, or are not
-
-module _ {T U C : Type 0} where
-  request_refused : (sends : T → Queue → Result ℕ IoFault → T → Type 0) (client : ClientParts) (p : Part T U C) (u : Option U) (e : FinishRefused (Option U)) (did : List (Deed U)) (q : Part T U C)
-      → FinishesRequest sends client p u (Err e) false did q → (did ≡ []) × (q ≡ p)
-  request_refused sends client p u e did q h = grind (arith, answered_not)
-
-  bind_refused : (p : Part T U C) (u : U) (e : FinishRefused U) (did : List (Deed U)) (q : Part T U C) → FinishesBind p u (Err e) false did q → (did ≡ []) × (q ≡ p)
-  bind_refused p u e did q h = grind (arith, answered_not)
-
-  -- where no action is open none is finished
-  request_open : (sends : T → Queue → Result ℕ IoFault → T → Type 0) (client : ClientParts) (p : Part T U C) (u : Option U) (did : List (Deed U)) (q : Part T U C) → p.action ≡ None
-      → FinishesRequest sends client p u (Ok tt) false did q → ⊥
-  request_open sends client p u did q unopened h = grind (arith, answered_not, none-some)
-
-  bind_open : (p : Part T U C) (u : U) (did : List (Deed U)) (q : Part T U C) → p.action ≡ None → FinishesBind p u (Ok tt) false did q → ⊥
-  bind_open p u did q unopened h = grind (arith, answered_not, none-some)
 
 module _ {G C : Type 0} (views : G → ClientParts → C → GlobalParts → Bool) (id : ClientParts) (offer : Offer G) where
   abbrev w : World Script G C
@@ -168,7 +149,7 @@ module _ {G C : Type 0} (views : G → ClientParts → C → GlobalParts → Boo
             does = (end, (ample, (left, turns, reads)), refl);
             came_in = joined_nothing nothing ∙ sym came;
             ended_with = sym ended;
-            deeds = grind (arith, ap₂, end_deeds, beside_exchanges, beside_deeds, exchanges_in, beside_turns, deeds_in, append-nil);
+            deeds = grind (arith, ap₂, end_deeds, beside_exchanges, beside_both, deeds_in, exchanges_in, beside_turns, append-nil);
             sound = so.sound;
             answers = λ all roomy.
                 ap₂ told_by told did_so
@@ -188,10 +169,10 @@ module _ {G C : Type 0} (views : G → ClientParts → C → GlobalParts → Boo
             mid = end;
             ends = same;
             acts = HasEnded u gave ∷ [];
-            does = (end, (taken_off id s.core u by.0 by.1, (es, by)), refl);
+            does = (end, ((grind (arith, finishing, is_none, none-some, s.core, by.0, by.1)), (es, by)), refl);
             came_in = joined_nothing nothing ∙ sym came;
             ended_with = sym ended;
-            deeds = grind (arith, ap₂, end_deeds, beside_exchanges, beside_deeds, map, beside_sends, deeds_in, append-nil);
+            deeds = grind (arith, ap₂, end_deeds, beside_exchanges, beside_both, deeds_in, map, beside_sends, append-nil);
             sound = so.sound;
             answers = λ all roomy. ap (λ (o : Option (Result Handed ActionError)). told_by o did) unread ∙ sym so.none ∙ ap answers_in (sym (append-nil gave));
             waits = λ is before. absurd (none-some _ (sym unread ∙ is));
@@ -248,14 +229,14 @@ module _ {G C : Type 0} (views : G → ClientParts → C → GlobalParts → Boo
       request_acts u ended unread h = by_standing sound
         where
           by_standing : IsSound s.core → Acts s call did q
-          by_standing (inr (dead, none, reason)) = absurd (request_open ScriptSends id (part_of s) u did q none h)
+          by_standing (inr (dead, none, reason)) = absurd (grind (arith, true≢false, is_ok, none-some, part_of s))
           by_standing (inl (live, unended)) = end_acts (OfRequest u) ended unread unended (request_ends_alike ScriptSends a (part_of s) u false did q live h)
 
       bind_acts : (u : U) → finished_by call ≡ OfBind u ∷ [] → reading_by call ≡ None → FinishesBind (part_of s) u (Ok tt) false did q → Acts s call did q
       bind_acts u ended unread h = by_standing sound
         where
           by_standing : IsSound s.core → Acts s call did q
-          by_standing (inr (dead, none, reason)) = absurd (bind_open (part_of s) u did q none h)
+          by_standing (inr (dead, none, reason)) = absurd (grind (arith, true≢false, is_ok, none-some, part_of s))
           by_standing (inl (live, unended)) = end_acts (OfBind u) ended unread unended (bind_ends_alike ScriptSends a (part_of s) u false did q live h)
 
     -- ---- an entry
@@ -269,10 +250,6 @@ module _ {G C : Type 0} (views : G → ClientParts → C → GlobalParts → Boo
 
     abbrev Stepped : ReaderState Script (Core U C) → Call Script U G C → List (Deed U) → Seen Script U C → Type 0
     Stepped s call did after = (q : Part Script U C) × (after.part ≡ Some q) × Acts s call did q
-
-    moved_on : (s : ReaderState Script (Core U C)) (r : Result Queue IoFault) (t : Script) (q : Part Script U C) → t ≡ moves.with_arrival s.link.transport r
-        → q ≡ with_link (part_of s) (with_transport s.link t) → q ≡ part_of (with_arrival s r)
-    moved_on s r t q is to = to ∙ ap (λ (x : Script). with_link (part_of s) (with_transport s.link x)) is
 
     -- the part makes a step, and so does the client as a reader
     stepped : (s : ReaderState Script (Core U C)) (before after : Seen Script U C) (call : Call Script U G C) (did : List (Deed U)) (b : Bool)
@@ -289,11 +266,13 @@ module _ {G C : Type 0} (views : G → ClientParts → C → GlobalParts → Boo
         (λ q (unasked, none, (t, moved, to)).
         let chunk : Queue = record { bytes = bytes.items; tokens = tokens.items } in
         let arrives = subst (λ (x : Result (Unit {0}) ScriptError). ArrivesWith s.link.transport chunk (nothing_taken x) t) (ap arrive_answer (sym is ∙ taken)) moved in
-        acts_arrived s (Asked (step.Arrive target bytes tokens) answer) did q (Ok chunk) some (moved_on s (Ok chunk) t q arrives.2 to) none sound refl refl refl)
+        acts_arrived s (Asked (step.Arrive target bytes tokens) answer) did q (Ok chunk) some (to ∙ ap (λ (x : Script). with_link (part_of s)
+        (with_transport s.link x)) arrives.2) none sound refl refl refl)
     step_acts s before after (Asked (step.ArriveFault target f) answer) did there about blocked (r, is, h) sound =
         stepped s before after (Asked (step.ArriveFault target f) answer) did _ _ _ about there h
         (λ q (unasked, none, (t, moved, to)).
-        acts_arrived s (Asked (step.ArriveFault target f) answer) did q (Err f) blocked (moved_on s (Err f) t q (grind (arith, true≢false)) to) none sound refl refl refl)
+        acts_arrived s (Asked (step.ArriveFault target f) answer) did q (Err f) blocked (to ∙ ap (λ (x : Script). with_link (part_of s)
+        (with_transport s.link x)) (grind (arith, true≢false))) none sound refl refl refl)
     step_acts s before after (Asked (step.NextAction target) answer) did there about heard (r, left, is, h) sound =
         stepped s before after (Asked (step.NextAction target) answer) did _ _ _ about there h
         (λ q next. read_acts s (Asked (step.NextAction target) answer) did q sound refl new_reading left (action_content r)
@@ -308,7 +287,7 @@ module _ {G C : Type 0} (views : G → ClientParts → C → GlobalParts → Boo
         (ap (λ (x : Reply Script U). finished_by (asked (step.FinishRequest target u) x)) is) refl next)
     step_acts s before after (Asked (step.FinishRequest target u) answer) did there about heard (Err e, is, h) sound =
         stepped s before after (Asked (step.FinishRequest target u) answer) did _ _ _ about there h
-        (λ q next. refused_acts s (Asked (step.FinishRequest target u) answer) did q sound refl (request_refused ScriptSends id (part_of s) u e did q next)
+        (λ q next. refused_acts s (Asked (step.FinishRequest target u) answer) did q sound refl (grind (arith, true≢false, is_ok, part_of s))
         (ap (λ (x : Reply Script U). finished_by (asked (step.FinishRequest target u) x)) is) refl)
     step_acts s before after (Asked (step.FinishBind target u) answer) did there about heard (Ok tt, is, h) sound =
         stepped s before after (Asked (step.FinishBind target u) answer) did _ _ _ about there h
@@ -316,7 +295,7 @@ module _ {G C : Type 0} (views : G → ClientParts → C → GlobalParts → Boo
         (ap (λ (x : Reply Script U). finished_by (asked (step.FinishBind target u) x)) is) refl next)
     step_acts s before after (Asked (step.FinishBind target u) answer) did there about heard (Err e, is, h) sound =
         stepped s before after (Asked (step.FinishBind target u) answer) did _ _ _ about there h
-        (λ q next. refused_acts s (Asked (step.FinishBind target u) answer) did q sound refl (bind_refused (part_of s) u e did q next)
+        (λ q next. refused_acts s (Asked (step.FinishBind target u) answer) did q sound refl (grind (arith, true≢false, is_ok, part_of s))
         (ap (λ (x : Reply Script U). finished_by (asked (step.FinishBind target u) x)) is) refl)
     step_acts s before after _ did there about heard h sound = absurd heard
 
@@ -392,9 +371,6 @@ module _ {G C : Type 0} (views : G → ClientParts → C → GlobalParts → Boo
         ends (inl off) = inl off
         ends (inr (waiting, none)) = inr (r.waits waiting [], none)
 
-    part_is : (after : Seen Script U C) (q : Part Script U C) (end : ReaderState Script (Core U C)) → after.part ≡ Some q → after.part ≡ Some (part_of end) → q ≡ part_of end
-    part_is after q end is there = same_Some q (part_of end) (sym is ∙ there)
-
     module _ (before after : Seen Script U C) (p : Part Script U C) (begins : before.part ≡ Some p) where
       acts_of : (run : List (Own Script U G C)) (last : Seen Script U C) → Alone w id offer before run last → AllHeard id run → p.is_killed ≡ false → RunActs (reader_part p) run last
       acts_of run last leads heard live = run_acts (reader_part p) before last run begins leads heard (inl (live, refl))
@@ -415,10 +391,10 @@ module _ {G C : Type 0} (views : G → ClientParts → C → GlobalParts → Boo
           }
 
       pub stretch_served : (q : Part Script U C) (run : List (Own Script U G C)) → after.part ≡ Some q → Alone w id offer before run after → IsStretch a p run q → StretchIsServed a p run q
-      stretch_served q run ends leads stretch = grind (arith, acts_of, part_is, served_at)
+      stretch_served q run ends leads stretch = grind (arith, acts_of, same_Some, part_of, served_at)
 
       pub within_stretch : (q : Part Script U C) (run : List (Own Script U G C)) → after.part ≡ Some q → Alone w id offer before run after → IsStretchWithin a p run q → IsStretch a p run q
-      within_stretch q run ends leads stretch = grind (arith, acts_of, part_is, a, incoming_limit, joined, left_in, front_fits, server, reader_part)
+      within_stretch q run ends leads stretch = grind (arith, acts_of, same_Some, part_of, a, incoming_limit, joined, left_in, front_fits, server, reader_part)
 
       -- so two runs over which the same arrives and is finished give the same, and lead to the same, however it was cut
       abbrev SameCut : List (Own Script U G C) → List (Own Script U G C) → Part Script U C → Part Script U C → Type 0
@@ -442,18 +418,14 @@ module _ {G C : Type 0} (views : G → ClientParts → C → GlobalParts → Boo
       cut_otherwise other q r run others ends ends' leads leads' stretch stretch' came ended =
           let x = acts_of run after leads stretch.spans.heard stretch.spans.live in
           let y = acts_of others other leads' stretch'.spans.heard stretch'.spans.live in
-          let is = part_is after q x.end ends x.there in
-          let is' = part_is other r y.end ends' y.there in
+          let is = same_Some q (part_of x.end) (sym ends ∙ x.there) in
+          let is' = same_Some r (part_of y.end) (sym ends' ∙ y.there) in
           subst (λ (z : Part Script U C). SameCut run others z r) (sym is) (subst (λ (z : Part Script U C). SameCut run others (part_of x.end) z) (sym is')
           (same_at other run others x y (subst (IsStretch a p run) is stretch) (subst (IsStretch a p others) is' stretch') came ended))
 
 -- ---- runs of a server
 
-each_is_cut : {U G C : Type 0} (views : G → ClientParts → C → GlobalParts → Bool) (begun after : ServerState Script U G C) (run : List (Entry Script U G C))
-    → Leads (over_scripts views) begun run after → EachIsCut views begun run after
-each_is_cut views begun after run leads id p q born there ends =
-    let alone = alone_run (over_scripts views) id begun after run born leads in grind (arith, stretch_served, seen, mine, within_stretch)
-
 pub each_part_is_cut : {U G C : Type 0} (views : G → ClientParts → C → GlobalParts → Bool) (begun : ServerState Script U G C) (run : List (Entry Script U G C))
     → EachPartIsCut views begun run
-each_part_is_cut views begun run earlier middle later first last split before part = each_is_cut views first last middle part
+each_part_is_cut views begun run earlier middle later first last split before part = λ id p q born there ends. let alone = alone_run
+    (over_scripts views) id first last middle born part in grind (arith, stretch_served, seen, mine, within_stretch)

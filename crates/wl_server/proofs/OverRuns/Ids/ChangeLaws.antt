@@ -11,22 +11,18 @@ use Rattle.wl_link.proofs.Ids.IdentityLaw.{born_first, born_later, made_first, m
 use Rattle.wl_link.specs.Store.{Store, held, removed, rewritten, stored}
 use Rattle.wl_link.proofs.Ids.StoreLaws.{removed_other, rewritten_other, stored_here, stored_other}
 use Rattle.wl_server.specs.declared.objects.Kept.{Kept}
-use Rattle.wl_server.specs.declared.notes.DisconnectReason.{DisconnectReason}
 use Rattle.wl_server.specs.declared.notes.Happening.{Happening}
 use Rattle.wl_server.specs.Deeds.{IsAmong}
 use Rattle.wl_server.proofs.OverRuns.Moves.BaseMoves.{Doings, Goes, Moves, any, end_notes, followed, handed_out, handing, joined, leaving, left_by, left_id, moved, nothing_done, notes_taken, noting, stayed, taken_out, unfelt, within}
 use Rattle.wl_server.specs.Identified.{AreObjectsOf, IsHandedIn, IsNotedIn, has_data, is_over, waiting_of}
 use Rattle.wl_server.specs.Ids.{ClientParts, IdParts}
 use Rattle.wl_server.proofs.OverRuns.Ids.AmongLaws.{among_both, among_first, among_later}
-use Rattle.wl_server.specs.Part.{Part, id_at, id_of, note_of_end, null_id, objects_of, serial_of, with_user_data}
+use Rattle.wl_server.specs.Part.{Part, id_at, id_of, note_of_end, objects_of, serial_of, with_user_data}
 use Rattle.wl_server.specs.Server.{Seen}
 
 -- ---- ids
 
 module _ {U : Type 0} where
-  left_ids : (n : ℕ) (x : Object (Kept U)) (client : ClientParts) → left_id (id_of (id_at client n x)) x.value.user_data ≡ counted_id serial_of has_data n x ++ []
-  left_ids n x client = grind (arith, left_id, id_of, id_at, is_some)
-
   ended_both : (changes others : List (Change (Kept U))) → ended_in serial_of has_data (changes ++ others) ≡ ended_in serial_of has_data changes ++ ended_in serial_of has_data others
   ended_both [] others = refl
   ended_both (Born n x ∷ changes) others = ended_both changes others
@@ -39,19 +35,6 @@ module _ {U : Type 0} where
   id_names : (client : ClientParts) (store : Store (Kept U)) (n : ℕ) (x : Object (Kept U)) → n ≢ 0 → held store n ≡ Some x
       → IsSome (names serial_of (id_of (id_at client n x)) store)
   id_names client store n x ne e = grind (arith, is_some, named_in, serial_of, id_of, id_at, held)
-
-  module _ (client : ClientParts) where
-    handed_later : (changes others : List (Change (Kept U))) (h : HandedId IdParts) → IsHandedIn client others h → IsHandedIn client (changes ++ others) h
-    handed_later changes others h h1 = grind (arith, made_later, id_of, born_later, serial_of)
-
-    noted_first : (changes others : List (Change (Kept U))) (h : Happening U) → IsNotedIn client changes h → IsNotedIn client (changes ++ others) h
-    noted_first changes others h h1 = grind (arith, made_first, id_of)
-
-    noted_later : (changes others : List (Change (Kept U))) (h : Happening U) → IsNotedIn client others h → IsNotedIn client (changes ++ others) h
-    noted_later changes others h h1 = grind (arith, made_later, id_of)
-
-  ended_quiet : (client : ClientParts) (b : Bool) (reason : DisconnectReason) (h : Happening U) → IsAmong (end_notes b reason) h → IsNotedIn client [] h
-  ended_quiet client b reason h h1 = grind (arith)
 
   -- the taken, the made and the waiting notes
   pub in_three : (a b c : List (Happening U)) (h : Happening U) → IsAmong (a ++ (b ++ c)) h → IsAmong a h ⊎ (IsAmong b h ⊎ IsAmong c h)
@@ -80,11 +63,7 @@ module _ {T U C : Type 0} (sends : T → Queue → Result ℕ IoFault → T → 
   quiet p q d empty same waits none_handed none_left none_noted = grind (arith, held)
 
   then_changing : (p m q : Part T U C) (a b : Doings U) → Changing p a m → Changing m b q → Changing p (joined a b) q
-  then_changing p m q a b first second = grind (arith, keeps_joins, serial_of, is_over, objects_of, among_both, made_first, id_of, born_first, handed_later, ended_in, has_data, ended_both, noted_first, noted_later)
-
-  -- a number that holds an object is not 0
-  not_zero : (p : Part T U C) (n : ℕ) (x : Object (Kept U)) → held p.store 0 ≡ None → held p.store n ≡ Some x → n ≢ 0
-  not_zero p n x empty holds same = none-some _ (sym empty ∙ ap (held p.store) (sym same) ∙ holds)
+  then_changing p m q a b first second = grind (arith, keeps_joins, serial_of, is_over, objects_of, among_both, made_first, id_of, born_first, made_later, born_later, ended_in, has_data, ended_both)
 
   born_changing : (p : Part T U C) (n : ℕ) (x : Object (Kept U)) → held p.store 0 ≡ None → held p.store n ≡ None → n ≢ 0 → x.value.serial ≡ p.last_serial + 1
       → Changing p (handing (New (id_at client n x) ∷ [])) (record p { store = stored p.store n x; last_serial = p.last_serial + 1 })
@@ -103,16 +82,13 @@ module _ {T U C : Type 0} (sends : T → Queue → Result ℕ IoFault → T → 
   found_changing : (p : Part T U C) (n : ℕ) (x : Object (Kept U)) → held p.store 0 ≡ None → held p.store n ≡ Some x → Changing p (handing (Found (id_at client n x) ∷ [])) p
   found_changing p n x empty holds = record {
     changes = Made (id_of (id_at client n x)) ∷ [];
-    ends = (objects_of p, (id_names client p.store n x (not_zero p n x empty holds) holds, refl), tt, refl);
+    ends = (objects_of p, (id_names client p.store n x (λ same. none-some _ (sym empty ∙ ap (held p.store) (sym same) ∙ holds)) holds, refl), tt, refl);
     handed = grind (arith, id_of, id_at);
     left = refl;
     noted = λ h among. absurd among;
     waits = λ h among. inl among;
     empty = empty;
   }
-
-  none_changing : (p : Part T U C) → held p.store 0 ≡ None → Changing p (handing (Found (null_id client) ∷ [])) p
-  none_changing p empty = grind (arith)
 
   wrote_changing : (p : Part T U C) (n : ℕ) (x : Object (Kept U)) (u : U) → held p.store 0 ≡ None → held p.store n ≡ Some x
       → Changing p nothing_done (record p { store = rewritten p.store n (with_user_data u x) })
@@ -123,7 +99,7 @@ module _ {T U C : Type 0} (sends : T → Queue → Result ℕ IoFault → T → 
     left = refl;
     noted = λ h among. absurd among;
     waits = λ h among. inl among;
-    empty = rewritten_other p.store n (with_user_data u x) 0 (λ same. not_zero p n x empty holds (sym same)) ∙ empty;
+    empty = rewritten_other p.store n (with_user_data u x) 0 (λ same. (none-some _ (sym empty ∙ ap (held p.store) (sym (sym same)) ∙ holds))) ∙ empty;
   }
 
   went_changing : (p : Part T U C) (n : ℕ) (x : Object (Kept U)) (waits : Bool) → held p.store 0 ≡ None → held p.store n ≡ Some x
@@ -132,15 +108,15 @@ module _ {T U C : Type 0} (sends : T → Queue → Result ℕ IoFault → T → 
     changes = changes;
     ends = (
       objects_of p,
-      (id_names client p.store n x (not_zero p n x empty holds) holds, refl),
+      (id_names client p.store n x (λ same. none-some _ (sym empty ∙ ap (held p.store) (sym same) ∙ holds)) holds, refl),
       tt,
       (record { store = removed p.store n; last_serial = p.last_serial }, (holds, refl), refl, refl),
     );
     handed = λ h among. absurd among;
-    left = left_ids n x client;
+    left = grind (arith, left_id, id_of, id_at, is_some);
     noted = λ h among. (grind (arith, changes, id_at));
     waits = λ h among. (grind (arith, among_both, note_of_end, changes, id_at));
-    empty = removed_other p.store n 0 (λ same. not_zero p n x empty holds (sym same)) ∙ empty;
+    empty = removed_other p.store n 0 (λ same. (none-some _ (sym empty ∙ ap (held p.store) (sym (sym same)) ∙ holds))) ∙ empty;
   }
     where
       changes : List (Change (Kept U))
@@ -154,7 +130,7 @@ module _ {T U C : Type 0} (sends : T → Queue → Result ℕ IoFault → T → 
       changing_so p q q (joined a b) d is refl (then_changing p m q a b one (moves_change m q b one.empty second))
   moves_change p q d empty (handed_out {a = a} ids moves among is) = grind (arith, changing_so, moves_change p q a empty moves)
   moves_change p q d empty (moved move) =
-      grind (arith, changing_so, quiet, born_changing, found_changing, none_changing, wrote_changing, went_changing, noting, nothing_done, end_notes, ended_quiet, id_of, id_at)
+      grind (arith, changing_so, quiet, born_changing, found_changing, wrote_changing, went_changing, noting, nothing_done, end_notes, id_of, id_at)
 
   -- no note is handed out by moves of the part
   pub moves_take : (p q : Part T U C) (d : Doings U) → Moves (any true) sends receives client p d q → d.taken ≡ []

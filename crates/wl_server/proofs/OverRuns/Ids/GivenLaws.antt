@@ -22,7 +22,6 @@ use Rattle.wl_server.specs.Runs.{Inserts, IsNotInserted, Leads, SharedAlone}
 use Rattle.wl_server.specs.Server.{ServerState, new_server, seen}
 use Rattle.wl_server.specs.Steps.{AnswersShared, Entry, inserted_by, offer_after}
 use Rattle.wl_server.proofs.OverRuns.Alone.IsolationLaw.{one_more, shared_run, split_run}
-use Rattle.wl_server.proofs.OverRuns.Announced.ShownLaws.{global_held}
 use Rattle.wl_server.proofs.OverRuns.Killed.KilledLaws.{out_next, out_run}
 use Rattle.wl_server.proofs.OverRuns.Outcome.NumberLaws.{global_is}
 use Rattle.wl_server.proofs.CallSteps.Slots.{same_parts}
@@ -39,10 +38,6 @@ module _ {G : Type 0} where
 
   none_at : (g : GlobalParts) → named_at g None ≡ None
   none_at g = grind (arith, eqb, global_serial)
-
-  -- the serial of what the id names is its own
-  serial_at : (globals : Globals G) (g : GlobalParts) (x : Object (KeptGlobal G)) → global_of globals g ≡ Some x → x.value.serial ≡ g.serial
-  serial_at globals g x is = grind (arith, eqb, same_Some, eqb-true, none-some, global_serial)
 
 -- ---- two ids
 
@@ -71,7 +66,7 @@ module _ {G : Type 0} where
       → Changes change globals target after
   one_changes change nothing globals after target x is elsewhere here g =
       elim (cases_eq g.name target.name) [
-        | inl same ↦ grind (arith, eqb, both, cond, named_at, held, global_held, global_of, serial_at, same_named)
+        | inl same ↦ grind (arith, eqb, both, cond, named_at, held, global_serial, global_of, same_Some, eqb-true, none-some, same_named)
         | inr other ↦ grind (arith, named_at, cond, global_of, eqb, ne_eqb)
       ]
     where
@@ -83,12 +78,6 @@ module _ {G : Type 0} where
 
   pub freed_changes : (globals : Globals G) (target : GlobalParts) → Changes (λ o. None) globals target (freed globals target)
   freed_changes globals target = grind (arith, global_of, none_changes, one_changes, freed_at, removed_other, named_at, removed_here, none_at, eqb)
-
-  -- a new global is named by its own id, and no id of an earlier serial names another than before
-  created_named : (globals : Globals G) (i : InterfaceId) (version : ℕ) (handler : G) (new : GlobalParts) → IsNextGlobal globals new
-      → (last : ℕ) → global_of (record { store = stored globals.store new.name (new_global i version new.serial handler); last_serial = last }) new
-      ≡ Some (new_global i version new.serial handler)
-  created_named globals i version handler new (least, left, next) last = grind (arith, new_global, stored_here, eqb, ne_eqb, eq-eqb)
 
   created_other : (globals : Globals G) (i : InterfaceId) (version : ℕ) (handler : G) (new : GlobalParts) → IsNextGlobal globals new → (last : ℕ) (g : GlobalParts)
       → (g.serial ≢ new.serial) → global_of (record { store = stored globals.store new.name (new_global i version new.serial handler); last_serial = last }) g ≡ global_of globals g
@@ -106,9 +95,6 @@ module _ {G : Type 0} where
   next_in : (offer : Offer G) (i : InterfaceId) (version : ℕ) (g : GlobalParts) → CreatesGlobal offer.table offer.globals i version (Ok g) → IsNextGlobal offer.globals g
   next_in offer i version g by = grind (arith, either_option, slice_get, true≢false, is_ok, either_bool, nat_le)
 
-  freed_last : (globals : Globals G) (n : ℕ) (o : Option (Object (KeptGlobal G))) → (freed_at globals n o).last_serial ≡ globals.last_serial
-  freed_last globals n h3 = grind (arith)
-
 module _ {T U G C : Type 0} where
   offered_next : (offer : Offer G) (call : Call T U G C) (g : GlobalParts) → AnswersShared offer call → Offers g call → IsNextGlobal offer.globals g
   offered_next offer call g by (i, version, handler, is) = next_in offer i version g (subst (λ (c : Call T U G C). AnswersShared offer c) is by)
@@ -118,7 +104,7 @@ module _ {T U G C : Type 0} where
 
   -- the last serial of a global never falls
   last_grows : (offer : Offer G) (call : Call T U G C) → AnswersShared offer call → offer.globals.last_serial ≤ (offer_after offer call).globals.last_serial
-  last_grows offer call h1 = grind (arith, next_in, global_of, freed_last)
+  last_grows offer call h1 = grind (arith, next_in, global_of)
 
   -- what the id of a global that was given before names after a call
   named_by : (offer : Offer G) (call : Call T U G C) (g : GlobalParts) → AnswersShared offer call → g.serial ≤ offer.globals.last_serial
@@ -270,7 +256,7 @@ module _ {T U G C : Type 0} where
             let number = offered_next mid.offer e.call g by.global (i, version, handler, creates) in
             let last : next.offer.globals.last_serial ≡ g.serial = ap (λ (o : Offer G). o.globals.last_serial) offered in
             named_over next.offer after.offer next.last_client after.last_client later (shared_run w next after later rest) g (omega (arith, last))
-            ∙ ap (global_over g later) (ap (λ (o : Offer G). global_of o.globals g) offered ∙ created_named mid.offer.globals i version handler g number g.serial);
+            ∙ ap (global_over g later) (ap (λ (o : Offer G). global_of o.globals g) offered ∙ (grind (arith, new_global, stored_here, eqb, ne_eqb, eq-eqb, mid.offer.globals, g.serial)));
         no_client_again = λ id done later point split first others made none. (
             (out_run w id point after later (client_given (new_offer table) point.offer 0 point.last_client done (shared_run w (new_server table) point done first) id made) none others).none
             );

@@ -1,7 +1,7 @@
 -- What holds of the ids of every run.
-use Rattle.std.proofs.Common.{◌≡◌, ◌≢◌, ◌⊎◌, ℕ, true, eqb, List, [], ◌∷◌, ◌++◌, None, is_some, IsSome, refl, sym, ap, subst, ◌∙◌, true≢false, append_assoc, arith}
+use Rattle.std.proofs.Common.{◌≡◌, ◌≢◌, ◌⊎◌, true, eqb, List, [], ◌∷◌, ◌++◌, None, is_some, IsSome, refl, sym, ap, subst, ◌∙◌, true≢false, append_assoc, arith}
 use mathlib.Core.Logic.{inl, inr}
-use Rattle.std.specs.Prelude.{AllPairs, Contains, ◌↔◌}
+use Rattle.std.specs.Prelude.{AllPairs, ◌↔◌}
 use Rattle.wl_wire.specs.Table.{InterfaceRow}
 use Rattle.wl_link.proofs.Ids.EndsLaw.{ends_once_law, run_leads, run_owns}
 use Rattle.wl_link.specs.Identity.{Change, Id, IsMadeIn, Objects, OwnsExactly, RunEnds, ended_in, ended_over, named_in, names}
@@ -81,7 +81,7 @@ module _ {T U G C : Type 0} (w : World T G C) (id : ClientParts) where
       first.are,
       all_among (IsHandedIn id first.changes) (ids_in e.call) (λ i among. first.handed i (covers w id offer e.call s e.lacked e.did mid own by i among)),
       first.left,
-      grind (arith, made_now, among_contains, notes_in, waiting_of),
+      grind (arith, contains_among, waiting_of, among_contains, notes_in),
       rest.follows,
     );
     ends = (first.after, first.ends, rest.ends);
@@ -90,14 +90,6 @@ module _ {T U G C : Type 0} (w : World T G C) (id : ClientParts) where
     left = grind (arith, left_both, history, left_in, ended_in, serial_of, has_data);
     noted = grind (arith, in_three, taken_in, history, waiting_of, taken_both, append_assoc, among_first, among_later);
   }
-    where
-      made_now : (h : Happening U) → IsAmong (waiting_of s.part) h ⊎ IsNotedIn id first.changes h → Contains (waiting_of s.part) h ⊎ IsNotedIn id first.changes h
-      made_now h h2 = grind (arith, contains_among, waiting_of)
-
-  pub one_change : (offer : Offer G) (s : Seen T U C) (o : Objects (Kept U)) (e : Own T U G C) (mid : Seen T U C) → concerns id e.call ≡ true → AreObjectsOf s o
-      → held o.store 0 ≡ None → PartCall w id offer e.call s e.lacked e.did mid
-      → CallChanging w.sends w.receives id s o (doings_of (handed_by id e.call e.did) e.did) mid
-  one_change offer s o e mid own are empty by = grind (arith, goes_change, doings_of, handed_by, call_goes)
 
   pub run_change : (offer : Offer G) (s : Seen T U C) (o : Objects (Kept U)) (run : List (Own T U G C)) (t : Seen T U C) → AreMine id run → AreObjectsOf s o
       → held o.store 0 ≡ None → Alone w id offer s run t → RunChanging offer s o run t
@@ -112,22 +104,14 @@ module _ {T U G C : Type 0} (w : World T G C) (id : ClientParts) where
     noted = λ h among. inl (subst (λ (x : Seen T U C). IsAmong (x.made ++ waiting_of x.part) h) same among);
   }
   run_change offer s o (e ∷ run) t own are empty (mid, by, alone) =
-      let first = one_change offer s o e mid own.0 are empty by in
+      let first : CallChanging w.sends w.receives id s o (doings_of
+      (handed_by id e.call e.did) e.did) mid = grind (arith, goes_change, doings_of, handed_by, call_goes, own.0) in
       change_more offer s o e run mid t own.0 by first (run_change (offer_after offer e.call) mid first.after run t own.1 first.are first.empty alone)
 
   -- ---- what holds of it
 
   pub names_of : (t : Seen T U C) (kept : Objects (Kept U)) → AreObjectsOf t kept → (o : IdParts) → IsSome (named_of t o) ↔ IsSome (names serial_of (id_of o) kept.store)
   names_of t kept are o = grind (arith, names, serial_of, id_of, eqb, named_in, true≢false, is_some, objects_of, named)
-
-  -- a client's run is one of changes, from its display alone on
-  pub begun_change : (offer : Offer G) (link : LinkState T) (client_data : C) (run : List (Own T U G C)) (t : Seen T U C) → AreMine id run → Alone w id offer (just_inserted link client_data) run t
-      → RunChanging offer (just_inserted link client_data) (objects.first_objects display_object) run t
-  begun_change offer link client_data run t own alone =
-      run_change offer (just_inserted link client_data) (objects.first_objects display_object) run t own refl (stored_other empty_store 1 display_object 0 (λ is. none_one is) ∙ held_empty 0) alone
-    where
-      none_one : ◌≡◌ {A = ℕ} 0 1 → ⊥
-      none_one is = omega (arith, is)
 
   -- and those changes make its ids its own
   unfoldable pub own_by : (offer : Offer G) (link : LinkState T) (client_data : C) (run : List (Own T U G C)) (t : Seen T U C)
@@ -159,7 +143,8 @@ module _ {T U G C : Type 0} (w : World T G C) (id : ClientParts) where
 
   pub own_ids : (offer : Offer G) (link : LinkState T) (client_data : C) (run : List (Own T U G C)) (t : Seen T U C) → AreMine id run → Alone w id offer (just_inserted link client_data) run t
       → HasOwnIds w id offer (just_inserted link client_data) run t
-  own_ids offer link client_data run t own alone = own_by offer link client_data run t (begun_change offer link client_data run t own alone)
+  own_ids offer link client_data run t own alone = own_by offer link client_data run t (run_change offer (just_inserted link client_data) (objects.first_objects display_object) run t own refl
+      (stored_other empty_store 1 display_object 0 (λ is. (omega (arith, is))) ∙ held_empty 0) alone)
 
   -- ---- a run in two parts
 
@@ -196,7 +181,8 @@ module _ {T U G C : Type 0} (w : World T G C) (id : ClientParts) where
         ends_rest = rest.ends;
       }
   in_parts offer s o (e ∷ done) point later t own more are empty (mid, by, led) alone =
-      let one = one_change offer s o e mid own.0 are empty by in
+      let one : CallChanging w.sends w.receives id s o (doings_of
+      (handed_by id e.call e.did) e.did) mid = grind (arith, goes_change, doings_of, handed_by, call_goes, own.0) in
       let parts = in_parts (offer_after offer e.call) mid one.after done point later t own.1 more one.are one.empty led alone in
       let whole = change_more offer s o e (done ++ later) mid t own.0 by one parts.whole in
       record {

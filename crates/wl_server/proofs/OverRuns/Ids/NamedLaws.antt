@@ -20,9 +20,10 @@ use Rattle.wl_server.specs.PartStep.{Asked, World}
 use Rattle.wl_server.specs.Runs.{Alone, Leads, Own, just_inserted, concerns, mine, offer_over, own_of}
 use Rattle.wl_server.specs.Server.{Seen, ServerState, new_server, seen}
 use Rattle.wl_server.specs.Steps.{Entry, offer_after}
-use Rattle.wl_server.proofs.OverRuns.Alone.IsolationLaw.{alone_run, each_alone, numbered, offer_of_other, offer_over_one, offer_run, one_more, split_run}
+use Rattle.wl_server.proofs.OverRuns.Alone.IsolationLaw.{alone_run, each_alone, numbered, offer_over_one, offer_run, one_more, split_run}
 use Rattle.wl_server.proofs.OverRuns.Alone.OwnRuns.{AreMine, are_mine}
 use Rattle.wl_server.proofs.OverRuns.Ids.IdentityLaws.{InParts, in_parts, names_of, own_by}
+use Rattle.std.proofs.Common.{true≢false}
 
 module _ {T U G C : Type 0} (w : World T G C) (id : ClientParts) where
   -- the parts of a client's run from its insertion on
@@ -83,7 +84,7 @@ module _ {T U G C : Type 0} where
   through_more : (w : World T G C) (id : ClientParts) (e : Entry T U G C) (run : List (Entry T U G C)) (offer : Offer G) (b : Bool) → concerns id e.call ≡ b
       → offer_over (offer_after offer e.call) run ≡ offer_through (offer_after offer e.call) (mine id run) → offer_over offer run ≡ offer_through offer (mine id run)
       → offer_over (offer_after offer e.call) run ≡ offer_through offer (if b then (own_of id e ∷ mine id run) else mine id run)
-  through_more w id e run offer h6 is about other = grind (arith, offer_over, offer_of_other)
+  through_more w id e run offer h6 is about other = grind (arith, offer_over, true≢false)
 
   -- the offer after a run is that after the calls of it that concern a client
   through : (w : World T G C) (id : ClientParts) (run : List (Entry T U G C)) (offer : Offer G) → offer_over offer run ≡ offer_through offer (mine id run)

@@ -11,17 +11,16 @@ use Rattle.wl_server.specs.Bounded.{receives_in, receives_over}
 use Rattle.wl_server.specs.Ids.{ClientParts, same_client}
 use Rattle.wl_server.specs.Killed.{AllAnswer, EachStaysKilled, HasNoAction, IsKilled, ReadingAnswers, StaysOrIsTakenOut, TakesOut}
 use Rattle.wl_server.specs.Part.{Part}
-use Rattle.wl_server.specs.PartStep.{World, Asked, Call, CleanedAs, PartCall, ReadsFor, Unfelt, around, share_of}
+use Rattle.wl_server.specs.PartStep.{World, Asked, Call, CleanedAs, PartCall, ReadsFor, around, share_of}
 use Rattle.wl_server.specs.Runs.{IsNotInserted, Leads, concerns}
 use Rattle.wl_server.specs.Server.{Seen, ServerState, new_server, seen}
 use Rattle.wl_server.specs.Steps.{Entry, OneStep}
-use Rattle.wl_server.proofs.OverRuns.Alone.IsolationLaw.{known_before, not_again, other_call}
+use Rattle.wl_server.proofs.OverRuns.Alone.IsolationLaw.{known_before, other_call}
 use Rattle.std.specs.Prelude.{Vec}
 use Rattle.std.specs.Global.{Global}
 use Rattle.std.proofs.lemmas.Bool.{false≢true}
 use Rattle.wl_wire.specs.declared.error.OutOfMemory.{OutOfMemory}
 use Rattle.wl_server.specs.declared.error.ActionError.{ActionError}
-use Rattle.wl_server.specs.declared.reading.action.Action.{Action}
 use Rattle.wl_server.specs.declared.reading.action.Reading.{Reading}
 use Rattle.wl_server.specs.declared.runs.step.Reply.{Reply}
 use Rattle.wl_server.specs.declared.runs.step.Reply.TheVariants as reply
@@ -35,8 +34,8 @@ use Rattle.wl_server.proofs.OverRuns.Moves.BaseMoves.{Doings, Goes, notes_taken,
 use Rattle.wl_server.proofs.OverRuns.Moves.BaseMovesLaw.{call_goes, call_moves}
 use Rattle.wl_wire.specs.declared.error.IoFault.{IoFault}
 use Rattle.wl_link.specs.Exchange.{Queue}
-
--- ---- what each call answers and does where a client is killed, and where it is not stored
+use Rattle.wl_server.proofs.OverRuns.Alone.IsolationLaw.{later_differs}
+use Rattle.wl_server.proofs.OverRuns.Alone.IsolationLaw.{numbered}
 
 -- ---- that a killed client stays killed, and opens no action, over the base moves of whatever is done with its part
 
@@ -65,9 +64,6 @@ module _ {T U C : Type 0} (sends : T → Queue → Result ℕ IoFault → T → 
 
 -- ---- the answer of a reading
 
-content_is : (r : Result Action ActionError) (e : ActionError) → action_content r ≡ Err e → r ≡ Err e
-content_is r e h1 = grind (arith, true≢false)
-
 -- why nothing is read of a killed client
 abbrev pub refusal_with : Option OpenAction → ActionError
 refusal_with None = Io fault.Pipe
@@ -79,10 +75,6 @@ record Unread {U : Type 0} (e : ActionError) (r r' : Reading) (answer : Result H
   left : r' ≡ r
   none : did ≡ []
 
-module _ {T U : Type 0} (id target : ClientParts) (e : ActionError) (r : Result Action ActionError) (answer : Reply T U) where
-  says_next : answer ≡ reply.NextAction r → (same_client target id ≡ true → action_content r ≡ Err e) → same_client target id ≡ true → answer ≡ reply.NextAction (Err e)
-  says_next is says mine = is ∙ ap reply.NextAction (content_is r e (says mine))
-
 -- ---- a killed client
 
 module _ {T U G C : Type 0} (w : World T G C) (id : ClientParts) (offer : Offer G) (before : Seen T U C) (p : Part T U C) (there : before.part ≡ Some p) (killed : p.is_killed ≡ true)
@@ -91,17 +83,13 @@ module _ {T U G C : Type 0} (w : World T G C) (id : ClientParts) (offer : Offer 
   found_part : (p' : Part T U C) → before.part ≡ Some p' → p' ≡ p
   found_part p' there' = same_Some p' p (sym there' ∙ there)
 
-  dead_reads : (target : ClientParts) (r r' : Reading) (answer : Result Handed ActionError) → ReadsFor w id offer target r answer r' before lacked did after
-      → (did ≡ []) × (same_client target id ≡ true → (answer ≡ Err (refusal_with p.action)) × (r' ≡ r))
-  dead_reads target r r' answer h = grind (arith, around, either_option, when_killed, found_part, true≢false)
-
   -- what a reading of it answers
   pub dead_says : (call : Call T U G C) → PartCall w id offer call before lacked did after → ReadingAnswers id (refusal_with p.action) call
-  dead_says call h1 = grind (arith, says_next, dead_reads, content_is)
+  dead_says call h1 = grind (arith, true≢false, around, either_option, when_killed, found_part)
 
   -- nothing is received from it
   pub dead_silent : (call : Call T U G C) → PartCall w id offer call before lacked did after → came_in did ≡ []
-  dead_silent h1 h = grind (arith, came_in, dead_reads, new_reading, action_content, call_quiet)
+  dead_silent h1 h = grind (arith, came_in, around, either_option, when_killed, found_part, true≢false, new_reading, action_content, call_quiet)
 
   -- ---- what becomes of it
 
@@ -111,9 +99,6 @@ module _ {T U G C : Type 0} (w : World T G C) (id : ClientParts) (offer : Offer 
 
   abbrev pub DeadOrOut : Call T U G C → Type 0
   DeadOrOut call = StillDead ⊎ (TakesOut id call × (after.part ≡ None))
-
-  unfelt_dead : Unfelt before lacked did after → StillDead
-  unfelt_dead (calm, none, same) = (p, ap (λ (s : Seen T U C). s.part) same ∙ there, remains p killed p refl)
 
   goes_dead : (d : Doings U) → Goes fading w.sends w.receives id before d after → StillDead
   goes_dead d (unfelt is same) = (p, ap (λ (s : Seen T U C). s.part) same ∙ there, remains p killed p refl)
@@ -128,7 +113,7 @@ module _ {T U G C : Type 0} (w : World T G C) (id : ClientParts) (offer : Offer 
 
   cleanup_dead : (answer : Reply T U) (r : Result (Vec (ClientParts × T) Global) OutOfMemory) → answer ≡ reply.Cleanup r → CleanedAs w id offer r before lacked did after
       → DeadOrOut (Asked step.Cleanup answer)
-  cleanup_dead answer (Err e) is h = inl (unfelt_dead h)
+  cleanup_dead answer (Err e) is h = inl ((p, ap (λ (s : Seen T U C). s.part) h.2 ∙ there, remains p killed p refl))
   cleanup_dead answer (Ok out) is h =
       elim (either_option before.part h) [
         | inl (none, nothing) ↦ absurd (none-some _ (sym none ∙ there))
@@ -150,7 +135,7 @@ module _ {T U G C : Type 0} (w : World T G C) (id : ClientParts) (offer : Offer 
                 stays q (subst (λ (x : Part T U C). NextAction w.sends w.receives (around w id offer) r x answer r' lacked did q) (found_part p' there') next),
               )
             ]
-        | inr unfelt' ↦ unfelt_dead unfelt'
+        | inr unfelt' ↦ (p, ap (λ (s : Seen T U C). s.part) unfelt'.2 ∙ there, remains p killed p refl)
       ]
     where
       stays : (q : Part T U C) → NextAction w.sends w.receives (around w id offer) r p answer r' lacked did q → Remains p q
@@ -167,27 +152,19 @@ module _ {T U G C : Type 0} (w : World T G C) (id : ClientParts) (offer : Offer 
       go true about =
           goes_dead _ (call_moves fading w id offer call before lacked did after about
           (record { kills = λ e may. tt; gathers = λ is. is; hands = λ is. refl; reads = λ is. is; finishes = λ is. refl }) h)
-      go false far = unfelt_dead (other_call w id offer call before lacked did after other far h)
+      go false far = (p, ap (λ (s : Seen T U C). s.part) (other_call w id offer call before lacked did after other far h).2 ∙ there, remains p killed p refl)
 
 -- ---- a client that is not stored
 
 module _ {T U G C : Type 0} (w : World T G C) (id : ClientParts) (offer : Offer G) (before : Seen T U C) (gone : before.part ≡ None) (lacked : Bool) (did : List (Deed U))
     (after : Seen T U C) where
-  out_reads : (target : ClientParts) (r r' : Reading) (answer : Result Handed ActionError) → ReadsFor w id offer target r answer r' before lacked did after
-      → (did ≡ []) × (same_client target id ≡ true → (answer ≡ Err (Io fault.InvalidInput)) × (r' ≡ r))
-  out_reads target r r' answer h = grind (arith, around, either_option, true≢false)
-
   -- what a reading of it answers
   pub out_says : (call : Call T U G C) → PartCall w id offer call before lacked did after → ReadingAnswers id (Io fault.InvalidInput) call
-  out_says call h1 = grind (arith, says_next, out_reads, content_is)
+  out_says call h1 = grind (arith, true≢false, around, either_option)
 
   -- nothing is received from it
   pub out_silent : (call : Call T U G C) → PartCall w id offer call before lacked did after → came_in did ≡ []
-  out_silent h1 h = grind (arith, came_in, out_reads, new_reading, action_content, call_quiet)
-
-  -- it is not stored again, if it is not inserted again
-  pub out_stays : (call : Call T U G C) → IsNotInserted id call → PartCall w id offer call before lacked did after → after.part ≡ None
-  out_stays call other h = grind (arith, concerns, unfelt, within, taken_out, notes_taken, call_goes, other_call)
+  out_silent h1 h = grind (arith, came_in, around, either_option, true≢false, new_reading, action_content, call_quiet)
 
 module _ {T U G C : Type 0} (w : World T G C) (id : ClientParts) where
   -- ---- a client that was taken out
@@ -200,14 +177,15 @@ module _ {T U G C : Type 0} (w : World T G C) (id : ClientParts) where
   -- it is not stored again, if the call does not insert it
   pub out_next : (before mid : ServerState T U G C) (e : Entry T U G C) → (seen id before).part ≡ None → IsNotInserted id e.call → OneStep w before e mid
       → (seen id mid).part ≡ None
-  out_next before mid e none other by = grind (arith, out_stays, seen)
+  out_next before mid e none other by = grind (arith, concerns, unfelt, within, taken_out, notes_taken, call_goes, other_call, seen)
 
   pub out_run : (before after : ServerState T U G C) (run : List (Entry T U G C)) → id.serial ≤ before.last_client → (seen id before).part ≡ None → Leads w before run after
       → OutOver run (seen id after)
   out_run before after [] born none same = record { says = tt; none = ap (λ (s : ServerState T U G C). (seen id s).part) same ∙ none; receives = refl }
   out_run before after (e ∷ run) born none (mid, by, leads) =
       let rest = out_run mid after run (omega (arith, born, by.last))
-      (out_next before mid e none (not_again w id before mid e born by) by) leads in
+      (out_next before mid e none (λ new inserts. later_differs new id
+      (let next = (numbered before e.call new by.client inserts).2 in omega (arith, born, next))) by) leads in
       let silent : receives_in (e.did id) ≡ 0 = ap length (out_silent w id before.offer (seen id before) none (e.lacks id) (e.did id) (seen id mid) e.call (by.each id)) in
       grind (arith, out_says, seen)
 
@@ -286,20 +264,22 @@ module _ {T U G C : Type 0} (w : World T G C) (id : ClientParts) where
       → p.is_killed ≡ true → Leads w before run after → DeadOver p.action run (seen id after)
   dead_run before after [] born p there killed same = grind (arith, dead_end, seen, is_killed)
   dead_run before after (e ∷ run) born p there killed (mid, by, leads) =
-      go (dead_or_out w id before.offer (seen id before) p there killed (e.lacks id) (e.did id) (seen id mid) e.call (not_again w id before mid e born by) (by.each id))
+      go (dead_or_out w id before.offer (seen id before) p there killed (e.lacks id) (e.did id) (seen id mid) e.call
+      (λ new inserts. later_differs new id (let next = (numbered before e.call new by.client inserts).2 in omega (arith, born, next)))
+      (by.each id))
       (λ none. out_run mid after run (let grown = by.last in omega (arith, born, grown)) none leads)
       (λ q is gone. dead_run mid after run (let grown = by.last in omega (arith, born, grown)) q is gone leads)
     where
-      silent : receives_in (e.did id) ≡ 0
-      silent = ap length (dead_silent w id before.offer (seen id before) p there killed (e.lacks id) (e.did id) (seen id mid) e.call (by.each id))
-
       go : DeadOrOut w id before.offer (seen id before) p there killed (e.lacks id) (e.did id) (seen id mid) e.call
           → ((seen id mid).part ≡ None → OutOver run (seen id after))
           → ((q : Part T U C) → (seen id mid).part ≡ Some q → q.is_killed ≡ true → DeadOver q.action run (seen id after)) → DeadOver p.action (e ∷ run) (seen id after)
       go (inl (q, is, remains)) out dead =
-          one_more p.action q.action e run (seen id after) (dead_says w id before.offer (seen id before) p there killed (e.lacks id) (e.did id) (seen id mid) e.call (by.each id)) silent
+          one_more p.action q.action e run (seen id after) (dead_says w id before.offer (seen id before) p there killed (e.lacks id) (e.did id)
+          (seen id mid) e.call (by.each id)) (ap length (dead_silent w id before.offer (seen id before) p there killed (e.lacks id) (e.did id)
+          (seen id mid) e.call (by.each id)))
           remains.closed (dead q is remains.killed)
-      go (inr (takes, none)) out dead = takes_it_out p.action e run (seen id after) takes silent (out none)
+      go (inr (takes, none)) out dead = takes_it_out p.action e run (seen id after) takes (ap length (dead_silent w id before.offer
+          (seen id before) p there killed (e.lacks id) (e.did id) (seen id mid) e.call (by.each id))) (out none)
 
   has_none : (s : Seen T U C) (p : Part T U C) → s.part ≡ Some p → HasNoAction s → p.action ≡ None
   has_none s p there none = subst (λ (o : Option (Part T U C)). HasNoAction (record { part = o; made = s.made })) there none

@@ -68,8 +68,7 @@ module _ {T U C : Type 0} (sends : T → Queue → Result ℕ IoFault → T → 
   moves_keep p q d (moved (relinked link waits stays unread is same)) = quiet_move p q (record p { link = link }) d _ is same refl refl waits
   moves_keep p q d (moved (received r answer link reads filled is same)) =
       quiet_move p q (record p { link = link }) d _ is same refl refl (ap (λ (l : LinkState T). l.outgoing) filled.2)
-  moves_keep p q d (moved (told messages es put answer link puts is same)) =
-      keeps_so (out p) link.outgoing (out q) (putting es put) d is (ap out same) (puts_kept sends within' messages p.link link es put answer puts)
+  moves_keep p q d (moved (told messages es put answer link puts is same)) = grind (arith, keeps_so, out, putting, puts_kept)
   moves_keep p q d (moved (flushed es answer link by is same)) =
       keeps_so (out p) link.outgoing (out q) (sending es) d is (ap out same) (flush_kept sends within' p.link link es answer by)
   moves_keep p q d (moved (ended reason may is same)) = quiet_move p q (record p { is_killed = true }) d _ is same refl refl refl

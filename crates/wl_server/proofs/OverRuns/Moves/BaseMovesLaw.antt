@@ -28,11 +28,11 @@ use Rattle.wl_server.specs.declared.runs.step.Reply.TheVariants as reply
 use Rattle.wl_server.specs.declared.runs.step.Step.{Step}
 use Rattle.wl_server.specs.declared.runs.step.Step.TheVariants as step
 use Rattle.wl_server.specs.HandedIds.{made_ids}
-use Rattle.wl_server.proofs.OverRuns.Moves.BaseMoves.{Doings, Goes, Kind, MayRead, cleaned, doings_of, flushed, followed, handed_by, joined, leaving, left_by, left_id, moved, nothing_done, notes_taken, noting, relinked, stayed, taken_out, unfelt, went, within, any}
+use Rattle.wl_server.proofs.OverRuns.Moves.BaseMoves.{Doings, Goes, Kind, MayRead, cleaned, doings_of, flushed, followed, handed_by, joined, left_by, left_id, moved, nothing_done, notes_taken, noting, relinked, stayed, taken_out, unfelt, went, within, any}
 use Rattle.wl_server.specs.Deeds.{Deed, Noted, NoteTaken, left_if, notes_in}
 use Rattle.wl_server.proofs.OverRuns.Alone.IsolationLaw.{other_call}
 use Rattle.wl_server.proofs.OverRuns.Moves.DoingsLaws.{doings_in, doings_in_both, doings_sends}
-use Rattle.wl_server.specs.Felt.{Cleaned, FlushedTo, FlushesLive, Hears, Stays, objects_leave}
+use Rattle.wl_server.specs.Felt.{Cleaned, FlushedTo, FlushesLive, Hears, objects_leave}
 use Rattle.wl_wire.specs.declared.error.ProtocolError.{ProtocolError}
 use Rattle.wl_server.specs.declared.notes.DisconnectReason.{DisconnectReason}
 use Rattle.wl_server.specs.declared.notes.DisconnectReason.TheVariants.{ProtocolError as BrokeProtocol}
@@ -40,29 +40,23 @@ use Rattle.wl_server.specs.Globals.{Offer}
 use Rattle.wl_server.specs.Ids.{ClientParts, GlobalParts, IdParts, same_client}
 use Rattle.wl_server.specs.Moves.{Move, Moved}
 use Rattle.wl_server.specs.NotedEnds.Errors.{MayKillFor}
-use Rattle.wl_server.proofs.OverRuns.Moves.MovesOfCalls.{creates_moves, data_set_moves, destroys_moves, finishes_bind_moves, finishes_moves, kills_moves, posts_moves, sends_moves, tells_comes}
+use Rattle.wl_server.proofs.OverRuns.Moves.MovesOfCalls.{creates_moves, destroys_moves, finishes_bind_moves, finishes_moves, kills_moves, posts_moves, sends_moves, tells_comes}
 use Rattle.wl_server.proofs.OverRuns.Moves.MovesOfReadings.{next_action_moves}
 use Rattle.wl_server.proofs.OverRuns.Moves.MovesOfVerdicts.{Go, same_doings, tells_moves}
-use Rattle.wl_server.specs.Part.{Part, end_note, fresh_part, id_at, id_of, note_of_end, with_link}
+use Rattle.wl_server.specs.Part.{Part, end_note, fresh_part, id_at, id_of, with_link}
 use Rattle.wl_server.specs.Objects.{Creates}
-use Rattle.wl_server.specs.PartStep.{Asked, Call, Changed, CleanedAs, FeelsGlobal, FeelsLoss, FlushedFor, Grown, InsertedAs, MovedFor, NotesTaken, OfClient, OnPart, PartCall, PartStep, ReadsFor, Unfelt, WithTransport, World, around}
+use Rattle.wl_server.specs.PartStep.{Asked, Call, Changed, CleanedAs, FeelsGlobal, FeelsLoss, FlushedFor, Grown, InsertedAs, MovedFor, NotesTaken, OfClient, OnPart, PartCall, PartStep, ReadsFor, Unfelt, World, around}
 use Rattle.wl_server.specs.Runs.{concerns, is_about}
 use Rattle.wl_server.specs.Server.{Seen}
 use Rattle.wl_server.specs.Telling.{core_of, tells}
 use Rattle.wl_link.specs.Identity.{HandedId}
+use Rattle.wl_server.proofs.ObjectCalls.Destroying.{named_is_held}
+use Rattle.wl_server.proofs.OverRuns.Moves.MovesOfCalls.{writes}
+use Rattle.wl_server.specs.Part.{named}
 
 -- ---- the objects of a client that is taken out
 
 module _ {A : Type 0} where
-  contains_there : (e : ℕ × A) (es : List (ℕ × A)) (x : ℕ × A) → Contains es x → Contains (e ∷ es) x
-  contains_there e es x (k, lt, is) = (suc k, omega (arith, lt), is)
-
-  contains_or : (e : ℕ × A) (es : List (ℕ × A)) (x : ℕ × A) → Contains (e ∷ es) x → (e ≡ x) ⊎ Contains es x
-  contains_or e es x h4 = grind (arith)
-
-  pairs_rest : (e : ℕ × A) (es : List (ℕ × A)) → AllPairs (λ a b. a.0 < b.0) (e ∷ es) → AllPairs (λ a b. a.0 < b.0) es
-  pairs_rest e es pairs i j d less lt = pairs (suc i) (suc j) d (omega (arith, less)) (omega (arith, lt))
-
   pairs_first : (e : ℕ × A) (es : List (ℕ × A)) (x : ℕ × A) → AllPairs (λ a b. a.0 < b.0) (e ∷ es) → Contains es x → e.0 < x.0
   pairs_first e es x pairs (k, lt, is) = subst (λ (y : ℕ × A). e.0 < y.0) is (pairs zero (suc k) x (omega arith) (omega (arith, lt)))
 
@@ -74,10 +68,6 @@ module _ {U : Type 0} where
   doings_taken : (notes : List (Happening U)) → doings_in (map NoteTaken notes) ≡ record nothing_done { taken = notes }
   doings_taken [] = refl
   doings_taken (h ∷ notes) = ap (λ (d : Doings U). record d { taken = h ∷ d.taken }) (doings_taken notes)
-
-  doings_leaving : (client : ClientParts) (n : ℕ) (x : Object (Kept U)) (rest : List (Deed U))
-      → doings_in (map Noted (note_of_end client n x) ++ (left_if (id_of (id_at client n x)) x.value.user_data ++ rest)) ≡ joined (leaving client false n x) (doings_in rest)
-  doings_leaving client n x rest = grind (arith, doings_in, end_note, id_at, left_if, id_of, joined, nothing_done, left_id)
 
 module _ {T U C : Type 0} (kind : Kind) (sends : T → Queue → Result ℕ IoFault → T → Type 0) (receives : T → ℕ → Result Queue IoFault → T → Type 0)
     (client : ClientParts) where
@@ -97,25 +87,20 @@ module _ {T U C : Type 0} (kind : Kind) (sends : T → Queue → Result ℕ IoFa
     waiting : after.waiting ≡ p.waiting
     link : after.link ≡ p.link
 
-  is_all_rest : (p : Part T U C) (e : ℕ × Object (Kept U)) (entries : List (ℕ × Object (Kept U))) → IsAll p (e ∷ entries) → IsAll (left_by client false p e.0 e.1) entries
-  is_all_rest p e entries is = record {
-    ascending = pairs_rest e entries is.ascending;
-    there = λ n x among. removed_other p.store e.0 n (λ same. later n x among same) ∙ is.there n x (contains_there e entries (n, x) among);
-    all = grind (arith, cases_eq, none-some, removed_here, contains_or, removed_other);
-  }
-    where
-      later : (n : ℕ) (x : Object (Kept U)) → Contains entries (n, x) → n ≡ e.0 → ⊥
-      later n x among same = let less : e.0 < n = pairs_first e entries (n, x) is.ascending among in omega (arith, less, same)
-
   empties : (p : Part T U C) (entries : List (ℕ × Object (Kept U))) → IsAll p entries → Emptied p entries
   empties p [] is = record { after = p; moves = stayed refl refl; none = λ n. (grind (arith, held p.store n)); waiting = refl; link = refl }
   empties p (e ∷ entries) is =
       let mid : Part T U C = left_by client false p e.0 e.1 in
-      let rest = empties mid entries (is_all_rest p e entries is) in
+      let rest = empties mid entries (record {
+        ascending = λ i j d less lt. is.ascending (suc i) (suc j) d (omega (arith, less)) (omega (arith, lt));
+        there = λ n x among. removed_other p.store e.0 n (λ same. (let less : e.0 < n = pairs_first e entries
+            (n, x) is.ascending among in omega (arith, less, same))) ∙ is.there n x ((suc among.0, omega (arith, among.1), among.2));
+        all = grind (arith, cases_eq, none-some, removed_here, removed_other);
+      }) in
       record {
         after = rest.after;
         moves = followed (moved {q = mid} (went e.0 e.1 false (is.there e.0 e.1 (zero, omega arith, refl)) refl refl)) rest.moves
-            (doings_leaving client e.0 e.1 (objects_leave client entries));
+            (grind (arith, doings_in, end_note, id_at, left_if, id_of, joined, nothing_done, left_id, e.0, e.1, objects_leave client entries));
         none = rest.none;
         waiting = rest.waiting;
         link = rest.link;
@@ -123,13 +108,10 @@ module _ {T U C : Type 0} (kind : Kind) (sends : T → Queue → Result ℕ IoFa
 
   -- ---- what each client feels
 
-  stays_moves : (p : Part T U C) (lacked : Bool) (did : List (Deed U)) (q : Part T U C) → Stays p lacked did q → Leads p (doings_in did) q
-  stays_moves p lacked did q (no_memory, none, same) = stayed (ap doings_in none) same
-
   hears_moves : (p : Part T U C) (messages : List Said) (lacked : Bool) (did : List (Deed U)) (q : Part T U C) → Hears sends p messages lacked did q → Leads p (doings_in did) q
   hears_moves p messages lacked did q h =
       elim (either_bool p.is_killed h) [
-        | inl s ↦ stays_moves p lacked did q s
+        | inl s ↦ stayed (ap doings_in s.1) s.2
         | inr tells' ↦
             tells_moves kind sends receives client p (tells (core_of p) messages) lacked did q (tells_comes kind sends receives client (core_of p) messages (λ live. refl)) tells'
       ]
@@ -141,12 +123,9 @@ module _ {T U C : Type 0} (kind : Kind) (sends : T → Queue → Result ℕ IoFa
   flushes_moves : (p : Part T U C) (lacked : Bool) (did : List (Deed U)) (q : Part T U C) → FlushesLive sends p lacked did q → Leads p (doings_in did) q
   flushes_moves p lacked did q h =
       elim (either_bool p.is_killed h) [
-        | inl s ↦ stays_moves p lacked did q s
+        | inl s ↦ stayed (ap doings_in s.1) s.2
         | inr (answer, f) ↦ flushed_moves p answer lacked did q f
       ]
-
-  transport_moves : (becomes : T → T → Type 0) (p : Part T U C) (did : List (Deed U)) (q : Part T U C) → did ≡ [] → WithTransport becomes p q → Leads p (doings_in did) q
-  transport_moves becomes p did q none (t, b, same) = moved (relinked (with_transport p.link t) refl refl (λ unread. refl) (ap doings_in none) same)
 
   -- ---- what is held of a client
 
@@ -259,7 +238,8 @@ module _ {T U G C : Type 0} (kind : Kind) (w : World T G C) (id : ClientParts) (
       → MovedFor w id offer target m answer s lacked did t → To s did t
   moved_goes target m answer s lacked did t h =
       of_client kind w.sends w.receives id (same_client target id) s _ _ lacked did t
-      (λ mine p q (no_memory, none, with'). transport_moves kind w.sends w.receives id (λ x y. w.moves x m answer y) p did q none with') h
+      (λ mine p q (no_memory, none, with'). (moved (relinked (with_transport p.link with'.0) refl refl (λ unread. refl)
+      (ap doings_in none) with'.2))) h
 
   reads_goes : (target : ClientParts) → (same_client target id ≡ true → MayRead kind offer.table id) → (r : _) (answer : _) (r' : _) (s : Seen T U C) (lacked : Bool) (did : List (Deed U)) (t : Seen T U C)
       → ReadsFor w id offer target r answer r' s lacked did t → To s did t
@@ -282,7 +262,7 @@ module _ {T U G C : Type 0} (kind : Kind) (w : World T G C) (id : ClientParts) (
       → is_about id call ≡ true → Permits (Asked call answer) → PartStep w id offer call answer s lacked did t
       → Handed (Asked call answer) s did t
   step_goes (step.InsertClient transport client_data) answer s lacked did t about may h = absurd (true≢false (sym about))
-  step_goes (step.SetObjectData o u) answer s lacked did t about may (r, is, h) = grind (arith, of_client, same_doings, nothing_done, doings_in, data_set_moves)
+  step_goes (step.SetObjectData o u) answer s lacked did t about may (r, is, h) = grind (arith, of_client, same_doings, nothing_done, doings_in, named, stayed, writes, named_is_held)
   step_goes (step.CreateObject target i version u) answer s lacked did t about may (r, is, h) = grind (arith, creates_goes, made_ids, doings_of, on_part, creates_moves, unfelt)
   step_goes (step.DestroyObject o) answer s lacked did t about may (r, is, h) = grind (arith, of_client, same_client, destroys_moves)
   step_goes (step.SendEvent m) answer s lacked did t about may (r, is, h) =
@@ -315,7 +295,8 @@ module _ {T U G C : Type 0} (kind : Kind) (w : World T G C) (id : ClientParts) (
   call_moves (Asked call answer) s lacked did t about may h = step_goes call answer s lacked did t about may h
   call_moves (Changed target t') s lacked did t about may h =
       of_client kind w.sends w.receives id (same_client target id) s _ _ lacked did t
-      (λ mine p q (no_memory, none, with'). transport_moves kind w.sends w.receives id (λ x y. y ≡ t') p did q none with') h
+      (λ mine p q (no_memory, none, with'). (moved (relinked (with_transport p.link with'.0) refl refl (λ unread. refl)
+      (ap doings_in none) with'.2))) h
   call_moves (Grown rows answer) s lacked did t about may h = unfelt_goes kind w.sends w.receives id s lacked did t h
 
   -- what any call does: it inserts the client, of which nothing waits then, or what is held of the client goes over base moves

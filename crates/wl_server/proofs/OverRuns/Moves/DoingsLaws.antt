@@ -1,10 +1,9 @@
 -- How what is done adds up: over moves one behind another, and over deeds.
-use Rattle.std.proofs.Common.{◌≡◌, List, [], ◌∷◌, ◌++◌, Option, Result, map, refl, sym, ap, ◌∙◌, append-nil, append_assoc, arith}
+use Rattle.std.proofs.Common.{◌≡◌, List, [], ◌∷◌, ◌++◌, Result, map, refl, sym, ap, ◌∙◌, append-nil, append_assoc, arith}
 use Rattle.wl_wire.specs.declared.error.IoFault.{IoFault}
 use Rattle.wl_link.specs.Exchange.{Queue, Sending}
 use Rattle.wl_link.specs.Puts.{Said}
 use Rattle.wl_link.specs.Reader.{Given, HandedOut, Queued, Received, Handled, Unread, Turn, put_and_gave}
-use Rattle.wl_server.specs.declared.notes.DisconnectReason.{DisconnectReason}
 use Rattle.wl_server.specs.Deeds.{came_in}
 use Rattle.wl_server.proofs.OverRuns.Moves.BaseMoves.{Doings, acted_in, all_action_ids, doings_of, joined, nothing_done, noting, putting, sending}
 use Rattle.wl_server.specs.Deeds.{Acted, Came, Deed, Handed, Left, Noted, NoteTaken, Put, Remembered, Sent, notes_in, sends_of}
@@ -63,9 +62,6 @@ module _ {U : Type 0} where
   doings_puts [] = refl
   doings_puts (m ∷ put) = ap (λ (d : Doings U). record d { put = m ∷ d.put }) (doings_puts put)
 
-  pub doings_end : (o : Option DisconnectReason) → doings_in (end_deeds o) ≡ noting (notes_in (end_deeds o))
-  doings_end h1 = grind (arith)
-
   -- the exchanges of a reading
   pub doings_turns : (turns : List Turn) → (es : List Sending) × (rs : List (Result Queue IoFault)) × (doings_in (exchanges_in turns) ≡ exchanging es rs)
   doings_turns [] = ([], [], refl)
@@ -105,7 +101,7 @@ module _ {U : Type 0} where
 
     pub deeds_done : (exchanges : List (Deed U)) (gave : List (Given (Told U))) (c : Core U C)
         → doings_in (deeds_of exchanges gave c) ≡ joined (doings_in exchanges) (joined (doings_in (deeds_in gave)) (end_of c))
-    deeds_done exchanges gave c = grind (arith, doings_in_both, deeds_in, end_deeds, joined, doings_end)
+    deeds_done exchanges gave c = grind (arith, doings_in_both, deeds_in, end_deeds, joined)
 
     -- a verdict's, with what it put and what it gave
     pub verdict_done : (es : List Sending) (put : List Said) (made : List (Deed U)) (gave : List (Given (Told U))) (c : Core U C) → deeds_in gave ≡ map Put put ++ made

@@ -11,7 +11,7 @@ use Rattle.wl_link.specs.declared.object.Object.{Object}
 use Rattle.wl_link.proofs.Calls.Branches.{either_bool, either_option}
 use Rattle.wl_link.specs.Exchange.{Queue, Sending}
 use Rattle.wl_link.specs.Link.{LinkState, WroteBy}
-use Rattle.wl_link.specs.Puts.{PutsOut, Said}
+use Rattle.wl_link.specs.Puts.{Said}
 use Rattle.wl_link.specs.Reader.{Verdict}
 use Rattle.wl_link.specs.Identity.{New}
 use Rattle.wl_link.specs.Store.{Store, held, removed, rewritten, server_range, stored}
@@ -20,22 +20,20 @@ use Rattle.wl_server.specs.declared.reading.action.OpenAction.TheVariants as ope
 use Rattle.wl_server.specs.declared.error.CreateError.{CreateError}
 use Rattle.wl_server.specs.declared.error.DestroyError.{DestroyError}
 use Rattle.wl_server.specs.declared.error.EventError.{EventError}
-use Rattle.wl_server.specs.declared.error.FinishError.{FinishError}
 use Rattle.wl_server.specs.declared.error.FinishRefused.{FinishRefused}
-use Rattle.wl_server.specs.declared.error.InvalidId.{InvalidId}
 use Rattle.wl_server.specs.declared.objects.Kept.{Kept}
 use Rattle.wl_server.specs.declared.notes.DisconnectReason.{DisconnectReason}
 use Rattle.wl_server.specs.declared.notes.DisconnectReason.TheVariants.{ProtocolError as BrokeProtocol}
 use Rattle.wl_server.specs.HandedIds.{made_ids}
 use Rattle.wl_server.proofs.OverRuns.Moves.BaseMoves.{Doings, Kind, born, finished, followed, handing, joined, leaving as leaves, left_by, left_id, moved, nothing_done, noting, putting, sending, stayed, told, went, wrote}
 use Rattle.wl_server.specs.Deeds.{Deed, Noted, Sent, left_if}
-use Rattle.wl_server.proofs.OverRuns.Moves.DoingsLaws.{IsQuiet, doings_in, doings_in_both, doings_end, doings_sends, joined_none, told_deeds}
+use Rattle.wl_server.proofs.OverRuns.Moves.DoingsLaws.{doings_in, doings_in_both, doings_sends, joined_none, told_deeds}
 use Rattle.wl_server.specs.Errors.{PostsError, error_of, posts}
 use Rattle.wl_server.specs.Events.{SendsEvent, SentAs, SessionMessage, argument_faults, checked_row, checked_sender, ends_closed, ends_sender, event_check, granted, said, wire_message}
-use Rattle.wl_server.specs.Finish.{FinishesBind, FinishesRequest, Refuses, core_finished, data_given, ended_by, ends, ends_request, refusal, store_with_data}
+use Rattle.wl_server.specs.Finish.{FinishesBind, FinishesRequest, core_finished, data_given, ended_by, ends, ends_request, refusal, store_with_data}
 use Rattle.wl_server.specs.Ids.{ClientParts, IdParts}
 use Rattle.wl_server.proofs.OverRuns.Moves.MovesOfVerdicts.{Comes, Go, IsCalm, Lands, at, ends_killed, lands_at, lands_not, lands_then, same_doings, tells_moves}
-use Rattle.wl_server.specs.Objects.{Creates, DataSet, Destroys, destroyable, destroys, new_object, without}
+use Rattle.wl_server.specs.Objects.{Creates, Destroys, destroyable, destroys, new_object, without}
 use Rattle.wl_server.specs.Part.{Part, end_note, id_at, id_of, last_possible_serial, named, note_of_end, serial_of, with_link, with_user_data}
 use Rattle.wl_server.specs.Telling.{Core, Did, Kills, Tells, Told, closed_down, core_of, deletions, killed, tells}
 use Rattle.wl_server.proofs.ObjectCalls.Destroying.{named_is_held}
@@ -71,12 +69,6 @@ module _ {U : Type 0} where
   told_did [] = refl
   told_did (d ∷ did) = ap (λ (ds : List (Deed U)). d ∷ ds) (told_did did)
 
-  quiet_left : (client : ClientParts) (waits : Bool) (id : IdParts) (x : Object (Kept U)) → IsQuiet (left_deeds client waits id x)
-  quiet_left client waits id x = grind (arith, end_note, id_at, id_of, left_if)
-
-pub destroyable_named : {T U C : Type 0} (p : Part T U C) (id : IdParts) (x : Object (Kept U)) → destroyable p id ≡ Some x → named p.store id ≡ Some x
-destroyable_named p id x e = grind (arith, eqb, named)
-
 not_zero : (n : ℕ) → server_range.first ≤ n → n ≢ 0
 not_zero n least zero = omega (arith, least, zero)
 
@@ -85,19 +77,6 @@ module _ {U : Type 0} where
   pub granted_named : (client : ClientParts) (store : Store (Kept U)) (table : List InterfaceRow) (m : SessionMessage) (g : Object (Kept U) × Bool) → event_check client store table m ≡ Ok g
       → named store m.sender ≡ Some g.0
   granted_named client store table m g e = grind (arith, named, granted, true≢false, is_ok, checked_row, argument_faults, checked_sender)
-
-  pub ended_named : (store : Store (Kept U)) (id : IdParts) (b : Bool) (x : Object (Kept U)) → ended_by store id b ≡ Some x → named store id ≡ Some x
-  ended_named store id h3 x e = grind (arith, none-some)
-
-module _ {T : Type 0} (sends : T → Queue → Result ℕ IoFault → T → Type 0) where
-  -- one message is put
-  put_one : (m : SessionMessage) (before after : LinkState T) (es : List Sending) → WroteBy sends before (wire_message m) es (Ok tt) after
-      → PutsOut sends before (said m ∷ []) es (said m ∷ []) (Ok tt) after
-  put_one m before after es by = (es, Ok tt, after, inl by, ([], [], sym (append-nil es), refl, (refl, refl, refl, refl)))
-
-  put_none : (m : SessionMessage) (before after : LinkState T) (es : List Sending) (f : IoFault) → WroteBy sends before (wire_message m) es (Err f) after
-      → PutsOut sends before (said m ∷ []) es [] (Err f) after
-  put_none m before after es f by = (es, Err f, after, inl by, (refl, refl, refl, refl))
 
 module _ {T U C : Type 0} (kind : Kind) (sends : T → Queue → Result ℕ IoFault → T → Type 0) (receives : T → ℕ → Result Queue IoFault → T → Type 0)
     (client : ClientParts) where
@@ -122,16 +101,13 @@ module _ {T U C : Type 0} (kind : Kind) (sends : T → Queue → Result ℕ IoFa
 
   -- ---- data, and new objects
 
-  writes : {p q : Part T U C} {d : Doings U} (n : ℕ) (x : Object (Kept U)) (u : U) → held p.store n ≡ Some x → d ≡ nothing_done
+  pub writes : {p q : Part T U C} {d : Doings U} (n : ℕ) (x : Object (Kept U)) (u : U) → held p.store n ≡ Some x → d ≡ nothing_done
       → q ≡ record p { store = rewritten p.store n (with_user_data u x) } → Move p d q
   writes n x u there none same = moved (wrote n x u there none same)
 
   bears : {p q : Part T U C} {d : Doings U} (n : ℕ) (x : Object (Kept U)) → held p.store n ≡ None → n ≢ 0 → x.value.serial ≡ p.last_serial + 1
       → d ≡ handing (New (id_at client n x) ∷ []) → q ≡ record p { store = stored p.store n x; last_serial = p.last_serial + 1 } → Move p d q
   bears n x free ne serial made same = moved (born n x free ne serial made same)
-
-  pub data_set_moves : (p : Part T U C) (id : IdParts) (u : U) (answer : Result (Unit {0}) InvalidId) (q : Part T U C) → DataSet p id u answer q → Move p nothing_done q
-  data_set_moves p id u answer q h = grind (arith, named, stayed, writes, named_is_held)
 
   pub creates_moves : (table : List InterfaceRow) (p : Part T U C) (i : InterfaceId) (version : ℕ) (u : U) (answer : Result IdParts CreateError) (q : Part T U C)
       → Creates table client p i version u answer q → Move p (handing (made_ids answer)) q
@@ -149,7 +125,7 @@ module _ {T U C : Type 0} (kind : Kind) (sends : T → Queue → Result ℕ IoFa
         (λ l. followed (moved (went id.number x waits (named_is_held c.store id x is) refl refl)) (moves l)
         (doings_left client waits id x (named_serial c.store id x is) ∙ sym (joined_none _)));
     events = λ d store. (ap (λ (b : Bool). told_deeds (cond b [] (map Did did))) (gone_named d.store id (ap (λ (s : Store (Kept U)). held s id.number) store ∙ gone))) ∙ told_did did;
-    quiet = quiet_left client waits id x;
+    quiet = grind (arith, end_note, id_at, id_of, left_if);
     last = inl refl;
     starved = elim back [ inl over ↦ inl over | inr back ↦ inr (back, (ap (λ (b : Bool). told_deeds (cond b [] (map Did did))) (ap is_some is))) ];
   }
@@ -168,7 +144,8 @@ module _ {T U C : Type 0} (kind : Kind) (sends : T → Queue → Result ℕ IoFa
         | inl (none, (is, no_memory, nothing, same)) ↦ stays p did q nothing same
         | inr (x, some, (is, tells')) ↦
             tells_moves kind sends receives client p (destroys client (core_of p) id x) lacked did q
-            (leaves_comes (core_of p) _ _ true (is_some x.value.user_data) id x (deletions id.number) (calm_core p) (destroyable_named p id x some) (refl, refl)
+            (leaves_comes (core_of p) _ _ true (is_some x.value.user_data) id x (deletions id.number) (calm_core p) (grind (arith, eqb, named))
+            (refl, refl)
             (removed_here p.store id.number id.number refl) (λ l. stayed refl refl) (inr refl)) tells'
       ]
 
@@ -195,7 +172,7 @@ module _ {T U C : Type 0} (kind : Kind) (sends : T → Queue → Result ℕ IoFa
       let ends = ends_killed kind sends receives client (core_of p) reason may (calm_core p) in
       subst (λ (e : Part T U C). Move p (doings_in did) e) (sym same)
       (same_doings kind sends receives client p (record p { is_killed = true }) (noting ends.notes) (doings_in did)
-      (ap doings_in is ∙ doings_end (killed (core_of p) reason).ended ∙ ap noting ends.so) (ends.moves p.link))
+      (ap doings_in is ∙ (grind (arith, (killed (core_of p) reason).ended)) ∙ ap noting ends.so) (ends.moves p.link))
 
   -- ---- an event
 
@@ -213,25 +190,25 @@ module _ {T U C : Type 0} (kind : Kind) (sends : T → Queue → Result ℕ IoFa
 
     module _ (p : Part T U C) (b : Bool) (es : List Sending) (link : LinkState T) (answer : Result (Unit {0}) EventError) (lacked : Bool) (rest did : List (Deed U)) (q : Part T U C)
         (is : named p.store m.sender ≡ Some sender) (did_so : did ≡ map Sent es ++ rest) where
-      sent_first : doings_in did ≡ joined (sending es) (doings_in rest)
-      sent_first = ap doings_in did_so ∙ doings_in_both (map Sent es) rest ∙ ap (λ (d : Doings U). joined d (doings_in rest)) (doings_sends es)
-
       broken_moves : (f : IoFault) → WroteBy sends p.link (wire_message m) es (Err f) link
           → Tells sends (ends_closed client (core_of p) m sender b) link lacked rest q → Move p (doings_in did) q
       broken_moves f by tells' =
-          followed (moved {p = p} {q = with_link p link} (told (said m ∷ []) es [] (Err f) link (put_none sends m p.link link es f by) refl refl))
+          followed (moved {p = p} {q = with_link p link} (told (said m ∷ []) es [] (Err f) link
+          ((es, Err f, link, inl by, (refl, refl, refl, refl))) refl refl))
           (tells_moves kind sends receives client (with_link p link) (ends_closed client (core_of p) m sender b) lacked rest q (ends_closed_comes (core_of p) b (calm_core p) is) tells')
-          sent_first
+          (ap doings_in did_so ∙ doings_in_both (map Sent es) rest ∙ ap (λ (d : Doings U). joined d (doings_in rest)) (doings_sends es))
 
       sent_moves : (w : Result (Unit {0}) IoFault) → WroteBy sends p.link (wire_message m) es w link → SentAs sends client p m sender b w link answer lacked rest q
           → Move p (doings_in did) q
       sent_moves (Ok u) by (more, tells', is_ok', rest_so) =
-          followed (moved {p = p} {q = with_link p link} (told (said m ∷ []) es (said m ∷ []) (Ok tt) link (put_one sends m p.link link es by) refl refl))
+          followed (moved {p = p} {q = with_link p link} (told (said m ∷ []) es (said m ∷ []) (Ok tt) link
+          ((es, Ok tt, link, inl by, ([], [], sym (append-nil es), refl, (refl, refl, refl, refl)))) refl refl))
           (tells_moves kind sends receives client (with_link p link) (ends_sender client (core_of p) m sender b) lacked more q (ends_sender_comes (core_of p) b (calm_core p) is) tells')
-          (grind (arith, sent_first, joined, sending, doings_in, putting, said))
+          (grind (arith, doings_in, doings_in_both, joined, doings_sends, sending, putting, said))
       sent_moves (Err fault.OutOfMemory) by (is_err, no_memory, none, same) =
-          moved (told (said m ∷ []) es [] (Err fault.OutOfMemory) link (put_none sends m p.link link es fault.OutOfMemory by)
-          (sent_first ∙ ap (λ (ds : List (Deed U)). joined (sending es) (doings_in ds)) none ∙ ap (λ (l : List Sending). sending {U = U} l) (append-nil es)) same)
+          moved (told (said m ∷ []) es [] (Err fault.OutOfMemory) link ((es, Err fault.OutOfMemory, link, inl by, (refl, refl, refl, refl)))
+          ((ap doings_in did_so ∙ doings_in_both (map Sent es) rest ∙ ap (λ (d : Doings U). joined d (doings_in rest)) (doings_sends es)) ∙ ap
+          (λ (ds : List (Deed U)). joined (sending es) (doings_in ds)) none ∙ ap (λ (l : List Sending). sending {U = U} l) (append-nil es)) same)
       sent_moves (Err fault.WouldBlock) by (tells', is_ok') = broken_moves fault.WouldBlock by tells'
       sent_moves (Err fault.Pipe) by (tells', is_ok') = broken_moves fault.Pipe by tells'
       sent_moves (Err fault.TooBig) by (tells', is_ok') = broken_moves fault.TooBig by tells'
@@ -249,14 +226,12 @@ module _ {T U C : Type 0} (kind : Kind) (sends : T → Queue → Result ℕ IoFa
   data_moves : (p : Part T U C) (created : Option IdParts) (u : Option U) → Move p nothing_done (record p { store = store_with_data p.store created u })
   data_moves p created u = grind (arith, stayed, named, nothing_done, data_given, writes, named_is_held)
 
-  finish_moves : kind.finishes ≡ true → (p : Part T U C) (created : Option IdParts) (u : Option U) → Move p nothing_done (record p { action = None; store = store_with_data p.store created u })
-  finish_moves may p created u = followed (data_moves p created u) (moved (finished may refl refl)) refl
-
   ends_comes : kind.finishes ≡ true → (c : Core U C) (id : IdParts) (o : Option (Object (Kept U))) (created : Option IdParts) (u : Option U) → Calm c
       → ((x : Object (Kept U)) → o ≡ Some x → named c.store id ≡ Some x) → Come c (ends client c id o created u)
   ends_comes may c id None created u calm is = record {
     made = [];
-    lands = lands_at kind sends receives client c [] (core_finished c created u) calm refl (λ l. finish_moves may (at kind sends receives client c l) created u);
+    lands = lands_at kind sends receives client c [] (core_finished c created u) calm refl (λ l. (followed (data_moves
+        (at kind sends receives client c l) created u) (moved (finished may refl refl)) refl));
     events = λ e same. refl;
     quiet = (refl, refl);
     last = inl refl;
@@ -265,24 +240,22 @@ module _ {T U C : Type 0} (kind : Kind) (sends : T → Queue → Result ℕ IoFa
   ends_comes may c id (Some x) created u calm is =
       leaves_comes c _ c false (is_some x.value.user_data) id x (deletions id.number) calm (is x refl) (refl, refl)
       (still_gone (removed c.store id.number) id.number created u (removed_here c.store id.number id.number refl))
-      (λ l. finish_moves may (at kind sends receives client (without c id.number x) l) created u) (inr refl)
-
-  refuses_moves : {D : Type 0} (p : Part T U C) (d : D) (e : FinishError) (answer : Result (Unit {0}) (FinishRefused D)) (lacked : Bool) (did : List (Deed U)) (q : Part T U C)
-      → Refuses p d e answer lacked did q → Move p (doings_in did) q
-  refuses_moves p d e answer lacked did q (is, no_memory, none, same) = stays p did q none same
+      (λ l. (followed (data_moves (at kind sends receives client (without c id.number x) l) created u) (moved (finished may refl refl)) refl))
+      (inr refl)
 
   pub finishes_moves : kind.finishes ≡ true → (p : Part T U C) (u : Option U) (answer : Result (Unit {0}) (FinishRefused (Option U))) (lacked : Bool) (did : List (Deed U)) (q : Part T U C)
       → FinishesRequest sends client p u answer lacked did q → Move p (doings_in did) q
   finishes_moves may p u answer lacked did q h =
       elim (either_option p.action h) [
-        | inl (none, refuses) ↦ refuses_moves p u _ answer lacked did q refuses
-        | inr (opened.Bind object, is, refuses) ↦ refuses_moves p u _ answer lacked did q refuses
+        | inl (none, refuses) ↦ stays p did q refuses.2 refuses.3
+        | inr (opened.Bind object, is, refuses) ↦ stays p did q refuses.2 refuses.3
         | inr (opened.Request sender b created, is, g) ↦
             elim (either_option (refusal p.is_killed created u) g) [
-              | inr (e, why, refuses) ↦ refuses_moves p u e answer lacked did q refuses
+              | inr (e, why, refuses) ↦ stays p did q refuses.2 refuses.3
               | inl (none, (is', tells')) ↦
                   tells_moves kind sends receives client p (ends_request client (core_of p) sender b created u) lacked did q
-                  (ends_comes may (core_of p) sender (ended_by p.store sender b) created u (calm_core p) (λ x e. ended_named p.store sender b x e)) tells'
+                  (ends_comes may (core_of p) sender (ended_by p.store sender b) created u (calm_core p) (λ x e.
+                  (grind (arith, none-some, p.store)))) tells'
             ]
       ]
 
@@ -290,10 +263,10 @@ module _ {T U C : Type 0} (kind : Kind) (sends : T → Queue → Result ℕ IoFa
       → FinishesBind p u answer lacked did q → Move p (doings_in did) q
   finishes_bind_moves may p u answer lacked did q h =
       elim (either_option p.action h) [
-        | inl (none, refuses) ↦ refuses_moves p u _ answer lacked did q refuses
-        | inr (opened.Request sender b created, is, refuses) ↦ refuses_moves p u _ answer lacked did q refuses
+        | inl (none, refuses) ↦ stays p did q refuses.2 refuses.3
+        | inr (opened.Request sender b created, is, refuses) ↦ stays p did q refuses.2 refuses.3
         | inr (opened.Bind object, is, (is', no_memory, none, same)) ↦
             subst (λ (e : Part T U C). Move p (doings_in did) e) (sym same)
             (same_doings kind sends receives client p (record p { action = None; store = store_with_data p.store (Some object) (Some u) }) nothing_done (doings_in did) (ap doings_in none)
-            (finish_moves may p (Some object) (Some u)))
+            (followed (data_moves p (Some object) (Some u)) (moved (finished may refl refl)) refl))
       ]

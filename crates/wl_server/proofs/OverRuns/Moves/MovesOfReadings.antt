@@ -18,11 +18,12 @@ use Rattle.wl_server.specs.declared.notes.Happening.{Happening}
 use Rattle.wl_server.proofs.OverRuns.Moves.BaseMoves.{Doings, Kind, MayRead, followed, joined, moved, noting, putting, received, receiving, relinked, sending, stayed}
 use Rattle.wl_server.specs.Deeds.{Came, Deed, Handed, Put, Sent, notes_in}
 use Rattle.wl_server.proofs.OverRuns.Moves.DoingsLaws.{IsQuiet, deeds_done, doings_in, doings_in_both, doings_puts, doings_sends, end_of, joined_none, turns_done, verdict_done}
-use Rattle.wl_server.proofs.OverRuns.Moves.MovesOfRequests.{handles_comes, malformed_comes}
+use Rattle.wl_server.proofs.OverRuns.Moves.MovesOfRequests.{handles_comes}
 use Rattle.wl_server.proofs.OverRuns.Moves.MovesOfVerdicts.{Comes, Ends, Go, IsCalm, carried, ends_killed, ends_not, same_doings}
 use Rattle.wl_server.specs.Part.{Part}
 use Rattle.wl_server.specs.Reading.{Around, NextAction, exchanges_in, faulted, reads_on, server}
 use Rattle.wl_server.specs.Telling.{Core, Told, deeds_in, deeds_of, end_deeds, part_of, reader_part}
+use Rattle.wl_server.proofs.OverRuns.Moves.MovesOfRequests.{garbled_comes}
 
 module _ {T : Type 0} where
   read_waits : (looks_up : ℕ → ℕ → Option (List ArgumentType) → Type 0) (before after : LinkState T) (answer : Result WireMessage MessageParseError)
@@ -117,7 +118,7 @@ module _ {T U G C : Type 0} (kind : Kind) (sends : T → Queue → Result ℕ Io
   reads_moves may left before (Unread es ∷ turns) out after none calm (on, (v, link, first, lacked, mid, rest, (read, same, is), by, split, more)) =
       then_moves left before mid after es turns first lacked rest out split
       (turn_moves may before link v (ap (λ (l : LinkState T). l.outgoing) same) (ap (λ (l : LinkState T). l.outgoing_capacity) same)
-      (subst (λ (w : Verdict (Core U C) (Told U)). Comes kind sends receives a.client before.core w) (sym is) (malformed_comes kind sends receives a before.core calm)) calm es first lacked mid by none)
+      (subst (λ (w : Verdict (Core U C) (Told U)). Comes kind sends receives a.client before.core w) (sym is) (garbled_comes kind sends receives a before.core calm)) calm es first lacked mid by none)
       more (λ no_end calm'. reads_moves may left mid turns rest after no_end calm' more)
 
   -- ---- a reading

@@ -28,7 +28,7 @@ use Rattle.wl_server.specs.declared.reading.response.RequestFault.TheVariants as
 use Rattle.wl_server.proofs.OverRuns.Ids.AmongLaws.{among_both, among_first, among_later}
 use Rattle.wl_server.specs.HandedIds.{created_ids}
 use Rattle.wl_server.specs.Deeds.{IsAmong, Acted, Deed, Handed, Remembered}
-use Rattle.wl_server.proofs.OverRuns.Moves.BaseMoves.{Doings, Kind, MayRead, all_action_ids, born, followed, found, found_none, handed_out, handing, moved, nothing_done, opens, remembered, stayed, went}
+use Rattle.wl_server.proofs.OverRuns.Moves.BaseMoves.{Doings, Kind, MayRead, all_action_ids, born, followed, found, found_none, handed_out, handing, moved, opens, remembered, stayed, went}
 use Rattle.wl_server.specs.Deeds as deeds
 use Rattle.wl_server.proofs.OverRuns.Moves.DoingsLaws.{IsQuiet, told_deeds}
 use Rattle.wl_server.specs.Errors.{error_of, fault_text, since_text}
@@ -36,7 +36,7 @@ use Rattle.wl_server.specs.Globals.{global_at}
 use Rattle.wl_server.specs.Ids.{ClientParts, IdParts}
 use Rattle.wl_server.proofs.OverRuns.Moves.MovesOfVerdicts.{Comes, Go, IsCalm, Lands, at, ends_killed, lands_at, lands_not, lands_then}
 use Rattle.wl_server.specs.Part.{Part, display_of, id_at, last_possible_serial, null_id}
-use Rattle.wl_server.specs.Reading.{Around, binds, breaks, converted, garbled, hands_out, new_at, other_request, registers, replies, server, stops_if, synced, syncs, with_registry}
+use Rattle.wl_server.specs.Reading.{Around, binds, breaks, converted, garbled, hands_out, new_at, other_request, replies, server, stops_if, synced, syncs, with_registry}
 use Rattle.wl_server.proofs.OverRuns.Announced.RequestCases.{request_case}
 use Rattle.wl_server.specs.Requests.{Converted, Converting, Outcome, Whole, Wrong, allows_null, convert, convert_one, going_on, is_valid_new, kinds_after, made_id, made_object, object_found, start, with_made, with_new_argument, with_object_argument}
 use Rattle.wl_server.specs.Telling.{Core, Did, Told, closed_down, objects_in, with_objects}
@@ -79,9 +79,6 @@ module _ {U : Type 0} (client : ClientParts) (version : ℕ) (P : List (HandedId
   converts_new ids d n None so = tt
   converts_new ids d n (Some i) so = grind (arith, is_valid_new, made_id, with_made, kinds_after, makes)
 
-  converts_one : (ids : List (HandedId IdParts)) (d : Converting U) (x : WireArgument) → P ids d.objects → One P ids d (convert_one client version d x)
-  converts_one ids d x so = grind (arith, converts_object, allows_null, eqb, converts_new, append-nil)
-
   goes_on : (d : Converting U) (done : List (Argument IdParts Token)) (args : List WireArgument)
       → ((next : Converting U) (more : List (Argument IdParts Token)) → SoFar P next more → Came P (convert client version next more args))
       → (r : Converted U) → One P (argument_ids done) d r → SoFar P d done
@@ -92,7 +89,8 @@ module _ {U : Type 0} (client : ClientParts) (version : ℕ) (P : List (HandedId
   pub converts : (d : Converting U) (done : List (Argument IdParts Token)) (args : List WireArgument) → SoFar P d done → Came P (convert client version d done args)
   converts d done [] so = so
   converts d done (x ∷ args) so =
-      goes_on d done args (λ next more so-far. converts next more args so-far) (convert_one client version d x) (converts_one (argument_ids done) d x so.0) so
+      goes_on d done args (λ next more so-far. converts next more args so-far) (convert_one client version d x)
+      (grind (arith, converts_object, allows_null, eqb, converts_new, append-nil, argument_ids done, so.0)) so
 
 module _ {T U G C : Type 0} (kind : Kind) (sends : T → Queue → Result ℕ IoFault → T → Type 0) (receives : T → ℕ → Result Queue IoFault → T → Type 0)
     (a : Around G C) where
@@ -110,10 +108,6 @@ module _ {T U G C : Type 0} (kind : Kind) (sends : T → Queue → Result ℕ Io
 
   abbrev pub Come : Core U C → Verdict (Core U C) (Told U) → Type 0
   Come c v = Comes kind sends receives a.client c v
-
-  -- the ids that came up are not handed out
-  dropped : (p q : Part T U C) (ids : List (HandedId IdParts)) → Move p (handing ids) q → Move p nothing_done q
-  dropped p q ids go = handed_out [] go (λ id among. absurd among) refl
 
   -- ---- objects that are made
 
@@ -134,7 +128,7 @@ module _ {T U G C : Type 0} (kind : Kind) (sends : T → Queue → Result ℕ Io
   told_did [] c = told_stops c
   told_did (d ∷ did) c = ap (λ (ds : List (Deed U)). d ∷ ds) (told_did did c)
 
-  garbled_comes : (c : Core U C) → IsQuietCore c → Come c (garbled c)
+  pub garbled_comes : (c : Core U C) → IsQuietCore c → Come c (garbled c)
   garbled_comes c calm = record {
     made = [];
     lands = lands_then kind sends receives a.client c c (closed_down c) [] (lands_not kind sends receives a.client c calm) (ends_killed kind sends receives a.client c ConnectionClosed kind.closes calm);
@@ -154,9 +148,6 @@ module _ {T U G C : Type 0} (kind : Kind) (sends : T → Queue → Result ℕ Io
     starved = inl refl;
   }
 
-  breaks_here : MayRead kind a.table a.client → (c : Core U C) (code : ℕ) (text : List ℕ) → IsQuietCore c → Come c (breaks a c code text)
-  breaks_here may c code text calm = breaks_comes may c c code text (lands_not kind sends receives a.client c calm)
-
   replies_comes : (c m : Core U C) (puts : List Said) (did : List (Deed U)) → Lead c did m → IsQuiet did → Come c (replies m puts did)
   replies_comes c m puts did lead quiet = grind (arith, told_did)
 
@@ -167,44 +158,22 @@ module _ {T U G C : Type 0} (kind : Kind) (sends : T → Queue → Result ℕ Io
 
   syncs_comes : (c : Core U C) (n : ℕ) → IsQuietCore c → is_valid_new (objects_in c) n ≡ true → Come c (syncs a c n)
   syncs_comes c n calm valid =
-      replies_comes c (synced a c n) _ [] (lands_at kind sends receives a.client c [] (synced a c n) calm refl moves) (refl, refl)
-    where
-      made : Core U C
-      made = with_objects c (with_made (objects_in c) n callback_id 1)
-
-      moves : (l : LinkState T) → Move (place c l) nothing_done (place (synced a c n) l)
-      moves l =
-          followed
-          (dropped (place c l) (place made l) (New (made_id a.client (objects_in c) n callback_id) ∷ []) (makes_object c 1 (objects_in c) n callback_id valid l))
-          (moved (went n (made_object (objects_in c) callback_id 1) true (stored_here c.store n (made_object (objects_in c) callback_id 1) n refl) refl (went_so l))) refl
-        where
-          went_so : (l : LinkState T) → place (synced a c n) l ≡ record (place made l) { store = (synced a c n).store; waiting = c.waiting ++ [] }
-          went_so l = ap (λ (w : List (Happening U)). record (place (synced a c n) l) { waiting = w }) (sym (append-nil c.waiting))
-
-  registers_comes : (c : Core U C) (n : ℕ) → IsQuietCore c → is_valid_new (objects_in c) n ≡ true → Come c (registers a c n)
-  registers_comes c n calm valid =
-      replies_comes c (with_registry a c n) _ (Remembered (new_at a c n) ∷ [])
-      (lands_at kind sends receives a.client c (Remembered (new_at a c n) ∷ []) (with_registry a c n) calm refl (λ l. followed
-      (dropped (place c l) (place made l) (New (made_id a.client (objects_in c) n registry_id) ∷ []) (makes_object c 1 (objects_in c) n registry_id valid l))
-      (moved (remembered n (made_object (objects_in c) registry_id 1) (stored_here c.store n (made_object (objects_in c) registry_id 1) n refl) refl refl refl)) refl)) (refl, refl)
-    where
-      made : Core U C
-      made = with_objects c (with_made (objects_in c) n registry_id 1)
+      replies_comes c (synced a c n) _ [] (lands_at kind sends receives a.client c [] (synced a c n) calm refl (λ l. followed
+      (handed_out [] (makes_object c 1 (objects_in c) n callback_id valid l) (λ id among. absurd among) refl)
+      (moved (went n (made_object (objects_in c) callback_id 1) true (stored_here c.store n (made_object
+      (objects_in c) callback_id 1) n refl) refl (ap (λ (w : List (Happening U)). record (place (synced a c n) l) { waiting = w }) (sym
+      (append-nil c.waiting))))) refl)) (refl, refl)
 
   binds_comes : MayRead kind a.table a.client → (c : Core U C) (g version n : ℕ) (x : Object (KeptGlobal G)) → IsQuietCore c → is_valid_new (objects_in c) n ≡ true → Come c (binds a c g version n x)
   binds_comes may c g version n x calm valid =
-      hands_out_comes c made (opened.Bind id) h
-      (lands_at kind sends receives a.client c (Acted h ∷ []) (record made { action = Some (opened.Bind id) }) calm refl
-      (λ l. followed (makes_object c version (objects_in c) n x.interface valid l) (moved (opens (opened.Bind id) h may.reads refl refl refl)) refl))
+      hands_out_comes c (with_objects c (with_made (objects_in c) n x.interface version)) (opened.Bind id) (deeds.Bind (global_at g x) id)
+      (lands_at kind sends receives a.client c (Acted (deeds.Bind (global_at g x) id) ∷ []) (record (with_objects c (with_made
+      (objects_in c) n x.interface version)) { action = Some (opened.Bind id) }) calm refl
+      (λ l. followed (makes_object c version (objects_in c) n x.interface valid l) (moved (opens (opened.Bind id) (deeds.Bind
+      (global_at g x) id) may.reads refl refl refl)) refl))
     where
       id : IdParts
       id = made_id a.client (objects_in c) n x.interface
-
-      made : Core U C
-      made = with_objects c (with_made (objects_in c) n x.interface version)
-
-      h : Handed
-      h = deeds.Bind (global_at g x) id
 
   -- ---- other requests
 
@@ -247,7 +216,7 @@ module _ {T U G C : Type 0} (kind : Kind) (sends : T → Queue → Result ℕ Io
     converted_comes (Wrong w objects) came =
         breaks_comes may c (with_objects c objects) 0 (fault_text a.table receiver.interface row w)
         (lands_at kind sends receives a.client c [] (with_objects c objects) calm refl
-        (λ l. dropped (place c l) (place (with_objects c objects) l) (came c).0 ((came c).1 l)))
+        (λ l. (handed_out [] ((came c).1 l) (λ id among. absurd among) refl)))
     converted_comes (Whole d args) came = hands_out_converted d args came
 
     other_comes : Come c (other_request a c m receiver row)
@@ -256,7 +225,7 @@ module _ {T U G C : Type 0} (kind : Kind) (sends : T → Queue → Result ℕ Io
         go : (b : Bool) → Come c (cond b
             (breaks a c 1 (since_text m.opcode receiver.version row.since (name_of a.table receiver.interface.0) m.sender))
             (converted a c m receiver row (convert a.client receiver.version (start (objects_in c) row) [] m.args)))
-        go true = breaks_here may c 1 _ calm
+        go true = breaks_comes may c c 1 _ (lands_not kind sends receives a.client c calm)
         go false =
             converted_comes (convert a.client receiver.version (start (objects_in c) row) [] m.args)
             (λ e. converts a.client receiver.version (Over e (objects_in c)) (λ ids o n i valid so l. followed (so l) (makes_object e receiver.version o n i valid l) refl)
@@ -267,9 +236,12 @@ module _ {T U G C : Type 0} (kind : Kind) (sends : T → Queue → Result ℕ Io
 
   pub handles_comes : MayRead kind a.table a.client → (c : Core U C) (m : WireMessage) → IsQuietCore c → Come c ((server a).handles c m)
   handles_comes may c m calm =
-      request_case a c (Come c) (garbled_comes c calm) (λ code text. breaks_here may c code text calm) (λ n valid. syncs_comes c n calm valid)
-      (λ n valid. registers_comes c n calm valid) (λ g version n x valid. binds_comes may c g version n x calm valid) m
+      request_case a c (Come c) (garbled_comes c calm) (λ code text. (breaks_comes may c c code text
+      (lands_not kind sends receives a.client c calm))) (λ n valid. syncs_comes c n calm valid)
+      (λ n valid. (replies_comes c (with_registry a c n) _ (Remembered (new_at a c n) ∷ [])
+      (lands_at kind sends receives a.client c (Remembered (new_at a c n) ∷ []) (with_registry a c n) calm refl (λ l. followed
+      (handed_out [] (makes_object c 1 (objects_in c) n registry_id valid l) (λ id among. absurd among) refl)
+      (moved (remembered n (made_object (objects_in c) registry_id 1) (stored_here c.store n (made_object
+      (objects_in c) registry_id 1) n refl) refl refl refl)) refl)) (refl, refl)))
+      (λ g version n x valid. binds_comes may c g version n x calm valid) m
       (λ receiver row holds other. other_comes c m receiver row calm holds other may)
-
-  pub malformed_comes : (c : Core U C) → IsQuietCore c → Come c ((server a).malformed c)
-  malformed_comes c calm = garbled_comes c calm

@@ -15,9 +15,9 @@ use Rattle.wl_server.specs.declared.objects.Kept.{Kept}
 use Rattle.wl_server.specs.Deeds.{Deed}
 use Rattle.wl_server.specs.Globals.{Offer}
 use Rattle.wl_server.specs.Identified.{waiting_of}
-use Rattle.wl_server.specs.Ids.{ClientParts, IdParts}
+use Rattle.wl_server.specs.Ids.{ClientParts}
 use Rattle.wl_server.specs.NotedEnds.Errors.{EachErrorIsCaused, MayHaveKilledFor, MayKillFor, TellsError}
-use Rattle.wl_server.specs.Part.{Part, end_note, id_at, note_of_end}
+use Rattle.wl_server.specs.Part.{Part, id_at, note_of_end}
 use Rattle.wl_server.specs.PartStep.{Call, PartCall, World}
 use Rattle.wl_server.specs.Runs.{Leads}
 use Rattle.wl_server.specs.Server.{Seen, ServerState, new_server, seen}
@@ -39,17 +39,8 @@ module _ {U : Type 0} (P : ProtocolError → Type 0) where
   tell_both a b one two e among =
       elim (Contains-append_cases a b (Disconnected (BrokeProtocol e)) among) [ inl here ↦ one e here | inr there ↦ two e there ]
 
-  tell_first : (a b : List (Happening U)) → Tell (a ++ b) → Tell a
-  tell_first a b all e here = all e (Contains-append_left a b (Disconnected (BrokeProtocol e)) here)
-
-  tell_rest : (a b : List (Happening U)) → Tell (a ++ b) → Tell b
-  tell_rest a b all e there = all e (Contains-append_right a b (Disconnected (BrokeProtocol e)) there)
-
   tell_one : (h : Happening U) → ((e : ProtocolError) → h ≡ Disconnected (BrokeProtocol e) → P e) → Tell (h ∷ [])
   tell_one h is e among = elim (Contains-push_cases [] h (Disconnected (BrokeProtocol e)) among) [ inl never ↦ tell_none e never | inr same ↦ is e same ]
-
-  tell_object : (o : IdParts) (u : Option U) → Tell (end_note o u)
-  tell_object o h2 = grind (arith, tell_none, tell_one)
 
   notes_of : (d e : Doings U) → d ≡ e → d.notes ≡ e.notes
   notes_of d e is = ap (λ (x : Doings U). x.notes) is
@@ -74,9 +65,9 @@ module _ {T U C : Type 0} (P : ProtocolError → Type 0) (sends : T → Queue �
   leaves : (waits : Bool) (p q : Part T U C) (d : Doings U) (n : ℕ) (x : Object (Kept U)) → d.notes ≡ cond waits [] (note_of_end client n x) → q ≡ left_by client waits p n x → Keep p d q
   leaves true p q d n x none same tell = (
     subst (Tell P) (sym none) (tell_none P),
-    subst (λ (y : Part T U C). Tell P y.waiting) (sym same) (tell_both P p.waiting (note_of_end client n x) tell (tell_object P (id_at client n x) x.value.user_data)),
+    subst (λ (y : Part T U C). Tell P y.waiting) (sym same) (tell_both P p.waiting (note_of_end client n x) tell (grind (arith, tell_none, tell_one, id_at client n x, x.value.user_data))),
   )
-  leaves false p q d n x noted same tell = grind (arith, tell_object, id_at)
+  leaves false p q d n x noted same tell = grind (arith, tell_none, tell_one, id_at)
 
   moves_keep : (p q : Part T U C) (d : Doings U) → Moves (killing P) sends receives client p d q → Keep p d q
   moves_keep p q d (stayed is same) = quiet p q p d (notes_of P d _ is) same refl
@@ -111,15 +102,17 @@ module _ {T U C : Type 0} (P : ProtocolError → Type 0) (sends : T → Queue �
       → (Tell P p.waiting → Tell P new × Tell P (waiting_of o)) → Held t
   after_part s t p o new held there same keep =
       let was : Tell P (s.made ++ p.waiting) = subst (λ (x : Option (Part T U C)). Tell P (s.made ++ waiting_of x)) there held in
-      let (noted, waits) = keep (tell_rest P s.made p.waiting was) in
-      subst Held (sym same) (tell_both P (s.made ++ new) (waiting_of o) (tell_both P s.made new (tell_first P s.made p.waiting was) noted) waits)
+      let (noted, waits) = keep (λ e there. was e (Contains-append_right s.made p.waiting (Disconnected (BrokeProtocol e)) there)) in
+      subst Held (sym same) (tell_both P (s.made ++ new) (waiting_of o) (tell_both P s.made new (λ e here. was e
+      (Contains-append_left s.made p.waiting (Disconnected (BrokeProtocol e)) here)) noted) waits)
 
   goes_held : (s t : Seen T U C) (d : Doings U) → Held s → Goes (killing P) sends receives client s d t → Held t
   goes_held s t d held (unfelt none same) = subst Held (sym same) held
   goes_held s t d held (within p q there moves same) = after_part s t p (Some q) d.notes held there same (moves_keep p q d moves)
   goes_held s t d held (taken_out p q on there killed moves none noted same) =
       after_part s t p None d.notes held there same (λ tell. ((moves_keep p q d moves tell).0, tell_none P))
-  goes_held s t d held (notes_taken on is same) = subst Held (sym same) (tell_rest P s.made (waiting_of s.part) held)
+  goes_held s t d held (notes_taken on is same) = subst Held (sym same) (λ e there. held e (Contains-append_right s.made (waiting_of s.part)
+      (Disconnected (BrokeProtocol e)) there))
 
 -- ---- calls and runs
 
@@ -132,7 +125,8 @@ module _ {T U G C : Type 0} (w : World T G C) where
         | inr (p, none, empty, did_so, same) ↦
             subst (Held P w.sends w.receives id) (sym same)
             (tell_both P (s.made ++ Initialized ∷ []) p.waiting
-            (tell_both P s.made (Initialized ∷ []) (tell_first P s.made (waiting_of s.part) held) (tell_one P Initialized (λ e is. absurd cc)))
+            (tell_both P s.made (Initialized ∷ []) (λ e here. held e (Contains-append_left s.made (waiting_of s.part) (Disconnected
+            (BrokeProtocol e)) here)) (tell_one P Initialized (λ e is. absurd cc)))
             (subst (Tell P) (sym none) (tell_none P)))
       ]
 

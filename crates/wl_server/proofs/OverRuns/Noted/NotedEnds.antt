@@ -1,5 +1,5 @@
 -- That each note of a destroyed object is of one that left, and that the end of a request notes at once what leaves by it.
-use Rattle.std.proofs.Common.{◌≡◌, ℕ, Bool, true, false, List, [], ◌∷◌, ◌++◌, map, Option, Some, Result, is_some, refl, sym, ap, subst, ◌∙◌, arith}
+use Rattle.std.proofs.Common.{◌≡◌, ℕ, Bool, true, false, List, [], ◌∷◌, ◌++◌, map, Option, Result, is_some, refl, sym, ap, subst, ◌∙◌, arith}
 use mathlib.Core.Logic.{inl, inr}
 use Rattle.std.specs.Prelude.{◌⊎◌, Contains}
 use Rattle.std.proofs.lemmas.Bool.{false≢true}
@@ -7,7 +7,6 @@ use Rattle.std.proofs.lemmas.List.Elements.{Contains-append_left, Contains-appen
 use Rattle.std.proofs.lemmas.List.Sorted.{Contains-permutation, IsPermutation-sym}
 use Rattle.wl_wire.specs.declared.error.IoFault.{IoFault}
 use Rattle.wl_wire.specs.Table.{InterfaceRow}
-use Rattle.wl_link.specs.declared.object.Object.{Object}
 use Rattle.wl_link.proofs.Calls.Branches.{either_option}
 use Rattle.wl_link.specs.Exchange.{Queue, Sending}
 use Rattle.wl_link.specs.Puts.{Said}
@@ -16,7 +15,6 @@ use Rattle.wl_server.specs.declared.error.FinishRefused.{FinishRefused}
 use Rattle.wl_server.specs.declared.notes.DisconnectReason.{DisconnectReason}
 use Rattle.wl_server.specs.declared.notes.Happening.{Happening}
 use Rattle.wl_server.specs.declared.notes.Happening.TheVariants.{Destroyed, Disconnected, Initialized}
-use Rattle.wl_server.specs.declared.objects.Kept.{Kept}
 use Rattle.wl_server.specs.declared.reading.action.OpenAction.TheVariants as opened
 use Rattle.wl_server.specs.Deeds.{Deed, Put, Sent, left_if, left_in, notes_in, taken_in}
 use Rattle.wl_server.specs.Finish.{FinishesRequest, ended_by, ends, refusal}
@@ -36,17 +34,15 @@ use Rattle.wl_server.proofs.OverRuns.Alone.OwnRuns.{are_mine}
 use Rattle.wl_server.proofs.OverRuns.Ids.IdentityLaws.{own_ids}
 use Rattle.wl_server.proofs.OverRuns.Moves.BaseMoves.{Doings}
 use Rattle.wl_server.proofs.OverRuns.Moves.DoingsLaws.{deeds_given, doings_in_both, told_deeds}
-use Rattle.wl_server.proofs.OverRuns.Moves.MovesOfCalls.{ended_named, named_serial}
+use Rattle.wl_server.proofs.OverRuns.Moves.MovesOfCalls.{named_serial}
 use Rattle.wl_server.proofs.OverRuns.Noted.NotedLaws.{destroyed_both, each_is_noted}
+use Rattle.std.proofs.lemmas.Option.{none-some}
 
 -- ---- each note is of an object that left
 
 -- one of a list stands at its front or behind that
 in_cons : {A : Type 0} (x y : A) (xs : List A) → Contains (y ∷ xs) x → (y ≡ x) ⊎ Contains xs x
 in_cons x y xs among = grind (arith)
-
-at_front : {A : Type 0} (x : A) (xs : List A) → Contains (x ∷ xs) x
-at_front x xs = Contains-append_left (x ∷ []) xs x (Contains-push [] x)
 
 module _ {U : Type 0} where
   abbrev is_destroyed : Happening U → Bool
@@ -65,7 +61,8 @@ module _ {U : Type 0} where
   destroyed_among (Disconnected reason ∷ notes) o u among = grind (arith, in_cons, false≢true, is_destroyed, destroyed_among notes o u)
   destroyed_among (Destroyed a v ∷ notes) o u among =
       elim (in_cons (Destroyed o u) (Destroyed a v) notes among) [
-        | inl is ↦ subst (λ (i : IdParts). Contains (id_of a ∷ destroyed_in notes) (id_of i)) (ap (destroyed_id a) is) (at_front (id_of a) (destroyed_in notes))
+        | inl is ↦ subst (λ (i : IdParts). Contains (id_of a ∷ destroyed_in notes) (id_of i)) (ap (destroyed_id a) is) (Contains-append_left
+            ((id_of a) ∷ []) (destroyed_in notes) (id_of a) (Contains-push [] (id_of a)))
         | inr behind ↦ Contains-append_right (id_of a ∷ []) (destroyed_in notes) (id_of o) (destroyed_among notes o u behind)
       ]
 
@@ -110,11 +107,6 @@ module _ {U : Type 0} where
       → SameEnds (map Sent es ++ (deeds_in gave ++ end_deeds o))
   same_deeds es gave o same = same_both (map Sent es) (deeds_in gave ++ end_deeds o) (same_sends U es) (same_both (deeds_in gave) (end_deeds o) same (grind (arith)))
 
-  module _ {C : Type 0} where
-    same_events : (client : ClientParts) (c : Core U C) (id : IdParts) (o : Option (Object (Kept U))) (created : Option IdParts) (u : Option U)
-        → ((x : Object (Kept U)) → o ≡ Some x → x.value.serial ≡ id.serial) → (d : Core U C) → SameEnds (told_deeds ((ends client c id o created u).events d))
-    same_events client c id h4 created u serial d = grind (arith, is_some, named, told_deeds, note_of_end, left_if, id_of)
-
 module _ {T U C : Type 0} (sends : T → Queue → Result ℕ IoFault → T → Type 0) where
   same_told : (p : Part T U C) (v : Verdict (Core U C) (Told U)) (lacked : Bool) (did : List (Deed U)) (q : Part T U C)
       → ((d : Core U C) → SameEnds (told_deeds (v.events d))) → Tells sends v p.link lacked did q → SameEnds did
@@ -131,7 +123,7 @@ module _ {T U C : Type 0} (sends : T → Queue → Result ℕ IoFault → T → 
               | inr (e, why, (is, no_memory, nothing, same)) ↦ same_none did nothing
               | inl (none, (is, tells')) ↦
                   same_told p (ends client (core_of p) sender (ended_by p.store sender b) created u) lacked did q
-                  (grind (arith, same_events, core_of, ended_by, named_serial, ended_named))
+                  (grind (arith, is_some, named, told_deeds, note_of_end, left_if, id_of, core_of, ended_by, named_serial, none-some))
                   tells'
             ]
       ]

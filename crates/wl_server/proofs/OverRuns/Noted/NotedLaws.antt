@@ -159,8 +159,7 @@ module _ {T U C : Type 0} (sends : T → Queue → Result ℕ IoFault → T → 
 module _ {T U G C : Type 0} (w : World T G C) (id : ClientParts) where
   run_notes : (offer : Offer G) (s : Seen T U C) (run : List (Own T U G C)) (t : Seen T U C) → AreMine id run → ends_in (waiting_of s.part) ≡ 0
       → Alone w id offer s run t → SeenNoting w.sends w.receives id s (doings_of [] (history run)) t
-  run_notes offer s [] t own none same =
-      subst (λ (x : Seen T U C). SeenNoting w.sends w.receives id s (doings_of [] []) x) (sym same) (unfelt_notes w.sends w.receives id s none)
+  run_notes offer s [] t own none same = grind (arith, doings_of, unfelt_notes, same_permuted, held_notes, append-nil)
   run_notes offer s (e ∷ run) t own none (mid, by, alone) =
       let first = goes_note w.sends w.receives id s mid (doings_of (handed_by id e.call e.did) e.did) none (call_goes true w id offer e.call s e.lacked e.did mid own.0 by (λ cleans. refl)) in
       let rest = run_notes (offer_after offer e.call) mid run t own.1 first.none alone in

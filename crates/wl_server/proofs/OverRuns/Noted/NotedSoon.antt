@@ -1,35 +1,21 @@
 -- When an object that left is noted: by the end of its destructor request, or by the next cleanup that succeeds.
-use Rattle.std.proofs.Common.{◌≡◌, ℕ, Bool, List, [], Option, Result, Ok, ap, true≢false, arith}
+use Rattle.std.proofs.Common.{◌≡◌, ℕ, Bool, List, Option, Result, ap, arith}
 use mathlib.Core.Logic.{inl, inr}
-use Rattle.std.specs.Prelude.{Vec}
-use Rattle.std.specs.Global.{Global}
 use Rattle.wl_wire.specs.declared.error.IoFault.{IoFault}
-use Rattle.wl_wire.specs.declared.error.OutOfMemory.{OutOfMemory}
 use Rattle.wl_link.specs.declared.object.Object.{Object}
-use Rattle.wl_link.proofs.Calls.Branches.{either_bool, either_option}
+use Rattle.wl_link.proofs.Calls.Branches.{either_option}
 use Rattle.wl_link.specs.Exchange.{Queue}
 use Rattle.wl_server.specs.declared.reading.action.OpenAction.TheVariants as opened
 use Rattle.wl_server.specs.declared.error.FinishRefused.{FinishRefused}
 use Rattle.wl_server.specs.declared.objects.Kept.{Kept}
-use Rattle.wl_server.specs.declared.runs.step.Reply.{Reply}
-use Rattle.wl_server.specs.declared.runs.step.Reply.TheVariants as reply
 use Rattle.wl_server.specs.Deeds.{Deed}
 use Rattle.wl_server.specs.Finish.{FinishesRequest, ended_by, ends, refusal}
-use Rattle.wl_server.specs.Globals.{Offer}
-use Rattle.wl_server.specs.Identified.{waiting_of}
 use Rattle.wl_server.specs.Ids.{ClientParts, IdParts, same_client}
-use Rattle.wl_server.specs.NotedOnce.{CleanupNotesAll, FinishNotesAtOnce}
+use Rattle.wl_server.specs.NotedOnce.{FinishNotesAtOnce}
 use Rattle.wl_server.specs.Part.{Part}
-use Rattle.wl_server.specs.PartStep.{CleanedAs, World}
-use Rattle.wl_server.specs.Server.{Seen, seen}
+use Rattle.wl_server.specs.PartStep.{World}
+use Rattle.wl_server.specs.Server.{seen}
 use Rattle.wl_server.specs.Telling.{Tells, core_of, speaker}
-
--- ---- a cleanup
-
-module _ {T U G C : Type 0} (w : World T G C) (id : ClientParts) (offer : Offer G) where
-  cleanup_none : (answer : Result (Vec (ClientParts × T) Global) OutOfMemory) (out : Vec (ClientParts × T) Global) (s : Seen T U C) (lacked : Bool) (did : List (Deed U))
-      (t : Seen T U C) → ◌≡◌ {A = Reply T U} (reply.Cleanup (Ok out)) (reply.Cleanup answer) → CleanedAs w id offer answer s lacked did t → waiting_of t.part ≡ []
-  cleanup_none answer out s lacked did t h1 h2 = grind (arith, true≢false, either_option, either_bool)
 
 -- ---- the end of a request
 
@@ -52,8 +38,5 @@ module _ {T U C : Type 0} (sends : T → Queue → Result ℕ IoFault → T → 
       ]
 
 module _ {T U G C : Type 0} (w : World T G C) where
-  pub cleanup_notes_all : CleanupNotesAll U w
-  cleanup_notes_all before after e out by call id = grind (arith, cleanup_none)
-
   pub finish_notes_at_once : FinishNotesAtOnce U w
   finish_notes_at_once before after e target u answer by call id = grind (arith, seen, either_option, same_client, finish_waits)

@@ -25,8 +25,8 @@ use Rattle.wl_server.specs.Runs.{Leads}
 use Rattle.wl_server.specs.Server.{Seen, ServerState, Stored, client_at, if_serial, new_server, note_of, notes_of, seen, stored_at, told_of}
 use Rattle.wl_server.specs.Steps.{Entry, GathersNotes, HandsOutNotes, MakesNotes, NotesGoOn, OneStep, StepOf}
 use Rattle.wl_server.proofs.CallSteps.Numbering.{GivesWithin, all_each, no_numbers, numbers_left, rise_up, waiting_anew, within_both, within_none}
-use Rattle.wl_server.proofs.CallSteps.Slots.{same_parts, same_self, same_slots}
-use Rattle.wl_server.proofs.CleanupSteps.Gathering.{notes_append, told_other, told_same}
+use Rattle.wl_server.proofs.CallSteps.Slots.{same_parts, same_self}
+use Rattle.wl_server.proofs.CleanupSteps.Gathering.{notes_append}
 use Rattle.wl_server.proofs.OverRuns.Moves.BaseMoves.{Doings, Goes, Kind, notes_taken, taken_out, unfelt, within}
 use Rattle.wl_server.proofs.OverRuns.Moves.BaseMovesLaw.{any_moves}
 use Rattle.wl_server.proofs.OverRuns.Noted.PlacesInOrder.{earlier_first}
@@ -54,11 +54,7 @@ module _ {U : Type 0} where
   slot_is n = grind (arith)
 
   pub own_first : (n : Note U) (ns : List (Note U)) → notes_of (id_of n) (n ∷ ns) ≡ happening_of n ∷ notes_of (id_of n) ns
-  own_first n ns = grind (arith, notes_of, told_of, note_is, told_same, same_self)
-
-  -- who is told of has the slot of the note
-  pub told_slot : (id : ClientParts) (n : Note U) (h : Happening U) (hs : List (Happening U)) → told_of id n ≡ h ∷ hs → id.slot ≡ slot_of n
-  told_slot id n h hs is = grind (arith, slot_of, slot_is, told_of, note_is, told_other, same_slots)
+  own_first n ns = grind (arith, notes_of, told_of, note_is, same_self)
 
   -- Notes begin as others do, if their slots do, and what they tell of each client; and only one client of a slot is told of.
   module _ (Is : ClientParts → Type 0) (one : (i j : ClientParts) → Is i → Is j → i.slot ≡ j.slot → i ≡ j) where
@@ -68,32 +64,31 @@ module _ {U : Type 0} where
         → (rest : List (Note U)) × (b ≡ a ++ rest)
     begins_so [] b slots along told is = (b, refl)
     begins_so (x ∷ a) [] slots along told is = absurd (omega (arith, ap length along))
-    begins_so (x ∷ a) (y ∷ b) slots along told is = whole (begins_so a b slots both.1 told_rest is_rest)
+    begins_so (x ∷ a) (y ∷ b) slots along told is = (
+      (begins_so a b slots (slot_first (slot_of y) (slot_of x) (map slot_of b)
+          (map slot_of a ++ slots) along).1 told_rest is_rest).0,
+      ap (λ (n : Note U). n ∷ b) same ∙ ap (λ (l : List (Note U)). x ∷ l)
+          (begins_so a b slots (slot_first (slot_of y) (slot_of x) (map slot_of b)
+          (map slot_of a ++ slots) along).1 told_rest is_rest).1,
+    )
       where
-        both : (slot_of y ≡ slot_of x) × (map slot_of b ≡ map slot_of a ++ slots)
-        both = slot_first (slot_of y) (slot_of x) (map slot_of b) (map slot_of a ++ slots) along
-
         x_told : notes_of (id_of x) (y ∷ b) ≡ happening_of x ∷ (notes_of (id_of x) a ++ (told (id_of x)).0)
         x_told = (told (id_of x)).1 ∙ ap (λ (l : List (Happening U)). l ++ (told (id_of x)).0) (own_first x a)
 
         ids : id_of y ≡ id_of x
         ids = one (id_of y) (id_of x) (is (id_of y) (happening_of y) (notes_of (id_of y) b) (own_first y b))
-            (is (id_of x) (happening_of x) (notes_of (id_of x) a ++ (told (id_of x)).0) x_told) (sym (slot_is y) ∙ (both.0 ∙ slot_is x))
-
-        happenings : happening_of y ≡ happening_of x
-        happenings = grind (arith, happening_of, notes_of, id_of, own_first, ids, x_told)
+            (is (id_of x) (happening_of x) (notes_of (id_of x) a ++ (told (id_of x)).0) x_told) (sym (slot_is y) ∙ ((slot_first (slot_of y)
+            (slot_of x) (map slot_of b) (map slot_of a ++ slots) along).0 ∙ slot_is x))
 
         same : y ≡ x
-        same = note_is y ∙ (ap (λ (id : ClientParts). note_of id (happening_of y)) ids ∙ (ap (note_of (id_of x)) happenings ∙ sym (note_is x)))
+        same = note_is y ∙ (ap (λ (id : ClientParts). note_of id (happening_of y)) ids ∙ (ap (note_of (id_of x))
+            (grind (arith, happening_of, notes_of, id_of, own_first, ids, x_told)) ∙ sym (note_is x)))
 
         told_rest : (id : ClientParts) → (more : List (Happening U)) × (notes_of id b ≡ notes_of id a ++ more)
         told_rest id = let (more, all) = told id in grind (arith, append_cancel_left, told_of, notes_of, same, append_assoc)
 
         is_rest : (id : ClientParts) (h : Happening U) (hs : List (Happening U)) → notes_of id b ≡ h ∷ hs → Is id
         is_rest id h hs at = grind (arith, told_of, notes_of)
-
-        whole : (rest : List (Note U)) × (b ≡ a ++ rest) → (rest : List (Note U)) × (y ∷ b ≡ (x ∷ a) ++ rest)
-        whole (rest, more) = (rest, ap (λ (n : Note U). n ∷ b) same ∙ ap (λ (l : List (Note U)). x ∷ l) more)
 
 -- ---- what a call does to the notes that were made of a client
 
@@ -202,21 +197,13 @@ module _ {T U G C : Type 0} where
           let (new, is) = drains.each id in
           let (new', is') = makes.each id in grind (arith, append_assoc, made_of)
 
-      stored : (id : ClientParts) (h : Happening U) (hs : List (Happening U)) → notes_of id drains.more ≡ h ∷ hs → is_some (client_at id t.clients) ≡ true
-      stored id h hs is = grind (arith, client_at, is_some)
-
       begun : (rest : List (Note U)) × (drains.more ≡ takes.more ++ rest)
-      begun = begins_so (λ id. is_some (client_at id t.clients) ≡ true) (one_client t.clients) takes.more drains.more (map (λ p. p.slot) first.0 ++ drains.slots) slots told stored
+      begun = begins_so (λ id. is_some (client_at id t.clients) ≡ true) (one_client t.clients) takes.more drains.more (map
+          (λ p. p.slot) first.0 ++ drains.slots) slots told (λ id h hs is. grind (arith, client_at, is_some))
 
 -- ---- calls
 
 module _ {T U G C : Type 0} (w : World T G C) where
-  -- what is told of a client behind what was gathered
-  behind_gathered : (id : ClientParts) (gathered more : List (Note U)) (made : List (Happening U)) → notes_of id (gathered ++ more) ≡ notes_of id gathered ++ made
-      → notes_of id more ≡ made
-  behind_gathered id gathered more made is =
-      append_cancel_left (notes_of id gathered) (notes_of id more) made (sym (notes_append id gathered more) ∙ is)
-
   pub takes_of : (s : ServerState T U G C) (e : Entry T U G C) (after : ServerState T U G C) (out : Vec (Note U) Global)
       → e.call ≡ Asked step.TakeNotes (reply.TakeNotes (Ok out)) → OneStep w s e after → Takes s out.items
   takes_of s e after out is one = of (subst (λ (call : Call T U G C). NotesGoOn s call after) is one.notes)
@@ -231,7 +218,8 @@ module _ {T U G C : Type 0} (w : World T G C) where
             rise = ordered.rise;
             places = ordered.numbers;
             along = along;
-            each = λ id. behind_gathered id s.notes more (made_of id s.clients) (ap (notes_of id) (sym behind) ∙ (grind (arith, seen, notes_of)));
+            each = λ id. (append_cancel_left (notes_of id s.notes) (notes_of id more) (made_of id s.clients) (sym (notes_append id s.notes more) ∙
+                (ap (notes_of id) (sym behind) ∙ (grind (arith, seen, notes_of)))));
           }
 
   takes_drain : (s : ServerState T U G C) (out : List (Note U)) → Takes s out → Drains s out
@@ -242,9 +230,6 @@ module _ {T U G C : Type 0} (w : World T G C) where
       → e.call ≡ Asked step.Cleanup (reply.Cleanup (Ok out)) → OneStep w s e after → Drains s after.notes
   cleanup_drains s e after out is one = of (subst (λ (call : Call T U G C). NotesGoOn s call after) is one.notes)
     where
-      each_of : (id : ClientParts) → PartCall w id s.offer (Asked step.Cleanup (reply.Cleanup (Ok out))) (seen id s) (e.lacks id) (e.did id) (seen id after)
-      each_of id = subst (λ (call : Call T U G C). PartCall w id s.offer call (seen id s) (e.lacks id) (e.did id) (seen id after)) is (one.each id)
-
       of : GathersNotes s after → Drains s after.notes
       of h =
           let (order, ordered, (more, behind, along)) = h.in_order in
@@ -259,26 +244,26 @@ module _ {T U G C : Type 0} (w : World T G C) where
             places = ordered.numbers;
             along = map-append slot_of more h.ends ∙ ap (λ (l : List ℕ). l ++ map slot_of h.ends) along;
             each = λ id. (
-                let (new, grown) = call_grows w id s.offer (Asked step.Cleanup (reply.Cleanup (Ok out))) (seen id s) (e.lacks id) (e.did id) (seen id after) (λ notes is. absurd cc) (each_of id) in (
+                let (new, grown) = call_grows w id s.offer (Asked step.Cleanup (reply.Cleanup (Ok out))) (seen id s) (e.lacks id) (e.did id)
+                (seen id after) (λ notes is. absurd cc) (subst (λ (call : Call T U G C). PartCall w id s.offer call (seen id s) (e.lacks id)
+                (e.did id) (seen id after)) is (one.each id)) in (
                   new,
-                  behind_gathered id s.notes (more ++ h.ends) (made_of id s.clients ++ new)
-                      (ap (notes_of id) (sym all) ∙ (now id h ∙ (grown ∙ append_assoc (notes_of id s.notes) (made_of id s.clients) new))),
+                  (append_cancel_left (notes_of id s.notes) (notes_of id (more ++ h.ends)) (made_of id s.clients ++ new) (sym
+                      (notes_append id s.notes (more ++ h.ends)) ∙ (ap (notes_of id) (sym all) ∙ ((sym (ap (λ (l : List
+                      (Happening U)). notes_of id after.notes ++ l) (h.none_left id) ∙ append-nil (notes_of id after.notes))) ∙ (grown
+                      ∙ append_assoc
+                      (notes_of id s.notes) (made_of id s.clients) new))))),
                 ));
-            stored = λ id none. behind_gathered id s.notes (more ++ h.ends) [] (ap (notes_of id) (sym all) ∙ (now id h ∙ (grind (arith, either_option, seen, notes_of, is_some))));
+            stored = λ id none. (append_cancel_left (notes_of id s.notes) (notes_of id (more ++ h.ends)) [] (sym (notes_append id s.notes
+                (more ++ h.ends)) ∙ (ap (notes_of id) (sym all) ∙ ((sym (ap (λ (l : List (Happening U)). notes_of id after.notes ++ l)
+                (h.none_left id) ∙ append-nil (notes_of id after.notes))) ∙ (grind (arith, either_option, seen, notes_of, is_some))))));
           }
-        where
-          -- all notes of the client are gathered
-          now : (id : ClientParts) → GathersNotes s after → notes_of id after.notes ≡ (seen id after).made
-          now id h = sym (ap (λ (l : List (Happening U)). notes_of id after.notes ++ l) (h.none_left id) ∙ append-nil (notes_of id after.notes))
 
   -- ---- a run between
 
   -- none was gathered since the point, or what would have been handed out there comes first
   abbrev Since : ServerState T U G C → List (Note U) → ServerState T U G C → Type 0
   Since s early t = Makes s t ⊎ ((rest : List (Note U)) × (t.notes ≡ early ++ rest))
-
-  makes_none : (s : ServerState T U G C) → Makes s s
-  makes_none s = record { gathered = refl; times = λ slot. within_none _ _ _ (λ below. omega arith); each = λ id. ([], sym (append-nil (made_of id s.clients))) }
 
   made_more : (s t : ServerState T U G C) (e : Entry T U G C) (u : ServerState T U G C) → Makes s t → OneStep w t e u → HandsOutNone e.call → MakesNotes t u → Makes s u
   made_more s t e u makes one none more = record {
@@ -328,7 +313,8 @@ module _ {T U G C : Type 0} (w : World T G C) where
       let up = run_rises w point between mid leads' below in
       let takes = takes_of point e point' early is one in
       at (has.made (omega (arith, up, below))) ((run_numbers w point between mid leads' has).made below) takes (takes_of mid f mid' late is' two)
-      (since_run point early.items point between mid takes (has.made (omega (arith, up, below))) has (inl (makes_none point)) leads' none below)
+      (since_run point early.items point between mid takes (has.made (omega (arith, up, below))) has (inl
+      (record { gathered = refl; times = λ slot. within_none _ _ _ (λ below. omega arith); each = λ id. ([], sym (append-nil (made_of id point.clients))) })) leads' none below)
     where
       at : AreInTime (λ x. x.made) point.numbers.made (map times_of point.clients) → AreInTime (λ x. x.made) mid.numbers.made (map times_of mid.clients)
           → Takes point early.items → Takes mid late.items → Since point early.items mid → (rest : List (Note U)) × (late.items ≡ early.items ++ rest)

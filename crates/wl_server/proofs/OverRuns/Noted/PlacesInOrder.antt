@@ -35,11 +35,8 @@ sorted_of (p ∷ []) rise = (tt, tt)
 sorted_of (p ∷ q ∷ ps) rise = whole (sorted_of (q ∷ ps) (λ k d below. let same : suc k + 1 ≡ suc (k + 1) = omega arith in
     subst (λ (m : ℕ). IsNoLater (get_or (q ∷ ps) k d) (get_or (p ∷ q ∷ ps) m d)) same (rise (suc k) d (omega (arith, below)))))
   where
-    first : IsNoLater p q
-    first = rise 0 p (omega arith)
-
     whole : Sorted (q ∷ ps) → Sorted (p ∷ q ∷ ps)
-    whole rest = ((first, all_more (IsNoLater q) (IsNoLater p) (λ r after. (grind (arith, false≢true))) ps rest.0), rest)
+    whole rest = (((rise 0 p (omega arith)), all_more (IsNoLater q) (IsNoLater p) (λ r after. (grind (arith, false≢true))) ps rest.0), rest)
 
 -- ---- how often a note that was made has its place in a list
 
@@ -75,7 +72,13 @@ module _ (below : ℕ) (In : ℕ → ℕ → Type 0) (apart : (i j n : ℕ) → 
   early_so (x ∷ a) [] up up' ((made, low), early) same known =
       let one = count_is x x.slot x.number false true true made (eq-eqb x.number x.number refl) (eq-eqb x.slot x.slot refl) in
       absurd (omega (arith, one, sum_by-cons (at_time x.slot x.number) x a, same x.slot x.number low))
-  early_so (x ∷ a) (y ∷ b) (after_x, up) (after_y, up') ((made, low), early) same known = whole (early_so a b up up' early same_rest known_rest)
+  early_so (x ∷ a) (y ∷ b) (after_x, up) (after_y, up') ((made, low), early) same known = (
+    (early_so a b up up' early same_rest
+        (λ slot n some. known slot n (omega (arith, sum_by-cons (at_time slot n) y b, some)))).0,
+    ap (λ (p : NotePlace). p ∷ b) is ∙ ap
+        (λ (l : List NotePlace). x ∷ l) (early_so a b up up' early same_rest
+        (λ slot n some. known slot n (omega (arith, sum_by-cons (at_time slot n) y b, some)))).1,
+  )
     where
       there : 1 ≤ times_at_time x.slot x.number (y ∷ b)
       there =
@@ -104,21 +107,13 @@ module _ (below : ℕ) (In : ℕ → ℕ → Type 0) (apart : (i j n : ℕ) → 
       number : y.number ≡ x.number
       number = omega (arith, x_first.1 made, y_low)
 
-      at_slot : y.slot ≡ x.slot
-      at_slot = apart y.slot x.slot x.number (subst (λ (n : ℕ). In y.slot n) number (known y.slot y.number y_there)) (known x.slot x.number there)
-
       is : y ≡ x
-      is = place_is y x.slot x.number y_made number at_slot ∙ sym (place_is x x.slot x.number made refl refl)
+      is = place_is y x.slot x.number y_made number (apart y.slot x.slot x.number (subst (λ (n : ℕ). In y.slot n) number
+          (known y.slot y.number y_there)) (known x.slot x.number there)) ∙ sym (place_is x x.slot x.number made refl refl)
 
       same_rest : (slot n : ℕ) → n < below → times_at_time slot n a ≡ times_at_time slot n b
       same_rest slot n less =
           omega (arith, sum_by-cons (at_time slot n) x a, sum_by-cons (at_time slot n) y b, ap (at_time slot n) is, same slot n less)
-
-      known_rest : (slot n : ℕ) → 1 ≤ times_at_time slot n b → In slot n
-      known_rest slot n some = known slot n (omega (arith, sum_by-cons (at_time slot n) y b, some))
-
-      whole : (rest : List NotePlace) × (b ≡ a ++ rest) → (rest : List NotePlace) × (y ∷ b ≡ (x ∷ a) ++ rest)
-      whole (rest, more) = (rest, ap (λ (p : NotePlace). p ∷ b) is ∙ ap (λ (l : List NotePlace). x ∷ l) more)
 
 -- ---- the places of all clients
 
@@ -203,17 +198,12 @@ pub earlier_first : (waits : Bool) (ts ts' : List NoteTimes) (a b : List NotePla
     → (rest : List NotePlace) × (b ≡ a ++ rest)
 earlier_first waits ts ts' a b next next' up moved up' moved' rise grow apart =
     early_so next (λ slot n. Contains (times_at slot ts').made n) apart a b (sorted_of a up) (sorted_of b up') (recursion_from_All (IsEarly next) a
-    (All-permutation (IsEarly next) (all_places false 0 ts) a moved (All-from_recursion (IsEarly next) (all_places false 0 ts) (all_early 0 ts next rise)))) same known
+    (All-permutation (IsEarly next) (all_places false 0 ts) a moved (All-from_recursion (IsEarly next) (all_places false 0 ts)
+    (all_early 0 ts next rise)))) same (λ slot n some. grind (arith, sum_by-IsPermutation, all_places, among_all, has_number, times_at))
   where
     same : (slot n : ℕ) → n < next → times_at_time slot n a ≡ times_at_time slot n b
     same slot n less =
         let (more, is, later) = grow slot in
         let one = sum_by-IsPermutation (at_time slot n) (all_places false 0 ts) a moved in
         let two = sum_by-IsPermutation (at_time slot n) (all_places waits 0 ts') b moved' in
-        let three = among_all false slot n ts in
-        let four = among_all waits slot n ts' in
-        let five = as_often (times_at slot ts).made more (times_at slot ts').made next next' n is later less in
-        one ∙ (three ∙ (five ∙ (sym four ∙ sym two)))
-
-    known : (slot n : ℕ) → 1 ≤ times_at_time slot n b → Contains (times_at slot ts').made n
-    known slot n some = grind (arith, sum_by-IsPermutation, all_places, among_all, has_number, times_at)
+        one ∙ ((among_all false slot n ts) ∙ ((as_often (times_at slot ts).made more (times_at slot ts').made next next' n is later less) ∙ (sym (among_all waits slot n ts') ∙ sym two)))

@@ -35,7 +35,7 @@ use Rattle.wl_server.proofs.CleanupSteps.Gathering.{notes_append}
 use Rattle.wl_server.proofs.OverRuns.Alone.IsolationLaw.{numbered, other_call}
 use Rattle.wl_server.proofs.OverRuns.Moves.BaseMoves.{Doings, Goes, Moves, any, followed, handed_out, notes_taken, moved, stayed, taken_out, unfelt, within}
 use Rattle.wl_server.proofs.OverRuns.Moves.BaseMovesLaw.{call_goes, gathers_in}
-use Rattle.wl_server.proofs.OverRuns.Noted.NotesInOrder.{Drains, begins_so, cleanup_drains, happening_of, id_of, made_of, one_client, own_first, run_numbers, slot_is, told_slot}
+use Rattle.wl_server.proofs.OverRuns.Noted.NotesInOrder.{Drains, begins_so, cleanup_drains, happening_of, id_of, made_of, one_client, own_first, run_numbers, slot_is}
 use Rattle.wl_server.proofs.OverRuns.Noted.PlacesInOrder.{sorted_of}
 use Rattle.wl_server.proofs.OverRuns.Noted.WaitingPlaces.{Parted, made_places, made_so, parted, waiting_first, waiting_places}
 use Rattle.wl_server.proofs.OverRuns.Outcome.SameNotes.{fronts_one}
@@ -44,6 +44,8 @@ use Rattle.wl_server.proofs.OverRuns.Outcome.WholeLaws.{found as stored_found}
 use Rattle.wl_server.proofs.CleanupSteps.Cleaning.{noted_notes}
 use Rattle.wl_server.proofs.Touched.Gathered.{none_first}
 use Rattle.wl_server.proofs.Touched.Gathered.{times_stored}
+use Rattle.wl_server.proofs.CallSteps.Slots.{same_slots}
+use Rattle.wl_server.proofs.OverRuns.Noted.NotesInOrder.{note_is}
 
 -- ---- lists
 
@@ -89,9 +91,6 @@ module _ {T U G C : Type 0} where
   abbrev waits_at : ClientParts → ServerState T U G C → List (Happening U)
   waits_at id s = waiting_of (seen id s).part
 
-  calm : (call : Call T U G C) → CleansNothing call → gathers_in call ≡ false
-  calm call none = grind (arith)
-
 module _ {T U G C : Type 0} (w : World T G C) where
   step_grows : (s : ServerState T U G C) (e : Entry T U G C) (t : ServerState T U G C) → OneStep w s e t → gathers_in e.call ≡ false → (id : ClientParts)
       → Grown (waits_at id s) (waits_at id t)
@@ -111,7 +110,7 @@ module _ {T U G C : Type 0} (w : World T G C) where
       → Grown (waits_at id s) (waits_at id t)
   run_grows s [] t same none id = grown_still (waits_at id s) (waits_at id t) (ap (λ (x : ServerState T U G C). waits_at id x) same)
   run_grows s (e ∷ run) t (mid, one, leads) (none, later) id =
-      grown_both (waits_at id s) (waits_at id mid) (waits_at id t) (step_grows s e mid one (calm e.call none) id) (run_grows mid run t leads later id)
+      grown_both (waits_at id s) (waits_at id mid) (waits_at id t) (step_grows s e mid one (grind (arith, e.call)) id) (run_grows mid run t leads later id)
 
 -- ---- numbers over a run
 
@@ -219,7 +218,7 @@ module _ {U : Type 0} where
           let long = ap length (subst (λ (i : ClientParts). notes_of i (n ∷ m) ≡ happening_of n ∷ notes_of i m) same (own_first n m)) in
           let one : one_at id.slot (slot_of n) ≡ 1 = ap (λ (x : Bool). if x then 1 else 0) is in
           omega (arith, long, rest, sum_by-cons, slot_of, one)
-      at rest false is = grind (arith, told_of, notes_of, slot_of, sum_by-cons, true≢false, told_slot)
+      at rest false is = grind (arith, told_of, notes_of, slot_of, sum_by-cons, true≢false, slot_is, note_is, same_slots)
 
   noted_more : (hs : List (Happening U)) (ds : List (Deed U)) → notes_in (map Noted hs ++ ds) ≡ hs ++ notes_in ds
   noted_more [] ds = refl
@@ -278,13 +277,11 @@ module _ {T U G C : Type 0} (w : World T G C) (s : ServerState T U G C) (e : Ent
         | inr (p, there, (q, c, same)) ↦ grind (arith, noted_next, behind, made_of, waits_at, append_assoc, notes_of, notes_in, waiting_of)
       ]
     where
-      now : notes_of id after.notes ≡ (seen id after).made
-      now = sym (ap (λ (l : List (Happening U)). notes_of id after.notes ++ l) (gathers.none_left id) ∙ append-nil (notes_of id after.notes))
-
       behind : (l : List (Happening U)) → (seen id after).made ≡ notes_of id s.notes ++ l → notes_of id (made ++ (waited ++ gathers.ends)) ≡ l
       behind l is =
           append_cancel_left (notes_of id s.notes) (notes_of id (made ++ (waited ++ gathers.ends))) l
-          (sym (notes_append id s.notes (made ++ (waited ++ gathers.ends))) ∙ (ap (notes_of id) (sym whole) ∙ (now ∙ is)))
+          (sym (notes_append id s.notes (made ++ (waited ++ gathers.ends))) ∙ (ap (notes_of id) (sym whole) ∙ ((sym (ap (λ (l : List
+          (Happening U)). notes_of id after.notes ++ l) (gathers.none_left id) ∙ append-nil (notes_of id after.notes))) ∙ is)))
 
   none_told : (id : ClientParts) → client_at id s.clients ≡ None → notes_of id (made ++ (waited ++ gathers.ends)) ≡ []
   none_told id none = ap (notes_of id) (sym same) ∙ drains.stored id none
@@ -299,17 +296,12 @@ module _ {T U G C : Type 0} (w : World T G C) (s : ServerState T U G C) (e : Ent
   is_stored id h hs told = grind (arith, client_at, is_some, none_told)
 
   module _ (id : ClientParts) (c : Stored T U C) (here : client_at id s.clients ≡ Some c) where
-    at_slot : stored_at id.slot s.clients ≡ Some c
-    at_slot = ap (λ (o : Option (Option (Stored T U C))). option_map_or (λ y. y) o None) (slot_of_client s.clients id c (sym here)).0
-
     times_here : times_at id.slot (map times_of s.clients) ≡ c.times
-    times_here = times_stored s.clients id.slot ∙ ap times_of at_slot
+    times_here = times_stored s.clients id.slot ∙ ap times_of (ap (λ (o : Option (Option (Stored T U C))). option_map_or (λ y. y) o None)
+        (slot_of_client s.clients id c (sym here)).0)
 
     has_numbers : (length c.times.made ≡ length c.made) × (length c.times.waiting ≡ length c.part.waiting)
-    has_numbers = grind (arith, times_of, at_slot)
-
-    some_here : is_some (client_at id s.clients) ≡ true
-    some_here = ap is_some here
+    has_numbers = grind (arith, times_of, slot_of_client, id, c, here)
 
     only_waited : IsOnly id waited
     only_waited j h hs told same = go (notes_of j made) refl
@@ -318,21 +310,17 @@ module _ {T U G C : Type 0} (w : World T G C) (s : ServerState T U G C) (e : Ent
         both = notes_append j made (waited ++ gathers.ends) ∙ ap (λ (l : List (Happening U)). notes_of j made ++ l) (notes_append j waited gathers.ends)
 
         go : (l : List (Happening U)) → notes_of j made ≡ l → j ≡ id
-        go [] none =
-            one_client s.clients j id
-            (is_stored j h (hs ++ notes_of j gathers.ends)
-            (both ∙ (ap (λ (l : List (Happening U)). l ++ (notes_of j waited ++ notes_of j gathers.ends)) none ∙ ap (λ (l : List (Happening U)). l ++ notes_of j gathers.ends) told)))
-            some_here same
+        go [] none = grind (arith, one_client, is_stored, notes_of, gathers, both, waited, is_some, here, stored_at, if_serial, client_at, none_told, notes_append, made)
         go (k ∷ ks) some =
             one_client s.clients j id
             (is_stored j k (ks ++ (notes_of j waited ++ notes_of j gathers.ends)) (both ∙ ap (λ (l : List (Happening U)). l ++ (notes_of j waited ++ notes_of j gathers.ends)) some))
-            some_here same
+            (ap is_some here) same
 
     made_count : length (notes_of id made) ≡ length (made_of id s.clients)
     made_count =
         slot_count id made (λ j h hs told same. one_client s.clients j id
         (is_stored j h (hs ++ notes_of j (waited ++ gathers.ends)) (notes_append j made (waited ++ gathers.ends) ∙ ap (λ (l : List (Happening U)). l ++ notes_of j (waited ++ gathers.ends)) told))
-        some_here same)
+        (ap is_some here) same)
         ∙ (ap (sum_by (one_at id.slot)) halves.3
         ∙ (sum_slots id.slot parts.made
         ∙ (made_places id.slot (map times_of s.clients) order gathers.in_order.1.numbers parts

@@ -1,5 +1,5 @@
 -- The places of notes that wait: in order of time, those that waited earlier come first; and how many each client has.
-use Rattle.std.proofs.Common.{◌≡◌, ◌∙◌, ℕ, suc, ◌+◌, ◌<◌, ◌≤◌, Bool, true, false, not, List, [], ◌∷◌, ◌++◌, length, map, refl, sym, ap, subst, arith}
+use Rattle.std.proofs.Common.{◌≡◌, ◌∙◌, ℕ, suc, ◌+◌, ◌<◌, Bool, true, false, not, List, [], ◌∷◌, ◌++◌, length, map, refl, sym, ap, subst, arith}
 use Rattle.std.specs.List.{AllByRecursion, sum_by}
 use Rattle.std.specs.Prelude.{◌==◌, Contains, if◌then◌else◌, IsPermutation}
 use Rattle.std.proofs.lemmas.Bool.{false≢true}
@@ -98,11 +98,9 @@ list_made : (k slot n : ℕ) (ns : List ℕ) → sum_by (at_waiting slot n) (map
 list_made k slot n [] = refl
 list_made k slot n (m ∷ ns) = grind (arith, sum_by-cons, at_waiting, place_at, map, list_made k slot n ns)
 
-of_client : (k slot n : ℕ) (b : Bool) → (k == slot) ≡ b → (t : NoteTimes) → sum_by (at_waiting slot n) (places_of true k t) ≡ (if b then often n t.waiting else 0)
-of_client k slot n b is t = grind (arith, sum_by-append, place_at, list_made, list_waiting, of_made)
-
 among_waiting : (slot n : ℕ) (ts : List NoteTimes) → sum_by (at_waiting slot n) (all_places true 0 ts) ≡ often n (times_at slot ts).waiting
-among_waiting slot n ts = among (at_waiting slot n) slot true (λ t. often n t.waiting) refl (λ k b is t. of_client k slot n b is t) 0 slot ts (omega arith)
+among_waiting slot n ts = among (at_waiting slot n) slot true (λ t. often n t.waiting) refl (λ k b is t.
+    (grind (arith, sum_by-append, place_at, list_made, list_waiting, of_made))) 0 slot ts (omega arith)
 
 -- those that wait have numbers below the next
 abbrev IsLow : ℕ → NotePlace → Type 0
@@ -137,7 +135,13 @@ pub waiting_first : (ts ts' : List NoteTimes) (a b : List NotePlace) (next next'
 waiting_first ts ts' a b next next' up moved up' moved' rise grow apart =
     early_so next (λ slot n. Contains (times_at slot ts').waiting n) apart (map made_so one.waiting) (map made_so two.waiting)
     (sorted_so one.waiting one.all_waiting (sorted_end one.made one.waiting (subst Sorted one.are (sorted_of a up))))
-    (sorted_so two.waiting two.all_waiting (sorted_end two.made two.waiting (subst Sorted two.are (sorted_of b up')))) early same known
+    (sorted_so two.waiting two.all_waiting (sorted_end two.made two.waiting (subst Sorted two.are (sorted_of b up'))))
+    (early_places next one.waiting one.all_waiting (all_end (IsLow next) one.made one.waiting (subst (AllByRecursion (IsLow next)) one.are
+    (recursion_from_All (IsLow next) a
+    (All-permutation (IsLow next) (all_places true 0 ts) a moved (All-from_recursion (IsLow next) (all_places true 0 ts)
+    (all_low 0 ts next rise))))))) same
+    (λ slot n some. let count = count_parted slot n b two ∙ (sum_by-IsPermutation (at_waiting slot n) (all_places true 0 ts') b moved'
+    ∙ among_waiting slot n ts') in has_number n (times_at slot ts').waiting (omega (arith, some, count)))
   where
     one : Parted a
     one = parted a (sorted_of a up)
@@ -145,21 +149,12 @@ waiting_first ts ts' a b next next' up moved up' moved' rise grow apart =
     two : Parted b
     two = parted b (sorted_of b up')
 
-    early : AllByRecursion (IsEarly next) (map made_so one.waiting)
-    early = early_places next one.waiting one.all_waiting (all_end (IsLow next) one.made one.waiting (subst (AllByRecursion (IsLow next)) one.are (recursion_from_All (IsLow next) a
-        (All-permutation (IsLow next) (all_places true 0 ts) a moved (All-from_recursion (IsLow next) (all_places true 0 ts) (all_low 0 ts next rise))))))
-
-    there : (slot n : ℕ) → times_at_time slot n (map made_so two.waiting) ≡ often n (times_at slot ts').waiting
-    there slot n = count_parted slot n b two ∙ (sum_by-IsPermutation (at_waiting slot n) (all_places true 0 ts') b moved' ∙ among_waiting slot n ts')
-
     same : (slot n : ℕ) → n < next → times_at_time slot n (map made_so one.waiting) ≡ times_at_time slot n (map made_so two.waiting)
     same slot n less =
         let (more, is, later) = grow slot in
         let here = count_parted slot n a one ∙ (sum_by-IsPermutation (at_waiting slot n) (all_places true 0 ts) a moved ∙ among_waiting slot n ts) in
-        here ∙ (as_often (times_at slot ts).waiting more (times_at slot ts').waiting next next' n is later less ∙ sym (there slot n))
-
-    known : (slot n : ℕ) → 1 ≤ times_at_time slot n (map made_so two.waiting) → Contains (times_at slot ts').waiting n
-    known slot n some = let count = there slot n in has_number n (times_at slot ts').waiting (omega (arith, some, count))
+        here ∙ (as_often (times_at slot ts).waiting more (times_at slot ts').waiting next next' n is later less ∙ sym (count_parted slot n b two ∙
+        (sum_by-IsPermutation (at_waiting slot n) (all_places true 0 ts') b moved' ∙ among_waiting slot n ts')))
 
 -- ---- how many places a client has, of notes that were made and of those that wait
 
@@ -173,18 +168,15 @@ of_kind v slot p = if is_kind v p.waits then (if p.slot == slot then 1 else 0) e
 abbrev at_slot : ℕ → NotePlace → ℕ
 at_slot slot p = if p.slot == slot then 1 else 0
 
-kind_is : (v : Bool) (slot : ℕ) (p : NotePlace) (c b : Bool) → is_kind v p.waits ≡ c → (p.slot == slot) ≡ b → of_kind v slot p ≡ (if c then (if b then 1 else 0) else 0)
-kind_is v slot p c b kind here = grind (arith)
-
 kind_list : (v u : Bool) (k slot : ℕ) (c b : Bool) → is_kind v u ≡ c → (k == slot) ≡ b → (ns : List ℕ)
     → sum_by (of_kind v slot) (map (place_at u k) ns) ≡ (if c then (if b then length ns else 0) else 0)
 kind_list v u k slot true true kind here [] = refl
 kind_list v u k slot true false kind here [] = refl
 kind_list v u k slot false b kind here [] = refl
 kind_list v u k slot true true kind here (n ∷ ns) =
-    omega (arith, sum_by-cons (of_kind v slot) (place_at u k n) (map (place_at u k) ns), kind_is v slot (place_at u k n) true true kind here, kind_list v u k slot true true kind here ns)
-kind_list v u k slot true false kind here (n ∷ ns) = grind (arith, sum_by-cons, of_kind, place_at, map, kind_is, kind_list v u k slot true false kind here ns)
-kind_list v u k slot false b kind here (n ∷ ns) = grind (arith, sum_by-cons, of_kind, place_at, map, kind_is, kind_list v u k slot false b kind here ns)
+    grind (arith, sum_by-cons (of_kind v slot) (place_at u k n) (map (place_at u k) ns), place_at u k n, kind_list v u k slot true true kind here ns)
+kind_list v u k slot true false kind here (n ∷ ns) = grind (arith, sum_by-cons, of_kind, place_at, map, kind_list v u k slot true false kind here ns)
+kind_list v u k slot false b kind here (n ∷ ns) = grind (arith, sum_by-cons, of_kind, place_at, map, kind_list v u k slot false b kind here ns)
 
 -- the numbers of that kind
 abbrev pub kind_of : Bool → NoteTimes → List ℕ
@@ -198,8 +190,7 @@ kind_all : (v : Bool) (slot : ℕ) (ps : List NotePlace) → AllByRecursion (λ 
 kind_all v slot [] all = refl
 kind_all v slot (p ∷ ps) (is, all) =
     let this : of_kind v slot p ≡ at_slot slot p = ap (λ (x : Bool). if x then (if p.slot == slot then 1 else 0) else 0) is in
-    let more = kind_all v slot ps all in
-    omega (arith, sum_by-cons (of_kind v slot) p ps, sum_by-cons (at_slot slot) p ps, this, more)
+    omega (arith, sum_by-cons (of_kind v slot) p ps, sum_by-cons (at_slot slot) p ps, this, kind_all v slot ps all)
 
 kind_none : (v : Bool) (slot : ℕ) (ps : List NotePlace) → AllByRecursion (λ p. is_kind v p.waits ≡ false) ps → sum_by (of_kind v slot) ps ≡ 0
 kind_none v slot [] all = refl

@@ -18,12 +18,12 @@ use Rattle.wl_server.specs.Dispatch.{Answering, EachIsDispatched, EndsDispatch, 
 use Rattle.wl_server.specs.Outcome.Dispatches.{DispatchesHaveOneOutcome, HandledSame, IsDeterministic, ManyDispatchesHaveOneOutcome, SameBackend}
 use Rattle.wl_server.specs.Ids.{ClientParts}
 use Rattle.wl_server.specs.PartStep.{Asked, Call, World}
-use Rattle.wl_server.specs.Reading.{action_content, new_reading}
+use Rattle.wl_server.specs.Reading.{new_reading}
 use Rattle.wl_server.specs.Server.{ServerState}
 use Rattle.wl_server.specs.Steps.{Entry, OneStep}
 use Rattle.wl_server.specs.Outcome.Whole.{SameServer, WholeReply}
 use Rattle.wl_server.proofs.OverRuns.Outcome.Determined.{IsDetermined}
-use Rattle.wl_server.proofs.OverRuns.Outcome.WholeRuns.{asked_one, entry_one, replied_one}
+use Rattle.wl_server.proofs.OverRuns.Outcome.WholeRuns.{entry_one}
 
 -- memory was refused in neither
 both_calm : (a b : Bool) → (a || b) ≡ false → (a ≡ false) × (b ≡ false)
@@ -52,11 +52,6 @@ module _ {T U : Type 0} (ordered : Bool) where
   cleaned_same answer (reply.TakeNotes (Ok out)) (reply.TakeNotes (Ok out')) same = refl
   cleaned_same answer p q same = ap (λ (z : Reply T U). cleaned z answer) (same any)
 
--- of a reading: the action, or the reason for which there is none
-reading_same : (T U : Type 0) (ordered : Bool) (r r' : Result Action ActionError) (left left' : Reading)
-    → WholeReply {T = T} {U = U} ordered (reply.NextActionWithin r left) (reply.NextActionWithin r' left') → (action_content r ≡ action_content r') × (left ≡ left')
-reading_same T U ordered r r' left left' same = same any
-
 -- ---- a call of a dispatch
 
 same_back : {T U G C : Type 0} {ordered : Bool} {s t : ServerState T U G C} → SameServer ordered s t → SameServer ordered t s
@@ -72,8 +67,8 @@ module _ {T U G C : Type 0} (w : World T G C) (known : IsDetermined w) (ordered 
   step_one : (s t x y : ServerState T U G C) (e f : Entry T U G C) (k : Step T U G C) (p q : Reply T U) → SameServer ordered s t → e.call ≡ Asked k p → f.call ≡ Asked k q
       → e.refused ≡ false → f.refused ≡ false → OneStep w s e x → OneStep w t f y → WholeReply ordered p q × SameServer ordered x y
   step_one s t x y e f k p q same call call' calm calm' by by' =
-      let one = entry_one w known s t x y e f ordered same (asked_one e.call f.call k p q call call') calm calm' by by' in
-      (replied_one ordered e.call f.call k p q call call' one.0, one.2)
+      let one = entry_one w known s t x y e f ordered same (grind (arith, e.call, f.call)) calm calm' by by' in
+      ((grind (arith, e.call, f.call, one.0)), one.2)
 
 -- ---- an action
 
@@ -114,7 +109,7 @@ module _ {H T U G C : Type 0} (w : World T G C) (known : IsDetermined w) (ordere
       let d = both_calm q.read.refused q.end_lacked (sym q.lacked_is ∙ calm') in
       let one = step_one w known ordered s t p.found.server q.found.server p.read q.read (step.NextActionWithin id r) (reply.NextActionWithin (Ok p.handed) r1)
       (reply.NextActionWithin (Ok q.handed) r2) same p.read_is q.read_is c.0 d.0 p.reads q.reads in
-      let told = reading_same T U ordered (Ok p.handed) (Ok q.handed) r1 r2 one.0 in
+      let told = one.0 any in
       let backend : SameBackend ordered p.found q.found = record { server = one.1; refused = p.found_is ∙ c.0 ∙ sym (q.found_is ∙ d.0) } in
       let done = handles_one backend (grind (arith, handed p.handed, handed q.handed, told.0)) c.1 d.1 p.handles q.handles in
       (done.0, done.1, told.1, done.2)
@@ -126,7 +121,7 @@ module _ {H T U G C : Type 0} (w : World T G C) (known : IsDetermined w) (ordere
   round_or_none {h} {h'} {r} {r1} {r2} {s} {t} {run} {l} {why} {x} {y} f error same calm calm' p one call =
       let made = step_one w known ordered s t p.found.server y p.read f (step.NextActionWithin id r) (reply.NextActionWithin (Ok p.handed) r1)
       (reply.NextActionWithin (Err error) r2) same p.read_is call (both_calm p.read.refused p.end_lacked (sym p.lacked_is ∙ calm)).0 calm' p.reads one in
-      let e = (reading_same T U ordered (Ok p.handed) (Err error) r1 r2 made.0).0 in absurd cc
+      let e = (made.0 any).0 in absurd cc
 
   none_one : {r r1 r2 : Reading} {s t x y : Server} (e f : Entry T U G C) (error error' : ActionError) → SameServer ordered s t → e.refused ≡ false → f.refused ≡ false
       → OneStep w s e x → OneStep w t f y → e.call ≡ Asked (step.NextActionWithin id r) (reply.NextActionWithin (Err error) r1)
@@ -134,7 +129,7 @@ module _ {H T U G C : Type 0} (w : World T G C) (known : IsDetermined w) (ordere
   none_one {r} {r1} {r2} {s} {t} {x} {y} e f error error' same calm calm' by by' call call' =
       let made = step_one w known ordered s t x y e f (step.NextActionWithin id r) (reply.NextActionWithin (Err error) r1) (reply.NextActionWithin (Err error') r2) same call call'
       calm calm' by by' in
-      let told = reading_same T U ordered (Err error) (Err error') r1 r2 made.0 in
+      let told = made.0 any in
       let e = told.0 in (cc, told.1, made.1)
 
   -- ---- rounds, the first of them first

@@ -1,17 +1,16 @@
 -- That a server answers of itself what is the same to its program: no answer tells servers apart that are the same to it.
 use Rattle.std.proofs.Common.{◌≡◌, ℕ, zero, suc, ◌+◌, List, [], ◌∷◌, ◌++◌, Option, None, Some, is_some, refl, sym, ap, ap₂, ◌∙◌, true≢false, arith}
 use Rattle.std.specs.Prelude.{option_map}
-use Rattle.wl_link.specs.Store.{held}
 use Rattle.wl_server.specs.Ids.{ClientParts, IdParts}
-use Rattle.wl_server.specs.Lookups.{and_then, client_of, global_info_of, id_if, id_if_stored, info_at, live_from, name_if, object_of}
+use Rattle.wl_server.specs.Lookups.{and_then, client_of, id_if_stored, live_from, object_of}
 use Rattle.wl_server.specs.Part.{Part, named}
 use Rattle.wl_server.specs.Server.{Seen, ServerState, Stored, if_serial, no_times, stored_at}
 use Rattle.wl_server.proofs.OverRuns.Outcome.WholeLaws.{found}
-use Rattle.wl_server.specs.Outcome.Whole.{AnswersAlike, HoldsSame}
+use Rattle.wl_server.specs.Outcome.Whole.{HoldsSame}
 
 module _ {T U C : Type 0} where
   -- the live clients by slot, of lists that tell the same at each slot
-  live_one : (slot : ℕ) (xs ys : List (Option (Stored T U C)))
+  pub live_one : (slot : ℕ) (xs ys : List (Option (Stored T U C)))
       → ((k n : ℕ) → n ≡ slot + k → id_if_stored n (stored_at k xs) ≡ id_if_stored n (stored_at k ys)) → live_from slot xs ≡ live_from slot ys
   live_one slot [] [] same = refl
   live_one slot [] (y ∷ ys) same =
@@ -28,7 +27,7 @@ module _ {T U C : Type 0} where
   none_or_some x o is none = true≢false (ap is_some is ∙ ap is_some none)
 
 module _ {T U G C : Type 0} (s t : ServerState T U G C) (same : HoldsSame s t) where
-  slot_one : (k n : ℕ) (a b : Option (Stored T U C)) → stored_at k s.clients ≡ a → stored_at k t.clients ≡ b → id_if_stored n a ≡ id_if_stored n b
+  pub slot_one : (k n : ℕ) (a b : Option (Stored T U C)) → stored_at k s.clients ≡ a → stored_at k t.clients ≡ b → id_if_stored n a ≡ id_if_stored n b
   slot_one k n None None is is' = refl
   slot_one k n (Some x) b is is' =
       let id : ClientParts = record { slot = k; serial = x.serial } in
@@ -42,11 +41,8 @@ module _ {T U G C : Type 0} (s t : ServerState T U G C) (same : HoldsSame s t) w
       = sym (ap (λ z. part_at (if_serial y.serial z)) is') ∙ sym (ap (λ (z : Seen T U C). z.part) (same.each id)) ∙ ap (λ z. part_at (if_serial y.serial z)) is in
       absurd (none_or_some y None (sym (ap part_at (found y (Some y) refl)) ∙ parts) refl)
 
-  client_one : (id : ClientParts) → client_of s id ≡ client_of t id
+  pub client_one : (id : ClientParts) → client_of s id ≡ client_of t id
   client_one id = ap (λ (z : Seen T U C). z.part) (same.each id)
 
-  object_one : (id : IdParts) → object_of s id ≡ object_of t id
+  pub object_one : (id : IdParts) → object_of s id ≡ object_of t id
   object_one id = ap (λ (c : Option (Part T U C)). and_then c (λ p. named p.store id)) (client_one id.client)
-
-  pub answers_alike : AnswersAlike s t
-  answers_alike = grind (arith, option_map, info_at, object_one, client_one, and_then, held, id_if, live_one, slot_one, stored_at, global_info_of, name_if)

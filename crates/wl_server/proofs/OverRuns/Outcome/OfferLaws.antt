@@ -1,8 +1,7 @@
 -- That the offer after a run has one outcome: the shared calls determine it.
-use Rattle.std.proofs.Common.{◌≡◌, ◌≢◌, Bool, true, false, List, [], ◌∷◌, Result, Err, refl, sym, ap, subst, ◌∙◌, true≢false, arith}
+use Rattle.std.proofs.Common.{◌≡◌, Bool, true, false, List, [], ◌∷◌, Result, refl, sym, ap, subst, ◌∙◌, true≢false, arith}
 use Rattle.std.specs.Prelude.{if◌then◌else◌}
 use Rattle.wl_wire.specs.declared.protocol.TableError.{TableError}
-use Rattle.wl_wire.specs.declared.protocol.TableError.TheVariants as table
 use Rattle.wl_wire.specs.Table.{AnswersGrowth, InterfaceRow, grown}
 use Rattle.wl_wire.proofs.Growth.{AnswersGrowth-unique}
 use Rattle.wl_server.specs.declared.error.GlobalError.{GlobalError}
@@ -10,35 +9,31 @@ use Rattle.wl_server.specs.declared.runs.step.Reply.{Reply}
 use Rattle.wl_server.specs.declared.runs.step.Reply.TheVariants as reply
 use Rattle.wl_server.specs.declared.runs.step.Step.{Step}
 use Rattle.wl_server.specs.declared.runs.step.Step.TheVariants as step
-use Rattle.wl_server.specs.Deeds.{Deed}
 use Rattle.wl_server.specs.Globals.{Offer, with_table}
 use Rattle.wl_server.specs.Ids.{ClientParts, GlobalParts}
-use Rattle.wl_server.proofs.OverRuns.Alone.IsolationLaw.{offer_of_other, offer_run}
-use Rattle.wl_server.proofs.OverRuns.Outcome.NumberLaws.{creates_global_one}
-use Rattle.wl_server.specs.Outcome.{AreAmple, AreNumbered, AreOwn, OffersHaveOneOutcome, SameCall, SameStep, SameSteps, SharedAnswer, SharedSame}
-use Rattle.wl_server.specs.PartStep.{Asked, Call, Changed, Grown, PartCall, PartStep, World}
+use Rattle.wl_server.proofs.OverRuns.Alone.IsolationLaw.{offer_run}
+use Rattle.wl_server.specs.Outcome.{AreAmple, AreNumbered, AreOwn, OffersHaveOneOutcome, SameCall, SameSteps, SharedAnswer, SharedSame}
+use Rattle.wl_server.specs.PartStep.{Asked, Call, Changed, Grown, World}
 use Rattle.wl_server.specs.Runs.{Leads, Own, concerns, is_about, mine, offer_over, own_of}
-use Rattle.wl_server.specs.Server.{Seen, ServerState, new_server}
+use Rattle.wl_server.specs.Server.{ServerState, new_server}
 use Rattle.wl_server.specs.Steps.{Entry, AnswersShared, lacks_growth, offer_after}
+use Rattle.std.specs.Prelude.{nat_le}
+use Rattle.std.specs.Prelude.{slice_get}
+use Rattle.wl_link.proofs.Calls.NumberLaws.{full_not_absent}
+use Rattle.wl_link.proofs.Calls.NumberLaws.{least_absent_one}
+use Rattle.wl_server.proofs.OverRuns.Outcome.NumberLaws.{global_is}
+use Rattle.wl_server.specs.Globals.{name_range}
 
 -- ---- interfaces that were to be added
-
--- the offer after them, where the answers are alike
-pub growth_offer : {G : Type 0} (offer : Offer G) (rows rows' : List InterfaceRow) (p q : Result (Unit {0}) TableError) → rows ≡ rows' → p ≡ q
-    → with_table offer (grown offer.table rows p) ≡ with_table offer (grown offer.table rows' q)
-growth_offer offer rows rows' p q same answers = grind (arith, with_table, grown)
-
--- a want of memory for them is told by the answer
-growth_allowed : (T U G C : Type 0) (rows : List InterfaceRow) (p : Result (Unit {0}) TableError) → lacks_growth {T = T} {U = U} {G = G} {C = C} (Grown rows p) ≡ false
-    → p ≢ Err table.OutOfMemory
-growth_allowed T U G C rows p ample lacks = true≢false (subst (λ z. lacks_growth {T = T} {U = U} {G = G} {C = C} (Grown rows z) ≡ false) lacks ample)
 
 -- what is shared determines the answer
 pub growth_same : (T U G C : Type 0) (offer : Offer G) (rows rows' : List InterfaceRow) (p q : Result (Unit {0}) TableError) → rows ≡ rows'
     → lacks_growth {T = T} {U = U} {G = G} {C = C} (Grown rows p) ≡ false → lacks_growth {T = T} {U = U} {G = G} {C = C} (Grown rows' q) ≡ false
     → AnswersGrowth offer.table rows p → AnswersGrowth offer.table rows' q → p ≡ q
 growth_same T U G C offer rows rows' p q same ample ample' n n' =
-    AnswersGrowth-unique offer.table rows p q (growth_allowed T U G C rows p ample) (growth_allowed T U G C rows' q ample') n
+    AnswersGrowth-unique offer.table rows p q (λ lacks. true≢false (subst (λ z. lacks_growth {T = T} {U = U} {G = G} {C = C}
+    (Grown rows z) ≡ false) lacks ample)) (λ lacks. true≢false (subst (λ z. lacks_growth {T = T} {U = U} {G = G} {C = C}
+    (Grown rows' z) ≡ false) lacks ample')) n
     (subst (λ these. AnswersGrowth offer.table these q) (sym same) n')
 
 module _ {T U G C : Type 0} where
@@ -48,26 +43,10 @@ module _ {T U G C : Type 0} where
   pub offer_one : (offer : Offer G) (s : Step T U G C) (p q : Reply T U) → SharedSame s p q → offer_after offer (Asked s p) ≡ offer_after offer (Asked s q)
   offer_one offer s p q shared = grind (arith, offer_after)
 
-  -- what a step leaves of the offer, another leaves that is the same
-  pub offer_as : (offer : Offer G) (s s' : Step T U G C) (q : Reply T U) → SameStep s s' → offer_after offer (Asked s q) ≡ offer_after offer (Asked s' q)
-  offer_as offer s s' q h1 = grind (arith, offer_after)
-
-  -- and so it is of the ids of globals
-  pub numbers_as : (offer : Offer G) (s s' : Step T U G C) (q : Reply T U) → SameStep s s' → AnswersShared offer (Asked s' q) → AnswersShared offer (Asked s q)
-  numbers_as offer s s' q h1 h2 = grind (arith)
-
   -- the creation of a global is answered as one
   abbrev pub Answered : Call T U G C → Type 0
   Answered (Asked (step.CreateGlobal _ _ _) answer) = (r : Result GlobalParts GlobalError) × (answer ≡ reply.CreateGlobal r)
   Answered _ = Unit {0}
-
-  pub answered_step : (w : World T G C) (id : ClientParts) (offer : Offer G) (s : Step T U G C) (answer : Reply T U) (before : Seen T U C) (lacked : Bool) (did : List (Deed U))
-      (after : Seen T U C) → PartStep w id offer s answer before lacked did after → Answered (Asked s answer)
-  answered_step w id offer s answer before lacked did after h = grind (arith)
-
-  pub answered_call : (w : World T G C) (id : ClientParts) (offer : Offer G) (call : Call T U G C) (before : Seen T U C) (lacked : Bool) (did : List (Deed U)) (after : Seen T U C)
-      → PartCall w id offer call before lacked did after → Answered call
-  answered_call w id offer call before lacked did after h1 = grind (arith, answered_step)
 
   module _ (id : ClientParts) (offer : Offer G) where
     abbrev Ample : Step T U G C → Reply T U → Type 0
@@ -76,15 +55,15 @@ module _ {T U G C : Type 0} where
     -- a client's own calls and the shared ones are answered alike, where their answers tell what all clients share
     pub shared_same : (s : Step T U G C) (p q : Reply T U) → is_about id s ≡ true → Ample s p → Ample s q → AnswersShared offer (Asked s p) → AnswersShared offer (Asked s q)
         → Answered (Asked s p) → Answered (Asked s q) → SharedSame s p q
-    shared_same s p q h1 h2 h3 h4 h5 h6 h7 = grind (arith, true≢false, creates_global_one)
+    shared_same s p q h1 h2 h3 h4 h5 h6 h7 = grind (arith, true≢false, slice_get, nat_le, global_is, least_absent_one, name_range, full_not_absent)
 
     -- so it is of calls: they are answered alike, and leave one offer
     pub shared_call : (call call' : Call T U G C) → SameCall call call' → concerns id call ≡ true → lacks_growth call ≡ false → lacks_growth call' ≡ false
         → AnswersShared offer call → AnswersShared offer call' → Answered call → Answered call' → SharedAnswer call call' × (offer_after offer call ≡ offer_after offer call')
-    shared_call (Asked s p) (Asked s' q) same own ample ample' n n' h g = grind (arith, shared_same, numbers_as, offer_one, offer_as)
+    shared_call (Asked s p) (Asked s' q) same own ample ample' n n' h g = grind (arith, shared_same, offer_one, offer_after)
     shared_call (Changed target t) (Changed target' t') same own ample ample' n n' h g = (tt, refl)
     shared_call (Grown rows p) (Grown rows' q) same own ample ample' n n' h g =
-        let answers = growth_same T U G C offer rows rows' p q same ample ample' n n' in (answers, growth_offer offer rows rows' p q same answers)
+        let answers = growth_same T U G C offer rows rows' p q same ample ample' n n' in (answers, (grind (arith, with_table, grown)))
     shared_call _ _ same own ample ample' n n' h g = absurd same
 
   -- ---- a run
@@ -115,18 +94,18 @@ module _ {T U G C : Type 0} where
   pub mine_numbered : (w : World T G C) (id : ClientParts) (before after : ServerState T U G C) (run : List (Entry T U G C)) → Leads w before run after
       → AreNumbered before.offer (mine id run)
   mine_numbered w id before after [] same = tt
-  mine_numbered w id before after (e ∷ run) (mid, by, leads) = grind (arith, offer_of_other, concerns, mine, mine_numbered w id mid after run leads)
+  mine_numbered w id before after (e ∷ run) (mid, by, leads) = grind (arith, true≢false, concerns, mine, mine_numbered w id mid after run leads)
 
   mine_answered : (w : World T G C) (id : ClientParts) (before after : ServerState T U G C) (run : List (Entry T U G C)) → Leads w before run after
       → AreAnswered (mine id run)
   mine_answered w id before after [] same = tt
-  mine_answered w id before after (e ∷ run) (mid, by, leads) = grind (arith, concerns, answered_call, mine_answered w id mid after run leads)
+  mine_answered w id before after (e ∷ run) (mid, by, leads) = grind (arith, concerns, mine_answered w id mid after run leads)
 
   -- the calls of others leave the offer
   offer_more : (id : ClientParts) (offer : Offer G) (e : Entry T U G C) (run : List (Entry T U G C)) (b : Bool) → concerns id e.call ≡ b
       → own_offer (offer_after offer e.call) (mine id run) ≡ offer_over (offer_after offer e.call) run
       → own_offer offer (if b then (own_of id e ∷ mine id run) else mine id run) ≡ offer_over (offer_after offer e.call) run
-  offer_more id offer e run h5 is more = grind (arith, own_offer, mine, offer_of_other)
+  offer_more id offer e run h5 is more = grind (arith, own_offer, mine, true≢false)
 
   mine_offer : (id : ClientParts) (offer : Offer G) (run : List (Entry T U G C)) → own_offer offer (mine id run) ≡ offer_over offer run
   mine_offer id offer [] = refl

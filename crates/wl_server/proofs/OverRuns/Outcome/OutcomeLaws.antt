@@ -22,13 +22,18 @@ use Rattle.wl_link.proofs.Calls.NumberLaws.{fresh_one}
 use Rattle.wl_server.proofs.OverRuns.Outcome.Determined.{IsDetermined}
 use Rattle.wl_server.specs.Outcome.{SameAnswer, SameCall, SameOutcome, SameReply, SameStep, SendsSame, SharedAnswer, SharedSame}
 use Rattle.wl_server.specs.Part.{Part, fresh_part}
-use Rattle.wl_server.proofs.OverRuns.Outcome.PartOutcome.{SameEnd, SameFelt, cleaned_one, creates_one, destroys_one, finishes_request_one, flushed_one, flushes_live_one, hears_one, limits_one, moves_one, next_action_one, posts_error_one, same_felt, sends_event_one, sets_one}
+use Rattle.wl_server.proofs.OverRuns.Outcome.PartOutcome.{SameEnd, SameFelt, creates_one, destroys_one, finishes_request_one, flushed_one, hears_one, limits_one, moves_one, next_action_one, posts_error_one, same_felt, sends_event_one, sets_one}
 use Rattle.wl_server.specs.PartStep.{Asked, Call, Changed, CleanedAs, FlushedFor, Grown, InsertedAs, MovedFor, OfClient, OnPart, PartCall, PartStep, Unfelt, World, around, share_of}
 use Rattle.wl_server.specs.Reading.{action_content, new_reading}
 use Rattle.wl_server.specs.Runs.{concerns, is_about}
 use Rattle.wl_server.specs.Server.{Seen}
 use Rattle.wl_server.specs.Steps.{lacks_growth}
 use Rattle.wl_server.proofs.OverRuns.Outcome.PartOutcome.{same_end}
+use Rattle.std.proofs.Common.{map}
+use Rattle.wl_link.proofs.Calls.OneLaws.{one_flush_lem}
+use Rattle.wl_link.proofs.Readings.PutsLaws.{not_lacked}
+use Rattle.wl_server.specs.Felt.{objects_leave}
+use Rattle.wl_server.specs.Part.{with_link}
 
 -- ---- replies
 
@@ -104,7 +109,7 @@ module _ {T U G C : Type 0} (w : World T G C) (known : IsDetermined w) (id : Cli
 
   flushed_for_one : (target : Option ClientParts) (r r' : Result (Unit {0}) IoFault) → FlushedFor w id offer target r before false d x
       → FlushedFor w id offer target r' before false e y → SameFelt d e x y × ((let s : Step T U G C = step.Flush target in is_about id s) ≡ true → r ≡ r')
-  flushed_for_one None r r' (is, felt) (is', felt') = grind (arith, on_one, with_none, flushes_live_one)
+  flushed_for_one None r r' (is, felt) (is', felt') = grind (arith, on_one, with_none, both_bool, same_felt, flushed_one, one_flush_lem, not_lacked, map, with_link)
   flushed_for_one (Some target) r r' h g =
       of_one before d e x y (same_client target id) _ _ _ _ (λ a b. a ∙ sym b) (λ p q q' f f'. with_answer (flushed_one w.sends known.sends p r r' d e q q' f f')) h g
 
@@ -115,7 +120,7 @@ module _ {T U G C : Type 0} (w : World T G C) (known : IsDetermined w) (id : Cli
   cleaned_as_one : (r r' : _) → Ample step.Cleanup (reply.Cleanup r)
       → Ample step.Cleanup (reply.Cleanup r')
       → CleanedAs w id offer r before false d x → CleanedAs w id offer r' before false e y → SameFelt d e x y × SameReply {T = T} {U = U} id (reply.Cleanup r) (reply.Cleanup r')
-  cleaned_as_one r r' h1 h2 h3 h4 = grind (arith, true≢false, unfelt_one, cleaned_one, share_of, with_answer)
+  cleaned_as_one r r' h1 h2 h3 h4 = grind (arith, true≢false, unfelt_one, both_bool, flushed_one, map, objects_leave, same_end, one_flush_lem, not_lacked, with_link, share_of, with_answer)
 
   -- each step has one outcome
   pub step_one : (s : Step T U G C) (p q : Reply T U) → Ample s p → Ample s q → SharedSame s p q

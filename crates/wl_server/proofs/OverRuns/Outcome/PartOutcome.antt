@@ -31,7 +31,7 @@ use Rattle.wl_server.specs.declared.objects.Kept.{Kept}
 use Rattle.wl_server.specs.Deeds.{Deed, Handed}
 use Rattle.wl_server.specs.Errors.{PostsError, posts}
 use Rattle.wl_server.specs.Events.{SendsEvent, SendsGranted, SentAs, SessionMessage, ends_closed, ends_sender, event_check, said, wire_message}
-use Rattle.wl_server.specs.Felt.{Cleaned, FlushedTo, FlushesLive, Hears, objects_leave}
+use Rattle.wl_server.specs.Felt.{FlushedTo, Hears}
 use Rattle.wl_server.specs.Finish.{FinishesOpen, FinishesRequest, ends_request, refusal}
 use Rattle.wl_server.specs.Ids.{ClientParts, IdParts}
 use Rattle.wl_server.specs.Moves.{Move, Moved}
@@ -180,9 +180,7 @@ module _ {T U C : Type 0} where
           | inr (row, some, inl (full, is, same), inr (n, least, end)) ↦ absurd (full_not_absent server_range s.store n full least)
           | inr (row, some, inr (n, least, end), inl (full, is, same)) ↦ absurd (full_not_absent server_range s.store n full least)
           | inr (row, some, inr (n, least, end), inr (n', least', end')) ↦
-              let number : n' ≡ n = least_absent_one server_range s.store n' n least' least in
-              let numbered = subst (λ k. AtNumber i version u b y k) number end' in
-              elim (both_bool (s.last_serial == last_possible_serial) end numbered) [
+              elim (both_bool (s.last_serial == last_possible_serial) end (subst (λ k. AtNumber i version u b y k) (least_absent_one server_range s.store n' n least' least) end')) [
                 | inl ((is, same), (is', same')) ↦ same_end is is' did did' same same'
                 | inr (p, q) ↦ grind (arith, same_end, true≢false, lacks_create, new_object s i version u)
               ]
@@ -244,15 +242,6 @@ module _ {T U C : Type 0} where
     pub flushed_one : (s : Part T U C) (a b : Result (Unit {0}) IoFault) (d e : List (Deed U)) (x y : Part T U C)
         → FlushedTo sends s a false d x → FlushedTo sends s b false e y → SameEnd a b d e x y
     flushed_one s a b d e x y h8 h9 = grind (arith, one_flush_lem, not_lacked, map, with_link)
-
-    pub flushes_live_one : (s : Part T U C) (d e : List (Deed U)) (x y : Part T U C) → FlushesLive sends s false d x → FlushesLive sends s false e y → SameFelt d e x y
-    flushes_live_one s d e x y h1 h2 = grind (arith, both_bool, same_felt, flushed_one, one_flush_lem, not_lacked, map, with_link)
-
-    -- ---- a cleanup
-
-    pub cleaned_one : (client : ClientParts) (s : Part T U C) (out others : List T) (d e : List (Deed U)) (x y : Option (Part T U C))
-        → Cleaned sends client s false d out x → Cleaned sends client s false e others y → SameEnd out others d e x y
-    cleaned_one client s out others d e x y h1 h2 = grind (arith, both_bool, flushed_one, map, objects_leave, same_end, one_flush_lem, not_lacked, with_link)
 
     -- ---- an event
 

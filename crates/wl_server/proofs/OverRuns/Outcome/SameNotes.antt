@@ -20,7 +20,7 @@ use Rattle.wl_server.specs.declared.runs.step.Reply.TheVariants as reply
 use Rattle.wl_server.specs.declared.runs.step.Step.{Step}
 use Rattle.wl_server.specs.declared.runs.step.Step.TheVariants as step
 use Rattle.wl_server.specs.Ids.{ClientParts}
-use Rattle.wl_server.specs.NoteOrder.{AllNumbered, AllTakeFirst, GivesNumbers, InTurn, IsInOrder, IsNoLater, IsNumbered, Rise, RiseFromSlot, all_places, number_past, numbers_from, places_of, slot_of, times_at, times_of}
+use Rattle.wl_server.specs.NoteOrder.{AllNumbered, AllTakeFirst, InTurn, IsInOrder, IsNoLater, IsNumbered, Rise, RiseFromSlot, all_places, number_past, numbers_from, places_of, slot_of, times_at, times_of}
 use Rattle.wl_server.specs.Outcome.{SameCall}
 use Rattle.wl_server.specs.Outcome.Whole.{OrdersSame}
 use Rattle.wl_server.specs.Part.{Part}
@@ -29,10 +29,11 @@ use Rattle.wl_server.specs.Server.{NoteTimes, Seen, ServerState, Stored, client_
 use Rattle.wl_server.specs.Steps.{Entry, GathersNotes, HandsOutNotes, MakesNotes, NotesGoOn, OneStep, lacks_growth}
 use Rattle.wl_server.proofs.CallSteps.Numbering.{gives_none}
 use Rattle.wl_server.proofs.CleanupSteps.Gathering.{notes_append}
-use Rattle.wl_server.proofs.OverRuns.Noted.NotesInOrder.{Drains, Takes, begins_so, cleanup_drains, happening_of, id_of, made_of, note_is, one_client, own_first, slot_is, takes_of, told_slot}
+use Rattle.wl_server.proofs.OverRuns.Noted.NotesInOrder.{Takes, begins_so, cleanup_drains, happening_of, id_of, made_of, note_is, one_client, own_first, slot_is}
 use Rattle.wl_server.proofs.OverRuns.Noted.PlacesInOrder.{Sorted, later_refl, sorted_of}
 use Rattle.wl_server.proofs.OverRuns.Outcome.WholeLaws.{found, slot_same}
 use Rattle.wl_server.proofs.Touched.Gathered.{times_stored}
+use Rattle.wl_server.proofs.CallSteps.Slots.{same_slots}
 
 -- ---- lists
 
@@ -53,9 +54,6 @@ abbrev kind : Bool → ℕ
 kind true = 1
 kind false = 0
 
-same_kind : (a b : Bool) → kind a ≡ kind b → a ≡ b
-same_kind a b h1 = grind (arith)
-
 abbrev is_at : NotePlace → NotePlace → ℕ
 is_at q p = if kind p.waits == kind q.waits then (if p.number == q.number then (if p.slot == q.slot then 1 else 0) else 0) else 0
 
@@ -63,17 +61,13 @@ is_at q p = if kind p.waits == kind q.waits then (if p.number == q.number then (
 abbrev often_at : NotePlace → List NotePlace → ℕ
 often_at q ps = sum_by (is_at q) ps
 
-at_is : (q p : NotePlace) (a b c : Bool) → (kind p.waits == kind q.waits) ≡ a → (p.number == q.number) ≡ b → (p.slot == q.slot) ≡ c
-    → is_at q p ≡ (if a then (if b then (if c then 1 else 0) else 0) else 0)
-at_is q p a b c same_kind number at_slot = grind (arith)
-
 at_itself : (q : NotePlace) → is_at q q ≡ 1
-at_itself q = at_is q q true true true (eq-eqb (kind q.waits) (kind q.waits) refl) (eq-eqb q.number q.number refl) (eq-eqb q.slot q.slot refl)
+at_itself q = grind (arith, eq-eqb (kind q.waits) (kind q.waits) refl, eq-eqb q.number q.number refl, eq-eqb q.slot q.slot refl)
 
 -- what holds of all places holds of one that is there
 holds_there : (P : NotePlace → Type 0) (q : NotePlace) (ps : List NotePlace) → AllByRecursion P ps → 1 ≤ often_at q ps → P q
 holds_there P q [] all some = absurd (omega (arith, some))
-holds_there P q (p ∷ ps) (here, all) some = grind (arith, kind, sum_by-cons, is_at, same_kind, eqb-true, at_is, holds_there P q ps all)
+holds_there P q (p ∷ ps) (here, all) some = grind (arith, kind, sum_by-cons, is_at, eqb-true, holds_there P q ps all)
 
 -- a place that is no later than another, and no earlier
 one_place : (p q : NotePlace) → IsNoLater p q → IsNoLater q p → p ≡ q
@@ -84,16 +78,12 @@ one_order : (a b : List NotePlace) → Sorted a → Sorted b → ((q : NotePlace
 one_order [] [] up up' same = refl
 one_order [] (y ∷ b) up up' same = absurd (omega (arith, at_itself y, sum_by-cons (is_at y) y b, same y))
 one_order (x ∷ a) [] up up' same = absurd (omega (arith, at_itself x, sum_by-cons (is_at x) x a, same x))
-one_order (x ∷ a) (y ∷ b) (after_x, up) (after_y, up') same = ap (λ (p : NotePlace). p ∷ a) is ∙ ap (λ (l : List NotePlace). y ∷ l) (one_order a b up up' rest)
+one_order (x ∷ a) (y ∷ b) (after_x, up) (after_y, up') same = ap (λ (p : NotePlace). p ∷ a) is ∙ ap (λ (l : List NotePlace). y ∷ l)
+    (one_order a b up up' (λ q. omega (arith, sum_by-cons (is_at q) x a, sum_by-cons (is_at q) y b, ap (is_at q) is, same q)))
   where
-    x_first : IsNoLater x y
-    x_first = holds_there (IsNoLater x) y (x ∷ a) (later_refl x, after_x) (omega (arith, at_itself y, sum_by-cons (is_at y) y b, same y))
-
     is : x ≡ y
-    is = one_place x y x_first (holds_there (IsNoLater y) x (y ∷ b) (later_refl y, after_y) (omega (arith, at_itself x, sum_by-cons (is_at x) x a, same x)))
-
-    rest : (q : NotePlace) → often_at q a ≡ often_at q b
-    rest q = omega (arith, sum_by-cons (is_at q) x a, sum_by-cons (is_at q) y b, ap (is_at q) is, same q)
+    is = one_place x y (holds_there (IsNoLater x) y (x ∷ a) (later_refl x, after_x) (omega (arith, at_itself y, sum_by-cons (is_at y) y b, same y)))
+        (holds_there (IsNoLater y) x (y ∷ b) (later_refl y, after_y) (omega (arith, at_itself x, sum_by-cons (is_at x) x a, same x)))
 
 no_places : (waits : Bool) (slot : ℕ) → places_of waits slot no_times ≡ []
 no_places h1 slot = grind (arith)
@@ -126,19 +116,12 @@ orders_one waits ts us a b up moved up' moved' same =
 -- ---- numbers in turn
 
 module _ (of : NoteTimes → List ℕ) where
-  -- the next slot
-  turn_next : (n : ℕ) (ts us ts' us' : List NoteTimes) (mid mid' b d : ℕ) → of (times_at n ts) ≡ of (times_at n us)
-      → length (of (times_at n ts')) ≡ length (of (times_at n us')) → (mid ≡ mid') × ((k : ℕ) → k < n → of (times_at k ts') ≡ of (times_at k us'))
-      → GivesNumbers (of (times_at n ts)) mid (of (times_at n ts')) b → GivesNumbers (of (times_at n us)) mid' (of (times_at n us')) d
-      → (b ≡ d) × ((k : ℕ) → k < suc n → of (times_at k ts') ≡ of (times_at k us'))
-  turn_next n ts us ts' us' mid mid' b d h1 h2 h3 h4 h5 = grind (arith, times_at, number_past, length-append, numbers_from, eqb-true, false≢true, eq-eqb)
-
   turn_one : (n : ℕ) (ts us ts' us' : List NoteTimes) (a c b d : ℕ) → ((k : ℕ) → of (times_at k ts) ≡ of (times_at k us))
       → ((k : ℕ) → length (of (times_at k ts')) ≡ length (of (times_at k us'))) → a ≡ c → InTurn of n ts a ts' b → InTurn of n us c us' d
       → (b ≡ d) × ((k : ℕ) → k < n → of (times_at k ts') ≡ of (times_at k us'))
   turn_one zero ts us ts' us' a c b d same long next is is' = (is ∙ (next ∙ sym is'), λ k below. absurd (omega (arith, below)))
   turn_one (suc n) ts us ts' us' a c b d same long next (mid, turn, gives) (mid', turn', gives') =
-      turn_next n ts us ts' us' mid mid' b d (same n) (long n) (turn_one n ts us ts' us' a c mid mid' same long next turn turn') gives gives'
+      grind (arith, times_at, number_past, length-append, numbers_from, eqb-true, false≢true, eq-eqb, same n, long n, turn_one n ts us ts' us' a c mid mid' same long next turn turn')
 
   -- no client of a higher slot got a number
   turn_on : (j n : ℕ) (ts : List NoteTimes) (a : ℕ) (ts' : List NoteTimes) (b : ℕ) → ((k : ℕ) → n ≤ k → times_at k ts' ≡ times_at k ts) → InTurn of n ts a ts' b
@@ -161,9 +144,6 @@ module _ (of : NoteTimes → List ℕ) where
       both : (b ≡ d) × ((k : ℕ) → k < m + n → of (times_at k ts') ≡ of (times_at k us'))
       both = turn_one (m + n) ts us ts' us' a c b d (λ k. ap of (same k)) long next (turn_on m n ts a ts' b others turn)
           (subst (λ (l : ℕ). InTurn of l us c us' d) swapped (turn_on n m us c us' d others' turn'))
-
-both_times : (t u : NoteTimes) → t.made ≡ u.made → t.waiting ≡ u.waiting → t ≡ u
-both_times t u made waiting = grind (arith)
 
 -- ---- the clients of a slot
 
@@ -188,12 +168,6 @@ module _ {T U G C : Type 0} (s t : ServerState T U G C) (each : (id : ClientPart
   alike_at k None (Some y) is is' = absurd (true≢false (sym (slot_same s t each k None (Some y) is is')))
   alike_at k (Some x) (Some y) is is' = at (y.serial == x.serial) refl
     where
-      id : ClientParts
-      id = record { slot = k; serial = x.serial }
-
-      there : client_at id t.clients ≡ if_serial x.serial (Some y)
-      there = ap (λ (z : Option (Stored T U C)). if_serial x.serial z) is'
-
       part_of : Option (Stored T U C) → Option (Part T U C)
       part_of c = option_map (λ z. z.part) c
 
@@ -201,13 +175,15 @@ module _ {T U G C : Type 0} (s t : ServerState T U G C) (each : (id : ClientPart
       of_made c = option_map_or (λ z. z.made) c []
 
       parts : part_of (Some x) ≡ part_of (if_serial x.serial (Some y))
-      parts = sym (ap part_of (found x (stored_at k s.clients) is)) ∙ (ap (λ (z : Seen T U C). z.part) (each id) ∙ ap part_of there)
+      parts = sym (ap part_of (found x (stored_at k s.clients) is)) ∙ (ap (λ (z : Seen T U C). z.part) (each (record { slot = k; serial = x.serial })) ∙ ap part_of (ap (λ (z : Option
+          (Stored T U C)). if_serial x.serial z) is'))
 
       at : (b : Bool) → (y.serial == x.serial) ≡ b → Alike (Some x) (Some y)
       at true same =
           let now : if_serial x.serial (Some y) ≡ Some y = ap (λ (z : Bool). if z then Some y else None) same in (
             same_Some x.part y.part (parts ∙ ap part_of now),
-            sym (ap of_made (found x (stored_at k s.clients) is)) ∙ (made_one id ∙ ap of_made (there ∙ now)),
+            sym (ap of_made (found x (stored_at k s.clients) is)) ∙ (made_one (record { slot = k; serial = x.serial }) ∙ ap of_made ((ap (λ (z : Option
+                (Stored T U C)). if_serial x.serial z) is') ∙ now)),
           )
       at false other = grind (arith, if_serial, true≢false, is_some, parts, part_of)
 
@@ -225,7 +201,7 @@ module _ {T U G C : Type 0} (s t : ServerState T U G C) (each : (id : ClientPart
 module _ {U : Type 0} where
   slot_within : (id : ClientParts) (low : ℕ) (b : List (Note U)) (h : Happening U) (hs : List (Happening U)) → RiseFromSlot low b → notes_of id b ≡ h ∷ hs → low ≤ id.slot
   slot_within id low [] h hs rise is = let long : 0 ≡ suc (length hs) = ap length is in absurd (omega (arith, long))
-  slot_within id low (n ∷ b) h hs (first, rise) is = grind (arith, slot_of, told_of, notes_of, told_slot, slot_within id (slot_of n) b h hs rise)
+  slot_within id low (n ∷ b) h hs (first, rise) is = grind (arith, slot_of, told_of, notes_of, slot_is, note_is, same_slots, slot_within id (slot_of n) b h hs rise)
 
   module _ (Is : ClientParts → Type 0) (one : (i j : ClientParts) → Is i → Is j → i.slot ≡ j.slot → i ≡ j) where
     ends_one : (low low' : ℕ) (a b : List (Note U)) → RiseFromSlot low a → RiseFromSlot low' b → ((id : ClientParts) → notes_of id a ≡ notes_of id b)
@@ -248,11 +224,9 @@ module _ {U : Type 0} where
         ids = one (id_of y) (id_of x) (is (id_of y) (happening_of y) (notes_of (id_of y) b) (own_first y b))
             (is (id_of x) (happening_of x) (notes_of (id_of x) a) x_told) slots
 
-        happenings : happening_of y ≡ happening_of x
-        happenings = grind (arith, happening_of, notes_of, id_of, own_first, ids, x_told)
-
         same : x ≡ y
-        same = note_is x ∙ (ap (λ (id : ClientParts). note_of id (happening_of x)) (sym ids) ∙ (ap (note_of (id_of y)) (sym happenings) ∙ sym (note_is y)))
+        same = note_is x ∙ (ap (λ (id : ClientParts). note_of id (happening_of x)) (sym ids) ∙ (ap (note_of (id_of y)) (sym
+            (grind (arith, happening_of, notes_of, id_of, own_first, ids, x_told))) ∙ sym (note_is y)))
 
         told_rest : (id : ClientParts) → notes_of id a ≡ notes_of id b
         told_rest id =
@@ -286,13 +260,13 @@ module _ {T U G C : Type 0} where
       let long = numbers_long x y each notes one two k in
       let here = first k in
       let there = first' k in
-      grind (arith, both_times, times_at, map, times_of, ends_of_one)
+      grind (arith, times_at, map, times_of, ends_of_one)
 
   makes_one : (s t x y : ServerState T U G C) → OrdersSame s t → ((id : ClientParts) → seen id x ≡ seen id y) → MakesNotes s x → MakesNotes t y → OrdersSame x y
   makes_one s t x y same each h g = record {
     notes = notes;
     numbers = grind (arith, x.numbers, y.numbers, made.0, waiting.0);
-    times = λ k. both_times (times_at k (map times_of x.clients)) (times_at k (map times_of y.clients)) (made.1 k) (waiting.1 k);
+    times = λ k. (grind (arith, times_at k (map times_of x.clients), times_at k (map times_of y.clients), made.1 k, waiting.1 k));
   }
     where
       notes : x.notes ≡ y.notes
@@ -317,15 +291,14 @@ module _ {T U G C : Type 0} where
   is_stored t more stored id h hs is = grind (arith, client_at, is_some)
 
   -- the same is handed out
-  out_one : (s t : ServerState T U G C) → OrdersSame s t → ((id : ClientParts) → seen id s ≡ seen id t) → (out out' : List (Note U)) → Takes s out → Takes t out' → out ≡ out'
+  pub out_one : (s t : ServerState T U G C) → OrdersSame s t → ((id : ClientParts) → seen id s ≡ seen id t) → (out out' : List (Note U)) → Takes s out → Takes t out' → out ≡ out'
   out_one s t same each out out' one two =
       one.behind ∙ (ap (λ (l : List (Note U)). l ++ one.more) same.notes ∙ (ap (λ (l : List (Note U)). t.notes ++ l) more ∙ sym two.behind))
     where
-      order : one.order ≡ two.order
-      order = orders_one false (map times_of s.clients) (map times_of t.clients) one.order two.order one.rise one.places two.rise two.places same.times
-
       more : one.more ≡ two.more
-      more = along_one (IsStored t) (one_client t.clients) one.more two.more (one.along ∙ (ap (λ (l : List NotePlace). map (λ p. p.slot) l) order ∙ sym two.along))
+      more = along_one (IsStored t) (one_client t.clients) one.more two.more (one.along ∙ (ap (λ (l : List NotePlace). map (λ p. p.slot) l)
+          (orders_one false (map times_of s.clients) (map times_of t.clients) one.order two.order one.rise one.places two.rise two.places same.times)
+          ∙ sym two.along))
           (λ id. one.each id ∙ (made_one s t each same.notes id ∙ sym (two.each id)))
           (is_stored t two.more (λ id none. two.each id ∙ ap (λ (o : Option (Stored T U C)). option_map_or (λ s. s.made) o []) none))
 
@@ -363,9 +336,6 @@ module _ {T U G C : Type 0} (w : World T G C) where
           places : order ≡ order'
           places = orders_one true (map times_of s.clients) (map times_of t.clients) order order' ordered.rise ordered.numbers ordered'.rise ordered'.numbers same.times
 
-          slots : map slot_of more ≡ map slot_of more'
-          slots = along ∙ (ap (λ (l : List NotePlace). map (λ p. p.slot) l) places ∙ sym along')
-
           whole : x.notes ≡ s.notes ++ (more ++ h.ends)
           whole = h.behind ∙ (ap (λ (l : List (Note U)). l ++ h.ends) behind ∙ append_assoc s.notes more h.ends)
 
@@ -384,14 +354,11 @@ module _ {T U G C : Type 0} (w : World T G C) where
 
           begun : (rest : List (Note U)) × (more' ++ g.ends ≡ more ++ rest)
           begun = begins_so (IsStored t) (one_client t.clients) more (more' ++ g.ends) (map slot_of g.ends)
-              (map-append slot_of more' g.ends ∙ ap (λ (l : List ℕ). l ++ map slot_of g.ends) (sym slots))
+              (map-append slot_of more' g.ends ∙ ap (λ (l : List ℕ). l ++ map slot_of g.ends) (sym (along ∙ (ap (λ (l : List NotePlace). map (λ p. p.slot) l) places ∙ sym along'))))
               (λ id. (notes_of id h.ends, sym (told id) ∙ notes_append id more h.ends)) is
 
-          as_many : length more' ≡ length more
-          as_many = grind (arith, length, slots, length-map, slot_of)
-
           mores : more ≡ more'
-          mores = sym (fronts_one more' g.ends more begun.0 begun.1 as_many).0
+          mores = sym (fronts_one more' g.ends more begun.0 begun.1 (grind (arith, length, places, length-map, slot_of))).0
 
           told_ends : (id : ClientParts) → notes_of id h.ends ≡ notes_of id g.ends
           told_ends id =
@@ -417,11 +384,9 @@ module _ {T U G C : Type 0} (w : World T G C) where
     times = stay_one s t x y same each notes h.numbered g.numbered h.first g.first;
   }
     where
-      drains : Drains t y.notes
-      drains = cleanup_drains w t f y out is by
-
       notes : x.notes ≡ y.notes
-      notes = gathered_one s t x y same each h g (λ id none. ap (notes_of id) (sym (grind (arith, append_cancel_left, drains, append_assoc))) ∙ drains.stored id none)
+      notes = gathered_one s t x y same each h g (λ id none. ap (notes_of id) (sym
+          (grind (arith, append_cancel_left, cleanup_drains, is, by, append_assoc))) ∙ (cleanup_drains w t f y out is by).stored id none)
 
 -- ---- which notes a call moves
 
@@ -472,12 +437,6 @@ module _ {T U G C : Type 0} where
         at (Asked step.TakeNotes p) is h ample (r, so, rest) = taken p is h ample r so
         at (Asked step.Cleanup p) is h ample (r, so, rest) = cleaned p is h ample r so
         at call is h ample part = inr (inr (ap call_kind is, h))
-
-    -- the same notes are handed out
-    pub took_one : (s t x y : ServerState T U G C) (e f : Entry T U G C) → OrdersSame s t → ((id : ClientParts) → seen id s ≡ seen id t) → OneStep w s e x → OneStep w t f y
-        → (out out' : Vec (Note U) Global) → e.call ≡ Asked step.TakeNotes (reply.TakeNotes (Ok out)) → f.call ≡ Asked step.TakeNotes (reply.TakeNotes (Ok out')) → out.items ≡ out'.items
-    took_one s t x y e f same each by by' out out' is is' =
-        out_one s t same each out.items out'.items (takes_of w s e x out is by) (takes_of w t f y out' is' by')
 
     pub notes_one : (s t x y : ServerState T U G C) (e f : Entry T U G C) → OrdersSame s t → ((id : ClientParts) → seen id x ≡ seen id y) → SameCall e.call f.call
         → lacks_growth e.call ≡ false → lacks_growth f.call ≡ false → OneStep w s e x → OneStep w t f y → OrdersSame x y

@@ -4,18 +4,16 @@ use Rattle.std.specs.Prelude.{slice_index_or}
 use mathlib.Core.Logic.{inl, inr}
 use Rattle.std.proofs.lemmas.Bool.{cases_Bool, cases_order, eqb-true}
 use Rattle.wl_server.specs.Ids.{ClientParts, same_client}
-use Rattle.wl_server.proofs.OverRuns.Alone.IsolationLaw.{same_self, same_serial}
+use Rattle.wl_server.proofs.OverRuns.Alone.IsolationLaw.{same_self}
 use Rattle.wl_server.specs.PartStep.{share_of}
 use Rattle.wl_server.specs.Steps.{RiseBySlot}
 use Rattle.wl_server.proofs.CallSteps.Slots.{same_parts}
+use Rattle.std.proofs.lemmas.Bool.{false≢true}
 
 -- ---- ids
 
-same_slot : (a b : ClientParts) → same_client a b ≡ true → a.slot ≡ b.slot
-same_slot a b same = grind (arith, eqb-true, true≢false)
-
 pub same_client_is : (a b : ClientParts) → same_client a b ≡ true → a ≡ b
-same_client_is a b same = same_parts a b (same_slot a b same) (same_serial a b same)
+same_client_is a b same = same_parts a b (grind (arith, eqb-true, true≢false)) (grind (arith, eqb-true, false≢true))
 
 -- ---- lists
 
@@ -47,7 +45,8 @@ module _ {T : Type 0} where
   none_above id (e ∷ rest) above = at (none_above id rest (λ j d within. above (suc j) d (omega (arith, within)))) (cases_Bool (same_client e.0 id))
     where
       at : share_of id rest ≡ [] → (same_client e.0 id ≡ true) ⊎ (same_client e.0 id ≡ false) → share_of id (e ∷ rest) ≡ []
-      at none (inl same) = let slots = same_slot e.0 id same in let more = above zero e (omega arith) in absurd (omega (arith, slots, more))
+      at none (inl same) = let slots : e.0.slot ≡ id.slot = grind (arith, eqb-true, true≢false, e.0) in let more = above zero e
+          (omega arith) in absurd (omega (arith, slots, more))
       at none (inr other) = share_later id e rest other ∙ none
 
   -- a client at the front has a share

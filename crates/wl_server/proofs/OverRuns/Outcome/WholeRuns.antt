@@ -18,12 +18,16 @@ use Rattle.wl_server.specs.Outcome.{SameCall, SameStep, SharedAnswer, SharedSame
 use Rattle.wl_server.proofs.OverRuns.Outcome.OutcomeLaws.{call_one, part_as}
 use Rattle.wl_server.proofs.OverRuns.Outcome.PartOutcome.{SameFelt}
 use Rattle.wl_server.specs.PartStep.{Asked, Call, Changed, Grown, PartCall, PartStep, World}
-use Rattle.wl_server.proofs.OverRuns.Outcome.OfferLaws.{answered_step, growth_offer, growth_same, numbers_as, offer_as, offer_one, shared_same}
+use Rattle.wl_server.proofs.OverRuns.Outcome.OfferLaws.{growth_same, offer_one, shared_same}
 use Rattle.wl_server.specs.Server.{Seen, ServerState, seen}
 use Rattle.wl_server.specs.Steps.{Entry, InsertsNext, NumbersClient, AnswersShared, OneStep, RisesBySlot, inserted_by, lacks_growth, offer_after}
-use Rattle.wl_server.proofs.OverRuns.Outcome.SameNotes.{notes_one, took_one}
+use Rattle.wl_server.proofs.OverRuns.Outcome.SameNotes.{notes_one}
 use Rattle.wl_server.proofs.OverRuns.Outcome.WholeLaws.{ample_by, inserts_there, slots_same, whole_one}
-use Rattle.wl_server.specs.Outcome.Whole.{HoldsSame, PerformancesHaveOneOutcome, RunsHaveOneOutcome, SameServer, WholeAnswer, WholeReply}
+use Rattle.wl_server.specs.Outcome.Whole.{HoldsSame, PerformancesHaveOneOutcome, RunsHaveOneOutcome, SameServer, WholeAnswer}
+use Rattle.wl_server.proofs.OverRuns.Noted.NotesInOrder.{takes_of}
+use Rattle.wl_server.proofs.OverRuns.Outcome.SameNotes.{out_one}
+use Rattle.wl_server.specs.Globals.{with_table}
+use Rattle.wl_wire.specs.Table.{grown}
 
 module _ {T U G C : Type 0} where
   -- ---- what a call counts and numbers, by its step and its answer
@@ -56,7 +60,7 @@ module _ {T U G C : Type 0} where
         let back = inserts_there s.last_client t.clients s.clients (λ j. sym (slots_same s t same_server j)) r' (subst (λ (l : ℕ). InsertsNext l t.clients r') (sym same_server.last) there) in
         let one = inserts_next_one s.last_client s.clients r r' (inserted_allowed k r (subst (λ z. Ample k z) is ample)) (inserted_allowed k r' (subst (λ z. Ample k z) is' ample')) here back in
         is ∙ ap (λ (z : Result ClientParts InsertClientError). let a : Reply T U = reply.InsertClient z in a) one ∙ sym is'
-    whole_shared any (step.CreateGlobal i version handler) p q ample ample' c c' n n' h g = grind (arith, shared_same, answered_step)
+    whole_shared any (step.CreateGlobal i version handler) p q ample ample' c c' n n' h g = grind (arith, shared_same)
     whole_shared any k p q ample ample' c c' n n' h g = tt
 
     call_whole : (call call' : Call T U G C) → SameCall call call' → lacks_growth call ≡ false → lacks_growth call' ≡ false → NumbersClient s call → NumbersClient t call'
@@ -68,7 +72,7 @@ module _ {T U G C : Type 0} where
     call_whole (Asked k p) (Asked k' q) same ample ample' c c' n n' rises rises' took h g =
         let any : ClientParts = record { slot = 0; serial = 0 } in
         let there = part_as w known any s.offer (seen any s) (d any) (e any) (x any) (y any) k k' q same (g any) in
-        let shared = whole_shared any k p q ample ample' c (grind (arith)) n (numbers_as s.offer k k' q same n') (h any) there in (
+        let shared = whole_shared any k p q ample ample' c (grind (arith)) n (grind (arith, s.offer)) (h any) there in (
           whole_one ordered w any s.offer (seen any s) (d any) (e any) (x any) (y any) k p q
               (λ id own. (call_one w known id s.offer (seen id s) (d id) (e id) (x id) (y id) (Asked k p) (Asked k' q) same ample ample' shared (h id) (g id)).0 own)
               shared ample ample' rises (grind (arith))
@@ -99,11 +103,12 @@ module _ {T U G C : Type 0} where
       = grind (arith, seen) in
       let numbers = subst (λ (o : Offer G). AnswersShared o f.call) (sym same.offer) by'.global in
       let one = call_whole w known ordered s t same (λ id. e.did id) (λ id. f.did id) (λ id. seen id x) (λ id. seen id y) e.call f.call same_call ample.0 ample'.0 by.client by'.client
-      by.global numbers by.order by'.order (λ out out' is is' counts. took_one w s t x y e f (whole.order counts) same.each by by' out out' is is') here there in (
+      by.global numbers by.order by'.order (λ out out' is is' counts. (out_one s t (whole.order counts) same.each out.items out'.items
+      (takes_of w s e x out is by) (takes_of w t f y out' is' by'))) here there in (
         one.0,
         λ id. (one.2 id).did,
         record {
-          held = grind (arith, offer_one, offer_as, growth_offer, offer_after, call_inserted, inserted_by);
+          held = grind (arith, offer_one, offer_after, with_table, grown, call_inserted, inserted_by);
           order = λ counts. notes_one w s t x y e f (whole.order counts) (λ id. (one.2 id).after) same_call ample.0 ample'.0 by by';
         },
       )
@@ -121,12 +126,6 @@ module _ {T U G C : Type 0} where
 
   -- ---- steps with their replies
 
-  pub asked_one : (c c' : Call T U G C) (k : Step T U G C) (p q : Reply T U) → c ≡ Asked k p → c' ≡ Asked k q → SameCall c c'
-  asked_one c c' k p q is is' = grind (arith)
-
-  pub replied_one : (ordered : Bool) (c c' : Call T U G C) (k : Step T U G C) (p q : Reply T U) → c ≡ Asked k p → c' ≡ Asked k q → WholeAnswer ordered c c' → WholeReply ordered p q
-  replied_one ordered c c' k p q is is' same = grind (arith)
-
   pub performance_one : (w : World T G C) → IsDetermined w → PerformancesHaveOneOutcome U w
   performance_one w known ordered s t x y [] [] [] n n' same h g = grind (arith)
   performance_one w known ordered s t x y [] (p ∷ replies) replies' n n' same h g = absurd (omega (arith, n))
@@ -134,6 +133,6 @@ module _ {T U G C : Type 0} where
   performance_one w known ordered s t x y (k ∷ steps) [] replies' n n' same h g = absurd (omega (arith, n))
   performance_one w known ordered s t x y (k ∷ steps) (p ∷ replies) [] n n' same h g = absurd (omega (arith, n'))
   performance_one w known ordered s t x y (k ∷ steps) (p ∷ replies) (q ∷ replies') n n' same (mid, (e, call, none, by), leads) (mid', (f, call', none', by'), leads') =
-      let one = entry_one w known s t mid mid' e f ordered same (asked_one e.call f.call k p q call call') none none' by by' in
+      let one = entry_one w known s t mid mid' e f ordered same (grind (arith, e.call, f.call)) none none' by by' in
       let rest = performance_one w known ordered mid mid' x y steps replies replies' (omega (arith, n)) (omega (arith, n')) one.2 leads leads' in
-      ((replied_one ordered e.call f.call k p q call call' one.0, rest.0), rest.1)
+      (((grind (arith, e.call, f.call, one.0)), rest.0), rest.1)

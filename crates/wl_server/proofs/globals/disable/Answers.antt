@@ -1,10 +1,12 @@
 use Rattle.std.proofs.Common.{◌∙◌, ap, not}
-use Rattle.wl_server.proofs.GlobalCalls.AtName.{nothing_disabled, one_disabled, was_found}
+use Rattle.wl_server.proofs.GlobalCalls.AtName.{nothing_disabled, one_disabled}
 use Rattle.wl_server.proofs.globals.disable.Goals as goal
+use Rattle.std.proofs.Common.{arith}
 
 pub returns-then-is_none : goal.returns-then-is_none
-returns-then-is_none g c = λ last. nothing_disabled _ _ last (was_found _ _ _ c.global_in.ensures c.is_none.ensures ∙ ap not c.if-is_none.true)
+returns-then-is_none g c = λ last. nothing_disabled _ _ last ((grind (arith, c.global_in.ensures, c.is_none.ensures)) ∙ ap not c.if-is_none.true)
 
 pub returns : goal.returns
 returns g c = λ last.
-    one_disabled _ _ _ last (was_found _ _ _ c.global_in.ensures c.is_none.ensures ∙ ap not c.if-is_none.false) (rw (← c.name.ensures) c.disable_at.ensures)
+    one_disabled _ _ _ last ((grind (arith, c.global_in.ensures, c.is_none.ensures)) ∙ ap not c.if-is_none.false) (rw
+    (← c.name.ensures) c.disable_at.ensures)

@@ -1,10 +1,12 @@
 use Rattle.std.proofs.Common.{◌∙◌, ap, not}
-use Rattle.wl_server.proofs.GlobalCalls.AtName.{nothing_freed, one_freed, was_found}
+use Rattle.wl_server.proofs.GlobalCalls.AtName.{nothing_freed, one_freed}
 use Rattle.wl_server.proofs.globals.remove.Goals as goal
+use Rattle.std.proofs.Common.{arith}
 
 pub returns-then-is_none : goal.returns-then-is_none
-returns-then-is_none g c = λ last. nothing_freed _ _ last (was_found _ _ _ c.global_in.ensures c.is_none.ensures ∙ ap not c.if-is_none.true)
+returns-then-is_none g c = λ last. nothing_freed _ _ last ((grind (arith, c.global_in.ensures, c.is_none.ensures)) ∙ ap not c.if-is_none.true)
 
 pub returns : goal.returns
 returns g c = λ last.
-    one_freed _ _ _ last (was_found _ _ _ c.global_in.ensures c.is_none.ensures ∙ ap not c.if-is_none.false) (rw (← c.name.ensures) c.remove.ensures.removed)
+    one_freed _ _ _ last ((grind (arith, c.global_in.ensures, c.is_none.ensures)) ∙ ap not c.if-is_none.false) (rw
+    (← c.name.ensures) c.remove.ensures.removed)

@@ -1,13 +1,30 @@
-use Rattle.wl_server.proofs.OverRuns.Cut.CuttingLaws.{ending_cuts, histories_cut, one_served, reading_cuts, some_served}
+use Rattle.wl_server.proofs.OverRuns.Cut.CuttingLaws.{histories_cut, one_served, reading_cuts, some_served}
 use Rattle.wl_server.specs.PartStep.{over}
-use Rattle.wl_server.proofs.OverRuns.Cut.BufferLaws.{each_served}
 use Rattle.wl_server.proofs.laws.cutting_does_not_matter_to_a_client.Goals as goal
+use Rattle.wl_link.proofs.Readings.CuttingLaws.{finish_law}
+use Rattle.wl_link.proofs.Readings.ServedLaws.{told_function}
+use Rattle.wl_link.specs.Served.{AsTold}
+use Rattle.wl_server.specs.Reading.{server}
+use Rattle.std.proofs.Common.{arith}
+use Rattle.wl_server.proofs.OverRuns.Alone.IsolationLaw.{is_isolated}
+use Rattle.wl_server.proofs.OverRuns.Alone.OwnRuns.{are_mine}
+use Rattle.wl_server.proofs.OverRuns.Cut.BufferLaws.{fresh_holds}
+use Rattle.wl_server.proofs.OverRuns.Cut.BufferLaws.{holds_at}
+use Rattle.wl_server.proofs.OverRuns.Cut.BufferLaws.{run_holds}
+use Rattle.wl_server.specs.Globals.{new_offer}
+use Rattle.wl_server.specs.PartStep.{around}
+use Rattle.wl_server.specs.Runs.{just_inserted}
+use Rattle.wl_server.specs.Runs.{mine}
+use Rattle.wl_server.specs.Runs.{offer_over}
+use Rattle.wl_server.specs.Server.{seen}
+use Rattle.wl_server.specs.Telling.{reader_part}
 
 pub returns-clause-reading : goal.returns-clause-reading
 returns-clause-reading g c = λ a. reading_cuts g.T.Transport.sends g.T.Transport.receives a
 
 pub returns-clause-finish : goal.returns-clause-finish
-returns-clause-finish g c = λ a. ending_cuts g.T.Transport.sends g.T.Transport.receives a
+returns-clause-finish g c = λ a. (λ p end u es gave off ends finishes. finish_law g.T.Transport.sends g.T.Transport.receives AsTold
+    (server a) told_function p end u es gave off ends finishes)
 
 pub returns-clause-one : goal.returns-clause-one
 returns-clause-one g c = one_served
@@ -19,4 +36,7 @@ pub returns-clause-some : goal.returns-clause-some
 returns-clause-some g c = some_served
 
 pub returns-clause-each : goal.returns-clause-each
-returns-clause-each g c = λ views. each_served (over g.T.Transport.sends g.T.Transport.receives views)
+returns-clause-each g c = λ views. (λ table run after leads id transport client_data earlier later e split inserts p there more finishes. let
+    (link, fresh, alone) = (is_isolated (over g.T.Transport.sends g.T.Transport.receives views) table run after leads).each id transport client_data earlier later e split inserts in
+    some_served (around (over g.T.Transport.sends g.T.Transport.receives views) id after.offer) (reader_part p) more finishes
+    (grind (arith, holds_at, seen, run_holds, offer_over, new_offer, just_inserted, mine, are_mine, fresh_holds)))

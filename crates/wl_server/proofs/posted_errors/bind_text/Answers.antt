@@ -1,7 +1,12 @@
 use Rattle.std.proofs.Common.{sym, subst}
 use Rattle.std.specs.String.{string_bytes}
-use Rattle.wl_server.proofs.Readings.Texts.{IsFree, free_bind_text}
+use Rattle.wl_server.proofs.Readings.Texts.{IsFree}
 use Rattle.wl_server.proofs.posted_errors.bind_text.Goals as goal
+use Rattle.std.proofs.Common.{arith}
+use Rattle.wl_server.proofs.Readings.Texts.{behind}
+use Rattle.wl_server.proofs.Readings.Texts.{free_both}
+use Rattle.wl_server.proofs.Readings.Texts.{free_decimal}
 
 pub c_string-requires : goal.c_string-requires
-c_string-requires c = subst IsFree (sym c.in_ok-text.ensures.ok) (free_bind_text (string_bytes c.in_ok-interface.interface) c.args.version c.args.global c.in_ok-interface.ensures.no_zero)
+c_string-requires c = subst IsFree (sym c.in_ok-text.ensures.ok)
+    (grind (arith, behind, free_both, free_decimal, string_bytes c.in_ok-interface.interface, c.args.version, c.args.global, c.in_ok-interface.ensures.no_zero))

@@ -1,16 +1,17 @@
 use Rattle.std.proofs.Common.{◌∙◌, ap, sym, subst}
 use Rattle.wl_wire.specs.Table.{holds_zero}
-use Rattle.wl_server.proofs.Readings.Texts.{IsFree, free_found, free_interface_text, one_name}
+use Rattle.wl_server.proofs.Readings.Texts.{IsFree, free_interface_text, one_name}
 use Rattle.wl_server.proofs.posted_errors.wrong_interface_text.Goals as goal
+use Rattle.wl_server.proofs.Readings.Texts.{free_name}
 
 pub c_string-requires : goal.c_string-requires
 c_string-requires c =
     subst IsFree (sym c.in_ok-text.ensures.ok)
     (free_interface_text c.args.number c.name-interface.result.now c.as_str-request.result.now c.name-asked.result.now c.name-got.result.now
-    (free_found c.args.protocol.now c.args.interface _ c.name-interface.ensures.accepted c.name-interface.ensures.name)
+    (ap holds_zero c.name-interface.ensures.name ∙ free_name c.args.protocol.now c.name-interface.ensures.accepted c.args.interface.0)
     (ap holds_zero c.as_str-request.ensures.value ∙ c.requires)
-    (free_found c.args.protocol.now c.args.asked _ c.name-asked.ensures.accepted c.name-asked.ensures.name)
-    (free_found c.args.protocol.now c.args.got _ c.name-got.ensures.accepted c.name-got.ensures.name))
+    (ap holds_zero c.name-asked.ensures.name ∙ free_name c.args.protocol.now c.name-asked.ensures.accepted c.args.asked.0)
+    (ap holds_zero c.name-got.ensures.name ∙ free_name c.args.protocol.now c.name-got.ensures.accepted c.args.got.0))
 
 pub returns : goal.returns
 returns c = rw (← c.name-interface.ensures.name, ← c.as_str-request.ensures.value, ← c.name-asked.ensures.name, ← c.name-got.ensures.name, ← one_name)

@@ -5,13 +5,12 @@ use Rattle.wl_wire.specs.Table.{InterfaceRow, interface_rows, refused_growth}
 use Rattle.wl_server.specs.Globals.{Offer}
 use Rattle.wl_server.specs.PartStep.{Grown}
 use Rattle.wl_server.specs.Steps.{lacks_growth}
-use Rattle.wl_server.proofs.CallSteps.Feeling.{IsFelt, makes_unfelt}
+use Rattle.wl_server.proofs.CallSteps.Feeling.{makes_unfelt}
 use Rattle.wl_server.proofs.OverRuns.Alone.AccountLaws.{is_growth}
-use Rattle.wl_server.proofs.Plain.Insertion.{adds_interfaces}
 use Rattle.wl_server.proofs.backend.Backend.add_interfaces.Goals as goal
-
-felt : {T U G C : Type 0} (rows : List InterfaceRow) (r : Result (Unit {0}) TableError) → IsFelt {T = T} {U = U} {G = G} {C = C} (Grown rows r)
-felt rows r = record { last = refl; client = λ b. tt; order = tt; room = λ b. tt; notes = λ b a h. h }
+use Rattle.std.proofs.Common.{arith}
+use Rattle.std.proofs.Common.{true≢false}
+use Rattle.wl_server.specs.Server.{seen}
 
 lacked : (T U G C : Type 0) (rows : List InterfaceRow) (r : Result (Unit {0}) TableError) (refused : Bool) → refused ≡ refused_growth r
     → lacks_growth {T = T} {U = U} {G = G} {C = C} (Grown rows r) ≡ refused
@@ -28,7 +27,9 @@ returns-clause-call g c =
       default_limit = session.default_limit;
     } in
     rw (← c.self.view_is)
-    (is_growth _ _ _ _ _ (makes_unfelt _ _ _ (felt rows c.extend-answer.result) c.lacks_memory-self-inside.result _ (ap offer_of c.extend-answer.ensures.table)
+    (is_growth _ _ _ _ _ (makes_unfelt _ _ _
+    (record { last = refl; client = λ b. tt; order = tt; room = λ b. tt; notes = λ b a h. h }) c.lacks_memory-self-inside.result _
+    (ap offer_of c.extend-answer.ensures.table)
     c.extend-answer.ensures.answer (lacked g.row.T.Denot g.row.U.Denot g.row.G.Denot g.row.C.Denot rows c.extend-answer.result _ c.lacks_memory-self-inside.ensures)
     (λ id b. (refl, refl, refl)) c.self.invariant.2))
 
@@ -39,4 +40,4 @@ pub returns-clause-server : goal.returns-clause-server
 returns-clause-server g c = rw (← c.self.view_is, c.extend-answer.ensures.table) refl
 
 pub returns-clause-plain : goal.returns-clause-plain
-returns-clause-plain g c = adds_interfaces _ _ _ _ _ (returns-clause-call g c) (returns-clause-server g c)
+returns-clause-plain g c = grind (arith, refused_growth, lacks_growth, true≢false, seen, returns-clause-call g c, returns-clause-server g c)

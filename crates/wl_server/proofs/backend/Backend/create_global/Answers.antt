@@ -17,11 +17,13 @@ use Rattle.wl_server.specs.declared.runs.step.Reply.TheVariants as reply
 use Rattle.wl_server.specs.declared.runs.step.Step.TheVariants as step
 use Rattle.wl_server.specs.NoteOrder.{AllInTime, AllNumbered, times_of}
 use Rattle.wl_server.proofs.CallSteps.Feeling.{IsFelt, felt_call, unfelt_call}
-use Rattle.wl_server.proofs.CleanupSteps.Taken.{slots_felt}
-use Rattle.wl_server.proofs.Touched.Kept.{all_touched}
 use Rattle.wl_server.proofs.Plain.Globals.{offers_global}
 use Rattle.wl_server.proofs.backend.Backend.create_global.Goals as goal
 use Rattle.wl_server.proofs.backend.Backend.create_global.Goals.{in-OutOfMemory, in_default}
+use Rattle.wl_server.proofs.CleanupSteps.Taken.{taken_felt}
+use Rattle.wl_server.proofs.Touched.Kept.{out_none}
+use Rattle.wl_server.specs.Inside.Touched.{HasSent}
+use Rattle.wl_server.specs.Inside.Touched.{IsQuiet}
 
 felt : {T U G C : Type 0} (i : InterfaceId) (version : ℕ) (handler : G) (answer : Result GlobalParts GlobalError)
     → IsFelt {T = T} {U = U} {G = G} {C = C} (Asked (step.CreateGlobal i version handler) (reply.CreateGlobal answer))
@@ -79,10 +81,10 @@ invariant_of-self g c =
     let numbers = subst (λ (xs : List (Option (Stored _ _ _))). AllInTime (map times_of xs) c.self.inside.numbers (map times_of c.tell_named-self-inside.new.clients)
     c.tell_named-self-inside.new.numbers) c.deref_mut.ensures.value c.tell_named-self-inside.ensures.in_time in
     rw (with_items_is c.self.inside.clients c.tell_named-self-inside.new.clients (all.len ∙ sym c.self.inside.clients.ok.0)) (
-      slots_felt _ _ _ _ _ _ all c.self.invariant.0,
+      (record { within = c.self.invariant.0.within; taken = taken_felt _ _ _ _ _ all c.self.invariant.0.taken }),
       numbers.1.keeps c.self.invariant.1,
       subst (λ (xs : List (Option (Stored _ _ _))). AllNumbered xs → AllNumbered c.tell_named-self-inside.new.clients) c.deref_mut.ensures.value c.tell_named-self-inside.ensures.numbered c.self.invariant.2,
-      all_touched c.insert_all.new.self _ c.insert_all.ensures.to_send c.insert_all.ensures.to_note,
+      (record { sent = out_none HasSent _ _ c.insert_all.ensures.to_send; quiet = out_none IsQuiet _ _ c.insert_all.ensures.to_note }),
     )
 
 pub returns-after-matches-clause-plain : goal.returns-after-matches-clause-plain

@@ -4,10 +4,8 @@ use Rattle.wl_link.specs.Exchange.{Queue}
 use Rattle.wl_server.specs.declared.error.DestroyError.{DestroyError}
 use Rattle.wl_server.specs.declared.error.DestroyError.TheVariants as destroy
 use Rattle.wl_server.specs.Inside.Client.{Does}
-use Rattle.wl_server.specs.Inside.Destruction.{lacks_destroy}
 use Rattle.wl_server.specs.Ids.{IdParts}
 use Rattle.wl_server.specs.Objects.{Destroys}
-use Rattle.wl_server.specs.Server.{Stored}
 use Rattle.wl_server.proofs.CallSteps.Numbering.{numbered_at, numbers_set}
 use Rattle.wl_server.proofs.CallSteps.OneClient.{done_to, none_stored}
 use Rattle.wl_server.proofs.CallSteps.Slots.{Kind}
@@ -18,12 +16,6 @@ use Rattle.wl_server.proofs.backend.Backend.destroy_object.Goals as goal
 abbrev destroys : {T U C : Type 0} → (T → Queue → Result ℕ IoFault → T → Type 0) → IdParts → Result (Unit {0}) DestroyError → Kind T U C
 destroys sends o answer id p lacked did q = Destroys sends id p o answer lacked did q
 
--- with whether memory was refused
-does : {T U C : Type 0} (sends : T → Queue → Result ℕ IoFault → T → Type 0) (o : IdParts) (before after : Stored T U C) (answer : Result (Unit {0}) DestroyError)
-    (lacked : Bool) → lacked ≡ lacks_destroy answer → Does before (λ p did q. Destroys sends o.client p o answer (lacks_destroy answer) did q) after
-    → Does before (λ p did q. destroys sends o answer o.client p lacked did q) after
-does sends o before after answer lacked is done = subst (λ (b : Bool). Does before (λ p did q. Destroys sends o.client p o answer b did q) after) (sym is) done
-
 pub returns-in_default-clause-call : goal.returns-in_default-clause-call
 returns-in_default-clause-call g c = rw (← c.self.view_is)
     (none_stored _ _ _ _ refl c.args.id.now.client (destroys _ c.args.id.now (Err destroy.InvalidId)) (◌≡◌ {A = Result (Unit {0}) DestroyError} (Err destroy.InvalidId) (Err destroy.InvalidId))
@@ -33,7 +25,8 @@ pub returns-clause-call : goal.returns-clause-call
 returns-clause-call g c = rw (← c.self.view_is)
     (done_to _ _ _ _ refl c.args.id.now.client (destroys g.T.Transport.sends c.args.id.now c.destroy_object-answer.result) (c.destroy_object-answer.result ≡ Err destroy.InvalidId)
     (λ i l d b a h. (_, refl, h)) _ c.in-Some.client.now c.destroy_object-answer.new.self c.lacks_memory-self-inside.result
-    c.client-client.ensures c.in-Some.ensures.value (does g.T.Transport.sends c.args.id.now c.in-Some.client.now c.destroy_object-answer.new.self c.destroy_object-answer.result _ c.lacks_memory-self-inside.ensures c.destroy_object-answer.ensures.does) _ c.destroy_object-answer.ensures.in_time c.destroy_object-answer.ensures.numbered c.self.invariant.2)
+    c.client-client.ensures c.in-Some.ensures.value (subst (λ (b : Bool). Does c.in-Some.client.now
+    (λ p did q. Destroys g.T.Transport.sends c.args.id.now.client p c.args.id.now c.destroy_object-answer.result b did q) c.destroy_object-answer.new.self) (sym c.lacks_memory-self-inside.ensures) c.destroy_object-answer.ensures.does) _ c.destroy_object-answer.ensures.in_time c.destroy_object-answer.ensures.numbered c.self.invariant.2)
 
 pub invariant_of-self : goal.invariant_of-self
 invariant_of-self g c = (c.self.invariant.0, c.self.invariant.1, c.self.invariant.2, c.in_default.ensures.touched c.self.invariant.3)

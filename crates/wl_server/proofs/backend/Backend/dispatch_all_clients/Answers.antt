@@ -1,14 +1,13 @@
 use Rattle.std.proofs.Common.{arith}
 use Rattle.wl_server.specs.Dispatch.{answering}
 use Rattle.wl_server.specs.PartStep.{over}
-use Rattle.wl_server.proofs.Dispatches.Serving.{all_served, dispatches_all, each_begun, one_more}
+use Rattle.wl_server.proofs.Dispatches.Serving.{all_served, dispatches_all, one_more}
 use Rattle.wl_server.proofs.Plain.Dispatch.{dispatches_leave}
 use Rattle.wl_server.proofs.backend.Backend.dispatch_all_clients.Goals as goal
+use Rattle.wl_server.proofs.Dispatches.Serving.{each_none}
 
 pub loop-client-init : goal.loop-client-init
-loop-client-init g c =
-    each_begun (over g.T.Transport.sends g.T.Transport.receives g.G.GlobalHandler.views) (answering g.H.Handler.requests g.H.Handler.binds) c.args.handler.now c.args.self.now
-    c.begin_dispatch.new.self c.begin_dispatch.ensures
+loop-client-init g c = grind (arith, each_none, over, answering)
 
 pub loop-client-preserved : goal.loop-client-preserved
 loop-client-preserved g c =

@@ -1,7 +1,5 @@
 use Rattle.std.proofs.Common.{◌≡◌, false, refl}
 use Rattle.wl_server.specs.declared.notes.DisconnectReason.{DisconnectReason}
-use Rattle.wl_server.specs.Inside.Client.{Does}
-use Rattle.wl_server.specs.Server.{Stored}
 use Rattle.wl_server.specs.Telling.{Kills}
 use Rattle.wl_server.proofs.CallSteps.Numbering.{numbered_at, numbers_set}
 use Rattle.wl_server.proofs.CallSteps.OneClient.{done_to, none_stored}
@@ -13,10 +11,6 @@ use Rattle.wl_server.proofs.backend.Backend.kill_client.Goals as goal
 abbrev kills : {T U C : Type 0} → DisconnectReason → Kind T U C
 kills reason id p lacked did q = (lacked ≡ false) × Kills p reason did q
 
-kill_does : {T U C : Type 0} (before : Stored T U C) (reason : DisconnectReason) (after : Stored T U C) → Does before (λ p did q. Kills p reason did q) after
-    → Does before (λ p did q. (false ≡ false) × Kills p reason did q) after
-kill_does before reason after (did, q, does, is) = (did, q, (refl, does), is)
-
 pub returns-in_default-clause-call : goal.returns-in_default-clause-call
 returns-in_default-clause-call g c = rw (← c.self.view_is)
     (none_stored _ _ _ _ refl c.args.id.now (kills c.args.reason) (Unit {0}) (λ i l d b a h. (refl, h)) _ refl c.in_default.ensures.value tt c.self.invariant.2)
@@ -24,7 +18,8 @@ returns-in_default-clause-call g c = rw (← c.self.view_is)
 pub returns-clause-call : goal.returns-clause-call
 returns-clause-call g c = rw (← c.self.view_is)
     (done_to _ _ _ _ refl c.args.id.now (kills c.args.reason) (Unit {0}) (λ i l d b a h. (refl, h))
-    _ c.in-Some.client.now c.kill.new.self false refl c.in-Some.ensures.value (kill_does c.in-Some.client.now _ c.kill.new.self c.kill.ensures.killed) _ c.kill.ensures.in_time c.kill.ensures.numbered c.self.invariant.2)
+    _ c.in-Some.client.now c.kill.new.self false refl c.in-Some.ensures.value
+    ((c.kill.ensures.killed.0, c.kill.ensures.killed.1, (refl, c.kill.ensures.killed.2), c.kill.ensures.killed.3)) _ c.kill.ensures.in_time c.kill.ensures.numbered c.self.invariant.2)
 
 pub invariant_of-self : goal.invariant_of-self
 invariant_of-self g c = (c.self.invariant.0, c.self.invariant.1, c.self.invariant.2, c.in_default.ensures.touched c.self.invariant.3)

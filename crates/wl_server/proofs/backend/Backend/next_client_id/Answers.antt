@@ -1,4 +1,4 @@
-use Rattle.std.proofs.Common.{◌<◌, ℕ, IsSome, None, Some, inl, arith, inr, refl, subst}
+use Rattle.std.proofs.Common.{Some, arith, inr, refl, subst}
 use Rattle.wl_server.specs.Server.{stored_at}
 use Rattle.wl_server.specs.Steps.{IsLeastFree}
 use Rattle.wl_server.proofs.OverRuns.Outcome.NumberLaws.{client_is_as_told}
@@ -16,6 +16,4 @@ returns-clause-given g c =
     rw (← c.self.view_is, c.from_parts.ensures) (client_is_as_told _ _ (Some _) (free, omega (arith, c.if-self.false), refl))
 
 pub returns-in_err-slot-clause-given : goal.returns-in_err-slot-clause-given
-returns-in_err-slot-clause-given g c =
-    let full = subst (λ xs. (k : ℕ) → k < 0x100000000 → IsSome (stored_at k xs)) c.deref.ensures.value c.in_err-slot.ensures in
-    rw (← c.self.view_is, c.from_residual.ensures) (client_is_as_told _ _ None (inl full))
+returns-in_err-slot-clause-given g c = grind (arith, stored_at, client_is_as_told)

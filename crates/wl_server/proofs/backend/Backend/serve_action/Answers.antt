@@ -2,12 +2,10 @@ use Rattle.wl_server.specs.Dispatch.{answering}
 use Rattle.wl_server.specs.PartStep.{over}
 use Rattle.wl_server.proofs.Dispatches.Serving.{serves_last, serves_refused, serves_round}
 use Rattle.wl_server.proofs.backend.Backend.serve_action.Goals as goal
+use Rattle.std.proofs.Common.{arith}
 
 pub returns-in-Err : goal.returns-in-Err
-returns-in-Err g c =
-    serves_last (over g.T.Transport.sends g.T.Transport.receives g.G.GlobalHandler.views) (answering g.H.Handler.requests g.H.Handler.binds) c.args.id.now
-    c.args.handler.now c.args.reading.now c.next_action_within_into.new.reading c.args.self.now c.next_action_within_into.new.self c.in-Err.error c.fault_of_reading.result c.keep_refused.new.self
-    c.memory_refused-refused.result c.memory_refused-refused.ensures c.in-Err.ensures.call c.fault_of_reading.ensures c.keep_refused.ensures
+returns-in-Err g c = grind (arith, serves_last, over, answering)
 
 pub returns-in-None : goal.returns-in-None
 returns-in-None g c =

@@ -2,7 +2,7 @@ use Rattle.std.proofs.Common.{arith}
 use Rattle.std.proofs.lemmas.Grind.{common_steps}
 use Rattle.wl_server.specs.Dispatch.{answering}
 use Rattle.wl_server.specs.PartStep.{over}
-use Rattle.wl_server.proofs.Dispatches.Serving.{fewer_wait, so_far_more, so_far_none, some_end, some_rounds}
+use Rattle.wl_server.proofs.Dispatches.Serving.{so_far_more, so_far_none, some_end, some_rounds}
 use Rattle.wl_server.proofs.backend.Backend.serve_some.Goals as goal
 
 pub loop-fault-init : goal.loop-fault-init
@@ -20,7 +20,7 @@ returns-then-reading-left g c =
     c.loop-fault.invariant.so_far c.serve_action.ensures c.in_default.is) c.if-reading-left.true
 
 pub loop-fault-preserved : goal.loop-fault-preserved
-loop-fault-preserved g c = grind (arith, common_steps, fewer_wait, so_far_more)
+loop-fault-preserved g c = grind (arith, common_steps, so_far_more)
 
 pub loop-fault-smaller : goal.loop-fault-smaller
-loop-fault-smaller g c = grind (arith, common_steps, fewer_wait)
+loop-fault-smaller g c = grind (arith, common_steps)

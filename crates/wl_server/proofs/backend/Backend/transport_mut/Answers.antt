@@ -1,4 +1,4 @@
-use Rattle.std.proofs.Common.{◌≡◌, ◌∙◌, List, Option, None, Some, option_map, sym, ap, inl, inr, refl}
+use Rattle.std.proofs.Common.{◌≡◌, ◌∙◌, List, Option, Some, option_map, sym, ap, inl, refl}
 use Rattle.std.proofs.Math.Path.{fun_ext}
 use Rattle.std.specs.Prelude.{slice_set}
 use Rattle.std.specs.Option.{option_map_or}
@@ -16,6 +16,7 @@ use Rattle.wl_server.proofs.CleanupSteps.Taken.{slots_set}
 use Rattle.wl_server.proofs.Plain.Transport.{leaves_transport}
 use Rattle.wl_server.proofs.Touched.Moved.{moved_touched}
 use Rattle.wl_server.proofs.backend.Backend.transport_mut.Goals as goal
+use Rattle.std.proofs.Common.{arith}
 
 -- the transport of a stored client, if there is one
 abbrev transport_in : {T U C : Type 0} → Option (Stored T U C) → Option T
@@ -27,9 +28,7 @@ with_clients b clients = record b { server = record b.server { clients = clients
 -- what is left in the transport is the server over it
 lent_over : {T U G C : Type 0} (b : BackendState T U G C) (id : ClientParts) (s : Stored T U C) (t : T) → Some s ≡ client_at id b.server.clients
     → with_clients b (slice_set b.server.clients id.slot (Some (over_transport s t))) ≡ state_over b id t
-lent_over {T} {U} {G} {C} b id s t is =
-    ap (λ (o : Option (Option (Stored T U C))). with_clients b (slice_set b.server.clients id.slot (option_map (λ c. over_transport c t) (option_map_or (λ y. y) o None))))
-    (sym (slot_of_client b.server.clients id s is).0)
+lent_over {T} {U} {G} {C} b id s t is = grind (arith, with_clients, slice_set, option_map, over_transport, option_map_or, slot_of_client)
 
 lent_step : {T U G C : Type 0} (w : World T G C) (before : ServerState T U G C) (id : ClientParts) (s : Stored T U C) (t : T) → Some s ≡ client_at id before.clients
     → AllNumbered before.clients → IsChange w before id t (server_over before id t)
@@ -38,10 +37,7 @@ lent_step w before id s t is all =
     is_change w before id t (server_over before id t) (changed w before id t s has.0 has.1 all)
 
 pub returns-in_default : goal.returns-in_default
-returns-in_default g c = (
-  ap inr c.self.view_is,
-  record { call = tt; plain = tt; lends = tt; value = rw (← c.self.view_is) (ap transport_in (sym c.in_default.ensures.value)) },
-)
+returns-in_default g c = grind (arith, transport_in)
 
 pub returns : goal.returns
 returns g c = (

@@ -1,11 +1,20 @@
 use Rattle.std.proofs.Common.{◌∙◌, ap, not, rules}
-use Rattle.wl_server.proofs.ObjectCalls.Creation.{unknown_interface, lacks_serial, created, exhausted, no_memory, row_found}
+use Rattle.wl_server.proofs.ObjectCalls.Creation.{lacks_serial, created, exhausted, no_memory, row_found}
 use Rattle.wl_server.proofs.client.Client.create_object.Goals as goal
 use Rattle.wl_server.specs.Server.{no_times}
+use Rattle.std.proofs.Common.{Err}
+use Rattle.std.proofs.Common.{refl}
+use Rattle.std.specs.Prelude.{slice_get}
+use Rattle.wl_server.proofs.CallSteps.Doing.{does_quietly}
+use Rattle.wl_server.proofs.ObjectCalls.Creation.{Created}
+use Rattle.wl_server.proofs.ObjectCalls.Creation.{unknown}
+use Rattle.wl_server.specs.declared.error.CreateError.TheVariants as create
 
 pub returns-then-is_none-clause-does : goal.returns-then-is_none-clause-does
 returns-then-is_none-clause-does g c =
-    unknown_interface c.args.protocol.now c.args.id.now c.args.self.now c.args.interface c.args.version c.args.user_data (row_found _ _ _ _ c.get.ensures.interface c.is_none.ensures ∙ ap not c.if-is_none.true)
+    does_quietly c.args.self.now (Created c.args.protocol.now c.args.id.now c.args.self.now c.args.interface c.args.version c.args.user_data
+    (Err create.UnknownInterface)) c.args.self.now.part
+    (refl, unknown (slice_get c.args.protocol.now c.args.interface.0) _ _ (row_found _ _ _ _ c.get.ensures.interface c.is_none.ensures ∙ ap not c.if-is_none.true) (refl, refl))
 
 pub returns-in_default-clause-does : goal.returns-in_default-clause-does
 returns-in_default-clause-does g c = rw (← c.self.view_is)

@@ -7,8 +7,11 @@ use Rattle.wl_server.specs.Telling.{Kills}
 use Rattle.wl_server.specs.NoteOrder.{NotesInTime}
 use Rattle.wl_server.proofs.CallSteps.Numbering.{in_time_both, in_time_same}
 use Rattle.wl_server.proofs.CallSteps.Doing.{told_untimed}
-use Rattle.wl_server.proofs.Readings.Finishing.{ends_done, ends_none, ends_starved, request_ends, request_refused, store_unless_written}
+use Rattle.wl_server.proofs.Readings.Finishing.{ends_done, ends_starved, request_ends, request_refused, store_unless_written}
 use Rattle.wl_server.proofs.client.Client.end_request.Goals as goal
+use Rattle.std.proofs.Common.{Bool}
+use Rattle.std.proofs.Common.{Ok}
+use Rattle.wl_server.specs.Inside.Finishing.{EndsSender}
 
 pub returns-in-Some-clause-done : goal.returns-in-Some-clause-done
 returns-in-Some-clause-done g c = grind (arith, common_steps, request_refused)
@@ -24,8 +27,10 @@ pub returns-then-not-is_destructor-clause-done : goal.returns-then-not-is_destru
 returns-then-not-is_destructor-clause-done g c =
     request_ends g.T.Transport.sends c.args.id.now c.args.self.now c.args.sender.now c.args.is_destructor c.args.created c.args.user_data _ false c.finish_action.new.self
     (rw (← c.self.view_is) c.in_default.ensures) refl
-    (ends_none g.T.Transport.sends c.args.id.now c.args.self.now c.args.sender.now c.args.is_destructor c.args.created c.args.user_data c.finish_action.new.self
-    c.if-not-is_destructor.true (ap untimed c.finish_action.ensures.finished))
+    (ends_done g.T.Transport.sends c.args.id.now c.args.self.now c.args.sender.now c.args.is_destructor c.args.created c.args.user_data
+    (Ok tt) c.args.self.now c.finish_action.new.self
+    (subst (λ (b : Bool). EndsSender g.T.Transport.sends c.args.id.now c.args.self.now c.args.sender.now b (Ok (Ok tt)) c.args.self.now)
+    (sym c.if-not-is_destructor.true) (refl, refl)) (ap untimed c.finish_action.ensures.finished))
 
 pub returns-clause-done : goal.returns-clause-done
 returns-clause-done g c =

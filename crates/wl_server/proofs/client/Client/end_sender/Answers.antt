@@ -1,9 +1,9 @@
-use Rattle.std.proofs.Common.{ap, map, subst, sym, refl, List, ℕ}
-use Rattle.wl_server.specs.declared.notes.Happening.{Happening}
-use Rattle.wl_server.specs.NoteOrder.{GivesNumbers}
-use Rattle.wl_server.proofs.CallSteps.Numbering.{made_in_time, still_made}
+use Rattle.std.proofs.Common.{ap, map, sym}
+use Rattle.wl_server.proofs.CallSteps.Numbering.{still_made}
 use Rattle.wl_server.proofs.Readings.Finishing.{ends_taken}
 use Rattle.wl_server.proofs.client.Client.end_sender.Goals as goal
+use Rattle.std.proofs.Common.{arith}
+use Rattle.wl_server.proofs.CallSteps.Numbering.{gives_none}
 
 pub returns-clause-ends : goal.returns-clause-ends
 returns-clause-ends g c =
@@ -19,8 +19,4 @@ pub returns-then-is_out_of_memory-clause-in_time : goal.returns-then-is_out_of_m
 returns-then-is_out_of_memory-clause-in_time g c = rw (← c.self.view_is) (still_made _ _ _ _ (ap (map (λ m. m.0)) c.reserve_end.ensures.items))
 
 pub returns-clause-in_time : goal.returns-clause-in_time
-returns-clause-in_time g c =
-    rw (← c.self.view_is)
-    (made_in_time _ _ _ _ _ _
-    (subst (λ (l : List (ℕ × Happening _)). GivesNumbers (map (λ m. m.0) l) c.args.numbers.now.made (map (λ m. m.0) c.take_out_made.new.made.queue.items) c.take_out_made.new.numbers.made)
-    c.reserve_end.ensures.items c.take_out_made.ensures.in_time) refl c.take_out_made.ensures.waiting)
+returns-clause-in_time g c = grind (arith, gives_none, map)

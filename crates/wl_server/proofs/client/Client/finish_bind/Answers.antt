@@ -1,6 +1,13 @@
 use Rattle.std.proofs.Common.{◌∙◌, Some, ap, sym}
-use Rattle.wl_server.proofs.Readings.Opened.{a_bind, no_bind, not_a_bind}
+use Rattle.wl_server.proofs.Readings.Opened.{a_bind, no_bind}
 use Rattle.wl_server.proofs.client.Client.finish_bind.Goals as goal
+use Rattle.std.proofs.Common.{Err}
+use Rattle.std.proofs.Common.{arith}
+use Rattle.std.proofs.Common.{false}
+use Rattle.wl_server.proofs.CallSteps.Doing.{does_quietly}
+use Rattle.wl_server.proofs.Readings.Opened.{is_open}
+use Rattle.wl_server.specs.Finish.{FinishesBind}
+use Rattle.wl_server.specs.declared.error.FinishError.TheVariants as finish
 
 pub returns-in_default-clause-done : goal.returns-in_default-clause-done
 returns-in_default-clause-done g c = no_bind c.args.self.now c.args.user_data (rw (← c.self.view_is) (sym c.get.ensures ∙ c.in_default.is))
@@ -12,5 +19,5 @@ returns-in-Bind-clause-done g c =
 
 pub returns-in-Request-clause-done : goal.returns-in-Request-clause-done
 returns-in-Request-clause-done g c =
-    not_a_bind c.args.self.now c.args.user_data c.in-Request.sender c.in-Request.is_destructor c.in-Request.created
-    (rw (← c.self.view_is) (sym c.get.ensures ∙ c.in-Some.is ∙ ap (λ a. Some a) c.in-Request.is))
+    does_quietly c.args.self.now (λ p did q. FinishesBind p c.args.user_data (Err (record { error = finish.WrongKind; user_data = c.args.user_data })) false did q) c.args.self.now.part
+    (grind (arith, is_open))

@@ -1,9 +1,16 @@
 use Rattle.std.proofs.Common.{◌∙◌, Some, Ok, ap, sym}
 use Rattle.std.specs.Result.{result_and}
 use Rattle.wl_server.specs.declared.reading.action.OpenAction.TheVariants as opened
-use Rattle.wl_server.proofs.Readings.Opened.{a_request, no_request, not_a_request}
+use Rattle.wl_server.proofs.Readings.Opened.{a_request, no_request}
 use Rattle.wl_server.proofs.Plain.Returning.{request_leaves}
 use Rattle.wl_server.proofs.client.Client.finish_request.Goals as goal
+use Rattle.std.proofs.Common.{arith}
+use Rattle.std.proofs.Common.{Err}
+use Rattle.std.proofs.Common.{false}
+use Rattle.wl_server.proofs.CallSteps.Doing.{does_quietly}
+use Rattle.wl_server.proofs.Readings.Opened.{is_open}
+use Rattle.wl_server.specs.Finish.{FinishesRequest}
+use Rattle.wl_server.specs.declared.error.FinishError.TheVariants as finish
 
 pub returns-in_default-clause-done : goal.returns-in_default-clause-done
 returns-in_default-clause-done g c = no_request g.T.Transport.sends c.args.id.now c.args.self.now c.args.user_data (rw (← c.self.view_is) (sym c.get.ensures ∙ c.in_default.is))
@@ -16,9 +23,9 @@ returns-in-Request-clause-done g c =
 
 pub returns-in-Bind-clause-done : goal.returns-in-Bind-clause-done
 returns-in-Bind-clause-done g c =
-    not_a_request g.T.Transport.sends c.args.id.now c.args.self.now c.args.user_data c.in-Bind.object (rw (← c.self.view_is) (sym c.get.ensures ∙ c.in-Some.is ∙ ap (λ a. Some a) c.in-Bind.is))
+    does_quietly c.args.self.now (λ p did q. FinishesRequest g.T.Transport.sends c.args.id.now p c.args.user_data (Err
+    (record { error = finish.WrongKind; user_data = c.args.user_data })) false did q) c.args.self.now.part
+    (grind (arith, is_open))
 
 pub returns-in-Request-clause-back : goal.returns-in-Request-clause-back
-returns-in-Request-clause-back g c =
-    request_leaves c.args.self.now.part c.end_request.new.self.part c.args.user_data c.in-Request.sender c.in-Request.is_destructor c.in-Request.created c.end_request.result
-    (rw (← c.self.view_is) (sym c.get.ensures ∙ c.in-Some.is ∙ ap (λ a. Some a) c.in-Request.is)) c.end_request.ensures.back
+returns-in-Request-clause-back g c = grind (arith, request_leaves)

@@ -4,8 +4,9 @@ use Rattle.wl_server.specs.declared.notes.Happening.{Happening}
 use Rattle.wl_server.specs.declared.notes.queues.NoteNumbers.{NoteNumbers}
 use Rattle.wl_server.specs.Part.{Part}
 use Rattle.wl_server.specs.Server.{Stored, no_times}
-use Rattle.wl_server.proofs.CallSteps.Numbering.{made_in_time}
 use Rattle.wl_server.proofs.client.Client.kill.Goals as goal
+use Rattle.std.proofs.Common.{arith}
+use Rattle.wl_server.proofs.CallSteps.Numbering.{gives_none}
 
 with_made : {T U C : Type 0} (p : Part T U C) (serial : _) (made made' : List (Happening U)) → made ≡ made'
     → ◌≡◌ {A = Stored T U C} (record { serial = serial; part = p; made = made; times = no_times }) (record { serial = serial; part = p; made = made'; times = no_times })
@@ -22,4 +23,4 @@ returns-clause-killed g c =
 
 pub returns-clause-in_time : goal.returns-clause-in_time
 returns-clause-in_time g c =
-    rw (← c.self.view_is) (made_in_time _ _ _ _ _ _ c.push.ensures.in_time refl (ap (λ (n : NoteNumbers). n.waiting) c.push.ensures.numbers))
+    rw (← c.self.view_is) (grind (arith, gives_none, c.push.ensures.in_time, ap (λ (n : NoteNumbers). n.waiting) c.push.ensures.numbers))

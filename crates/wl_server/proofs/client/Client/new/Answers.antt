@@ -1,8 +1,8 @@
 use Rattle.std.proofs.Common.{false, map, arith}
 use Rattle.std.proofs.lemmas.Grind.{common_steps}
-use Rattle.wl_server.proofs.CallSteps.Numbering.{made_in_time}
 use Rattle.wl_server.proofs.client.Client.new.Goals as goal
 use Rattle.wl_server.specs.Server.{no_times}
+use Rattle.wl_server.proofs.CallSteps.Numbering.{gives_none}
 
 pub returns-clause-inserted : goal.returns-clause-inserted
 returns-clause-inserted g c = (
@@ -26,4 +26,4 @@ returns-clause-inserted g c = (
 )
 
 pub returns-clause-in_time : goal.returns-clause-in_time
-returns-clause-in_time g c = grind (arith, common_steps, made_in_time)
+returns-clause-in_time g c = grind (arith, common_steps, gives_none)

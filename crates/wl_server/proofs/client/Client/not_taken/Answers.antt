@@ -1,10 +1,15 @@
 use Rattle.std.proofs.Common.{arith}
 use Rattle.std.proofs.lemmas.Grind.{common_steps}
-use Rattle.wl_server.proofs.Readings.OneMessage.{does_ask, front_asks, is_malformed, message_unread}
+use Rattle.wl_server.proofs.Readings.OneMessage.{message_unread}
 use Rattle.wl_server.proofs.client.Client.not_taken.Goals as goal
+use Rattle.std.proofs.Common.{option_map}
+use Rattle.wl_server.proofs.Readings.OneMessage.{halts_so}
+use Rattle.wl_server.specs.Reading.{row_asks}
+use mathlib.Core.Logic.{inl}
+use mathlib.Core.Logic.{inr}
 
 pub returns-in-Malformed-clause-handles : goal.returns-in-Malformed-clause-handles
-returns-in-Malformed-clause-handles g c r h within = grind (arith, common_steps, message_unread, is_malformed)
+returns-in-Malformed-clause-handles g c r h within = grind (arith, common_steps, message_unread)
 
 pub returns-in-OutOfMemory-clause-handles : goal.returns-in-OutOfMemory-clause-handles
-returns-in-OutOfMemory-clause-handles g c r h within = grind (arith, common_steps, front_asks, does_ask)
+returns-in-OutOfMemory-clause-handles g c r h within = grind (arith, common_steps, halts_so, inr, inl, row_asks, option_map)

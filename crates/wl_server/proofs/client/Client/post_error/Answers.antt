@@ -1,9 +1,8 @@
 use Rattle.std.proofs.Common.{◌≡◌, ◌∙◌, None, is_some, ap, ℕ, Bool, true, false, List, Result, MatchBool, refl, sym, eq-eqb}
 use Rattle.std.specs.Prelude.{◌↔◌, ◌==◌, IsTrue, if◌then◌else◌}
 use Rattle.wl_link.specs.Identity.{named_in}
-use Rattle.wl_link.specs.Store.{Store, held}
-use Rattle.wl_server.specs.declared.objects.Kept.{Kept}
-use Rattle.wl_server.specs.Part.{id_of, named, serial_of}
+use Rattle.wl_link.specs.Store.{held}
+use Rattle.wl_server.specs.Part.{id_of, serial_of}
 use Rattle.std.proofs.lemmas.Bool.{false≢true, ne_eqb}
 use Rattle.wl_wire.specs.declared.error.IoFault.{IoFault}
 use Rattle.wl_wire.specs.Table.{InterfaceRow}
@@ -17,15 +16,12 @@ use Rattle.wl_server.specs.Telling.{core_of}
 use Rattle.wl_server.proofs.CallSteps.Doing.{does_quietly}
 use Rattle.wl_server.proofs.Readings.Notes.{tells_carried}
 use Rattle.wl_server.proofs.client.Client.post_error.Goals as goal
+use Rattle.std.proofs.Common.{arith}
 
 -- a test of null is the test of the number
 null_is : (b : Bool) (n : ℕ) → (IsTrue b ↔ (n ≡ 0)) → (n == 0) ≡ b
 null_is true n h = eq-eqb n 0 (h.0 refl)
 null_is false n h = ne_eqb n 0 (λ zero. false≢true (h.1 zero))
-
--- a null id names nothing
-null_none : {U : Type 0} (store : Store (Kept U)) (id : IdParts) → (id.number == 0) ≡ true → is_some (named store id) ≡ false
-null_none store id null = ap (λ (b : Bool). is_some (if b then None else named_in serial_of (id_of id) (held store id.number))) null
 
 where_false : (A B : Type 0) (b : Bool) → b ≡ false → B → MatchBool b A B
 where_false A B true is h = absurd (false≢true (sym is))
@@ -48,9 +44,8 @@ returns-then-is_null-clause-does g c =
     post_error_null g.T.Transport.sends c.args.protocol.now c.args.self.now c.args.id.now c.args.code c.args.text (null_is true _ c.if-is_null.ensures)
 
 pub returns-clause-does : goal.returns-clause-does
-returns-clause-does g c =
-    post_error_posts g.T.Transport.sends c.args.protocol.now c.args.self.now c.args.id.now c.args.code c.args.text c.tell_error_and_kill.new.self c.tell_error_and_kill.result
-    (null_is false _ c.if-is_null.ensures) c.tell_error_and_kill.ensures.carried
+returns-clause-does g c = grind (arith, post_error_posts, null_is, tells_carried, posts, core_of, where_false, eq-eqb, ne_eqb, false≢true)
 
 pub returns-then-is_null-clause-exactly : goal.returns-then-is_null-clause-exactly
-returns-then-is_null-clause-exactly g c = λ live kept. absurd (false≢true (sym (null_none c.args.self.now.part.store c.args.id.now (null_is true _ c.if-is_null.ensures)) ∙ kept))
+returns-then-is_null-clause-exactly g c = λ live kept. absurd (false≢true (sym (ap (λ (b : Bool). is_some (if b then None else named_in serial_of
+    (id_of c.args.id.now) (held c.args.self.now.part.store c.args.id.now.number))) (null_is true _ c.if-is_null.ensures)) ∙ kept))

@@ -9,9 +9,11 @@ use Rattle.wl_server.specs.Ids.{ClientParts}
 use Rattle.wl_server.specs.declared.notes.Happening.{Happening}
 use Rattle.wl_server.specs.NoteOrder.{GivesNumbers, NotesInTime}
 use Rattle.wl_server.proofs.CallSteps.Numbering.{in_time_both, still_waits, waits_in_time}
-use Rattle.wl_server.proofs.ObjectCalls.SendingEvents.{event_numbered, no_room, not_written, of_sender, sent, to_killed, was_granted, was_refused}
+use Rattle.wl_server.proofs.ObjectCalls.SendingEvents.{no_room, not_written, of_sender, sent, to_killed, was_granted, was_refused}
 use Rattle.wl_server.proofs.client.Client.send_event.Goals as goal
 use Rattle.wl_server.specs.Server.{no_times}
+use Rattle.std.proofs.Common.{arith}
+use Rattle.wl_server.proofs.ObjectCalls.SendingEvents.{arguments_numbered}
 
 on_err : {A E P : Type 0} (r : Result A E) → is_err r ≡ true → OnErr r P → P
 on_err (Ok a) failed p = absurd (false≢true failed)
@@ -49,7 +51,8 @@ returns-then-is_out_of_memory-clause-does g c =
     (not_written c.args.message.now.sender_id.client (session_content c.args.message.now) sender g.T.Transport.sends c.args.self.now (record { serial = _; part = _; made = _; times = no_times }) ends
     c.write_numbered-written.new.self c.write_numbered-written.result
     (rw (← c.self.view_is)
-    (subst (λ (m : WireMessage). Wrote g.T.Transport.sends c.self.inside.socket m c.write_numbered-written.result c.write_numbered-written.new.self) (event_numbered c.args.message.now)
+    (subst (λ (m : WireMessage). Wrote g.T.Transport.sends c.self.inside.socket m c.write_numbered-written.result c.write_numbered-written.new.self)
+    (grind (arith, arguments_numbered, c.args.message.now))
     c.write_numbered-written.ensures.wrote))
     (sym c.is_out_of_memory.ensures ∙ c.if-is_out_of_memory.true)
     (rw (← c.self.view_is, c.make_room.ensures.items) refl))
@@ -70,7 +73,8 @@ returns-clause-does g c =
     (record { serial = _; part = _; made = _; times = record { made = map (λ m. m.0) c.self.inside.made.queue.items; waiting = map (λ w. w.0) c.end_sender.new.waiting.queue.items } }) c.tell_end.new.self ends c.protocol_id.result
     c.write_numbered-written.new.self c.write_numbered-written.result c.tell_end.result
     (rw (← c.self.view_is)
-    (subst (λ (m : WireMessage). Wrote g.T.Transport.sends c.self.inside.socket m c.write_numbered-written.result c.write_numbered-written.new.self) (event_numbered c.args.message.now)
+    (subst (λ (m : WireMessage). Wrote g.T.Transport.sends c.self.inside.socket m c.write_numbered-written.result c.write_numbered-written.new.self)
+    (grind (arith, arguments_numbered, c.args.message.now))
     c.write_numbered-written.ensures.wrote))
     (sym c.is_out_of_memory.ensures ∙ c.if-is_out_of_memory.false)
     (rw (← c.self.view_is, waiting, c.end_sender.ensures.store, c.end_sender.ensures.serial, registries, c.make_room.ensures.items) refl)

@@ -2,10 +2,17 @@ use Rattle.std.proofs.Common.{◌≡◌, ◌∙◌, true, false, ap, subst, arit
 use Rattle.std.proofs.lemmas.Grind.{common_steps}
 use Rattle.wl_server.specs.NoteOrder.{NotesInTime}
 use Rattle.wl_server.proofs.CallSteps.Numbering.{in_time_both}
-use Rattle.wl_server.proofs.ObjectCalls.Posting.{posted_dead, posted_live, posted_starved}
+use Rattle.wl_server.proofs.ObjectCalls.Posting.{posted_dead, posted_live}
 use Rattle.wl_server.proofs.ObjectCalls.Told.{lacked_exactly, not_live, told_exactly}
 use Rattle.wl_server.proofs.client.Client.tell_error_and_kill.Goals as goal
 use Rattle.wl_server.specs.Server.{NoteTimes, Stored}
+use Rattle.std.proofs.Common.{inr}
+use Rattle.std.proofs.Common.{not}
+use Rattle.std.proofs.Common.{refl}
+use Rattle.wl_server.proofs.ObjectCalls.Posting.{kills_is}
+use Rattle.wl_server.specs.Errors.{posts}
+use Rattle.wl_server.specs.Telling.{core_of}
+use Rattle.wl_server.specs.declared.notes.DisconnectReason.TheVariants.{ConnectionClosed}
 
 pub returns-then-self-clause-carried : goal.returns-then-self-clause-carried
 returns-then-self-clause-carried g c =
@@ -33,7 +40,12 @@ pub returns-in-Err-clause-carried : goal.returns-in-Err-clause-carried
 returns-in-Err-clause-carried g c =
     let live : c.args.self.now.part.is_killed ≡ false = rw (← c.self.view_is) c.if-self.false in
     rw c.kill_unless_written.ensures.refused
-    (posted_starved g.T.Transport.sends c.args.protocol.now c.args.self.now c.args.id.now c.args.code c.args.text c.kill_unless_written.new.self live c.kill_unless_written.ensures.closed)
+    ((
+      (posts c.args.protocol.now (core_of c.args.self.now.part) c.args.id.now c.args.code c.args.text).starved,
+      c.args.self.now.part.link,
+      inr (ap not live, refl, refl, refl),
+      kills_is c.args.self.now c.kill_unless_written.new.self ConnectionClosed c.kill_unless_written.ensures.closed,
+    ))
 
 pub returns-then-self-clause-exactly : goal.returns-then-self-clause-exactly
 returns-then-self-clause-exactly g c = grind (arith, common_steps, not_live)

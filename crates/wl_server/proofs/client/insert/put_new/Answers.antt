@@ -2,10 +2,24 @@ use Rattle.std.proofs.Common.{◌≡◌, Option, List, Some, refl, subst, sym}
 use Rattle.wl_server.specs.Inside.Client.{IsInserted}
 use Rattle.wl_server.specs.Inside.Inserting.{IsPut}
 use Rattle.wl_server.specs.Server.{Stored}
-use Rattle.wl_server.proofs.CallSteps.Numbering.{numbered_put, put_in_time}
+use Rattle.wl_server.proofs.CallSteps.Numbering.{numbered_put}
 use Rattle.wl_server.specs.Inside.Touched.{AreTouched}
 use Rattle.wl_server.proofs.Touched.Kept.{put_touched, stay_touched}
 use Rattle.wl_server.proofs.client.insert.put_new.Goals as goal
+use Rattle.std.proofs.Common.{arith}
+use Rattle.std.proofs.Common.{is_some}
+use Rattle.std.proofs.Common.{map}
+use Rattle.std.specs.Option.{option_map_or}
+use Rattle.std.specs.Prelude.{slice_get}
+use Rattle.wl_server.proofs.CallSteps.Numbering.{all_but}
+use Rattle.wl_server.proofs.CallSteps.Numbering.{times_in}
+use Rattle.wl_server.proofs.CallSteps.Numbering.{times_same}
+use Rattle.wl_server.proofs.CallSteps.Numbering.{times_there}
+use Rattle.wl_server.specs.NoteOrder.{NotesInTime}
+use Rattle.wl_server.specs.NoteOrder.{times_at}
+use Rattle.wl_server.specs.NoteOrder.{times_of}
+use Rattle.wl_server.specs.Server.{NoteTimes}
+use Rattle.wl_server.specs.Server.{no_times}
 
 moved : {T U C : Type 0} (xs ys after : List (Option (Stored T U C))) (n m : _) (s : Stored T U C) → xs ≡ ys → n ≡ m → IsPut xs n s after → IsPut ys m s after
 moved xs ys after n m s lists slots put =
@@ -20,8 +34,15 @@ returns-clause-put g c = (
 
 pub returns-clause-in_time : goal.returns-clause-in_time
 returns-clause-in_time g c = λ none.
-    put_in_time c.args.clients.now.items c.put_at.new.clients.items c.args.id.now.slot c.in_ok-client.client c.args.numbers.now c.new.new.numbers none
-    (moved _ _ _ _ _ _ c.in_ok-reserve_slot.ensures.items c.slot-slot.ensures c.put_at.ensures.put) c.in_ok-client.ensures.in_time
+    (all_but (map times_of c.args.clients.now.items)
+    (map times_of c.put_at.new.clients.items) c.args.id.now.slot c.args.numbers.now c.new.new.numbers
+    (λ k differ. times_same c.args.clients.now.items c.put_at.new.clients.items k
+    ((moved _ _ _ _ _ _ c.in_ok-reserve_slot.ensures.items c.slot-slot.ensures c.put_at.ensures.put).1 k differ))
+    (subst (λ (t : NoteTimes). NotesInTime t c.args.numbers.now (times_at c.args.id.now.slot
+    (map times_of c.put_at.new.clients.items)) c.new.new.numbers) (sym (grind (arith, times_in, slice_get, option_map_or, no_times, is_some)))
+    (subst (λ (t : NoteTimes). NotesInTime no_times c.args.numbers.now t c.new.new.numbers) (sym
+    (times_there c.put_at.new.clients.items c.args.id.now.slot (Some c.in_ok-client.client)
+    (moved _ _ _ _ _ _ c.in_ok-reserve_slot.ensures.items c.slot-slot.ensures c.put_at.ensures.put).0)) c.in_ok-client.ensures.in_time)))
 
 pub returns-clause-numbered : goal.returns-clause-numbered
 returns-clause-numbered g c all =

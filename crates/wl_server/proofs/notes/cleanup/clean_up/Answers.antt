@@ -3,11 +3,14 @@ use Rattle.wl_server.specs.declared.notes.queues.NotePlace.{NotePlace}
 use Rattle.wl_server.specs.NoteOrder.{AllNumbered, AllTakeFirst, Along, IsOrderOf, times_of}
 use Rattle.wl_server.specs.Server.{NoteTimes, Stored}
 use Rattle.wl_server.specs.Inside.Leaving.{collected, given_at}
-use Rattle.wl_server.proofs.CallSteps.Numbering.{all_take_both, all_take_leave, all_take_none, none_waits, numbered_staying}
+use Rattle.wl_server.proofs.CallSteps.Numbering.{all_take_leave, none_waits, numbered_staying}
 use Rattle.wl_server.proofs.CleanupSteps.Idle.{none_flushed, none_leaves, none_noted}
 use Rattle.wl_server.proofs.CleanupSteps.Rooms.{flushed_counts, flushed_order, gathered_ends, gathered_given}
 use Rattle.wl_server.proofs.notes.cleanup.clean_up.Goals as goal
 use Rattle.std.proofs.lemmas.List.{nil_from_length}
+use Rattle.wl_server.proofs.CallSteps.Numbering.{takes_both}
+use Rattle.wl_server.specs.NoteOrder.{times_at}
+use Rattle.wl_server.proofs.CallSteps.Numbering.{takes_none}
 
 pub returns-then-capacity-eq0-clause-cleaned : goal.returns-then-capacity-eq0-clause-cleaned
 returns-then-capacity-eq0-clause-cleaned g c =
@@ -47,13 +50,13 @@ leave_all-requires-clause-given g c =
 
 pub returns-clause-first : goal.returns-clause-first
 returns-clause-first g c =
-    all_take_both _ _ _
-    (subst (λ (ts : List NoteTimes). AllTakeFirst ts (map times_of c.gather-2.new.clients.items)) c.flush_killed-refused.ensures.times c.gather-2.ensures.first)
-    (subst (λ (xs : List (Option (Stored _ _ _))). AllTakeFirst (map times_of c.gather-2.new.clients.items) (map times_of xs)) (sym c.leave_all.ensures.stay)
-    (all_take_leave c.gather-2.new.clients.items))
+    λ k. takes_both (times_at k _) (times_at k _) (times_at k _) ((subst (λ (ts : List NoteTimes). AllTakeFirst ts
+    (map times_of c.gather-2.new.clients.items)) c.flush_killed-refused.ensures.times c.gather-2.ensures.first) k) ((subst (λ (xs : List (Option
+    (Stored _ _ _))). AllTakeFirst (map times_of c.gather-2.new.clients.items) (map times_of xs)) (sym c.leave_all.ensures.stay)
+    (all_take_leave c.gather-2.new.clients.items)) k)
 
 pub returns-then-capacity-eq0-clause-none_waits : goal.returns-then-capacity-eq0-clause-none_waits
-returns-then-capacity-eq0-clause-none_waits g c = none_waits _ _ c.gather.ensures.no_numbers (all_take_none _)
+returns-then-capacity-eq0-clause-none_waits g c = none_waits _ _ c.gather.ensures.no_numbers (λ k. takes_none (times_at k _))
 
 pub returns-clause-none_waits : goal.returns-clause-none_waits
 returns-clause-none_waits g c =

@@ -73,9 +73,7 @@ loop-slot-preserved g c =
     }
 
 pub returns-clause-gathered : goal.returns-clause-gathered
-returns-clause-gathered g c below =
-    let most = c.loop-slot.invariant.gathered below in
-    omega (arith, most, ap (count_leaving true) (drop_past c.args.clients.now c.loop-slot.slot (omega (arith, c.loop-slot-test.false, c.loop-slot.invariant.all))))
+returns-clause-gathered g c below = grind (arith, count_leaving, drop_past)
 
 pub returns-clause-places : goal.returns-clause-places
 returns-clause-places g c below = grind (arith, count_places, map, times_of, drop_past)

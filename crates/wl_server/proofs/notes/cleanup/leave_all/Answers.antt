@@ -1,4 +1,4 @@
-use Rattle.std.proofs.Common.{◌∙◌, ◌≤◌, length, arith, sym}
+use Rattle.std.proofs.Common.{◌∙◌, length, arith, sym}
 use Rattle.std.proofs.lemmas.List.{length-set}
 use Rattle.std.proofs.lemmas.Option.{slice_get_read}
 use Rattle.wl_server.specs.Inside.Leaving.{ends_at, given_at}
@@ -33,6 +33,4 @@ loop-slot-preserved g c =
     }
 
 pub returns-clause-stay : goal.returns-clause-stay
-returns-clause-stay g c =
-    let past : length c.args.clients.now.items ≤ c.loop-slot.slot = omega (arith, c.loop-slot-test.false, c.loop-slot.invariant.ends, c.loop-slot.invariant.len) in
-    (leave_ends c.loop-slot.slot c.args.clients.now.items c.loop-slot.clients.items _ _ _ _ c.loop-slot.invariant.leave past c.loop-slot.invariant.len).0
+returns-clause-stay g c = grind (arith, length, leave_ends, ends_at, given_at)

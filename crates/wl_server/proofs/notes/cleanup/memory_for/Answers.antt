@@ -7,19 +7,13 @@ use Rattle.wl_server.specs.Inside.NoteOrder.{count_places}
 use Rattle.wl_server.proofs.CleanupSteps.Asking.{at_most, none_both, none_ends, none_leaving, none_of, room_of_none}
 use Rattle.wl_server.proofs.CleanupSteps.Ordering.{none_order}
 use Rattle.wl_server.proofs.notes.cleanup.memory_for.Goals as goal
+use Rattle.std.proofs.Common.{arith}
 
 pub returns-then-count-eq0-clause-notes : goal.returns-then-count-eq0-clause-notes
-returns-then-count-eq0-clause-notes g c =
-    let none = none_both c.count_work-work.result.gathered c.count_work-work.result.leaving c.saturating_add-count.result c.saturating_add-count.ensures c.if-count-eq0.true in
-    let given = none_of c.count_work-work.result.leaving (length (collected given_at 0 c.args.clients.now)) none.1 c.count_work-work.ensures.leaving in
-    room_of_none (vec_len c.args.notes.now) (vec_capacity c.args.notes.now) (count_leaving true c.args.clients.now) (length (collected ends_at 0 c.args.clients.now))
-    (none_of c.count_work-work.result.gathered (count_leaving true c.args.clients.now) none.0 c.count_work-work.ensures.gathered) (none_ends 0 c.args.clients.now given) c.args.notes.now.ok.1
+returns-then-count-eq0-clause-notes g c = grind (arith, none_both, none_of, length, collected, given_at, room_of_none, vec_len, vec_capacity, count_leaving, ends_at, none_ends)
 
 pub returns-then-count-eq0-clause-given : goal.returns-then-count-eq0-clause-given
-returns-then-count-eq0-clause-given g c =
-    let none = none_both c.count_work-work.result.gathered c.count_work-work.result.leaving c.saturating_add-count.result c.saturating_add-count.ensures c.if-count-eq0.true in
-    let given = none_of c.count_work-work.result.leaving (length (collected given_at 0 c.args.clients.now)) none.1 c.count_work-work.ensures.leaving in
-    at_most (length (collected given_at 0 c.args.clients.now)) (vec_capacity c.new-then-count-eq0.result) given
+returns-then-count-eq0-clause-given g c = grind (arith, none_both, none_of, length, collected, given_at, at_most, vec_capacity)
 
 pub returns-then-count-eq0-clause-order : goal.returns-then-count-eq0-clause-order
 returns-then-count-eq0-clause-order g c =

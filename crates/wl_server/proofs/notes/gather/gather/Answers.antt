@@ -1,10 +1,26 @@
 use Rattle.std.proofs.Common.{◌∙◌, [], arith, drop, sym, append-nil, refl}
 use Rattle.std.proofs.lemmas.Option.{slice_get_read}
 use Rattle.std.proofs.lemmas.Grind.{common_steps}
-use Rattle.wl_server.proofs.CallSteps.Numbering.{all_take_both, all_take_none, numbered_set, take_set}
-use Rattle.wl_server.proofs.CleanupSteps.Gathering.{gathers_at, gathers_more, gathers_none, room_at}
-use Rattle.wl_server.proofs.CleanupSteps.Ordering.{along_more, drop_past, none_numbered, order_numbered, place_left, place_some, place_within, set_numbered, slots_after}
+use Rattle.wl_server.proofs.CallSteps.Numbering.{numbered_set, take_set}
+use Rattle.wl_server.proofs.CleanupSteps.Gathering.{gathers_at, gathers_more, gathers_none}
+use Rattle.wl_server.proofs.CleanupSteps.Ordering.{along_more, drop_past, none_numbered, place_left, place_some, place_within, set_numbered}
 use Rattle.wl_server.proofs.notes.gather.gather.Goals as goal
+use Rattle.std.proofs.Common.{ap}
+use Rattle.std.proofs.Common.{length}
+use Rattle.std.proofs.Common.{map}
+use Rattle.wl_server.proofs.CleanupSteps.Gathering.{count_at}
+use Rattle.wl_server.proofs.CleanupSteps.Ordering.{places_among}
+use Rattle.wl_server.proofs.CleanupSteps.Ordering.{places_moved}
+use Rattle.wl_server.proofs.CleanupSteps.Ordering.{times_stored}
+use Rattle.wl_server.specs.NoteOrder.{all_places}
+use Rattle.wl_server.specs.NoteOrder.{places_of}
+use Rattle.wl_server.specs.NoteOrder.{times_of}
+use Rattle.wl_server.specs.NoteOrder.{to_gather}
+use Rattle.wl_server.specs.Server.{NoteTimes}
+use Rattle.wl_server.specs.Server.{note_of}
+use Rattle.wl_server.proofs.CallSteps.Numbering.{takes_both}
+use Rattle.wl_server.specs.NoteOrder.{times_at}
+use Rattle.wl_server.proofs.CallSteps.Numbering.{takes_none}
 
 pub index_mut-requires : goal.index_mut-requires
 index_mut-requires g c =
@@ -24,7 +40,7 @@ move_note-requires-clause-room g c =
     let here = slice_get_read c.loop-place.clients.items _ _ c.index_mut.result.now c.loop-place.clients.ok.0 (omega (arith, within, c.loop-place.clients.ok.0)) c.index_mut.ensures.value in
     let some = place_some c.args.waits c.loop-place.clients.items c.args.order.now c.loop-place.place-index c.slot-slot.result _ c.index_mut.result.now c.loop-place-test.true c.slot-slot.ensures here
     c.loop-place.invariant.left in
-    omega (arith, some, room_at c.args.waits _ _ _ _ _ _ _ _ _ _ c.loop-place.invariant.gathered c.args.notes.now.ok.0 c.loop-place.notes.ok.0 c.requires.room c.loop-place.invariant.capacity here)
+    grind (arith, some, count_at, c.args.waits, c.loop-place.invariant.gathered, c.args.notes.now.ok.0, c.loop-place.notes.ok.0, c.requires.room, c.loop-place.invariant.capacity)
 
 pub loop-place-preserved : goal.loop-place-preserved
 loop-place-preserved g c =
@@ -36,8 +52,9 @@ loop-place-preserved g c =
       left = place_left c.args.waits c.loop-place.clients.items c.loop-place.notes.items c.move_note.new.notes.items c.args.order.now c.loop-place.place-index c.slot-slot.result _
           c.index_mut.result.now c.move_note.new.client c.loop-place-test.true c.slot-slot.ensures here c.move_note.ensures.moved c.loop-place.invariant.left;
       along = along_more _ _ _ c.args.order.now c.loop-place.place-index c.slot-slot.result _ c.loop-place-test.true c.slot-slot.ensures c.loop-place.invariant.along
-          (slots_after c.args.waits c.loop-place.notes.items c.move_note.new.notes.items c.slot-slot.result _ _ c.move_note.ensures.moved);
-      first = all_take_both _ _ _ c.loop-place.invariant.first (take_set _ _ _ _ here c.move_note.ensures.first);
+          (grind (arith, to_gather, note_of, c.args.waits, c.loop-place.notes.items, c.move_note.new.notes.items, c.slot-slot.result, c.move_note.ensures.moved));
+      first = λ k. takes_both (times_at k _) (times_at k _) (times_at k _) (c.loop-place.invariant.first k)
+          ((take_set _ _ _ _ here c.move_note.ensures.first) k);
       numbered = set_numbered c.args.waits c.loop-place.clients.items _ _ _ here c.move_note.ensures.numbered c.loop-place.invariant.numbered;
       all_numbered = λ all. numbered_set _ _ _ _ here c.move_note.ensures.all_numbered (c.loop-place.invariant.all_numbered all);
       capacity = c.move_note.ensures.capacity ∙ c.loop-place.invariant.capacity;
@@ -48,8 +65,10 @@ loop-place-init g c = record {
   gathered = gathers_none _ _ _;
   left = c.requires.order.each;
   along = ([], sym (append-nil _), refl);
-  first = all_take_none _;
-  numbered = order_numbered c.args.waits _ _ c.requires.order;
+  first = λ k. takes_none (times_at k _);
+  numbered = λ k. ap (λ (t : NoteTimes). length (places_of c.args.waits 0 t)) (sym (times_stored c.args.waits _ k))
+      ∙ (sym (places_among c.args.waits 0 k k (map times_of _) (omega arith))
+      ∙ (sym (places_moved k (all_places c.args.waits 0 (map times_of _)) _ c.requires.order.numbers) ∙ c.requires.order.each k));
   all_numbered = λ all. all;
   capacity = refl;
 }

@@ -5,20 +5,21 @@ use Rattle.wl_server.specs.Inside.Gathering.{count_leaving}
 use Rattle.wl_server.specs.NoteOrder.{times_of}
 use Rattle.wl_server.specs.Inside.NoteOrder.{count_places}
 use Rattle.wl_server.proofs.CleanupSteps.Ordering.{none_order}
-use Rattle.wl_server.proofs.CallSteps.Numbering.{all_take_none}
-use Rattle.wl_server.proofs.CleanupSteps.Asking.{none_leaving, none_of, on_err, positive, room_of}
+use Rattle.wl_server.proofs.CleanupSteps.Asking.{none_leaving, none_of, on_err, room_of}
 use Rattle.wl_server.specs.Inside.Touched.{AllQuiet}
 use Rattle.wl_server.specs.Server.{Stored}
 use Rattle.wl_server.proofs.notes.gather.gather_made.Goals as goal
+use Rattle.wl_server.proofs.CallSteps.Numbering.{takes_none}
+use Rattle.wl_server.specs.NoteOrder.{times_at}
 
 pub returns-then-count-eq0-clause-ended : goal.returns-then-count-eq0-clause-ended
 returns-then-count-eq0-clause-ended g c = grind (arith, count_leaving, none_leaving, none_of)
 
 pub returns-in_err-order-clause-some : goal.returns-in_err-order-clause-some
-returns-in_err-order-clause-some g c = grind (arith, common_steps, on_err, positive)
+returns-in_err-order-clause-some g c = grind (arith, common_steps, on_err)
 
 pub returns-in_err-reserve-clause-some : goal.returns-in_err-reserve-clause-some
-returns-in_err-reserve-clause-some g c = grind (arith, common_steps, on_err, positive)
+returns-in_err-reserve-clause-some g c = grind (arith, common_steps, on_err)
 
 pub gather-requires-clause-room : goal.gather-requires-clause-room
 gather-requires-clause-room g c = grind (arith, count_leaving, room_of, vec_len, vec_capacity)
@@ -30,13 +31,13 @@ returns-then-count-eq0-clause-in_order g c =
     ([], none_order false c.args.clients.now.items [] refl (returns-then-count-eq0-clause-ended g c) few, ([], sym (append-nil _), refl))
 
 pub returns-then-count-eq0-clause-first : goal.returns-then-count-eq0-clause-first
-returns-then-count-eq0-clause-first g c = all_take_none _
+returns-then-count-eq0-clause-first g c = λ k. takes_none (times_at k _)
 
 pub returns-in_err-order-clause-first : goal.returns-in_err-order-clause-first
-returns-in_err-order-clause-first g c = all_take_none _
+returns-in_err-order-clause-first g c = λ k. takes_none (times_at k _)
 
 pub returns-in_err-reserve-clause-first : goal.returns-in_err-reserve-clause-first
-returns-in_err-reserve-clause-first g c = all_take_none _
+returns-in_err-reserve-clause-first g c = λ k. takes_none (times_at k _)
 
 pub returns-in_err-order-clause-quiet : goal.returns-in_err-order-clause-quiet
 returns-in_err-order-clause-quiet g c = subst (λ (xs : List (Option (Stored _ _ _))). AllQuiet c.count_notes-count.new.to_note.words.items xs) c.deref.ensures.value c.count_notes-count.ensures.quiet

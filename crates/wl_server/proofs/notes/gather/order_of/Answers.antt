@@ -1,16 +1,17 @@
 use Rattle.std.proofs.Common.{◌∙◌, arith, refl, ap, ◌++◌, map}
 use Rattle.std.proofs.lemmas.Option.{slice_get_read}
 use Rattle.wl_server.specs.NoteOrder.{all_places, times_of}
-use Rattle.wl_server.proofs.CleanupSteps.Ordering.{placed_all, placed_more, placed_none, placed_so_far, placed_whole, places_moved}
+use Rattle.wl_server.proofs.CleanupSteps.Ordering.{placed_all, placed_more, placed_so_far, placed_whole, places_moved}
 use Rattle.wl_server.proofs.Touched.Counted.{pass_numbers, pass_placed}
 use Rattle.wl_server.proofs.notes.gather.order_of.Goals as goal
+use Rattle.wl_server.specs.NoteOrder.{places_at}
 
 pub loop-slot-init : goal.loop-slot-init
 loop-slot-init g c =
     let next = c.next_from-slot.ensures in
     record {
       placed = pass_placed c.args.to_note.now.words.items c.args.clients.now 0 c.next_from-slot.result next.from next.within next.skipped c.requires.quiet c.args.waits c.in_ok-order.order.items
-          (placed_none c.args.waits c.args.clients.now c.in_ok-order.order.items c.in_ok-order.ensures.items);
+          (record { below = λ k below. absurd (omega (arith, below)); past = λ k past. ap (places_at k) c.in_ok-order.ensures.items });
       numbers = pass_numbers c.args.to_note.now.words.items c.args.clients.now 0 c.next_from-slot.result next.from next.within next.skipped c.requires.quiet c.args.waits c.in_ok-order.order.items
           (ap (λ l. l ++ all_places c.args.waits 0 (map times_of c.args.clients.now)) c.in_ok-order.ensures.items);
       within = next.within;

@@ -1,13 +1,17 @@
 use Rattle.std.proofs.Common.{map, arith}
 use Rattle.std.proofs.lemmas.Grind.{common_steps}
-use Rattle.wl_server.proofs.CleanupSteps.Ordering.{put_both, put_both_places, put_made, put_made_places}
+use Rattle.wl_server.proofs.CleanupSteps.Ordering.{put_both, put_both_places, put_made_places}
 use Rattle.wl_server.proofs.notes.gather.put_places_at.Goals as goal
+use Rattle.std.proofs.Common.{append-nil}
+use Rattle.std.proofs.lemmas.List.{length-map}
+use Rattle.wl_server.proofs.CleanupSteps.Ordering.{put}
+use Rattle.wl_server.specs.NoteOrder.{places_at}
 
 pub returns-in_ok-put_places-2-clause-counted : goal.returns-in_ok-put_places-2-clause-counted
 returns-in_ok-put_places-2-clause-counted g c = grind (arith, common_steps, put_both)
 
 pub returns-else-waits-clause-counted : goal.returns-else-waits-clause-counted
-returns-else-waits-clause-counted g c = grind (arith, common_steps, put_made)
+returns-else-waits-clause-counted g c = grind (arith, common_steps, put, places_at, append-nil, length-map)
 
 pub returns-in_ok-put_places-2-clause-placed : goal.returns-in_ok-put_places-2-clause-placed
 returns-in_ok-put_places-2-clause-placed g c = grind (arith, common_steps, put_both_places)

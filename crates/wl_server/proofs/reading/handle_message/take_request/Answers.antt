@@ -5,7 +5,7 @@ use Rattle.wl_wire.specs.Parse.{IsThere, opcode_of, sender_of}
 use Rattle.wl_wire.specs.Table.{message_row}
 use Rattle.wl_link.specs.Store.{held}
 use Rattle.wl_link.proofs.Calls.TakenLaws.{as_many, read_there}
-use Rattle.wl_server.proofs.Readings.OneMessage.{read_in, row_read, sender_read}
+use Rattle.wl_server.proofs.Readings.OneMessage.{read_in, row_read}
 use Rattle.wl_server.proofs.Readings.Texts.{free_looked_up}
 use Rattle.wl_server.proofs.reading.handle_message.take_request.Goals as goal
 
@@ -35,7 +35,7 @@ request-requires-clause-name g c =
     (message_row c.args.front.now.desc.now) c.requires.front.row
 
 pub request-requires-clause-sender : goal.request-requires-clause-sender
-request-requires-clause-sender g c = grind (arith, common_steps, sender_read)
+request-requires-clause-sender g c = grind (arith, common_steps, held)
 
 pub returns-clause-took : goal.returns-clause-took
 returns-clause-took g c =

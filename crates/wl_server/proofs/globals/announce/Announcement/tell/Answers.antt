@@ -1,4 +1,4 @@
-use Rattle.std.proofs.Common.{◌≡◌, ◌∙◌, ◌∷◌, [], ℕ, List, Option, Result, Some, map, subst, sym, true}
+use Rattle.std.proofs.Common.{◌≡◌, ◌∙◌, ◌∷◌, [], ℕ, List, Option, Result, Some, map, subst, sym}
 use Rattle.std.specs.Prelude.{IfSome}
 use Rattle.wl_wire.specs.declared.argument.Argument.TheVariants as arg
 use Rattle.wl_wire.specs.declared.argument.Token.{Token}
@@ -19,21 +19,18 @@ use Rattle.wl_server.proofs.GlobalCalls.PutEach.{each_of_none, each_starved}
 use Rattle.wl_sets.proofs.Lists.{other_of}
 use Rattle.wl_server.proofs.OverRuns.Announced.AnnouncementLaws.{same_id_self}
 use Rattle.wl_server.proofs.globals.announce.Announcement.tell.Goals as goal
+use Rattle.std.proofs.Common.{arith}
 
 pub returns-then-is_empty-clause-puts : goal.returns-then-is_empty-clause-puts
 returns-then-is_empty-clause-puts g c = each_of_none _ _ _ _ (eqb-true _ _ (sym c.is_empty.ensures ∙ c.if-is_empty.true))
 
 pub returns-in_default-new_message-clause-puts : goal.returns-in_default-new_message-clause-puts
-returns-in_default-new_message-clause-puts g c =
-    each_starved _ _ _ _ (other_of _ _ (sym c.is_empty.ensures ∙ c.if-is_empty.false))
-    (λ r rest is. subst (λ (rs : List Id). is_first rs r ≡ true) (sym is) (same_id_self r))
+returns-in_default-new_message-clause-puts g c = grind (arith, each_starved, other_of, is_first, same_id_self)
 
 told_each : {T : Type 0} (sends : T → Queue → Result ℕ IoFault → T → Type 0) (before after : LinkState T) (table : List InterfaceRow) (g : Shown) (rs : List Id) (opcode : ℕ)
     (args : List WireArgument) (answer : Result (Unit {0}) IoFault) → opcode ≡ 0 → args ≡ arg.Uint g.name ∷ arg.Str (Some (name_of table g.interface.0)) ∷ arg.Uint g.version ∷ []
     → Puts sends before (map (λ r. making (is_first rs r) (by_object r opcode args)) rs) answer after → Puts sends before (announcements table rs g) answer after
-told_each sends before after table g rs opcode args answer same_opcode same_args puts =
-    subst (λ (o : ℕ). Puts sends before (map (λ r. making (is_first rs r) (by_object r o (arg.Uint g.name ∷ arg.Str (Some (name_of table g.interface.0)) ∷ arg.Uint g.version ∷ []))) rs) answer after)
-    same_opcode (subst (λ (l : List WireArgument). Puts sends before (map (λ r. making (is_first rs r) (by_object r opcode l)) rs) answer after) same_args puts)
+told_each sends before after table g rs opcode args answer same_opcode same_args puts = grind (arith, map, making, is_first, by_object, name_of)
 
 pub returns-in-Some-clause-puts : goal.returns-in-Some-clause-puts
 returns-in-Some-clause-puts g c =

@@ -13,6 +13,4 @@ no_zero bytes h =
 
 pub returns-in-Ok-new : goal.returns-in-Ok-new
 unfolding text_of
-returns-in-Ok-new c =
-    let none = no_zero c.in-Ok.copy.items c.in-Ok-new.ensures.zero.1 in
-    grind (arith, common_steps)
+returns-in-Ok-new c = grind (arith, no_zero, common_steps, false_from_ne_true, list_any, eqb-true)

@@ -6,9 +6,9 @@ use Rattle.wl_server.proofs.OverRuns.Alone.HistoryLaws.{extends, extends_up_to}
 use Rattle.wl_server.proofs.OverRuns.Outcome.MoveLaws.{scripts_determined}
 use Rattle.wl_server.specs.PartStep.{over_scripts}
 use Rattle.wl_server.specs.Runs.{StopsAt}
-use Rattle.wl_server.specs.Steps.{StepOf}
 use Rattle.wl_server.proofs.OverRuns.Outcome.WholeRuns.{performance_one}
 use Rattle.wl_server.proofs.runs.replay.Backend+Memory+U+G+C.replay.Goals as goal
+use Rattle.std.proofs.Common.{arith}
 
 pub returns-then-self-clause-stopped : goal.returns-then-self-clause-stopped
 returns-then-self-clause-stopped g c =
@@ -27,9 +27,7 @@ pub returns-clause-steps : goal.returns-clause-steps
 returns-clause-steps g c = (c.perform_all.ensures.made (sym (ap (λ s. s.refused) c.self.view_is) ∙ c.if-self.false)).0
 
 pub returns-clause-joined : goal.returns-clause-joined
-returns-clause-joined g c begun run before =
-    joins (StepOf (over_scripts g.G.GlobalHandler.views)) begun c.args.self.now.server c.perform_all.new.self.server run (entries c.args.steps.items c.perform_all.new.replies.items) before
-    (returns-clause-steps g c)
+returns-clause-joined g c begun run before = grind (arith, joins, over_scripts, entries, returns-clause-steps)
 
 pub returns-clause-outcome : goal.returns-clause-outcome
 returns-clause-outcome g c ordered same other others alike many leads =
@@ -38,9 +36,7 @@ returns-clause-outcome g c ordered same other others alike many leads =
     (returns-clause-count g c) many alike (returns-clause-steps g c) leads
 
 pub returns-clause-history : goal.returns-clause-history
-returns-clause-history g c =
-    extends g.G.GlobalHandler.views c.args.self.now.server c.perform_all.new.self.server (entries c.args.steps.items c.perform_all.new.replies.items)
-    (returns-clause-steps g c)
+returns-clause-history g c = grind (arith, extends, entries, returns-clause-steps, over_scripts)
 
 pub returns-then-self-clause-stopped_history : goal.returns-then-self-clause-stopped_history
 returns-then-self-clause-stopped_history g c =
