@@ -38,7 +38,7 @@ module _ {T U C : Type 0} (o : IdParts) (u : U) (answer : Result (Unit {0}) Inva
         | inr (p, there, (q, (calm, none, set), same)) ↦
             elim (either_option (named p.store o) set) [
               | inl (unknown, (is, stays)) ↦ nothing_new s t p q did there stays (ap notes_in none) same
-              | inr (x, is, (ok, changed)) ↦ absurd (absurd cc)
+              | inr (x, is, (ok, changed)) ↦ absurd cc
             ]
       ]
 

@@ -81,10 +81,10 @@ module _ {T U C : Type 0} (sends : T → Queue → Result ℕ IoFault → T → 
       → (x : Object (Kept U)) × (named_of s o ≡ Some x) × (named_of t o ≡ None) × (waiting_of t.part ≡ waiting_of s.part ++ note_of_end o.client o.number x)
   destroyed_ok h =
       elim (either_option s.part (own o.client s (Does sends o o.client (Ok tt) lacked did) (Refused (Ok tt)) lacked did t h)) [
-        | inl (none, (is, rest)) ↦ absurd (absurd cc)
+        | inl (none, (is, rest)) ↦ absurd cc
         | inr (p, there, (q, r, same)) ↦
             elim (either_option (destroyable p o) r) [
-              | inl (unknown, (is, calm, nothing, stays)) ↦ absurd (absurd cc)
+              | inl (unknown, (is, calm, nothing, stays)) ↦ absurd cc
               | inr (x, is, (answered, tells)) ↦ (
                 x,
                 in_part (λ p. named p.store o) p there ∙ destroyable_named p o x is,

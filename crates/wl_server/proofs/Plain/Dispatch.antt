@@ -186,9 +186,9 @@ module _ {T U C : Type 0} (table : List InterfaceRow) (id : ClientParts) (s t : 
   read_shut (Io f) h is = gone_shut t.part (read_killed table id s t fault.InvalidInput (λ q k. k) (subst (λ (x : IoFault). ReadAs table id (Err (Io x)) s t) is h))
 
   read_stands : (h : Handed) → ReadAs table id (Ok h) s t → Stands t.part
-  read_stands h (inl (none, is, same)) = absurd (absurd cc)
-  read_stands h (inr (p, was, inl (some, is, same))) = absurd (absurd cc)
-  read_stands h (inr (p, was, inr (inl (idle, dead, is, same)))) = absurd (absurd cc)
+  read_stands h (inl (none, is, same)) = absurd cc
+  read_stands h (inr (p, was, inl (some, is, same))) = absurd cc
+  read_stands h (inr (p, was, inr (inl (idle, dead, is, same)))) = absurd cc
   read_stands h (inr (p, was, inr (inr (idle, live, (q, (handed, (lives, is))))))) = inr (q, ap (λ (x : Seen T U C). x.part) is, (grind (arith, is_some)))
 
 -- ---- whether memory was refused
@@ -336,7 +336,7 @@ module _ {H T U G C : Type 0} (w : World T G C) (answers : Answering H T U G C) 
     where
       at : (why : FinishError) → fault_of_end why ≡ fault.OutOfMemory → Handles w answers id h round.found round.handed round.rest round.end_lacked (Some why) h' s' → round.end_lacked ≡ true
       at finish.OutOfMemory lacks x = end_starved x
-      at _ lacks x = absurd (absurd cc)
+      at _ lacks x = absurd cc
 
   -- ---- a client
 

@@ -374,7 +374,7 @@ module _ {T U G C : Type 0} (w : World T G C) (before after : BackendState T U G
     lacked_memory err =
         let (lacked, did, h) = event_each client in
         elim (either_option (client_of before.server client) (own client _ _ _ lacked did _ h)) [
-          | inl (none, (is, rest)) ↦ absurd (absurd cc)
+          | inl (none, (is, rest)) ↦ absurd cc
           | inr (p, there, (q, does, same)) ↦
               elim (comes_to w.sends client before.server.offer.table m answer lacked did p q does) [
                 | inl d ↦ absurd (not_ok refused.OutOfMemory (sym err ∙ d.ok))
@@ -402,7 +402,7 @@ module _ {T U G C : Type 0} (w : World T G C) (before after : BackendState T U G
             lacks_so : (lacked : Bool) (did : List (Deed U)) → Of answer client lacked did → lacked ≡ true
             lacks_so lacked did h =
                 elim (either_option (client_of before.server client) (own client _ _ _ lacked did _ h)) [
-                  | inl (none, (is, rest)) ↦ absurd (absurd cc)
+                  | inl (none, (is, rest)) ↦ absurd cc
                   | inr (p, there, (q, does, same)) ↦ lacks_memory w.sends client before.server.offer.table m answer err lacked did p q does
                 ]
 
