@@ -101,8 +101,7 @@ module _ {T U G C : Type 0} (w : World T G C) (id : ClientParts) where
   calls_add_nothing : (before after : ServerState T U G C) (run : List (Entry T U G C)) → Leads w before run after → AllSpare id run
       → waiting_of id after ≤ waiting_of id before
   calls_add_nothing before after [] same spared = let e : waiting_of id after ≡ waiting_of id before = ap (λ (s : ServerState T U G C). waiting_of id s) same in omega (arith, e)
-  calls_add_nothing before after (e ∷ run) (mid, one, leads)
-      (spared, others) = grind (arith, one_adds_nothing, true≢false, calls_add_nothing mid after run leads others)
+  calls_add_nothing before after (e ∷ run) (mid, one, leads) (spared, others) = grind (arith, one_adds_nothing, true≢false, unread_goes, goes_no_more, seen, calls_add_nothing mid after run leads others)
 
 -- ---- what a reading takes
 

@@ -10,7 +10,7 @@ use Rattle.wl_wire.specs.MessageRows.{request_row}
 use Rattle.wl_link.specs.Reader.{ReaderState, Turn, handled_in, CarriesOut, Given, Gives, Halts, Handled, HandedOut, Reads, Received, Unread, Verdict, came_to, given_first, put_and_gave, stops, with_link}
 use Rattle.wl_link.specs.Store.{held, Store, removed}
 use Rattle.wl_server.specs.declared.error.ActionError.{ActionError}
-use Rattle.wl_server.specs.declared.error.ActionError.TheVariants.{ActionOpen, Io}
+use Rattle.wl_server.specs.declared.error.ActionError.TheVariants.{Io}
 use Rattle.wl_server.specs.declared.notes.Happening.{Happening}
 use Rattle.wl_server.specs.declared.reading.action.Action.{Action}
 use Rattle.wl_server.specs.declared.reading.action.OpenAction.{OpenAction}
@@ -322,13 +322,16 @@ module _ {T U G C : Type 0} (w : World T G C) (before after : BackendState T U G
       → ReadsFor w id before.server.offer id r answer r' (seen id before.server) after.refused did (seen id after.server) → ReadingMemory before id answer after
   memory_as r r' answer did h =
       elim (either_option (seen id before.server).part (own id _ _ _ after.refused did _ h)) [
-        | inl (none, ((says, same), (calm, nothing, stays))) ↦ as_said (Err (Io fault.InvalidInput)) says calm
+        | inl (none, ((says, same), (calm, nothing, stays))) ↦ subst (λ (x : Result Handed ActionError). ReadingMemory before id x after)
+            (sym says) calm
         | inr (p, there, (q, next, is)) ↦
             elim (either_option p.action next) [
-              | inr (action, is_open, (says, same, calm, none, stays)) ↦ as_said (Err ActionOpen) says calm
+              | inr (action, is_open, (says, same, calm, none, stays)) ↦ subst (λ (x : Result Handed ActionError). ReadingMemory before id x after)
+                  (sym says) calm
               | inl (idle, g) ↦
                   elim (split_bool p.is_killed g) [
-                    | inl (dead, (says, same, calm, none, stays)) ↦ as_said (Err (Io fault.Pipe)) says (λ known. absurd (true≢false (sym known ∙ calm)))
+                    | inl (dead, (says, same, calm, none, stays)) ↦ subst (λ (x : Result Handed ActionError). ReadingMemory before id x after)
+                        (sym says) (λ known. absurd (true≢false (sym known ∙ calm)))
                     | inr (live, (turns, out, end, reads, says, same, calm, did_so, ends)) ↦
                         let memory = reads_memory w.sends w.receives (around w id before.server.offer) r.turns_left (reader_part p) turns out end
                         (record { live = live; idle = idle; fresh = refl }) reads in
@@ -345,9 +348,6 @@ module _ {T U G C : Type 0} (w : World T G C) (before after : BackendState T U G
                   ]
             ]
       ]
-    where
-      as_said : (said : Result Handed ActionError) → answer ≡ said → ReadingMemory before id said after → ReadingMemory before id answer after
-      as_said said says memory = subst (λ (x : Result Handed ActionError). ReadingMemory before id x after) (sym says) memory
 
   -- ---- a reading
 

@@ -240,10 +240,7 @@ module _ {U G C : Type 0} (a : Around G C) (c : Core U C) (P : Verdict (Core U C
 
   bound_case : (args : List WireArgument) → (AreUnbound args → P (garbled c)) → ((code : ℕ) (text : List ℕ) → P (breaks a c code text)) → Bound args → P (registry_request a c args)
   bound_case (arg.Uint g ∷ arg.Str None ∷ arg.Uint version ∷ arg.NewId n ∷ []) garbled' breaks' bound = grind (arith, held, binds_to)
-  bound_case (arg.Uint g ∷ arg.Str (Some interface) ∷ arg.Uint version ∷ arg.NewId n ∷ []) garbled' breaks' bound = at (held a.globals.store g) refl
-    where
-      at : (o : Option (Object (KeptGlobal G))) → held a.globals.store g ≡ o → P (binds_to a c g (Some interface) version n o)
-      at h1 there = grind (arith, may_bind, is_valid_new, objects_in)
+  bound_case (arg.Uint g ∷ arg.Str (Some interface) ∷ arg.Uint version ∷ arg.NewId n ∷ []) garbled' breaks' bound = grind (arith, held, binds_to, may_bind, is_valid_new, objects_in)
   bound_case _ garbled' breaks' bound = grind (arith, true≢false)
 
   -- ---- a request to a display

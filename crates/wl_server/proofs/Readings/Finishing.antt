@@ -159,14 +159,11 @@ module _ {T U C : Type 0} (sends : T → Queue → Result ℕ IoFault → T → 
       (grind (arith, false≢true, core_of s.part)),
       sym (ap (λ (b : Bool). b || false) lacks),
     ),
-    grind (arith, finished, is, gone, append-nil, note, append_assoc, end_deeds, killed, core_of, noting, part_of, x, created, closing, notes_in, id_of, named, not_named),
+    grind (arith, finished, is, gone, append-nil, client, x, append_assoc, end_deeds, killed, core_of, noting, part_of, created, closing, notes_in, id_of, named, not_named),
   )
     where
-      note : List (Happening U)
-      note = note_of_end client sender.number x
-
       gone : Stored T U C
-      gone = noting (part_finished (part_without s.part mid.part.link sender.number x) created u) note
+      gone = noting (part_finished (part_without s.part mid.part.link sender.number x) created u) (note_of_end client sender.number x)
 
   -- of the sender, where it is ended and kept, and else of none
   pub ends_starved : (e : OutOfMemory) (after : Stored T U C) → EndsSender sends client s sender is_destructor (Err e) after

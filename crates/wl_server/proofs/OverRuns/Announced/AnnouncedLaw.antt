@@ -263,8 +263,7 @@ module _ {T U G C : Type 0} (w : World T G C) (id : ClientParts) (r : Id) where
   -- a step that is about this client or about another
   of_client : (offer : Offer G) (b : Bool) (s : Seen T U C) (R : Part T U C → Part T U C → Type 0) (missing : Type 0) (lacked : Bool) (did : List (Deed U)) (t : Seen T U C)
       → ((p q : Part T U C) → R p q → PartLives w.views id r offer p did q) → OfClient b s R missing lacked did t → Follows offer offer s did t
-  of_client offer true s R missing lacked did t lives h = feels_follows offer offer s R missing lacked did t (λ p q by. (λ log made was on.
-      ((lives p q by).goes on).watch log made (was ((lives p q by).live on)))) h
+  of_client offer true s R missing lacked did t lives h = grind (arith, feels_follows, either_option, log_of, registries_in)
   of_client offer false s R missing lacked did t lives h = unfelt_follows offer s lacked did t h
 
   -- ---- globals
@@ -370,8 +369,7 @@ module _ {T U G C : Type 0} (w : World T G C) (id : ClientParts) (r : Id) where
       of_client offer (same_client m.sender_id.client id) s _ _ lacked did t (λ p q d. sends_lives w.views id r offer w.sends p _ a lacked did q left d) h
   step_follows offer known (step.PostError o code text) answer s lacked did t about numbered alone (is, h) =
       of_client offer (same_client o.client id) s _ _ lacked did t (λ p q d. (grind (arith, either_bool, eqb, none_done, tells_lives, core_of, lives_not, part_scene, w.views, w.sends))) h
-  step_follows offer known (step.KillClient target reason) answer s lacked did t about numbered alone
-      (is, h) = grind (arith, of_client, same_client, lives_not, part_scene, log_of, registries_in)
+  step_follows offer known (step.KillClient target reason) answer s lacked did t about numbered alone (is, h) = grind (arith, of_client, same_client, lives_not, part_scene, log_of, registries_in)
   step_follows offer known (step.CreateGlobal i version handler) answer s lacked did t about numbered alone (a, is, h) = grind (arith, offer_after, global_follows)
   step_follows offer known (step.DisableGlobal g) answer s lacked did t about numbered alone (is, h) =
       loss_follows offer g (disabled offer.globals g) s lacked did t (λ client_data x kept. disabled_one w.views id client_data offer g x kept)

@@ -129,8 +129,7 @@ module _ {T U C : Type 0} (sends : T → Queue → Result ℕ IoFault → T → 
       let one = moves_change p m a empty first in
       changing_so p q q (joined a b) d is refl (then_changing p m q a b one (moves_change m q b one.empty second))
   moves_change p q d empty (handed_out {a = a} ids moves among is) = grind (arith, changing_so, moves_change p q a empty moves)
-  moves_change p q d empty (moved move) =
-      grind (arith, changing_so, quiet, born_changing, found_changing, wrote_changing, went_changing, noting, nothing_done, end_notes, id_of, id_at)
+  moves_change p q d empty (moved move) = grind (arith, changing_so, quiet, born_changing, found_changing, wrote_changing, went_changing, noting, nothing_done, end_notes, id_of, id_at)
 
   -- no note is handed out by moves of the part
   pub moves_take : (p q : Part T U C) (d : Doings U) → Moves (any true) sends receives client p d q → d.taken ≡ []

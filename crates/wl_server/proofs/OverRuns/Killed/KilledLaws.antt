@@ -278,8 +278,7 @@ module _ {T U G C : Type 0} (w : World T G C) (id : ClientParts) where
           (seen id mid) e.call (by.each id)) (ap length (dead_silent w id before.offer (seen id before) p there killed (e.lacks id) (e.did id)
           (seen id mid) e.call (by.each id)))
           remains.closed (dead q is remains.killed)
-      go (inr (takes, none)) out dead = takes_it_out p.action e run (seen id after) takes (ap length (dead_silent w id before.offer
-          (seen id before) p there killed (e.lacks id) (e.did id) (seen id mid) e.call (by.each id))) (out none)
+      go (inr (takes, none)) out dead = grind (arith, takes_it_out, seen, length, dead_silent, came_in, around, either_option, when_killed, found_part, true≢false, new_reading, action_content, call_quiet)
 
   has_none : (s : Seen T U C) (p : Part T U C) → s.part ≡ Some p → HasNoAction s → p.action ≡ None
   has_none s p there none = subst (λ (o : Option (Part T U C)). HasNoAction (record { part = o; made = s.made })) there none

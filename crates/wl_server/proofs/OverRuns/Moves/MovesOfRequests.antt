@@ -36,7 +36,7 @@ use Rattle.wl_server.specs.Globals.{global_at}
 use Rattle.wl_server.specs.Ids.{ClientParts, IdParts}
 use Rattle.wl_server.proofs.OverRuns.Moves.MovesOfVerdicts.{Comes, Go, IsCalm, Lands, at, ends_killed, lands_at, lands_not, lands_then}
 use Rattle.wl_server.specs.Part.{Part, display_of, id_at, last_possible_serial, null_id}
-use Rattle.wl_server.specs.Reading.{Around, binds, breaks, converted, garbled, hands_out, new_at, other_request, replies, server, stops_if, synced, syncs, with_registry}
+use Rattle.wl_server.specs.Reading.{Around, binds, breaks, converted, garbled, hands_out, new_at, other_request, replies, server, stops_if, synced, with_registry}
 use Rattle.wl_server.proofs.OverRuns.Announced.RequestCases.{request_case}
 use Rattle.wl_server.specs.Requests.{Converted, Converting, Outcome, Whole, Wrong, allows_null, convert, convert_one, going_on, is_valid_new, kinds_after, made_id, made_object, object_found, start, with_made, with_new_argument, with_object_argument}
 use Rattle.wl_server.specs.Telling.{Core, Did, Told, closed_down, objects_in, with_objects}
@@ -156,14 +156,6 @@ module _ {T U G C : Type 0} (kind : Kind) (sends : T → Queue → Result ℕ Io
 
   -- ---- requests to a display and to a registry
 
-  syncs_comes : (c : Core U C) (n : ℕ) → IsQuietCore c → is_valid_new (objects_in c) n ≡ true → Come c (syncs a c n)
-  syncs_comes c n calm valid =
-      replies_comes c (synced a c n) _ [] (lands_at kind sends receives a.client c [] (synced a c n) calm refl (λ l. followed
-      (handed_out [] (makes_object c 1 (objects_in c) n callback_id valid l) (λ id among. absurd among) refl)
-      (moved (went n (made_object (objects_in c) callback_id 1) true (stored_here c.store n (made_object
-      (objects_in c) callback_id 1) n refl) refl (ap (λ (w : List (Happening U)). record (place (synced a c n) l) { waiting = w }) (sym
-      (append-nil c.waiting))))) refl)) (refl, refl)
-
   binds_comes : MayRead kind a.table a.client → (c : Core U C) (g version n : ℕ) (x : Object (KeptGlobal G)) → IsQuietCore c → is_valid_new (objects_in c) n ≡ true → Come c (binds a c g version n x)
   binds_comes may c g version n x calm valid =
       hands_out_comes c (with_objects c (with_made (objects_in c) n x.interface version)) (opened.Bind id) (deeds.Bind (global_at g x) id)
@@ -237,7 +229,12 @@ module _ {T U G C : Type 0} (kind : Kind) (sends : T → Queue → Result ℕ Io
   pub handles_comes : MayRead kind a.table a.client → (c : Core U C) (m : WireMessage) → IsQuietCore c → Come c ((server a).handles c m)
   handles_comes may c m calm =
       request_case a c (Come c) (garbled_comes c calm) (λ code text. (breaks_comes may c c code text
-      (lands_not kind sends receives a.client c calm))) (λ n valid. syncs_comes c n calm valid)
+      (lands_not kind sends receives a.client c calm))) (λ n valid. (replies_comes c (synced a c n) _ [] (lands_at kind sends receives a.client c []
+      (synced a c n) calm refl (λ l. followed
+      (handed_out [] (makes_object c 1 (objects_in c) n callback_id valid l) (λ id among. absurd among) refl)
+      (moved (went n (made_object (objects_in c) callback_id 1) true (stored_here c.store n (made_object
+      (objects_in c) callback_id 1) n refl) refl (ap (λ (w : List (Happening U)). record (place (synced a c n) l) { waiting = w }) (sym
+      (append-nil c.waiting))))) refl)) (refl, refl)))
       (λ n valid. (replies_comes c (with_registry a c n) _ (Remembered (new_at a c n) ∷ [])
       (lands_at kind sends receives a.client c (Remembered (new_at a c n) ∷ []) (with_registry a c n) calm refl (λ l. followed
       (handed_out [] (makes_object c 1 (objects_in c) n registry_id valid l) (λ id among. absurd among) refl)

@@ -81,8 +81,7 @@ module _ {U : Type 0} where
             (slot_of x) (map slot_of b) (map slot_of a ++ slots) along).0 ∙ slot_is x))
 
         same : y ≡ x
-        same = note_is y ∙ (ap (λ (id : ClientParts). note_of id (happening_of y)) ids ∙ (ap (note_of (id_of x))
-            (grind (arith, happening_of, notes_of, id_of, own_first, ids, x_told)) ∙ sym (note_is x)))
+        same = grind (arith, note_is, note_of, happening_of, ids, id_of, notes_of, own_first, x_told, slot_is, slot_first, slot_of, map, told_of, same_self)
 
         told_rest : (id : ClientParts) → (more : List (Happening U)) × (notes_of id b ≡ notes_of id a ++ more)
         told_rest id = let (more, all) = told id in grind (arith, append_cancel_left, told_of, notes_of, same, append_assoc)

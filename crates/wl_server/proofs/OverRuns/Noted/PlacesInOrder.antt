@@ -108,8 +108,7 @@ module _ (below : ℕ) (In : ℕ → ℕ → Type 0) (apart : (i j n : ℕ) → 
       number = omega (arith, x_first.1 made, y_low)
 
       is : y ≡ x
-      is = place_is y x.slot x.number y_made number (apart y.slot x.slot x.number (subst (λ (n : ℕ). In y.slot n) number
-          (known y.slot y.number y_there)) (known x.slot x.number there)) ∙ sym (place_is x x.slot x.number made refl refl)
+      is = grind (arith, place_is, y_made, number, y_there, there, false≢true, count_is, eq-eqb, sum_by-cons, at_time)
 
       same_rest : (slot n : ℕ) → n < below → times_at_time slot n a ≡ times_at_time slot n b
       same_rest slot n less =

@@ -204,8 +204,7 @@ module _ {H T U G C : Type 0} (w : World T G C) (known : IsDetermined w) (ordere
 
   each_one : {ids : List ClientParts} {h h1 h2 : H} {s t x y : ServerState T U G C} {run run' : List (Entry T U G C)} {l m : Bool} {total total' : ℕ} → SameServer ordered s t → l ≡ false
       → m ≡ false → EachIsDispatched w answers ids h s run l total h1 x → EachIsDispatched w answers ids h t run' m total' h2 y → (total ≡ total') × (h1 ≡ h2) × SameServer ordered x y
-  each_one {ids} {h} {h1} {h2} {s} {t} {x} {y} {run} {run'} {l} {m} {total} {total'} same calm calm' (none empty run_is lacked_is none_read) (none empty' run_is' lacked_is' none_read') =
-      (none_read ∙ sym none_read', refl, same)
+  each_one {ids} {h} {h1} {h2} {s} {t} {x} {y} {run} {run'} {l} {m} {total} {total'} same calm calm' (none empty run_is lacked_is none_read) (none empty' run_is' lacked_is' none_read') = grind (arith)
   each_one {ids} {h} {h1} {h2} {s} {t} {x} {y} {run} {run'} {l} {m} {total} {total'} same calm calm' (none empty run_is lacked_is none_read)
       (more {earlier = front} id answer each serves ids_are run_is' lacked_is' total_is) =
       absurd (no_last front id (sym empty ∙ ids_are))

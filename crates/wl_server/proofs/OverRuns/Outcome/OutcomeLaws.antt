@@ -110,8 +110,7 @@ module _ {T U G C : Type 0} (w : World T G C) (known : IsDetermined w) (id : Cli
   flushed_for_one : (target : Option ClientParts) (r r' : Result (Unit {0}) IoFault) → FlushedFor w id offer target r before false d x
       → FlushedFor w id offer target r' before false e y → SameFelt d e x y × ((let s : Step T U G C = step.Flush target in is_about id s) ≡ true → r ≡ r')
   flushed_for_one None r r' (is, felt) (is', felt') = grind (arith, on_one, with_none, both_bool, same_felt, flushed_one, one_flush_lem, not_lacked, map, with_link)
-  flushed_for_one (Some target) r r' h g =
-      of_one before d e x y (same_client target id) _ _ _ _ (λ a b. a ∙ sym b) (λ p q q' f f'. with_answer (flushed_one w.sends known.sends p r r' d e q q' f f')) h g
+  flushed_for_one (Some target) r r' h g = grind (arith, of_one, same_client, with_answer, flushed_one, on_one, unfelt_one, true≢false, one_flush_lem, not_lacked, map, with_link)
 
   moved_one : (target : ClientParts) (m : _) (r r' : Moved) → MovedFor w id offer target m r before false d x → MovedFor w id offer target m r' before false e y
       → SameFelt d e x y × (same_client target id ≡ true → r ≡ r')

@@ -225,8 +225,7 @@ module _ {U : Type 0} where
             (is (id_of x) (happening_of x) (notes_of (id_of x) a) x_told) slots
 
         same : x ≡ y
-        same = note_is x ∙ (ap (λ (id : ClientParts). note_of id (happening_of x)) (sym ids) ∙ (ap (note_of (id_of y)) (sym
-            (grind (arith, happening_of, notes_of, id_of, own_first, ids, x_told))) ∙ sym (note_is y)))
+        same = grind (arith, note_is, note_of, happening_of, ids, id_of, notes_of, own_first, x_told, told_of)
 
         told_rest : (id : ClientParts) → notes_of id a ≡ notes_of id b
         told_rest id =
@@ -336,9 +335,6 @@ module _ {T U G C : Type 0} (w : World T G C) where
           places : order ≡ order'
           places = orders_one true (map times_of s.clients) (map times_of t.clients) order order' ordered.rise ordered.numbers ordered'.rise ordered'.numbers same.times
 
-          whole : x.notes ≡ s.notes ++ (more ++ h.ends)
-          whole = h.behind ∙ (ap (λ (l : List (Note U)). l ++ h.ends) behind ∙ append_assoc s.notes more h.ends)
-
           whole' : y.notes ≡ t.notes ++ (more' ++ g.ends)
           whole' = g.behind ∙ (ap (λ (l : List (Note U)). l ++ g.ends) behind' ∙ append_assoc t.notes more' g.ends)
 
@@ -347,7 +343,8 @@ module _ {T U G C : Type 0} (w : World T G C) where
               append_cancel_left (notes_of id t.notes) (notes_of id (more ++ h.ends)) (notes_of id (more' ++ g.ends))
               (ap (λ (l : List (Note U)). notes_of id l ++ notes_of id (more ++ h.ends)) (sym same.notes)
               ∙ (sym (notes_append id s.notes (more ++ h.ends))
-              ∙ (ap (notes_of id) (sym whole) ∙ (all id ∙ (ap (notes_of id) whole' ∙ notes_append id t.notes (more' ++ g.ends))))))
+              ∙ (ap (notes_of id) (sym (h.behind ∙ (ap (λ (l : List (Note U)). l ++ h.ends) behind ∙ append_assoc s.notes more h.ends))) ∙ (all id ∙
+              (ap (notes_of id) whole' ∙ notes_append id t.notes (more' ++ g.ends))))))
 
           is : (id : ClientParts) (k : Happening U) (ks : List (Happening U)) → notes_of id (more' ++ g.ends) ≡ k ∷ ks → IsStored t id
           is = is_stored t (more' ++ g.ends) stored

@@ -7,6 +7,4 @@ pub returns-then-is_none : goal.returns-then-is_none
 returns-then-is_none g c = λ last. nothing_disabled _ _ last ((grind (arith, c.global_in.ensures, c.is_none.ensures)) ∙ ap not c.if-is_none.true)
 
 pub returns : goal.returns
-returns g c = λ last.
-    one_disabled _ _ _ last ((grind (arith, c.global_in.ensures, c.is_none.ensures)) ∙ ap not c.if-is_none.false) (rw
-    (← c.name.ensures) c.disable_at.ensures)
+returns g c = grind (arith, one_disabled, not)

@@ -7,6 +7,4 @@ pub returns-then-is_none : goal.returns-then-is_none
 returns-then-is_none g c = λ last. nothing_freed _ _ last ((grind (arith, c.global_in.ensures, c.is_none.ensures)) ∙ ap not c.if-is_none.true)
 
 pub returns : goal.returns
-returns g c = λ last.
-    one_freed _ _ _ last ((grind (arith, c.global_in.ensures, c.is_none.ensures)) ∙ ap not c.if-is_none.false) (rw
-    (← c.name.ensures) c.remove.ensures.removed)
+returns g c = grind (arith, one_freed, not)

@@ -3,14 +3,12 @@ use Rattle.wl_server.specs.Inside.Responses.{core_with}
 use Rattle.wl_server.specs.Inside.ReadingLoop.{around_of}
 use Rattle.wl_server.proofs.Readings.Requesting.{display_sync, one_new}
 use Rattle.wl_server.proofs.reading.display_request.display_request.Goals as goal
-use Rattle.std.proofs.Common.{refl}
 use Rattle.std.proofs.lemmas.Bool.{ne_eqb}
 use Rattle.wl_server.proofs.Readings.Requesting.{display_is}
+use Rattle.std.proofs.Common.{arith}
 
 pub returns-in_default-clause-responds : goal.returns-in_default-clause-responds
-returns-in_default-clause-responds g c c' f args = display_is (around_of g.G.GlobalHandler.views c.args.around.now)
-    (core_with c' c.args.client_data.now c.args.objects.now) c.args.message.now.opcode c.args.message.now.args.items ∙ rw (sym c.new_id_in.ensures
-    ∙ c.in_default.is) refl
+returns-in_default-clause-responds g c c' f args = grind (arith, display_is, around_of, core_with)
 
 pub sync-requires : goal.sync-requires
 sync-requires g c = c.requires.can_make (one_new _ _ (sym c.new_id_in.ensures ∙ c.in-Some.is))
@@ -26,8 +24,4 @@ returns-then-message-eq-SYNC-clause-responds g c c' f args =
     display_sync (around_of g.G.GlobalHandler.views c.args.around.now) (core_with c' c.args.client_data.now c.args.objects.now) c.args.message.now.opcode c.args.message.now.args.items c.in-Some.number _ (sym c.new_id_in.ensures ∙ c.in-Some.is) c.if-message-eq-SYNC.true (c.sync.ensures.responds c' f args)
 
 pub returns-clause-responds : goal.returns-clause-responds
-returns-clause-responds g c c' f args =
-    display_is (around_of g.G.GlobalHandler.views c.args.around.now)
-    (core_with c' c.args.client_data.now c.args.objects.now) c.args.message.now.opcode c.args.message.now.args.items ∙ rw
-    ((sym c.new_id_in.ensures ∙ c.in-Some.is), ne_eqb c.args.message.now.opcode 0 c.if-message-eq-SYNC.false)
-    (c.get_registry.ensures.responds c' f args)
+returns-clause-responds g c c' f args = grind (arith, display_is, around_of, core_with, ne_eqb)
