@@ -1,5 +1,5 @@
 -- A call that is about one client, as a step of the server.
-use Rattle.std.proofs.Common.{◌≡◌, ℕ, ◌+◌, Bool, true, false, not, List, [], Option, None, Some, refl, sym, ap, subst, ◌∙◌, arith}
+use Rattle.std.proofs.Common.{◌≡◌, ℕ, ◌+◌, Bool, true, false, not, List, [], Option, None, Some, refl, sym, ap, subst, ◌∙◌, arith, true≢false}
 use mathlib.Core.Logic.{inl, inr}
 use Rattle.std.specs.Prelude.{◌⊎◌, slice_get, slice_set}
 use Rattle.std.proofs.lemmas.Bool.{false≢true}
@@ -19,18 +19,10 @@ use Rattle.wl_server.specs.Deeds.{Deed}
 use Rattle.wl_server.specs.Globals.{Offer}
 use Rattle.wl_server.specs.Ids.{ClientParts, same_client}
 use Rattle.wl_server.specs.PartStep.{Asked, Call, OfClient, PartStep, World}
-use Rattle.wl_server.specs.Server.{Seen, ServerState, Stored, client_at}
+use Rattle.wl_server.specs.Server.{Seen, ServerState, Stored, client_at, notes_of, seen_as}
 use Rattle.wl_server.specs.Steps.{AsksForRoom, MakesNotes, NotesGoOn, NumbersClient, AnswersShared, RisesBySlot, StepOf, inserted_by, lacks_growth, offer_after}
-use Rattle.wl_server.proofs.CallSteps.Numbering.{numbered_set, set_in_time}
-use Rattle.wl_server.proofs.CallSteps.Slots.{Kind, did_at, each_set, lacks_at, same_self, slot_of_client}
-use Rattle.std.proofs.Common.{true≢false}
-use Rattle.wl_server.proofs.CallSteps.Slots.{compare}
-use Rattle.wl_server.proofs.CallSteps.Slots.{same_parts}
-use Rattle.wl_server.proofs.CallSteps.Slots.{same_serials}
-use Rattle.wl_server.proofs.CallSteps.Slots.{same_slots}
-use Rattle.wl_server.specs.Server.{notes_of}
-use Rattle.wl_server.specs.Server.{seen_as}
-use Rattle.wl_server.proofs.CallSteps.Numbering.{turn_still}
+use Rattle.wl_server.proofs.CallSteps.Numbering.{numbered_set, set_in_time, turn_still}
+use Rattle.wl_server.proofs.CallSteps.Slots.{Kind, did_at, each_set, lacks_at, same_self, slot_of_client, compare, same_parts, same_serials, same_slots}
 
 -- a call that is about one client: nothing changes that all share, and no memory is wanted but for that client
 record IsOwn {T U G C : Type 0} (call : Call T U G C) : Type 0 where

@@ -3,7 +3,7 @@ use Rattle.std.proofs.Common.{◌≡◌, ◌+◌, ◌<◌, length, map, Bool, tr
 use mathlib.Core.Logic.{inl, inr}
 use Rattle.std.specs.Global.{Global}
 use Rattle.std.specs.Option.{option_map_or}
-use Rattle.std.specs.Prelude.{◌⊎◌, if◌then◌else◌}
+use Rattle.std.specs.Prelude.{◌⊎◌, if◌then◌else◌, slice_get}
 use Rattle.std.proofs.lemmas.Bool.{false≢true}
 use Rattle.wl_wire.specs.declared.error.OutOfMemory.{OutOfMemory}
 use Rattle.wl_server.specs.declared.notes.Happening.{Happening}
@@ -23,16 +23,12 @@ use Rattle.wl_server.specs.Server.{ServerState, Stored, client_at, notes_of}
 use Rattle.wl_server.specs.Steps.{StepOf}
 use Rattle.wl_server.proofs.CleanupSteps.Asking.{cleanup_asks}
 use Rattle.wl_server.proofs.CleanupSteps.Cleaning.{CleanedBy, cleaned_one}
-use Rattle.wl_server.proofs.CallSteps.Collecting.{Rises, given_for, given_rises, staying_for}
+use Rattle.wl_server.proofs.CallSteps.Collecting.{Rises, given_for, given_rises, staying_for, collected_at, other_ends, own_ends}
 use Rattle.wl_server.proofs.CallSteps.Feeling.{each_felt, lacks_of, one_lacks, some_lacks}
 use Rattle.wl_server.proofs.CleanupSteps.Gathering.{notes_append}
 use Rattle.wl_server.proofs.CallSteps.Slots.{Kind}
 use Rattle.wl_server.proofs.CleanupSteps.Outgoing.{ends_rise}
 use Rattle.wl_server.proofs.CleanupSteps.TakingNotes.{none_left, same_left}
-use Rattle.std.specs.Prelude.{slice_get}
-use Rattle.wl_server.proofs.CallSteps.Collecting.{collected_at}
-use Rattle.wl_server.proofs.CallSteps.Collecting.{other_ends}
-use Rattle.wl_server.proofs.CallSteps.Collecting.{own_ends}
 use Rattle.wl_server.proofs.CallSteps.Numbering.{turn_still}
 
 -- who stays has no notes that were made, if all were gathered

@@ -14,17 +14,15 @@ use Rattle.wl_server.specs.declared.objects.Kept.{Kept}
 use Rattle.wl_server.specs.declared.notes.Happening.{Happening}
 use Rattle.wl_server.specs.declared.notes.Note.{Note}
 use Rattle.wl_server.specs.Inside.Client.{Does}
-use Rattle.wl_server.specs.Felt.{FlushedTo}
+use Rattle.wl_server.specs.Felt.{FlushedTo, FlushesLive}
 use Rattle.wl_server.specs.Ids.{ClientParts}
 use Rattle.wl_server.specs.Inside.Leaving.{Flushes, FlushesKilled, all_staying, collected, with_data, ends_at, ends_of, given_at, id_in, staying}
 use Rattle.wl_server.specs.NoteOrder.{RiseFromSlot}
 use Rattle.wl_server.specs.Server.{Stored, no_times, note_of}
-use Rattle.wl_server.proofs.Readings.Flushing.{live_flushed}
+use Rattle.wl_server.proofs.Readings.Flushing.{live_flushed, does_nothing}
 use Rattle.wl_server.proofs.CleanupSteps.Gathering.{map_set}
 use Rattle.wl_sets.proofs.Lists.{get_set_other, get_set_same, other_of}
 use Rattle.wl_link.proofs.Calls.Branches.{at_true}
-use Rattle.wl_server.proofs.Readings.Flushing.{does_nothing}
-use Rattle.wl_server.specs.Felt.{FlushesLive}
 
 map_itself : {A : Type 0} (f : A → A) (xs : List A) → ((k : ℕ) (x : A) → slice_get xs k ≡ Some x → f x ≡ x) → map f xs ≡ xs
 map_itself f [] all = refl

@@ -13,12 +13,10 @@ use Rattle.wl_server.specs.Reached.{AllSpare, spares}
 use Rattle.wl_server.specs.Runs.{IsNotInserted, Leads, concerns}
 use Rattle.wl_server.specs.Server.{Seen, ServerState, seen}
 use Rattle.wl_server.specs.Steps.{Entry}
-use Rattle.wl_server.proofs.OverRuns.Alone.IsolationLaw.{other_call}
+use Rattle.wl_server.proofs.OverRuns.Alone.IsolationLaw.{other_call, later_differs, numbered}
 use Rattle.wl_server.proofs.OverRuns.Moves.BaseMoves.{Doings, Goes, Kind, Moves, followed, handed_out, notes_taken, moved, stayed, taken_out, unfelt, within}
 use Rattle.wl_server.proofs.OverRuns.Moves.BaseMovesLaw.{call_moves}
 use Rattle.wl_server.proofs.Plain.Base.{none_and_some, one_value}
-use Rattle.wl_server.proofs.OverRuns.Alone.IsolationLaw.{later_differs}
-use Rattle.wl_server.proofs.OverRuns.Alone.IsolationLaw.{numbered}
 
 -- no action is opened, and none is ended
 abbrev standing : Kind

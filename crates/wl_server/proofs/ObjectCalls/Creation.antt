@@ -20,8 +20,7 @@ use Rattle.wl_server.specs.Objects.{Creates}
 use Rattle.wl_server.specs.Part.{Part, fresh_object, last_possible_serial}
 use Rattle.wl_server.specs.Server.{Stored, no_times}
 use Rattle.wl_server.proofs.CallSteps.Doing.{does_quietly}
-use Rattle.wl_server.proofs.CleanupSteps.Outgoing.{if_false}
-use Rattle.wl_server.proofs.CleanupSteps.Outgoing.{if_true}
+use Rattle.wl_server.proofs.CleanupSteps.Outgoing.{if_false, if_true}
 
 known : {A : Type 0} (o : Option A) (X Y : Type 0) → is_some o ≡ true → Y → MatchOption o X (λ _. Y)
 known h1 h2 h3 is y = grind (arith, false≢true)

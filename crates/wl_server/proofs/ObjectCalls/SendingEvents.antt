@@ -1,5 +1,5 @@
 -- What an event that is sent does, from the steps of its sending.
-use Rattle.std.proofs.Common.{◌≡◌, ◌∙◌, ℕ, Bool, true, false, List, [], ◌∷◌, ◌++◌, append-nil, map, Option, Some, IfSome, Result, Ok, Err, MatchBool, refl, sym, ap, subst, inl, inr, arith}
+use Rattle.std.proofs.Common.{◌≡◌, ◌∙◌, ℕ, Bool, true, false, List, [], ◌∷◌, ◌++◌, append-nil, map, Option, Some, IfSome, Result, Ok, Err, MatchBool, refl, sym, ap, subst, inl, inr, arith, is_some}
 use Rattle.std.proofs.lemmas.Bool.{false≢true}
 use Rattle.wl_wire.specs.declared.error.IoFault.{IoFault}
 use Rattle.wl_wire.specs.declared.argument.Argument.{Argument}
@@ -21,7 +21,7 @@ use Rattle.wl_server.specs.Inside.Ending.{notes_ending, registries_ending, store
 use Rattle.wl_server.specs.Events.{AsksForMemory, SendsEvent, SendsGranted, SentAs, SessionMessage, ends_closed, ends_sender, event_check, said, wire_argument, wire_message}
 use Rattle.wl_server.specs.Ids.{ClientParts, IdParts}
 use Rattle.wl_server.specs.Objects.{told_of_removed}
-use Rattle.wl_server.specs.Part.{Part, named, with_link}
+use Rattle.wl_server.specs.Part.{Part, named, with_link, id_of}
 use Rattle.wl_server.specs.Inside.Puts.{Puts}
 use Rattle.wl_server.specs.Server.{Stored, no_times, untimed}
 use Rattle.wl_server.specs.Telling.{Core, Tells, closed_down, core_of, end_deeds, part_of, tells}
@@ -30,8 +30,6 @@ use Rattle.wl_server.proofs.ObjectCalls.Closing.{client_of, closing, told_by}
 use Rattle.wl_server.proofs.ObjectCalls.Destroying.{named_is_held}
 use Rattle.wl_server.proofs.Readings.Notes.{notes_append, notes_of_sends}
 use Rattle.wl_server.proofs.GlobalCalls.Putting.{puts_none}
-use Rattle.std.proofs.Common.{is_some}
-use Rattle.wl_server.specs.Part.{id_of}
 
 -- ---- the message that is written
 

@@ -22,10 +22,9 @@ use Rattle.wl_server.specs.Part.{Part}
 use Rattle.wl_server.specs.PartStep.{Call, CleanedAs, World, share_of}
 use Rattle.wl_server.specs.Plain.{CleansUpClients, HandsOut, TakesNotes}
 use Rattle.wl_server.specs.Server.{Seen, seen}
-use Rattle.wl_server.specs.Steps.{RisesBySlot}
+use Rattle.wl_server.specs.Steps.{RisesBySlot, lacks_growth}
 use Rattle.wl_server.proofs.Plain.Base.{calm, none_and_some, of_each, offer_of, one_value, some_lacks, split_bool, unchanged, when_false, when_true}
 use Rattle.wl_server.proofs.Readings.Finishing.{wanted_memory}
-use Rattle.wl_server.specs.Steps.{lacks_growth}
 
 all_noted : {U : Type 0} (notes : List (Happening U)) → notes_in (map Noted notes) ≡ notes
 all_noted [] = refl

@@ -1,5 +1,5 @@
 -- A new object of the server's.
-use Rattle.std.proofs.Common.{◌≡◌, ℕ, Bool, true, false, List, [], None, Some, Result, Ok, Err, refl, sym, ap, subst, arith}
+use Rattle.std.proofs.Common.{◌≡◌, ℕ, Bool, true, false, List, [], None, Some, Result, Ok, Err, refl, sym, ap, subst, arith, true≢false}
 use mathlib.Core.Logic.{inl, inr}
 use Rattle.std.proofs.lemmas.Bool.{eq-eqb, ne_eqb}
 use Rattle.std.specs.Prelude.{slice_get}
@@ -26,7 +26,6 @@ use Rattle.wl_server.specs.Plain.{CreatedAs, CreatesObject}
 use Rattle.wl_server.specs.Server.{Seen, seen}
 use Rattle.wl_server.proofs.Plain.Base.{keeps, notes_stay, nothing_new, of_each, of_own, offer_of, other_stays, own, unchanged, when_false}
 use Rattle.wl_server.proofs.Plain.Naming.{both_none, named_here, nothing_has, other_named}
-use Rattle.std.proofs.Common.{true≢false}
 
 -- the object was put at a number that held none
 record IsNew {T U C : Type 0} (client : ClientParts) (p : Part T U C) (i : InterfaceId) (version : ℕ) (u : U) (id : IdParts) (q : Part T U C) : Type 0 where

@@ -1,5 +1,5 @@
 -- An object that gets data.
-use Rattle.std.proofs.Common.{◌≡◌, Bool, true, false, List, None, Some, Result, Ok, Err, MatchResult, option_map, refl, sym, ap, subst, arith}
+use Rattle.std.proofs.Common.{◌≡◌, Bool, true, false, List, None, Some, Result, Ok, Err, MatchResult, option_map, refl, sym, ap, subst, arith, true≢false}
 use mathlib.Core.Logic.{inl, inr}
 use Rattle.wl_link.proofs.Calls.Branches.{either_option}
 use Rattle.wl_link.specs.declared.object.Object.{Object}
@@ -20,7 +20,6 @@ use Rattle.wl_server.specs.Plain.DataInPlace.{LendsObjectData, SetsWhatIsLeft}
 use Rattle.wl_server.specs.Server.{Seen, seen}
 use Rattle.wl_server.proofs.Plain.Base.{calm, keeps, never, notes_stay, nothing_new, of_each, offer_of, other_stays, own, unchanged}
 use Rattle.wl_server.proofs.Plain.Naming.{names_so, rewritten_named, rewritten_others}
-use Rattle.std.proofs.Common.{true≢false}
 
 abbrev Refused : Result (Unit {0}) InvalidId → Type 0
 Refused answer = answer ≡ Err _

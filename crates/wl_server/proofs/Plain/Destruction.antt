@@ -1,5 +1,5 @@
 -- An object that the program destroys.
-use Rattle.std.proofs.Common.{◌≡◌, ℕ, Bool, true, false, cond, eqb-true, List, ◌++◌, Option, None, Some, is_some, Result, Ok, Err, refl, sym, ap, subst, ◌∙◌, arith}
+use Rattle.std.proofs.Common.{◌≡◌, ℕ, Bool, true, false, cond, eqb-true, List, ◌++◌, Option, None, Some, is_some, Result, Ok, Err, refl, sym, ap, subst, ◌∙◌, arith, true≢false}
 use mathlib.Core.Logic.{inl, inr}
 use Rattle.wl_wire.specs.declared.error.IoFault.{IoFault}
 use Rattle.wl_link.proofs.Calls.Branches.{either_option}
@@ -26,7 +26,6 @@ use Rattle.wl_server.specs.Telling.{Tells, core_of}
 use Rattle.wl_server.proofs.Plain.Base.{calm, keeps, never, nothing_new, of_each, offer_of, other_stays, own, refused_to, unchanged}
 use Rattle.wl_server.proofs.Plain.Naming.{names_so, removed_named, removed_others}
 use Rattle.wl_server.proofs.Plain.Verdicts.{told}
-use Rattle.std.proofs.Common.{true≢false}
 
 abbrev Refused : Result (Unit {0}) DestroyError → Type 0
 Refused answer = answer ≡ Err destroy.InvalidId

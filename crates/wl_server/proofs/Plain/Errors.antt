@@ -25,9 +25,8 @@ use Rattle.wl_server.specs.Plain.{IsUnchanged, as_killed, end_note_of}
 use Rattle.wl_server.specs.Plain.Events.{ErrorPostedAs, IsReasonOfError, KillsForError}
 use Rattle.wl_server.specs.Server.{Seen, seen}
 use Rattle.wl_server.specs.Telling.{Core, Tells, Told, closed_down, core_of, deeds_of, end_deeds, part_of, speaker}
-use Rattle.wl_server.proofs.Plain.Base.{keeps, nothing_new, of_each, of_own, offer_of, other_stays, own, unchanged, when_false, when_true}
+use Rattle.wl_server.proofs.Plain.Base.{keeps, nothing_new, of_each, of_own, offer_of, other_stays, own, unchanged, when_false, when_true, split_bool}
 use Rattle.wl_server.proofs.Readings.Notes.{notes_told}
-use Rattle.wl_server.proofs.Plain.Base.{split_bool}
 
 module _ {T U C : Type 0} (sends : T → Queue → Result ℕ IoFault → T → Type 0) (table : List InterfaceRow) (id : IdParts) (code : ℕ) (text : List ℕ) where
   -- the client is killed for this reason, and otherwise as it was but for its link

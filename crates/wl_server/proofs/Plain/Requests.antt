@@ -25,17 +25,14 @@ use Rattle.wl_server.specs.Inside.Carried.{told_notes}
 use Rattle.wl_server.specs.Inside.Finishing.{is_out_of_memory, lacks_finish}
 use Rattle.wl_server.specs.Lookups.{and_then}
 use Rattle.wl_server.specs.Objects.{unless_refused}
-use Rattle.wl_server.specs.Part.{Part, id_of, named, same_id, serial_of, end_note, id_at, note_of_end}
+use Rattle.wl_server.specs.Part.{Part, id_of, named, same_id, serial_of, end_note, id_at, note_of_end, with_user_data}
 use Rattle.wl_server.specs.PartStep.{OfClient, World}
 use Rattle.wl_server.specs.Plain.{EndsOpenRequest, IsRefusedWhole, RequestEndedAs, RequestIsEnded, RequestRefusedAs, is_made, with_given, EndIsTold, end_note_of, notes_if_kept, sender_notes}
 use Rattle.wl_server.specs.Server.{Seen, seen}
 use Rattle.wl_server.specs.Telling.{Tells, Told, core_of, Core, closed_down, end_deeds}
 use Rattle.wl_server.proofs.Plain.Base.{calm, keeps, never, nothing_new, of_each, offer_of, other_stays, own, refused_to, unchanged}
-use Rattle.wl_server.proofs.Plain.Naming.{names_so, removed_named, removed_others}
+use Rattle.wl_server.proofs.Plain.Naming.{names_so, removed_named, removed_others, rewritten_named, rewritten_others}
 use Rattle.wl_server.proofs.Plain.Verdicts.{told, told_nothing, told_starved, IsTold, told_ended}
-use Rattle.wl_server.proofs.Plain.Naming.{rewritten_named}
-use Rattle.wl_server.specs.Part.{with_user_data}
-use Rattle.wl_server.proofs.Plain.Naming.{rewritten_others}
 
 -- ---- two ids of a client that are the same name the same
 

@@ -1,6 +1,6 @@
 -- What becomes of the data of an action, in the words of the look-ups.
 use Rattle.std.proofs.Common.{arith, ◌≡◌, Bool, List, Option, None, Some, Result, Ok}
-use Rattle.std.specs.Prelude.{IfOk, MatchOption, slice_set}
+use Rattle.std.specs.Prelude.{IfOk, MatchOption, slice_set, option_map}
 use Rattle.std.specs.Result.{result_and}
 use Rattle.wl_link.specs.Store.{Store}
 use Rattle.wl_server.specs.declared.error.FinishRefused.{FinishRefused}
@@ -10,14 +10,11 @@ use Rattle.wl_server.specs.Backend.{BackendState}
 use Rattle.wl_server.specs.Finish.{HoldsData, data_given}
 use Rattle.wl_server.specs.Ids.{ClientParts, IdParts}
 use Rattle.wl_server.specs.Inside.Finishing.{BindLeaves, DataHeld, RequestLeaves}
-use Rattle.wl_server.specs.Part.{Part, named}
+use Rattle.wl_server.specs.Part.{Part, named, with_user_data}
 use Rattle.wl_server.specs.Plain.{EndsBind, EndsOpenRequest, ReturnsBindData, ReturnsRequestData, client_in}
 use Rattle.wl_server.specs.Server.{Stored, client_at}
 use Rattle.wl_sets.proofs.Lists.{get_set_same}
-use Rattle.std.specs.Prelude.{option_map}
-use Rattle.wl_server.proofs.Plain.Naming.{names_so}
-use Rattle.wl_server.proofs.Plain.Naming.{rewritten_named}
-use Rattle.wl_server.specs.Part.{with_user_data}
+use Rattle.wl_server.proofs.Plain.Naming.{names_so, rewritten_named}
 
 -- ---- data that are given
 

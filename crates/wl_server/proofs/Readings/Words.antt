@@ -21,7 +21,7 @@ use Rattle.wl_link.specs.declared.object.Object.{Object}
 use Rattle.wl_link.specs.Exchange.{Queue}
 use Rattle.wl_link.specs.Identity.{Objects}
 use Rattle.wl_link.specs.Link.{LinkState}
-use Rattle.wl_link.specs.Reader.{ReadsAs}
+use Rattle.wl_link.specs.Reader.{ReadsAs, Verdict}
 use Rattle.wl_link.specs.Store.{Store, held}
 use Rattle.wl_server.specs.declared.objects.Kept.{Kept}
 use Rattle.wl_server.specs.declared.reading.action.OpenAction.{OpenAction}
@@ -42,7 +42,6 @@ use Rattle.wl_server.specs.Reading.{Around, hands_out, request, row_in, server}
 use Rattle.wl_server.specs.Requests.{Converting, Whole, allows_null, convert, convert_one, going_on, kinds_after, object_argument, start, with_object_argument}
 use Rattle.wl_server.specs.Server.{Stored}
 use Rattle.wl_server.specs.Telling.{Core, Told, core_of, reader_part, with_objects}
-use Rattle.wl_link.specs.Reader.{Verdict}
 use Rattle.wl_server.proofs.Readings.Handling.{from_there, handed_out}
 use Rattle.wl_server.proofs.Readings.OneMessage.{message_handled}
 use Rattle.wl_server.proofs.Readings.Syncing.{taken}

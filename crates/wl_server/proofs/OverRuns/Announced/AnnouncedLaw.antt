@@ -1,5 +1,5 @@
 -- That what a client's registries announced is what it is shown: over every run.
-use Rattle.std.proofs.Common.{◌≡◌, ◌≢◌, ℕ, ◌≤◌, Bool, true, false, List, [], ◌∷◌, ◌++◌, map, append-nil, append_assoc, Option, None, Some, Result, Ok, Err, MatchBool, MatchOption, refl, sym, ap, subst, ◌∙◌, true≢false, arith, cond}
+use Rattle.std.proofs.Common.{◌≡◌, ◌≢◌, ℕ, ◌≤◌, Bool, true, false, List, [], ◌∷◌, ◌++◌, map, append-nil, append_assoc, Option, None, Some, Result, Ok, Err, MatchBool, MatchOption, refl, sym, ap, subst, ◌∙◌, true≢false, arith, cond, eqb, codes}
 use mathlib.Core.Logic.{inl, inr}
 use Rattle.std.specs.Prelude.{◌+◌, Contains, Vec, if◌then◌else◌, is_ok, nat_le, slice_get, MatchBool}
 use Rattle.std.specs.Global.{Global}
@@ -33,35 +33,24 @@ use Rattle.wl_server.specs.Ids.{ClientParts, GlobalParts, same_client}
 use Rattle.wl_server.proofs.OverRuns.Alone.IsolationLaw.{is_isolated, offer_run, shared_run, split_run}
 use Rattle.wl_server.specs.Moves.{Move, Moved}
 use Rattle.wl_server.proofs.OverRuns.Alone.OwnRuns.{AreMine, are_mine}
-use Rattle.wl_server.specs.Part.{Part, display_object, id_of}
+use Rattle.wl_server.specs.Part.{Part, display_object, id_of, with_link, named}
 use Rattle.wl_server.specs.PartStep.{Asked, Call, Changed, CleanedAs, FeelsGlobal, FeelsLoss, FlushedFor, Grown, MovedFor, NotesTaken, OfClient, OnPart, PartCall, PartStep, ReadsFor, Unfelt, World}
 use Rattle.wl_server.specs.Runs.{Alone, Leads, Own, SharedAlone, just_inserted, concerns, history, is_about, mine, offer_over, own_of}
 use Rattle.wl_server.specs.Server.{Seen, ServerState, new_server, seen}
 use Rattle.wl_server.proofs.OverRuns.Announced.InterfaceLaws.{HasInterfaces, after_call, after_run, at_first}
 use Rattle.wl_server.proofs.OverRuns.Announced.ShownLaws.{among_shown, disabled_one, disabled_stays, freed_one, freed_stays, shown_among, Hides, StaysShown, IsShown, created_new, created_old, created_only, hidden_old, hidden_only}
 use Rattle.wl_server.specs.Steps.{Entry, AnswersShared, inserted_by, offer_after}
-use Rattle.wl_server.proofs.OverRuns.Announced.WatchedCalls.{creates_lives, destroys_lives, finishes_bind_lives, finishes_lives, relinked_lives, sends_lives}
+use Rattle.wl_server.proofs.OverRuns.Announced.WatchedCalls.{creates_lives, destroys_lives, finishes_bind_lives, finishes_lives, relinked_lives, sends_lives, none_done, quietly, silent_sends}
 use Rattle.wl_server.proofs.OverRuns.Announced.WatchedReadings.{next_action_lives}
-use Rattle.wl_server.proofs.OverRuns.Announced.WatchedVerdicts.{PartLives, log_both, registries_both, CameTo, carried_to, exchanged}
-use Rattle.wl_server.proofs.OverRuns.Announced.Watching.{Watch, part_scene, Scene, TellsShown, scene_of, told_all, told_none}
+use Rattle.wl_server.proofs.OverRuns.Announced.WatchedVerdicts.{PartLives, log_both, registries_both, CameTo, carried_to, exchanged, lives_not, tells_lives}
+use Rattle.wl_server.proofs.OverRuns.Announced.Watching.{Watch, part_scene, Scene, TellsShown, scene_of, told_all, told_none, steady_same, wrote_goes}
 use Rattle.wl_link.specs.Exchange.{Queue}
 use Rattle.wl_link.specs.Reader.{Given}
 use Rattle.wl_server.proofs.OverRuns.Announced.AnnouncementLaws.{adding_adds, adding_keeps, adding_only, announced-append, removing_keeps, removing_only, removing_removes}
 use Rattle.wl_server.specs.Telling.{Core, Tells, Told, core_of, deeds_in, global_message, making, removal_message, speaker, tells}
-use Rattle.std.proofs.Common.{eqb}
-use Rattle.wl_server.proofs.OverRuns.Announced.WatchedCalls.{none_done}
-use Rattle.wl_server.proofs.OverRuns.Announced.WatchedVerdicts.{lives_not}
-use Rattle.wl_server.proofs.OverRuns.Announced.WatchedVerdicts.{tells_lives}
-use Rattle.std.proofs.Common.{codes}
 use Rattle.std.specs.Option.{option_map_or}
-use Rattle.wl_server.proofs.OverRuns.Announced.WatchedCalls.{quietly}
-use Rattle.wl_server.proofs.OverRuns.Announced.WatchedCalls.{silent_sends}
-use Rattle.wl_server.proofs.OverRuns.Announced.Watching.{steady_same}
-use Rattle.wl_server.specs.Part.{with_link}
 use Rattle.wl_wire.proofs.Growth.{row_stays}
 use Rattle.wl_server.proofs.ObjectCalls.Destroying.{named_is_held}
-use Rattle.wl_server.proofs.OverRuns.Announced.Watching.{wrote_goes}
-use Rattle.wl_server.specs.Part.{named}
 
 -- ---- a registry that is watched over the calls that each client feels: globals that come and go
 

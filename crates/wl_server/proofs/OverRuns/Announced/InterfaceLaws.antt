@@ -1,5 +1,5 @@
 -- The table has the interface of each global, so each global keeps its interface's name as the table grows.
-use Rattle.std.proofs.Common.{◌≡◌, ◌<◌, ◌+◌, ◌∙◌, ℕ, List, [], ◌∷◌, length, length-append, Some, sym, subst, arith}
+use Rattle.std.proofs.Common.{◌≡◌, ◌<◌, ◌+◌, ◌∙◌, ℕ, List, [], ◌∷◌, length, length-append, Some, sym, subst, arith, eqb}
 use Rattle.std.specs.Prelude.{slice_get}
 use Rattle.std.proofs.lemmas.Bool.{cases_eq}
 use Rattle.std.proofs.lemmas.Option.{same_Some, slice_get_within, none-some}
@@ -8,13 +8,11 @@ use Rattle.wl_link.specs.declared.object.Object.{Object}
 use Rattle.wl_link.specs.Store.{held}
 use Rattle.wl_link.proofs.Ids.StoreLaws.{held_empty, removed_here, removed_other, rewritten_here, rewritten_other, stored_here, stored_other}
 use Rattle.wl_server.specs.declared.globals.KeptGlobal.{KeptGlobal}
-use Rattle.wl_server.specs.Globals.{Offer, as_disabled, disabled, freed, global_of, new_global, new_offer, with_globals}
+use Rattle.wl_server.specs.Globals.{Offer, as_disabled, disabled, freed, global_of, new_global, new_offer, with_globals, global_serial}
 use Rattle.wl_server.specs.Ids.{GlobalParts}
 use Rattle.wl_server.specs.PartStep.{Call}
 use Rattle.wl_server.specs.Runs.{SharedAlone}
 use Rattle.wl_server.specs.Steps.{Entry, AnswersShared, inserted_by, offer_after}
-use Rattle.std.proofs.Common.{eqb}
-use Rattle.wl_server.specs.Globals.{global_serial}
 
 -- a row is there for the interface of each global that is kept
 pub record HasInterfaces {G : Type 0} (offer : Offer G) : Type 0 where

@@ -29,7 +29,7 @@ use Rattle.wl_server.specs.Globals.{Offer, global_at}
 use Rattle.wl_server.specs.Ids.{ClientParts, GlobalParts, IdParts}
 use Rattle.wl_server.proofs.OverRuns.Moves.MovesOfReadings.{gave_none}
 use Rattle.wl_server.proofs.OverRuns.Moves.MovesOfRequests.{Came, converts, valid_new}
-use Rattle.wl_server.specs.Part.{Part, id_at}
+use Rattle.wl_server.specs.Part.{Part, id_at, id_of}
 use Rattle.wl_server.specs.Reading.{Around, NextAction, binds, breaks, converted, faulted, garbled, hands_out, new_at, other_request, replies, server, stops_if, synced, syncs, with_registry}
 use Rattle.wl_server.proofs.OverRuns.Announced.RequestCases.{request_case}
 use Rattle.wl_server.specs.Requests.{Outcome, Whole, Wrong, convert, is_valid_new, made_id, made_object, start, with_made}
@@ -37,7 +37,6 @@ use Rattle.wl_server.specs.Telling.{Core, Did, Told, deeds_in, delete_message, d
 use Rattle.wl_server.proofs.OverRuns.Announced.WatchedVerdicts.{CoreLives, Forms, Leads, PartLives, carried_to, lives_not, lives_same, lives_so, lives_then, log_both, registries_both, told_stops, turned, verdict_lives}
 use Rattle.wl_server.proofs.OverRuns.Announced.Watching.{Goes, Scene, Steady, born_goes, goes_then, kept_other, others_goes, part_scene, registers_goes, scene_of, set_action_goes, steady_goes, steady_same, steady_then, went_goes}
 use Rattle.wl_server.proofs.Readings.OneMessage.{deeds_append}
-use Rattle.wl_server.specs.Part.{id_of}
 
 -- the messages that a display sends are of no registry
 pub deletions_other : (r : Id) (n : ℕ) → ((k : ℕ) → record { number = k; serial = 0 } ≢ r) → AreOfOthers r (deletions n)

@@ -2,7 +2,7 @@
 use Rattle.std.proofs.Common.{◌≡◌, ◌≢◌, ◌⊎◌, ℕ, ◌+◌, ◌<◌, ◌≤◌, Bool, true, false, eqb, List, [], ◌∷◌, ◌++◌, map, append-nil, append_assoc, Option, None, Some, refl, sym, ap, subst, ◌∙◌, true≢false, arith}
 use mathlib.Core.Logic.{inl, inr}
 use Rattle.std.specs.List.{filter}
-use Rattle.std.proofs.lemmas.Bool.{cases_eq}
+use Rattle.std.proofs.lemmas.Bool.{cases_eq, eqb-true}
 use Rattle.std.proofs.lemmas.Option.{same_Some}
 use Rattle.wl_wire.specs.Table.{registry_id}
 use Rattle.wl_link.specs.declared.object.Object.{Object}
@@ -22,7 +22,6 @@ use Rattle.wl_server.specs.Ids.{ClientParts, GlobalParts, IdParts}
 use Rattle.wl_server.specs.Part.{Part, id_of, registries_without, same_id, with_user_data}
 use Rattle.wl_server.proofs.OverRuns.Announced.ShownLaws.{IsShown, among_shown, shown_among}
 use Rattle.wl_server.specs.Telling.{Core, introductions}
-use Rattle.std.proofs.lemmas.Bool.{eqb-true}
 
 -- what of a client its registries depend on
 pub record Scene (U C : Type 0) : Type 0 where

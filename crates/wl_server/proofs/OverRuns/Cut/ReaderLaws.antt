@@ -5,8 +5,7 @@ use Rattle.std.specs.Prelude.{MatchOption}
 use Rattle.wl_wire.specs.declared.error.IoFault.{IoFault}
 use Rattle.wl_link.specs.Exchange.{Queue, Sending}
 use Rattle.wl_link.specs.Link.{LinkState}
-use Rattle.wl_link.specs.Reader.{CarriesOut, Ends, Given, Verdict, came_to, put_and_gave}
-use Rattle.wl_link.specs.Reader.{ReaderState}
+use Rattle.wl_link.specs.Reader.{CarriesOut, Ends, Given, Verdict, came_to, put_and_gave, ReaderState}
 use Rattle.wl_server.specs.declared.reading.action.OpenAction.{OpenAction}
 use Rattle.wl_server.specs.declared.reading.action.OpenAction.TheVariants as opened
 use Rattle.wl_server.specs.declared.error.FinishError.{FinishError}

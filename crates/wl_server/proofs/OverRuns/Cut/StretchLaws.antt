@@ -1,7 +1,7 @@
 -- That what a stretch of a client's own run gives is what is served of all that arrived.
 --
 -- Its entries are acts of the client as a reader: those that are refused change nothing, and are none.
-use Rattle.std.proofs.Common.{◌≡◌, ◌⊎◌, ℕ, Bool, true, false, List, [], ◌∷◌, ◌++◌, append_assoc, append-nil, Option, None, Some, Result, Ok, Err, map, refl, sym, ap, ap₂, subst, ◌∙◌, true≢false, arith}
+use Rattle.std.proofs.Common.{◌≡◌, ◌⊎◌, ℕ, Bool, true, false, List, [], ◌∷◌, ◌++◌, append_assoc, append-nil, Option, None, Some, Result, Ok, Err, map, refl, sym, ap, ap₂, subst, ◌∙◌, true≢false, arith, is_none, is_ok}
 use mathlib.Core.Logic.{inl, inr}
 use Rattle.std.proofs.lemmas.Option.{same_Some, none-some}
 use Rattle.std.specs.Prelude.{MatchBool}
@@ -28,10 +28,10 @@ use Rattle.wl_server.specs.declared.runs.step.Reply.{Reply}
 use Rattle.wl_server.specs.declared.runs.step.Reply.TheVariants as reply
 use Rattle.wl_server.specs.declared.runs.step.Step.{Step}
 use Rattle.wl_server.specs.declared.runs.step.Step.TheVariants as step
-use Rattle.wl_server.proofs.OverRuns.Cut.AnswerLaws.{IsSound, ReadsSo, action_first, answers_both, beside_both, beside_sends, beside_turns, ends_so, first_of, on_of, reads_so}
+use Rattle.wl_server.proofs.OverRuns.Cut.AnswerLaws.{IsSound, ReadsSo, action_first, answers_both, beside_both, beside_sends, beside_turns, ends_so, first_of, on_of, reads_so, killed_later}
 use Rattle.wl_server.proofs.OverRuns.Cut.CuttingLaws.{of_part}
 use Rattle.wl_server.specs.Deeds.{Deed, Handed, Sent}
-use Rattle.wl_server.specs.Finish.{FinishesBind, FinishesRequest}
+use Rattle.wl_server.specs.Finish.{FinishesBind, FinishesRequest, finishing}
 use Rattle.wl_server.specs.Globals.{Offer}
 use Rattle.wl_server.specs.Ids.{ClientParts, GlobalParts}
 use Rattle.wl_server.proofs.OverRuns.Alone.IsolationLaw.{alone_run}
@@ -47,10 +47,6 @@ use Rattle.wl_server.specs.Steps.{Entry}
 use Rattle.wl_server.specs.Stretches.{AllHeard, EachPartIsCut, EndsWaiting, IsHeard, StretchIsServed, IsStretch, IsStretchWithin, SameLeft, handed_out, answers_in, arrived, arrived_by, beside_exchanges, finished, finished_by, left_in, reading_by, told_by, was_killed}
 use Rattle.wl_server.specs.Telling.{Core, Finish, OfBind, OfRequest, Told, core_of, deeds_in, deeds_of, end_deeds, part_of, reader_part}
 use Rattle.wl_server.proofs.Readings.OneMessage.{deeds_append}
-use Rattle.wl_server.proofs.OverRuns.Cut.AnswerLaws.{killed_later}
-use Rattle.std.proofs.Common.{is_none}
-use Rattle.std.proofs.Common.{is_ok}
-use Rattle.wl_server.specs.Finish.{finishing}
 
 -- ---- what a reading told
 

@@ -1,5 +1,5 @@
 -- What holds of any id that names an object at some point of a run.
-use Rattle.std.proofs.Common.{◌≡◌, ℕ, ◌≤◌, Bool, List, [], ◌∷◌, ◌++◌, Option, Some, Ok, refl, ap, subst, ◌∙◌, arith}
+use Rattle.std.proofs.Common.{◌≡◌, ℕ, ◌≤◌, Bool, List, [], ◌∷◌, ◌++◌, Option, Some, Ok, refl, ap, subst, ◌∙◌, arith, true≢false}
 use Rattle.std.specs.Prelude.{if◌then◌else◌}
 use Rattle.wl_wire.specs.Table.{InterfaceRow}
 use Rattle.wl_link.specs.Identity.{OwnsExactly}
@@ -23,7 +23,6 @@ use Rattle.wl_server.specs.Steps.{Entry, offer_after}
 use Rattle.wl_server.proofs.OverRuns.Alone.IsolationLaw.{alone_run, each_alone, numbered, offer_over_one, offer_run, one_more, split_run}
 use Rattle.wl_server.proofs.OverRuns.Alone.OwnRuns.{AreMine, are_mine}
 use Rattle.wl_server.proofs.OverRuns.Ids.IdentityLaws.{InParts, in_parts, names_of, own_by}
-use Rattle.std.proofs.Common.{true≢false}
 
 module _ {T U G C : Type 0} (w : World T G C) (id : ClientParts) where
   -- the parts of a client's run from its insertion on

@@ -15,7 +15,7 @@ use Rattle.wl_server.specs.PartStep.{World, Asked, Call, CleanedAs, PartCall, Re
 use Rattle.wl_server.specs.Runs.{IsNotInserted, Leads, concerns}
 use Rattle.wl_server.specs.Server.{Seen, ServerState, new_server, seen}
 use Rattle.wl_server.specs.Steps.{Entry, OneStep}
-use Rattle.wl_server.proofs.OverRuns.Alone.IsolationLaw.{known_before, other_call}
+use Rattle.wl_server.proofs.OverRuns.Alone.IsolationLaw.{known_before, other_call, later_differs, numbered}
 use Rattle.std.specs.Prelude.{Vec}
 use Rattle.std.specs.Global.{Global}
 use Rattle.std.proofs.lemmas.Bool.{false≢true}
@@ -34,8 +34,6 @@ use Rattle.wl_server.proofs.OverRuns.Moves.BaseMoves.{Doings, Goes, notes_taken,
 use Rattle.wl_server.proofs.OverRuns.Moves.BaseMovesLaw.{call_goes, call_moves}
 use Rattle.wl_wire.specs.declared.error.IoFault.{IoFault}
 use Rattle.wl_link.specs.Exchange.{Queue}
-use Rattle.wl_server.proofs.OverRuns.Alone.IsolationLaw.{later_differs}
-use Rattle.wl_server.proofs.OverRuns.Alone.IsolationLaw.{numbered}
 
 -- ---- that a killed client stays killed, and opens no action, over the base moves of whatever is done with its part
 

@@ -40,10 +40,10 @@ use Rattle.wl_server.specs.Globals.{Offer}
 use Rattle.wl_server.specs.Ids.{ClientParts, GlobalParts, IdParts, same_client}
 use Rattle.wl_server.specs.Moves.{Move, Moved}
 use Rattle.wl_server.specs.NotedEnds.Errors.{MayKillFor}
-use Rattle.wl_server.proofs.OverRuns.Moves.MovesOfCalls.{creates_moves, destroys_moves, finishes_bind_moves, finishes_moves, kills_moves, posts_moves, sends_moves, tells_comes}
+use Rattle.wl_server.proofs.OverRuns.Moves.MovesOfCalls.{creates_moves, destroys_moves, finishes_bind_moves, finishes_moves, kills_moves, posts_moves, sends_moves, tells_comes, writes}
 use Rattle.wl_server.proofs.OverRuns.Moves.MovesOfReadings.{next_action_moves}
 use Rattle.wl_server.proofs.OverRuns.Moves.MovesOfVerdicts.{Go, same_doings, tells_moves}
-use Rattle.wl_server.specs.Part.{Part, end_note, fresh_part, id_at, id_of, with_link}
+use Rattle.wl_server.specs.Part.{Part, end_note, fresh_part, id_at, id_of, with_link, named}
 use Rattle.wl_server.specs.Objects.{Creates}
 use Rattle.wl_server.specs.PartStep.{Asked, Call, Changed, CleanedAs, FeelsGlobal, FeelsLoss, FlushedFor, Grown, InsertedAs, MovedFor, NotesTaken, OfClient, OnPart, PartCall, PartStep, ReadsFor, Unfelt, World, around}
 use Rattle.wl_server.specs.Runs.{concerns, is_about}
@@ -51,8 +51,6 @@ use Rattle.wl_server.specs.Server.{Seen}
 use Rattle.wl_server.specs.Telling.{core_of, tells}
 use Rattle.wl_link.specs.Identity.{HandedId}
 use Rattle.wl_server.proofs.ObjectCalls.Destroying.{named_is_held}
-use Rattle.wl_server.proofs.OverRuns.Moves.MovesOfCalls.{writes}
-use Rattle.wl_server.specs.Part.{named}
 
 -- ---- the objects of a client that is taken out
 

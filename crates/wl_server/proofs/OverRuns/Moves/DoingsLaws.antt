@@ -4,9 +4,8 @@ use Rattle.wl_wire.specs.declared.error.IoFault.{IoFault}
 use Rattle.wl_link.specs.Exchange.{Queue, Sending}
 use Rattle.wl_link.specs.Puts.{Said}
 use Rattle.wl_link.specs.Reader.{Given, HandedOut, Queued, Received, Handled, Unread, Turn, put_and_gave}
-use Rattle.wl_server.specs.Deeds.{came_in}
+use Rattle.wl_server.specs.Deeds.{came_in, Acted, Came, Deed, Handed, Left, Noted, NoteTaken, Put, Remembered, Sent, notes_in, sends_of}
 use Rattle.wl_server.proofs.OverRuns.Moves.BaseMoves.{Doings, acted_in, all_action_ids, doings_of, joined, nothing_done, noting, putting, sending}
-use Rattle.wl_server.specs.Deeds.{Acted, Came, Deed, Handed, Left, Noted, NoteTaken, Put, Remembered, Sent, notes_in, sends_of}
 use Rattle.wl_server.specs.Reading.{exchanges_in}
 use Rattle.wl_server.specs.Telling.{Core, Told, deeds_in, deeds_of, end_deeds}
 use Rattle.wl_link.specs.Identity.{HandedId}

@@ -18,12 +18,11 @@ use Rattle.wl_server.specs.declared.notes.Happening.{Happening}
 use Rattle.wl_server.proofs.OverRuns.Moves.BaseMoves.{Doings, Kind, MayRead, followed, joined, moved, noting, putting, received, receiving, relinked, sending, stayed}
 use Rattle.wl_server.specs.Deeds.{Came, Deed, Handed, Put, Sent, notes_in}
 use Rattle.wl_server.proofs.OverRuns.Moves.DoingsLaws.{IsQuiet, deeds_done, doings_in, doings_in_both, doings_puts, doings_sends, end_of, joined_none, turns_done, verdict_done}
-use Rattle.wl_server.proofs.OverRuns.Moves.MovesOfRequests.{handles_comes}
+use Rattle.wl_server.proofs.OverRuns.Moves.MovesOfRequests.{handles_comes, garbled_comes}
 use Rattle.wl_server.proofs.OverRuns.Moves.MovesOfVerdicts.{Comes, Ends, Go, IsCalm, carried, ends_killed, ends_not, same_doings}
 use Rattle.wl_server.specs.Part.{Part}
 use Rattle.wl_server.specs.Reading.{Around, NextAction, exchanges_in, faulted, reads_on, server}
 use Rattle.wl_server.specs.Telling.{Core, Told, deeds_in, deeds_of, end_deeds, part_of, reader_part}
-use Rattle.wl_server.proofs.OverRuns.Moves.MovesOfRequests.{garbled_comes}
 
 module _ {T : Type 0} where
   read_waits : (looks_up : ℕ → ℕ → Option (List ArgumentType) → Type 0) (before after : LinkState T) (answer : Result WireMessage MessageParseError)

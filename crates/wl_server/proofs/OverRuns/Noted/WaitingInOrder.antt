@@ -30,22 +30,19 @@ use Rattle.wl_server.specs.Runs.{Leads, concerns}
 use Rattle.wl_server.specs.Server.{NoteTimes, Seen, ServerState, Stored, client_at, if_serial, new_server, notes_of, seen, stored_at, told_of}
 use Rattle.wl_server.specs.Steps.{Entry, GathersNotes, NotesGoOn, OneStep, StepOf}
 use Rattle.wl_server.proofs.CallSteps.Numbering.{GivesWithin, all_waiting, no_numbers, rise_up, within_both, within_none}
-use Rattle.wl_server.proofs.CallSteps.Slots.{slot_of_client}
+use Rattle.wl_server.proofs.CallSteps.Slots.{slot_of_client, same_slots}
 use Rattle.wl_server.proofs.CleanupSteps.Gathering.{notes_append}
 use Rattle.wl_server.proofs.OverRuns.Alone.IsolationLaw.{numbered, other_call}
 use Rattle.wl_server.proofs.OverRuns.Moves.BaseMoves.{Doings, Goes, Moves, any, followed, handed_out, notes_taken, moved, stayed, taken_out, unfelt, within}
 use Rattle.wl_server.proofs.OverRuns.Moves.BaseMovesLaw.{call_goes, gathers_in}
-use Rattle.wl_server.proofs.OverRuns.Noted.NotesInOrder.{Drains, begins_so, cleanup_drains, happening_of, id_of, made_of, one_client, own_first, run_numbers, slot_is}
+use Rattle.wl_server.proofs.OverRuns.Noted.NotesInOrder.{Drains, begins_so, cleanup_drains, happening_of, id_of, made_of, one_client, own_first, run_numbers, slot_is, note_is}
 use Rattle.wl_server.proofs.OverRuns.Noted.PlacesInOrder.{sorted_of}
 use Rattle.wl_server.proofs.OverRuns.Noted.WaitingPlaces.{Parted, made_places, made_so, parted, waiting_first, waiting_places}
 use Rattle.wl_server.proofs.OverRuns.Outcome.SameNotes.{fronts_one}
 use Rattle.wl_server.proofs.OverRuns.Outcome.ShareLaws.{same_client_is}
 use Rattle.wl_server.proofs.OverRuns.Outcome.WholeLaws.{found as stored_found}
 use Rattle.wl_server.proofs.CleanupSteps.Cleaning.{noted_notes}
-use Rattle.wl_server.proofs.Touched.Gathered.{none_first}
-use Rattle.wl_server.proofs.Touched.Gathered.{times_stored}
-use Rattle.wl_server.proofs.CallSteps.Slots.{same_slots}
-use Rattle.wl_server.proofs.OverRuns.Noted.NotesInOrder.{note_is}
+use Rattle.wl_server.proofs.Touched.Gathered.{none_first, times_stored}
 
 -- ---- lists
 

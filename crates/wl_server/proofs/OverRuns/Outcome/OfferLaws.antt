@@ -1,6 +1,6 @@
 -- That the offer after a run has one outcome: the shared calls determine it.
 use Rattle.std.proofs.Common.{◌≡◌, Bool, true, false, List, [], ◌∷◌, Result, refl, sym, ap, subst, ◌∙◌, true≢false, arith}
-use Rattle.std.specs.Prelude.{if◌then◌else◌}
+use Rattle.std.specs.Prelude.{if◌then◌else◌, nat_le, slice_get}
 use Rattle.wl_wire.specs.declared.protocol.TableError.{TableError}
 use Rattle.wl_wire.specs.Table.{AnswersGrowth, InterfaceRow, grown}
 use Rattle.wl_wire.proofs.Growth.{AnswersGrowth-unique}
@@ -9,7 +9,7 @@ use Rattle.wl_server.specs.declared.runs.step.Reply.{Reply}
 use Rattle.wl_server.specs.declared.runs.step.Reply.TheVariants as reply
 use Rattle.wl_server.specs.declared.runs.step.Step.{Step}
 use Rattle.wl_server.specs.declared.runs.step.Step.TheVariants as step
-use Rattle.wl_server.specs.Globals.{Offer, with_table}
+use Rattle.wl_server.specs.Globals.{Offer, with_table, name_range}
 use Rattle.wl_server.specs.Ids.{ClientParts, GlobalParts}
 use Rattle.wl_server.proofs.OverRuns.Alone.IsolationLaw.{offer_run}
 use Rattle.wl_server.specs.Outcome.{AreAmple, AreNumbered, AreOwn, OffersHaveOneOutcome, SameCall, SameSteps, SharedAnswer, SharedSame}
@@ -17,12 +17,8 @@ use Rattle.wl_server.specs.PartStep.{Asked, Call, Changed, Grown, World}
 use Rattle.wl_server.specs.Runs.{Leads, Own, concerns, is_about, mine, offer_over, own_of}
 use Rattle.wl_server.specs.Server.{ServerState, new_server}
 use Rattle.wl_server.specs.Steps.{Entry, AnswersShared, lacks_growth, offer_after}
-use Rattle.std.specs.Prelude.{nat_le}
-use Rattle.std.specs.Prelude.{slice_get}
-use Rattle.wl_link.proofs.Calls.NumberLaws.{full_not_absent}
-use Rattle.wl_link.proofs.Calls.NumberLaws.{least_absent_one}
+use Rattle.wl_link.proofs.Calls.NumberLaws.{full_not_absent, least_absent_one}
 use Rattle.wl_server.proofs.OverRuns.Outcome.NumberLaws.{global_is}
-use Rattle.wl_server.specs.Globals.{name_range}
 
 -- ---- interfaces that were to be added
 

@@ -1,6 +1,6 @@
 -- That what a client's own calls and the shared ones lead to alone is one outcome, where memory is not refused and what a
 -- transport answers and becomes follows from its value.
-use Rattle.std.proofs.Common.{◌≡◌, Bool, true, false, List, [], ◌∷◌, ◌++◌, Option, None, Some, Result, Ok, Err, refl, sym, ap, subst, ◌∙◌, true≢false, arith}
+use Rattle.std.proofs.Common.{◌≡◌, Bool, true, false, List, [], ◌∷◌, ◌++◌, Option, None, Some, Result, Ok, Err, refl, sym, ap, subst, ◌∙◌, true≢false, arith, map}
 use mathlib.Core.Logic.{inl, inr}
 use Rattle.wl_wire.specs.declared.error.IoFault.{IoFault}
 use Rattle.wl_link.proofs.Calls.Branches.{both_bool}
@@ -21,19 +21,16 @@ use Rattle.wl_server.specs.Moves.{Moved, nothing_taken, taken}
 use Rattle.wl_link.proofs.Calls.NumberLaws.{fresh_one}
 use Rattle.wl_server.proofs.OverRuns.Outcome.Determined.{IsDetermined}
 use Rattle.wl_server.specs.Outcome.{SameAnswer, SameCall, SameOutcome, SameReply, SameStep, SendsSame, SharedAnswer, SharedSame}
-use Rattle.wl_server.specs.Part.{Part, fresh_part}
-use Rattle.wl_server.proofs.OverRuns.Outcome.PartOutcome.{SameEnd, SameFelt, creates_one, destroys_one, finishes_request_one, flushed_one, hears_one, limits_one, moves_one, next_action_one, posts_error_one, same_felt, sends_event_one, sets_one}
+use Rattle.wl_server.specs.Part.{Part, fresh_part, with_link}
+use Rattle.wl_server.proofs.OverRuns.Outcome.PartOutcome.{SameEnd, SameFelt, creates_one, destroys_one, finishes_request_one, flushed_one, hears_one, limits_one, moves_one, next_action_one, posts_error_one, same_felt, sends_event_one, sets_one, same_end}
 use Rattle.wl_server.specs.PartStep.{Asked, Call, Changed, CleanedAs, FlushedFor, Grown, InsertedAs, MovedFor, OfClient, OnPart, PartCall, PartStep, Unfelt, World, around, share_of}
 use Rattle.wl_server.specs.Reading.{action_content, new_reading}
 use Rattle.wl_server.specs.Runs.{concerns, is_about}
 use Rattle.wl_server.specs.Server.{Seen}
 use Rattle.wl_server.specs.Steps.{lacks_growth}
-use Rattle.wl_server.proofs.OverRuns.Outcome.PartOutcome.{same_end}
-use Rattle.std.proofs.Common.{map}
 use Rattle.wl_link.proofs.Calls.OneLaws.{one_flush_lem}
 use Rattle.wl_link.proofs.Readings.PutsLaws.{not_lacked}
 use Rattle.wl_server.specs.Felt.{objects_leave}
-use Rattle.wl_server.specs.Part.{with_link}
 
 -- ---- replies
 

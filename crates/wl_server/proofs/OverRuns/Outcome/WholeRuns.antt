@@ -10,7 +10,7 @@ use Rattle.wl_server.specs.declared.runs.step.Reply.TheVariants as reply
 use Rattle.wl_server.specs.declared.runs.step.Step.{Step}
 use Rattle.wl_server.specs.declared.runs.step.Step.TheVariants as step
 use Rattle.wl_server.specs.Deeds.{Deed}
-use Rattle.wl_server.specs.Globals.{Offer}
+use Rattle.wl_server.specs.Globals.{Offer, with_table}
 use Rattle.wl_server.specs.Ids.{ClientParts}
 use Rattle.wl_server.proofs.OverRuns.Outcome.NumberLaws.{inserts_next_one}
 use Rattle.wl_server.proofs.OverRuns.Outcome.Determined.{IsDetermined}
@@ -21,12 +21,10 @@ use Rattle.wl_server.specs.PartStep.{Asked, Call, Changed, Grown, PartCall, Part
 use Rattle.wl_server.proofs.OverRuns.Outcome.OfferLaws.{growth_same, offer_one, shared_same}
 use Rattle.wl_server.specs.Server.{Seen, ServerState, seen}
 use Rattle.wl_server.specs.Steps.{Entry, InsertsNext, NumbersClient, AnswersShared, OneStep, RisesBySlot, inserted_by, lacks_growth, offer_after}
-use Rattle.wl_server.proofs.OverRuns.Outcome.SameNotes.{notes_one}
+use Rattle.wl_server.proofs.OverRuns.Outcome.SameNotes.{notes_one, out_one}
 use Rattle.wl_server.proofs.OverRuns.Outcome.WholeLaws.{ample_by, inserts_there, slots_same, whole_one}
 use Rattle.wl_server.specs.Outcome.Whole.{HoldsSame, PerformancesHaveOneOutcome, RunsHaveOneOutcome, SameServer, WholeAnswer}
 use Rattle.wl_server.proofs.OverRuns.Noted.NotesInOrder.{takes_of}
-use Rattle.wl_server.proofs.OverRuns.Outcome.SameNotes.{out_one}
-use Rattle.wl_server.specs.Globals.{with_table}
 use Rattle.wl_wire.specs.Table.{grown}
 
 module _ {T U G C : Type 0} where

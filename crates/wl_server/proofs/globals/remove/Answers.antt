@@ -1,7 +1,6 @@
-use Rattle.std.proofs.Common.{◌∙◌, ap, not}
+use Rattle.std.proofs.Common.{◌∙◌, ap, not, arith}
 use Rattle.wl_server.proofs.GlobalCalls.AtName.{nothing_freed, one_freed}
 use Rattle.wl_server.proofs.globals.remove.Goals as goal
-use Rattle.std.proofs.Common.{arith}
 
 pub returns-then-is_none : goal.returns-then-is_none
 returns-then-is_none g c = λ last. nothing_freed _ _ last ((grind (arith, c.global_in.ensures, c.is_none.ensures)) ∙ ap not c.if-is_none.true)

@@ -1,5 +1,5 @@
 use Rattle.wl_server.proofs.OverRuns.Cut.CuttingLaws.{histories_cut, one_served, reading_cuts, some_served}
-use Rattle.wl_server.specs.PartStep.{over}
+use Rattle.wl_server.specs.PartStep.{over, around}
 use Rattle.wl_server.proofs.laws.cutting_does_not_matter_to_a_client.Goals as goal
 use Rattle.wl_link.proofs.Readings.CuttingLaws.{finish_law}
 use Rattle.wl_link.proofs.Readings.ServedLaws.{told_function}
@@ -8,14 +8,9 @@ use Rattle.wl_server.specs.Reading.{server}
 use Rattle.std.proofs.Common.{arith}
 use Rattle.wl_server.proofs.OverRuns.Alone.IsolationLaw.{is_isolated}
 use Rattle.wl_server.proofs.OverRuns.Alone.OwnRuns.{are_mine}
-use Rattle.wl_server.proofs.OverRuns.Cut.BufferLaws.{fresh_holds}
-use Rattle.wl_server.proofs.OverRuns.Cut.BufferLaws.{holds_at}
-use Rattle.wl_server.proofs.OverRuns.Cut.BufferLaws.{run_holds}
+use Rattle.wl_server.proofs.OverRuns.Cut.BufferLaws.{fresh_holds, holds_at, run_holds}
 use Rattle.wl_server.specs.Globals.{new_offer}
-use Rattle.wl_server.specs.PartStep.{around}
-use Rattle.wl_server.specs.Runs.{just_inserted}
-use Rattle.wl_server.specs.Runs.{mine}
-use Rattle.wl_server.specs.Runs.{offer_over}
+use Rattle.wl_server.specs.Runs.{just_inserted, mine, offer_over}
 use Rattle.wl_server.specs.Server.{seen}
 use Rattle.wl_server.specs.Telling.{reader_part}
 

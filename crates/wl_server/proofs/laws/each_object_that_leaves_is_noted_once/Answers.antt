@@ -2,10 +2,8 @@ use Rattle.wl_server.proofs.OverRuns.Noted.NotedLaws.{each_is_noted}
 use Rattle.wl_server.proofs.OverRuns.Noted.NotedEnds.{each_note_is_of_an_end, end_is_noted_at_once}
 use Rattle.wl_server.proofs.OverRuns.Noted.NotedSoon.{finish_notes_at_once}
 use Rattle.wl_server.proofs.laws.each_object_that_leaves_is_noted_once.Goals as goal
-use Rattle.std.proofs.Common.{arith}
-use Rattle.std.proofs.Common.{true≢false}
-use Rattle.wl_link.proofs.Calls.Branches.{either_bool}
-use Rattle.wl_link.proofs.Calls.Branches.{either_option}
+use Rattle.std.proofs.Common.{arith, true≢false}
+use Rattle.wl_link.proofs.Calls.Branches.{either_bool, either_option}
 
 pub returns-clause-noted : goal.returns-clause-noted
 returns-clause-noted g c = λ table run after leads. each_is_noted _ table run after leads

@@ -1,8 +1,7 @@
 use Rattle.wl_server.specs.Dispatch.{answering}
 use Rattle.wl_server.specs.PartStep.{over}
-use Rattle.wl_server.proofs.Dispatches.Receiving.{dispatch_bounded, parts_bounded}
+use Rattle.wl_server.proofs.Dispatches.Receiving.{dispatch_bounded, parts_bounded, keeps_to}
 use Rattle.wl_server.proofs.laws.each_reading_receives_within_its_bound.Goals as goal
-use Rattle.wl_server.proofs.Dispatches.Receiving.{keeps_to}
 use Rattle.wl_server.specs.Server.{seen}
 
 pub returns-clause-call : goal.returns-clause-call

@@ -1,27 +1,16 @@
 use Rattle.wl_wire.proofs.Growth.{AnswersGrowth-unique}
 use Rattle.wl_server.proofs.OverRuns.Outcome.MoveLaws.{scripts_determined, transport_determined}
-use Rattle.wl_server.proofs.OverRuns.Outcome.NumberLaws.{inserts_next_one}
+use Rattle.wl_server.proofs.OverRuns.Outcome.NumberLaws.{inserts_next_one, global_is}
 use Rattle.wl_server.proofs.OverRuns.Outcome.ShareLaws.{shares_one}
 use Rattle.wl_server.proofs.OverRuns.Outcome.WholeRuns.{performance_one, run_one}
 use Rattle.wl_server.proofs.laws.each_run_of_a_server_has_one_outcome.Goals as goal
 use Rattle.std.proofs.Common.{arith}
-use Rattle.std.specs.Prelude.{option_map}
+use Rattle.std.specs.Prelude.{option_map, nat_le, slice_get}
 use Rattle.wl_link.specs.Store.{held}
-use Rattle.wl_server.proofs.OverRuns.Outcome.LookupLaws.{client_one}
-use Rattle.wl_server.proofs.OverRuns.Outcome.LookupLaws.{live_one}
-use Rattle.wl_server.proofs.OverRuns.Outcome.LookupLaws.{object_one}
-use Rattle.wl_server.proofs.OverRuns.Outcome.LookupLaws.{slot_one}
-use Rattle.wl_server.specs.Lookups.{and_then}
-use Rattle.wl_server.specs.Lookups.{global_info_of}
-use Rattle.wl_server.specs.Lookups.{id_if}
-use Rattle.wl_server.specs.Lookups.{info_at}
-use Rattle.wl_server.specs.Lookups.{name_if}
+use Rattle.wl_server.proofs.OverRuns.Outcome.LookupLaws.{client_one, live_one, object_one, slot_one}
+use Rattle.wl_server.specs.Lookups.{and_then, global_info_of, id_if, info_at, name_if}
 use Rattle.wl_server.specs.Server.{stored_at}
-use Rattle.std.specs.Prelude.{nat_le}
-use Rattle.std.specs.Prelude.{slice_get}
-use Rattle.wl_link.proofs.Calls.NumberLaws.{full_not_absent}
-use Rattle.wl_link.proofs.Calls.NumberLaws.{least_absent_one}
-use Rattle.wl_server.proofs.OverRuns.Outcome.NumberLaws.{global_is}
+use Rattle.wl_link.proofs.Calls.NumberLaws.{full_not_absent, least_absent_one}
 use Rattle.wl_server.specs.Globals.{name_range}
 
 pub returns-clause-run : goal.returns-clause-run

@@ -1,11 +1,7 @@
-use Rattle.std.proofs.Common.{sym, subst}
+use Rattle.std.proofs.Common.{sym, subst, arith}
 use Rattle.std.specs.String.{string_bytes}
-use Rattle.wl_server.proofs.Readings.Texts.{IsFree}
+use Rattle.wl_server.proofs.Readings.Texts.{IsFree, behind, free_both, free_decimal}
 use Rattle.wl_server.proofs.posted_errors.bind_text.Goals as goal
-use Rattle.std.proofs.Common.{arith}
-use Rattle.wl_server.proofs.Readings.Texts.{behind}
-use Rattle.wl_server.proofs.Readings.Texts.{free_both}
-use Rattle.wl_server.proofs.Readings.Texts.{free_decimal}
 
 pub c_string-requires : goal.c_string-requires
 c_string-requires c = subst IsFree (sym c.in_ok-text.ensures.ok)

@@ -1,8 +1,7 @@
 use Rattle.std.proofs.Common.{sym, subst, arith}
 use Rattle.std.proofs.lemmas.Grind.{common_steps}
-use Rattle.wl_server.proofs.Readings.Texts.{IsFree, free_null_text, free_unknown_text, one_name}
+use Rattle.wl_server.proofs.Readings.Texts.{IsFree, free_null_text, free_unknown_text, one_name, free_name}
 use Rattle.wl_server.proofs.posted_errors.fault_text.Goals as goal
-use Rattle.wl_server.proofs.Readings.Texts.{free_name}
 
 pub c_string-requires : goal.c_string-requires
 c_string-requires c = subst IsFree (sym c.in_ok-text-in-UnknownId.ensures.ok) (free_unknown_text c.in-UnknownId.number)

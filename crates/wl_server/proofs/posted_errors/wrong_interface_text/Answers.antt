@@ -1,8 +1,7 @@
 use Rattle.std.proofs.Common.{◌∙◌, ap, sym, subst}
 use Rattle.wl_wire.specs.Table.{holds_zero}
-use Rattle.wl_server.proofs.Readings.Texts.{IsFree, free_interface_text, one_name}
+use Rattle.wl_server.proofs.Readings.Texts.{IsFree, free_interface_text, one_name, free_name}
 use Rattle.wl_server.proofs.posted_errors.wrong_interface_text.Goals as goal
-use Rattle.wl_server.proofs.Readings.Texts.{free_name}
 
 pub c_string-requires : goal.c_string-requires
 c_string-requires c =

@@ -1,4 +1,4 @@
-use Rattle.std.proofs.Common.{◌≡◌, Bool, List, Result, Err, ap, refl, sym}
+use Rattle.std.proofs.Common.{◌≡◌, Bool, List, Result, Err, ap, refl, sym, arith, true≢false}
 use Rattle.wl_wire.specs.declared.protocol.TableError.{TableError}
 use Rattle.wl_wire.specs.declared.protocol.TableError.TheVariants as table_error
 use Rattle.wl_wire.specs.Table.{InterfaceRow, interface_rows, refused_growth}
@@ -8,8 +8,6 @@ use Rattle.wl_server.specs.Steps.{lacks_growth}
 use Rattle.wl_server.proofs.CallSteps.Feeling.{makes_unfelt}
 use Rattle.wl_server.proofs.OverRuns.Alone.AccountLaws.{is_growth}
 use Rattle.wl_server.proofs.backend.Backend.add_interfaces.Goals as goal
-use Rattle.std.proofs.Common.{arith}
-use Rattle.std.proofs.Common.{true≢false}
 use Rattle.wl_server.specs.Server.{seen}
 
 lacked : (T U G C : Type 0) (rows : List InterfaceRow) (r : Result (Unit {0}) TableError) (refused : Bool) → refused ≡ refused_growth r

@@ -22,8 +22,7 @@ use Rattle.wl_server.proofs.backend.Backend.create_global.Goals as goal
 use Rattle.wl_server.proofs.backend.Backend.create_global.Goals.{in-OutOfMemory, in_default}
 use Rattle.wl_server.proofs.CleanupSteps.Taken.{taken_felt}
 use Rattle.wl_server.proofs.Touched.Kept.{out_none}
-use Rattle.wl_server.specs.Inside.Touched.{HasSent}
-use Rattle.wl_server.specs.Inside.Touched.{IsQuiet}
+use Rattle.wl_server.specs.Inside.Touched.{HasSent, IsQuiet}
 
 felt : {T U G C : Type 0} (i : InterfaceId) (version : ℕ) (handler : G) (answer : Result GlobalParts GlobalError)
     → IsFelt {T = T} {U = U} {G = G} {C = C} (Asked (step.CreateGlobal i version handler) (reply.CreateGlobal answer))

@@ -1,10 +1,9 @@
 use Rattle.std.proofs.Common.{arith}
 use Rattle.wl_server.specs.Dispatch.{answering}
 use Rattle.wl_server.specs.PartStep.{over}
-use Rattle.wl_server.proofs.Dispatches.Serving.{all_served, dispatches_all, one_more}
+use Rattle.wl_server.proofs.Dispatches.Serving.{all_served, dispatches_all, one_more, each_none}
 use Rattle.wl_server.proofs.Plain.Dispatch.{dispatches_leave}
 use Rattle.wl_server.proofs.backend.Backend.dispatch_all_clients.Goals as goal
-use Rattle.wl_server.proofs.Dispatches.Serving.{each_none}
 
 pub loop-client-init : goal.loop-client-init
 loop-client-init g c = grind (arith, each_none, over, answering)

@@ -2,8 +2,7 @@ use Rattle.std.proofs.lemmas.Result.{err_from_is_err_and}
 use Rattle.wl_server.proofs.backend.Backend.next_action.Goals as goal
 use Rattle.std.proofs.Common.{arith}
 use Rattle.wl_server.proofs.OverRuns.Cut.RoomLaws.{reads_for_room}
-use Rattle.wl_server.specs.Reading.{action_content}
-use Rattle.wl_server.specs.Reading.{new_reading}
+use Rattle.wl_server.specs.Reading.{action_content, new_reading}
 use Rattle.wl_server.specs.Server.{seen}
 
 pub returns-in_err-next_action_into-clause-cutting : goal.returns-in_err-next_action_into-clause-cutting

@@ -4,8 +4,7 @@ use Rattle.wl_server.proofs.Plain.Reading.{next_action_reads}
 use Rattle.wl_server.proofs.backend.Backend.next_action_into.Goals as goal
 use Rattle.std.proofs.Common.{arith}
 use Rattle.wl_server.proofs.OverRuns.Cut.RoomLaws.{reads_for_room}
-use Rattle.wl_server.specs.Reading.{action_content}
-use Rattle.wl_server.specs.Reading.{new_reading}
+use Rattle.wl_server.specs.Reading.{action_content, new_reading}
 use Rattle.wl_server.specs.Server.{seen}
 
 pub returns-clause-call : goal.returns-clause-call

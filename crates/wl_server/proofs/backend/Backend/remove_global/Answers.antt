@@ -11,8 +11,7 @@ use Rattle.wl_server.proofs.Plain.Globals.{removes_global}
 use Rattle.wl_server.proofs.backend.Backend.remove_global.Goals as goal
 use Rattle.wl_server.proofs.CleanupSteps.Taken.{taken_felt}
 use Rattle.wl_server.proofs.Touched.Kept.{out_none}
-use Rattle.wl_server.specs.Inside.Touched.{HasSent}
-use Rattle.wl_server.specs.Inside.Touched.{IsQuiet}
+use Rattle.wl_server.specs.Inside.Touched.{HasSent, IsQuiet}
 
 pub returns-then-was_enabled-clause-call : goal.returns-then-was_enabled-clause-call
 returns-then-was_enabled-clause-call g c =

@@ -1,4 +1,4 @@
-use Rattle.std.proofs.Common.{◌≡◌, ◌∙◌, List, Option, Some, option_map, sym, ap, inl, refl}
+use Rattle.std.proofs.Common.{◌≡◌, ◌∙◌, List, Option, Some, option_map, sym, ap, inl, refl, arith}
 use Rattle.std.proofs.Math.Path.{fun_ext}
 use Rattle.std.specs.Prelude.{slice_set}
 use Rattle.std.specs.Option.{option_map_or}
@@ -16,7 +16,6 @@ use Rattle.wl_server.proofs.CleanupSteps.Taken.{slots_set}
 use Rattle.wl_server.proofs.Plain.Transport.{leaves_transport}
 use Rattle.wl_server.proofs.Touched.Moved.{moved_touched}
 use Rattle.wl_server.proofs.backend.Backend.transport_mut.Goals as goal
-use Rattle.std.proofs.Common.{arith}
 
 -- the transport of a stored client, if there is one
 abbrev transport_in : {T U C : Type 0} → Option (Stored T U C) → Option T

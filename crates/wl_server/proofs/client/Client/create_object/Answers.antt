@@ -1,13 +1,9 @@
-use Rattle.std.proofs.Common.{◌∙◌, ap, not, rules}
-use Rattle.wl_server.proofs.ObjectCalls.Creation.{lacks_serial, created, exhausted, no_memory, row_found}
+use Rattle.std.proofs.Common.{◌∙◌, ap, not, rules, Err, refl}
+use Rattle.wl_server.proofs.ObjectCalls.Creation.{lacks_serial, created, exhausted, no_memory, row_found, Created, unknown}
 use Rattle.wl_server.proofs.client.Client.create_object.Goals as goal
 use Rattle.wl_server.specs.Server.{no_times}
-use Rattle.std.proofs.Common.{Err}
-use Rattle.std.proofs.Common.{refl}
 use Rattle.std.specs.Prelude.{slice_get}
 use Rattle.wl_server.proofs.CallSteps.Doing.{does_quietly}
-use Rattle.wl_server.proofs.ObjectCalls.Creation.{Created}
-use Rattle.wl_server.proofs.ObjectCalls.Creation.{unknown}
 use Rattle.wl_server.specs.declared.error.CreateError.TheVariants as create
 
 pub returns-then-is_none-clause-does : goal.returns-then-is_none-clause-does

@@ -1,4 +1,4 @@
-use Rattle.std.proofs.Common.{◌≡◌, ◌∙◌, MatchResult, false, refl, subst, sym, true, ap, arith}
+use Rattle.std.proofs.Common.{◌≡◌, ◌∙◌, MatchResult, false, refl, subst, sym, true, ap, arith, Bool, Ok}
 use Rattle.std.proofs.lemmas.Grind.{common_steps}
 use Rattle.wl_server.specs.declared.notes.DisconnectReason.TheVariants.{ConnectionClosed}
 use Rattle.wl_server.specs.Inside.Client.{Does}
@@ -9,8 +9,6 @@ use Rattle.wl_server.proofs.CallSteps.Numbering.{in_time_both, in_time_same}
 use Rattle.wl_server.proofs.CallSteps.Doing.{told_untimed}
 use Rattle.wl_server.proofs.Readings.Finishing.{ends_done, ends_starved, request_ends, request_refused, store_unless_written}
 use Rattle.wl_server.proofs.client.Client.end_request.Goals as goal
-use Rattle.std.proofs.Common.{Bool}
-use Rattle.std.proofs.Common.{Ok}
 use Rattle.wl_server.specs.Inside.Finishing.{EndsSender}
 
 pub returns-in-Some-clause-done : goal.returns-in-Some-clause-done

@@ -1,9 +1,7 @@
-use Rattle.std.proofs.Common.{ap, map, sym}
-use Rattle.wl_server.proofs.CallSteps.Numbering.{still_made}
+use Rattle.std.proofs.Common.{ap, map, sym, arith}
+use Rattle.wl_server.proofs.CallSteps.Numbering.{still_made, gives_none}
 use Rattle.wl_server.proofs.Readings.Finishing.{ends_taken}
 use Rattle.wl_server.proofs.client.Client.end_sender.Goals as goal
-use Rattle.std.proofs.Common.{arith}
-use Rattle.wl_server.proofs.CallSteps.Numbering.{gives_none}
 
 pub returns-clause-ends : goal.returns-clause-ends
 returns-clause-ends g c =

@@ -1,11 +1,7 @@
-use Rattle.std.proofs.Common.{◌∙◌, Some, ap, sym}
-use Rattle.wl_server.proofs.Readings.Opened.{a_bind, no_bind}
+use Rattle.std.proofs.Common.{◌∙◌, Some, ap, sym, Err, arith, false}
+use Rattle.wl_server.proofs.Readings.Opened.{a_bind, no_bind, is_open}
 use Rattle.wl_server.proofs.client.Client.finish_bind.Goals as goal
-use Rattle.std.proofs.Common.{Err}
-use Rattle.std.proofs.Common.{arith}
-use Rattle.std.proofs.Common.{false}
 use Rattle.wl_server.proofs.CallSteps.Doing.{does_quietly}
-use Rattle.wl_server.proofs.Readings.Opened.{is_open}
 use Rattle.wl_server.specs.Finish.{FinishesBind}
 use Rattle.wl_server.specs.declared.error.FinishError.TheVariants as finish
 

@@ -1,14 +1,10 @@
-use Rattle.std.proofs.Common.{◌∙◌, Some, Ok, ap, sym}
+use Rattle.std.proofs.Common.{◌∙◌, Some, Ok, ap, sym, arith, Err, false}
 use Rattle.std.specs.Result.{result_and}
 use Rattle.wl_server.specs.declared.reading.action.OpenAction.TheVariants as opened
-use Rattle.wl_server.proofs.Readings.Opened.{a_request, no_request}
+use Rattle.wl_server.proofs.Readings.Opened.{a_request, no_request, is_open}
 use Rattle.wl_server.proofs.Plain.Returning.{request_leaves}
 use Rattle.wl_server.proofs.client.Client.finish_request.Goals as goal
-use Rattle.std.proofs.Common.{arith}
-use Rattle.std.proofs.Common.{Err}
-use Rattle.std.proofs.Common.{false}
 use Rattle.wl_server.proofs.CallSteps.Doing.{does_quietly}
-use Rattle.wl_server.proofs.Readings.Opened.{is_open}
 use Rattle.wl_server.specs.Finish.{FinishesRequest}
 use Rattle.wl_server.specs.declared.error.FinishError.TheVariants as finish
 

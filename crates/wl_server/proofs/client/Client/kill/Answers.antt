@@ -1,11 +1,10 @@
-use Rattle.std.proofs.Common.{◌≡◌, ◌∙◌, List, refl, sym, ap, append-nil, [], map}
+use Rattle.std.proofs.Common.{◌≡◌, ◌∙◌, List, refl, sym, ap, append-nil, [], map, arith}
 use Rattle.std.proofs.lemmas.List.{map-append}
 use Rattle.wl_server.specs.declared.notes.Happening.{Happening}
 use Rattle.wl_server.specs.declared.notes.queues.NoteNumbers.{NoteNumbers}
 use Rattle.wl_server.specs.Part.{Part}
 use Rattle.wl_server.specs.Server.{Stored, no_times}
 use Rattle.wl_server.proofs.client.Client.kill.Goals as goal
-use Rattle.std.proofs.Common.{arith}
 use Rattle.wl_server.proofs.CallSteps.Numbering.{gives_none}
 
 with_made : {T U C : Type 0} (p : Part T U C) (serial : _) (made made' : List (Happening U)) → made ≡ made'

@@ -1,12 +1,9 @@
-use Rattle.std.proofs.Common.{arith}
+use Rattle.std.proofs.Common.{arith, option_map}
 use Rattle.std.proofs.lemmas.Grind.{common_steps}
-use Rattle.wl_server.proofs.Readings.OneMessage.{message_unread}
+use Rattle.wl_server.proofs.Readings.OneMessage.{message_unread, halts_so}
 use Rattle.wl_server.proofs.client.Client.not_taken.Goals as goal
-use Rattle.std.proofs.Common.{option_map}
-use Rattle.wl_server.proofs.Readings.OneMessage.{halts_so}
 use Rattle.wl_server.specs.Reading.{row_asks}
-use mathlib.Core.Logic.{inl}
-use mathlib.Core.Logic.{inr}
+use mathlib.Core.Logic.{inl, inr}
 
 pub returns-in-Malformed-clause-handles : goal.returns-in-Malformed-clause-handles
 returns-in-Malformed-clause-handles g c r h within = grind (arith, common_steps, message_unread)

@@ -1,4 +1,4 @@
-use Rattle.std.proofs.Common.{◌≡◌, ◌∙◌, None, is_some, ap, ℕ, Bool, true, false, List, Result, MatchBool, refl, sym, eq-eqb}
+use Rattle.std.proofs.Common.{◌≡◌, ◌∙◌, None, is_some, ap, ℕ, Bool, true, false, List, Result, MatchBool, refl, sym, eq-eqb, arith}
 use Rattle.std.specs.Prelude.{◌↔◌, ◌==◌, IsTrue, if◌then◌else◌}
 use Rattle.wl_link.specs.Identity.{named_in}
 use Rattle.wl_link.specs.Store.{held}
@@ -16,7 +16,6 @@ use Rattle.wl_server.specs.Telling.{core_of}
 use Rattle.wl_server.proofs.CallSteps.Doing.{does_quietly}
 use Rattle.wl_server.proofs.Readings.Notes.{tells_carried}
 use Rattle.wl_server.proofs.client.Client.post_error.Goals as goal
-use Rattle.std.proofs.Common.{arith}
 
 -- a test of null is the test of the number
 null_is : (b : Bool) (n : ℕ) → (IsTrue b ↔ (n ≡ 0)) → (n == 0) ≡ b

@@ -1,4 +1,4 @@
-use Rattle.std.proofs.Common.{◌≡◌, ◌∙◌, true, Result, Ok, Err, map, refl, sym, subst, ap, List, ℕ}
+use Rattle.std.proofs.Common.{◌≡◌, ◌∙◌, true, Result, Ok, Err, map, refl, sym, subst, ap, List, ℕ, arith}
 use Rattle.std.proofs.lemmas.Bool.{false≢true}
 use Rattle.std.specs.Prelude.{is_err, OnErr, ◌++◌}
 use Rattle.wl_link.specs.Link.{Wrote}
@@ -9,11 +9,9 @@ use Rattle.wl_server.specs.Ids.{ClientParts}
 use Rattle.wl_server.specs.declared.notes.Happening.{Happening}
 use Rattle.wl_server.specs.NoteOrder.{GivesNumbers, NotesInTime}
 use Rattle.wl_server.proofs.CallSteps.Numbering.{in_time_both, still_waits, waits_in_time}
-use Rattle.wl_server.proofs.ObjectCalls.SendingEvents.{no_room, not_written, of_sender, sent, to_killed, was_granted, was_refused}
+use Rattle.wl_server.proofs.ObjectCalls.SendingEvents.{no_room, not_written, of_sender, sent, to_killed, was_granted, was_refused, arguments_numbered}
 use Rattle.wl_server.proofs.client.Client.send_event.Goals as goal
 use Rattle.wl_server.specs.Server.{no_times}
-use Rattle.std.proofs.Common.{arith}
-use Rattle.wl_server.proofs.ObjectCalls.SendingEvents.{arguments_numbered}
 
 on_err : {A E P : Type 0} (r : Result A E) → is_err r ≡ true → OnErr r P → P
 on_err (Ok a) failed p = absurd (false≢true failed)

@@ -1,9 +1,8 @@
-use Rattle.std.proofs.Common.{[], ◌∷◌}
+use Rattle.std.proofs.Common.{[], ◌∷◌, refl}
 use Rattle.wl_server.specs.Part.{id_of}
 use Rattle.wl_server.specs.Telling.{deletions, done_message}
 use Rattle.wl_server.proofs.Readings.Handling.{replied}
 use Rattle.wl_server.proofs.client.Client.tell_done.Goals as goal
-use Rattle.std.proofs.Common.{refl}
 
 pub returns-clause-handled : goal.returns-clause-handled
 returns-clause-handled g c h =

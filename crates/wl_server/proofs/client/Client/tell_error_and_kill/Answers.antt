@@ -1,15 +1,11 @@
-use Rattle.std.proofs.Common.{◌≡◌, ◌∙◌, true, false, ap, subst, arith}
+use Rattle.std.proofs.Common.{◌≡◌, ◌∙◌, true, false, ap, subst, arith, inr, not, refl}
 use Rattle.std.proofs.lemmas.Grind.{common_steps}
 use Rattle.wl_server.specs.NoteOrder.{NotesInTime}
 use Rattle.wl_server.proofs.CallSteps.Numbering.{in_time_both}
-use Rattle.wl_server.proofs.ObjectCalls.Posting.{posted_dead, posted_live}
+use Rattle.wl_server.proofs.ObjectCalls.Posting.{posted_dead, posted_live, kills_is}
 use Rattle.wl_server.proofs.ObjectCalls.Told.{lacked_exactly, not_live, told_exactly}
 use Rattle.wl_server.proofs.client.Client.tell_error_and_kill.Goals as goal
 use Rattle.wl_server.specs.Server.{NoteTimes, Stored}
-use Rattle.std.proofs.Common.{inr}
-use Rattle.std.proofs.Common.{not}
-use Rattle.std.proofs.Common.{refl}
-use Rattle.wl_server.proofs.ObjectCalls.Posting.{kills_is}
 use Rattle.wl_server.specs.Errors.{posts}
 use Rattle.wl_server.specs.Telling.{core_of}
 use Rattle.wl_server.specs.declared.notes.DisconnectReason.TheVariants.{ConnectionClosed}

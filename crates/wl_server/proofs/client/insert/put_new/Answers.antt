@@ -1,25 +1,14 @@
-use Rattle.std.proofs.Common.{◌≡◌, Option, List, Some, refl, subst, sym}
+use Rattle.std.proofs.Common.{◌≡◌, Option, List, Some, refl, subst, sym, arith, is_some, map}
 use Rattle.wl_server.specs.Inside.Client.{IsInserted}
 use Rattle.wl_server.specs.Inside.Inserting.{IsPut}
-use Rattle.wl_server.specs.Server.{Stored}
-use Rattle.wl_server.proofs.CallSteps.Numbering.{numbered_put}
+use Rattle.wl_server.specs.Server.{Stored, NoteTimes, no_times}
+use Rattle.wl_server.proofs.CallSteps.Numbering.{numbered_put, all_but, times_in, times_same, times_there}
 use Rattle.wl_server.specs.Inside.Touched.{AreTouched}
 use Rattle.wl_server.proofs.Touched.Kept.{put_touched, stay_touched}
 use Rattle.wl_server.proofs.client.insert.put_new.Goals as goal
-use Rattle.std.proofs.Common.{arith}
-use Rattle.std.proofs.Common.{is_some}
-use Rattle.std.proofs.Common.{map}
 use Rattle.std.specs.Option.{option_map_or}
 use Rattle.std.specs.Prelude.{slice_get}
-use Rattle.wl_server.proofs.CallSteps.Numbering.{all_but}
-use Rattle.wl_server.proofs.CallSteps.Numbering.{times_in}
-use Rattle.wl_server.proofs.CallSteps.Numbering.{times_same}
-use Rattle.wl_server.proofs.CallSteps.Numbering.{times_there}
-use Rattle.wl_server.specs.NoteOrder.{NotesInTime}
-use Rattle.wl_server.specs.NoteOrder.{times_at}
-use Rattle.wl_server.specs.NoteOrder.{times_of}
-use Rattle.wl_server.specs.Server.{NoteTimes}
-use Rattle.wl_server.specs.Server.{no_times}
+use Rattle.wl_server.specs.NoteOrder.{NotesInTime, times_at, times_of}
 
 moved : {T U C : Type 0} (xs ys after : List (Option (Stored T U C))) (n m : _) (s : Stored T U C) → xs ≡ ys → n ≡ m → IsPut xs n s after → IsPut ys m s after
 moved xs ys after n m s lists slots put =

@@ -3,10 +3,9 @@ use Rattle.std.proofs.lemmas.Option.{slice_get-get_or}
 use Rattle.wl_server.specs.Globals.{shown_as}
 use Rattle.wl_server.specs.Inside.News.{Announced, HearsNew}
 use Rattle.wl_server.specs.Inside.Places.{AllFeel}
-use Rattle.wl_server.proofs.CallSteps.Numbering.{next_in_time, numbered_set}
+use Rattle.wl_server.proofs.CallSteps.Numbering.{next_in_time, numbered_set, turn_still}
 use Rattle.wl_server.proofs.CallSteps.Feeling.{none_felt, one_more_felt}
 use Rattle.wl_server.proofs.globals.create_global.tell_new.Goals as goal
-use Rattle.wl_server.proofs.CallSteps.Numbering.{turn_still}
 
 pub loop-slot-init : goal.loop-slot-init
 loop-slot-init g c = grind (arith, none_felt, shown_as, turn_still)

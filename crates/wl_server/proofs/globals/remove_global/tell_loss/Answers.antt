@@ -2,10 +2,9 @@ use Rattle.std.proofs.Common.{◌≡◌, ℕ, arith, length, refl, subst}
 use Rattle.std.proofs.lemmas.Option.{slice_get-get_or}
 use Rattle.wl_server.specs.Felt.{Hears, removals}
 use Rattle.wl_server.specs.Inside.Places.{AllFeel}
-use Rattle.wl_server.proofs.CallSteps.Numbering.{next_in_time, numbered_set}
+use Rattle.wl_server.proofs.CallSteps.Numbering.{next_in_time, numbered_set, turn_still}
 use Rattle.wl_server.proofs.CallSteps.Feeling.{none_felt, one_more_felt}
 use Rattle.wl_server.proofs.globals.remove_global.tell_loss.Goals as goal
-use Rattle.wl_server.proofs.CallSteps.Numbering.{turn_still}
 
 pub loop-slot-init : goal.loop-slot-init
 loop-slot-init g c = record { felt = none_felt _ _; ends = refl; in_time = grind (arith, turn_still); numbered = λ all. all }

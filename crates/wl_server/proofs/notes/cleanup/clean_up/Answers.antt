@@ -1,16 +1,13 @@
 use Rattle.std.proofs.Common.{◌∙◌, ◌≤◌, ◌++◌, List, length, append-nil, arith, ap, subst, sym, true, map, Option}
 use Rattle.wl_server.specs.declared.notes.queues.NotePlace.{NotePlace}
-use Rattle.wl_server.specs.NoteOrder.{AllNumbered, AllTakeFirst, Along, IsOrderOf, times_of}
+use Rattle.wl_server.specs.NoteOrder.{AllNumbered, AllTakeFirst, Along, IsOrderOf, times_of, times_at}
 use Rattle.wl_server.specs.Server.{NoteTimes, Stored}
 use Rattle.wl_server.specs.Inside.Leaving.{collected, given_at}
-use Rattle.wl_server.proofs.CallSteps.Numbering.{all_take_leave, none_waits, numbered_staying}
+use Rattle.wl_server.proofs.CallSteps.Numbering.{all_take_leave, none_waits, numbered_staying, takes_both, takes_none}
 use Rattle.wl_server.proofs.CleanupSteps.Idle.{none_flushed, none_leaves, none_noted}
 use Rattle.wl_server.proofs.CleanupSteps.Rooms.{flushed_counts, flushed_order, gathered_ends, gathered_given}
 use Rattle.wl_server.proofs.notes.cleanup.clean_up.Goals as goal
 use Rattle.std.proofs.lemmas.List.{nil_from_length}
-use Rattle.wl_server.proofs.CallSteps.Numbering.{takes_both}
-use Rattle.wl_server.specs.NoteOrder.{times_at}
-use Rattle.wl_server.proofs.CallSteps.Numbering.{takes_none}
 
 pub returns-then-capacity-eq0-clause-cleaned : goal.returns-then-capacity-eq0-clause-cleaned
 returns-then-capacity-eq0-clause-cleaned g c =

@@ -1,4 +1,4 @@
-use Rattle.std.proofs.Common.{length, true, map}
+use Rattle.std.proofs.Common.{length, true, map, arith}
 use Rattle.std.specs.Vec.{vec_capacity, vec_len}
 use Rattle.wl_server.specs.Inside.Gathering.{count_leaving}
 use Rattle.wl_server.specs.Inside.Leaving.{collected, ends_at, given_at}
@@ -7,7 +7,6 @@ use Rattle.wl_server.specs.Inside.NoteOrder.{count_places}
 use Rattle.wl_server.proofs.CleanupSteps.Asking.{at_most, none_both, none_ends, none_leaving, none_of, room_of_none}
 use Rattle.wl_server.proofs.CleanupSteps.Ordering.{none_order}
 use Rattle.wl_server.proofs.notes.cleanup.memory_for.Goals as goal
-use Rattle.std.proofs.Common.{arith}
 
 pub returns-then-count-eq0-clause-notes : goal.returns-then-count-eq0-clause-notes
 returns-then-count-eq0-clause-notes g c = grind (arith, none_both, none_of, length, collected, given_at, room_of_none, vec_len, vec_capacity, count_leaving, ends_at, none_ends)

@@ -1,26 +1,12 @@
-use Rattle.std.proofs.Common.{◌∙◌, [], arith, drop, sym, append-nil, refl}
+use Rattle.std.proofs.Common.{◌∙◌, [], arith, drop, sym, append-nil, refl, ap, length, map}
 use Rattle.std.proofs.lemmas.Option.{slice_get_read}
 use Rattle.std.proofs.lemmas.Grind.{common_steps}
-use Rattle.wl_server.proofs.CallSteps.Numbering.{numbered_set, take_set}
-use Rattle.wl_server.proofs.CleanupSteps.Gathering.{gathers_at, gathers_more, gathers_none}
-use Rattle.wl_server.proofs.CleanupSteps.Ordering.{along_more, drop_past, none_numbered, place_left, place_some, place_within, set_numbered}
+use Rattle.wl_server.proofs.CallSteps.Numbering.{numbered_set, take_set, takes_both, takes_none}
+use Rattle.wl_server.proofs.CleanupSteps.Gathering.{gathers_at, gathers_more, gathers_none, count_at}
+use Rattle.wl_server.proofs.CleanupSteps.Ordering.{along_more, drop_past, none_numbered, place_left, place_some, place_within, set_numbered, places_among, places_moved, times_stored}
 use Rattle.wl_server.proofs.notes.gather.gather.Goals as goal
-use Rattle.std.proofs.Common.{ap}
-use Rattle.std.proofs.Common.{length}
-use Rattle.std.proofs.Common.{map}
-use Rattle.wl_server.proofs.CleanupSteps.Gathering.{count_at}
-use Rattle.wl_server.proofs.CleanupSteps.Ordering.{places_among}
-use Rattle.wl_server.proofs.CleanupSteps.Ordering.{places_moved}
-use Rattle.wl_server.proofs.CleanupSteps.Ordering.{times_stored}
-use Rattle.wl_server.specs.NoteOrder.{all_places}
-use Rattle.wl_server.specs.NoteOrder.{places_of}
-use Rattle.wl_server.specs.NoteOrder.{times_of}
-use Rattle.wl_server.specs.NoteOrder.{to_gather}
-use Rattle.wl_server.specs.Server.{NoteTimes}
-use Rattle.wl_server.specs.Server.{note_of}
-use Rattle.wl_server.proofs.CallSteps.Numbering.{takes_both}
-use Rattle.wl_server.specs.NoteOrder.{times_at}
-use Rattle.wl_server.proofs.CallSteps.Numbering.{takes_none}
+use Rattle.wl_server.specs.NoteOrder.{all_places, places_of, times_of, to_gather, times_at}
+use Rattle.wl_server.specs.Server.{NoteTimes, note_of}
 
 pub index_mut-requires : goal.index_mut-requires
 index_mut-requires g c =

@@ -2,7 +2,7 @@ use Rattle.std.proofs.Common.{◌<◌, ◌≤◌, List, Option, false, subst, []
 use Rattle.std.specs.Vec.{vec_capacity, vec_len}
 use Rattle.std.proofs.lemmas.Grind.{common_steps}
 use Rattle.wl_server.specs.Inside.Gathering.{count_leaving}
-use Rattle.wl_server.specs.NoteOrder.{times_of}
+use Rattle.wl_server.specs.NoteOrder.{times_of, times_at}
 use Rattle.wl_server.specs.Inside.NoteOrder.{count_places}
 use Rattle.wl_server.proofs.CleanupSteps.Ordering.{none_order}
 use Rattle.wl_server.proofs.CleanupSteps.Asking.{none_leaving, none_of, on_err, room_of}
@@ -10,7 +10,6 @@ use Rattle.wl_server.specs.Inside.Touched.{AllQuiet}
 use Rattle.wl_server.specs.Server.{Stored}
 use Rattle.wl_server.proofs.notes.gather.gather_made.Goals as goal
 use Rattle.wl_server.proofs.CallSteps.Numbering.{takes_none}
-use Rattle.wl_server.specs.NoteOrder.{times_at}
 
 pub returns-then-count-eq0-clause-ended : goal.returns-then-count-eq0-clause-ended
 returns-then-count-eq0-clause-ended g c = grind (arith, count_leaving, none_leaving, none_of)

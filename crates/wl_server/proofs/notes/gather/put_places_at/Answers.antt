@@ -1,10 +1,8 @@
-use Rattle.std.proofs.Common.{map, arith}
+use Rattle.std.proofs.Common.{map, arith, append-nil}
 use Rattle.std.proofs.lemmas.Grind.{common_steps}
-use Rattle.wl_server.proofs.CleanupSteps.Ordering.{put_both, put_both_places, put_made_places}
+use Rattle.wl_server.proofs.CleanupSteps.Ordering.{put_both, put_both_places, put_made_places, put}
 use Rattle.wl_server.proofs.notes.gather.put_places_at.Goals as goal
-use Rattle.std.proofs.Common.{append-nil}
 use Rattle.std.proofs.lemmas.List.{length-map}
-use Rattle.wl_server.proofs.CleanupSteps.Ordering.{put}
 use Rattle.wl_server.specs.NoteOrder.{places_at}
 
 pub returns-in_ok-put_places-2-clause-counted : goal.returns-in_ok-put_places-2-clause-counted

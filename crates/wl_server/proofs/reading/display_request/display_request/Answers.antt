@@ -1,11 +1,9 @@
-use Rattle.std.proofs.Common.{sym, ◌∙◌}
+use Rattle.std.proofs.Common.{sym, ◌∙◌, arith}
 use Rattle.wl_server.specs.Inside.Responses.{core_with}
 use Rattle.wl_server.specs.Inside.ReadingLoop.{around_of}
-use Rattle.wl_server.proofs.Readings.Requesting.{display_sync, one_new}
+use Rattle.wl_server.proofs.Readings.Requesting.{display_sync, one_new, display_is}
 use Rattle.wl_server.proofs.reading.display_request.display_request.Goals as goal
 use Rattle.std.proofs.lemmas.Bool.{ne_eqb}
-use Rattle.wl_server.proofs.Readings.Requesting.{display_is}
-use Rattle.std.proofs.Common.{arith}
 
 pub returns-in_default-clause-responds : goal.returns-in_default-clause-responds
 returns-in_default-clause-responds g c c' f args = grind (arith, display_is, around_of, core_with)

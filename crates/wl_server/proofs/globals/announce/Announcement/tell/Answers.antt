@@ -1,4 +1,4 @@
-use Rattle.std.proofs.Common.{◌≡◌, ◌∙◌, ◌∷◌, [], ℕ, List, Option, Result, Some, map, subst, sym}
+use Rattle.std.proofs.Common.{◌≡◌, ◌∙◌, ◌∷◌, [], ℕ, List, Option, Result, Some, map, subst, sym, arith}
 use Rattle.std.specs.Prelude.{IfSome}
 use Rattle.wl_wire.specs.declared.argument.Argument.TheVariants as arg
 use Rattle.wl_wire.specs.declared.argument.Token.{Token}
@@ -19,7 +19,6 @@ use Rattle.wl_server.proofs.GlobalCalls.PutEach.{each_of_none, each_starved}
 use Rattle.wl_sets.proofs.Lists.{other_of}
 use Rattle.wl_server.proofs.OverRuns.Announced.AnnouncementLaws.{same_id_self}
 use Rattle.wl_server.proofs.globals.announce.Announcement.tell.Goals as goal
-use Rattle.std.proofs.Common.{arith}
 
 pub returns-then-is_empty-clause-puts : goal.returns-then-is_empty-clause-puts
 returns-then-is_empty-clause-puts g c = each_of_none _ _ _ _ (eqb-true _ _ (sym c.is_empty.ensures ∙ c.if-is_empty.true))

@@ -1,4 +1,4 @@
-use Rattle.std.proofs.Common.{ℕ, ◌∙◌, ap, length, subst, sym}
+use Rattle.std.proofs.Common.{ℕ, ◌∙◌, ap, length, subst, sym, arith}
 use Rattle.std.proofs.lemmas.Bool.{false≢true}
 use Rattle.wl_link.proofs.OverRuns.RunLaws.{joins}
 use Rattle.wl_link.specs.Runs.{entries}
@@ -8,7 +8,6 @@ use Rattle.wl_server.specs.PartStep.{over_scripts}
 use Rattle.wl_server.specs.Runs.{StopsAt}
 use Rattle.wl_server.proofs.OverRuns.Outcome.WholeRuns.{performance_one}
 use Rattle.wl_server.proofs.runs.replay.Backend+Memory+U+G+C.replay.Goals as goal
-use Rattle.std.proofs.Common.{arith}
 
 pub returns-then-self-clause-stopped : goal.returns-then-self-clause-stopped
 returns-then-self-clause-stopped g c =
