@@ -103,23 +103,6 @@ module _ {T U C : Type 0} (sends : T → Queue → Result ℕ IoFault → T → 
         → untimed after ≡ arrived s (came_to speaker verdict wrote) link
     gone_to link wrote after h1 h2 = grind (arith, append-nil, false≢true, kills_is)
 
-    -- it is gone, and the client was told, or closed down where it could not be
-    told_destroyed : (link : LinkState T) (n : ℕ) (wrote : Result (Unit {0}) IoFault) (after a : Stored T U C) → n ≡ id.number → a ≡ gone link
-        → Puts sends s.part.link (deletions n) wrote link → lacks_memory wrote ≡ false
-        → MatchResult wrote (λ _. untimed after ≡ a) (λ _. Does a (λ p did q. Kills p ConnectionClosed did q) after)
-        → Does s (λ p did q. Destruction (Ok tt) p did q) after
-    told_destroyed link n wrote after a number is_gone puts lacked told =
-        let core : Core U C = came_to speaker verdict wrote in
-        let t = tells_carried sends verdict s after (lacks_destroy (Ok tt)) (
-          core,
-          link,
-          inl (wrote, link, [], false, subst (λ (k : ℕ). Puts sends s.part.link (deletions k) wrote link) number puts, (refl, refl, refl), refl, rw lacked refl),
-          gone_to link wrote after lacked
-              (subst (λ (b : Stored T U C). MatchResult wrote (λ _. untimed after ≡ b) (λ _. Does b (λ p did q. Kills p ConnectionClosed did q) after)) is_gone told)
-              ∙ ap (λ (notes : List (Happening U)). with_notes (arrived s core link) (s.made ++ (notes ++ notes_in (end_deeds core.ended)))) (sym (silent core)),
-        ) in
-        (t.0, t.1, (rw is (refl, t.2)), t.3)
-
     abbrev pub with_all : LinkState T → Store (Kept U) → List Id → List (Happening U) → Stored T U C
     with_all link store registries waiting = record {
       serial = s.serial;
@@ -138,5 +121,15 @@ module _ {T U C : Type 0} (sends : T → Queue → Result ℕ IoFault → T → 
         (λ _. Does (with_all link store registries waiting) (λ p did q. Kills p ConnectionClosed did q) after)
         → Does s (λ p did q. Destruction (Ok tt) p did q) after
     destroyed link n store registries before waiting wrote after number puts lacked without forgotten noted same told =
-        told_destroyed link n wrote after (with_all link store registries waiting) number
-        (grind (arith, registries_without, note_of_end, named_is_held, named)) puts lacked told
+        let core : Core U C = came_to speaker verdict wrote in
+        let t = tells_carried sends verdict s after (lacks_destroy (Ok tt)) (
+          core,
+          link,
+          inl (wrote, link, [], false, subst (λ (k : ℕ). Puts sends s.part.link (deletions k) wrote link) number puts, (refl, refl, refl), refl, rw lacked refl),
+          gone_to link wrote after lacked
+              (subst (λ (b : Stored T U C). MatchResult wrote (λ _. untimed after ≡ b) (λ _. Does b
+              (λ p did q. Kills p ConnectionClosed did q) after)) (grind (arith, registries_without, note_of_end, named_is_held, named)) told)
+              ∙ ap (λ (notes : List (Happening U)). with_notes (arrived s core link) (s.made ++ (notes ++ notes_in (end_deeds core.ended)))) (sym
+              (silent core)),
+        ) in
+        (t.0, t.1, (rw is (refl, t.2)), t.3)

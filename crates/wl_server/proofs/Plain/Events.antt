@@ -350,23 +350,19 @@ module _ {T U G C : Type 0} (w : World T G C) (before after : BackendState T U G
     was_refused : (e : EventError) → answer ≡ Err e → e ≢ refused.OutOfMemory
         → (((client_in before client ≡ None) × (e ≡ refused.InvalidId)) ⊎ ChecksTo before m (Err e)) × IsUnchanged before after
     was_refused e err other = (
-      why,
+      (let (lacked, did, h) = event_each client in
+          elim (either_option (client_of before.server client) (own client _ _ _ lacked did _ h)) [
+            | inl (none, (is, rest)) ↦ inl (none, same_error e refused.InvalidId (sym err ∙ is))
+            | inr (p, there, (q, does, same)) ↦
+                elim (comes_to w.sends client before.server.offer.table m answer lacked did p q does) [
+                  | inl d ↦ absurd (not_ok e (sym err ∙ d.ok))
+                  | inr (inl r) ↦
+                      inr (p, there, r.live, r.checked ∙ ap (λ (x : EventError). let y : Result (Object (Kept U) × Bool) EventError = Err x in y) (same_error r.e e (sym r.answer_is ∙ err)))
+                  | inr (inr g) ↦ absurd (never_so client p m g.x w.sends g.live g.ends answer e err other did q g.comes)
+                ]
+          ]),
       unchanged_by (λ id lacked did h. refused_same w.sends id before.server.offer.table m answer e err other (same_client client id) _ _ lacked did h),
     )
-      where
-        why : ((client_in before client ≡ None) × (e ≡ refused.InvalidId)) ⊎ ChecksTo before m (Err e)
-        why =
-            let (lacked, did, h) = event_each client in
-            elim (either_option (client_of before.server client) (own client _ _ _ lacked did _ h)) [
-              | inl (none, (is, rest)) ↦ inl (none, same_error e refused.InvalidId (sym err ∙ is))
-              | inr (p, there, (q, does, same)) ↦
-                  elim (comes_to w.sends client before.server.offer.table m answer lacked did p q does) [
-                    | inl d ↦ absurd (not_ok e (sym err ∙ d.ok))
-                    | inr (inl r) ↦
-                        inr (p, there, r.live, r.checked ∙ ap (λ (x : EventError). let y : Result (Object (Kept U) × Bool) EventError = Err x in y) (same_error r.e e (sym r.answer_is ∙ err)))
-                    | inr (inr g) ↦ absurd (never_so client p m g.x w.sends g.live g.ends answer e err other did q g.comes)
-                  ]
-            ]
 
     lacked_memory : answer ≡ Err refused.OutOfMemory
         → ((granted : Object (Kept U) × Bool) × ChecksTo before m (Ok granted)) × (after.refused ≡ true)

@@ -24,7 +24,7 @@ use Rattle.wl_server.specs.Inside.Carried.{IsCarried, told_notes}
 use Rattle.wl_server.specs.Inside.Client.{Does}
 use Rattle.wl_server.specs.Deeds.{notes_in}
 use Rattle.wl_server.specs.Finish.{FinishesOpen, Refuses, core_finished, data_given, ended_by, ending, ends, ends_request, refusal, store_with_data}
-use Rattle.wl_server.specs.Inside.Finishing.{EndsObject, EndsSender, is_out_of_memory, part_finished, part_without}
+use Rattle.wl_server.specs.Inside.Finishing.{EndsObject, EndsSender, is_out_of_memory, part_finished}
 use Rattle.wl_server.specs.Objects.{unless_refused, without}
 use Rattle.wl_server.specs.Ids.{ClientParts, IdParts}
 use Rattle.wl_server.specs.Part.{id_of, named, note_of_end, registries_without, serial_of, with_link, with_user_data, Part}
@@ -159,11 +159,8 @@ module _ {T U C : Type 0} (sends : T → Queue → Result ℕ IoFault → T → 
       (grind (arith, false≢true, core_of s.part)),
       sym (ap (λ (b : Bool). b || false) lacks),
     ),
-    grind (arith, finished, is, gone, append-nil, client, x, append_assoc, end_deeds, killed, core_of, noting, part_of, created, closing, notes_in, id_of, named, not_named),
+    grind (arith, finished, is, noting, x, created, client, append-nil, append_assoc, end_deeds, killed, core_of, part_of, closing, notes_in, id_of, named, not_named),
   )
-    where
-      gone : Stored T U C
-      gone = noting (part_finished (part_without s.part mid.part.link sender.number x) created u) (note_of_end client sender.number x)
 
   -- of the sender, where it is ended and kept, and else of none
   pub ends_starved : (e : OutOfMemory) (after : Stored T U C) → EndsSender sends client s sender is_destructor (Err e) after

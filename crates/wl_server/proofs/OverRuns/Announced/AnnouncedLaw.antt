@@ -33,17 +33,17 @@ use Rattle.wl_server.specs.Ids.{ClientParts, GlobalParts, same_client}
 use Rattle.wl_server.proofs.OverRuns.Alone.IsolationLaw.{is_isolated, offer_run, shared_run, split_run}
 use Rattle.wl_server.specs.Moves.{Move, Moved}
 use Rattle.wl_server.proofs.OverRuns.Alone.OwnRuns.{AreMine, are_mine}
-use Rattle.wl_server.specs.Part.{Part, display_object, id_of, with_link, named}
+use Rattle.wl_server.specs.Part.{Part, display_object, id_of, with_link, named, last_possible_serial}
 use Rattle.wl_server.specs.PartStep.{Asked, Call, Changed, CleanedAs, FeelsGlobal, FeelsLoss, FlushedFor, Grown, MovedFor, NotesTaken, OfClient, OnPart, PartCall, PartStep, ReadsFor, Unfelt, World}
 use Rattle.wl_server.specs.Runs.{Alone, Leads, Own, SharedAlone, just_inserted, concerns, history, is_about, mine, offer_over, own_of}
 use Rattle.wl_server.specs.Server.{Seen, ServerState, new_server, seen}
 use Rattle.wl_server.proofs.OverRuns.Announced.InterfaceLaws.{HasInterfaces, after_call, after_run, at_first}
 use Rattle.wl_server.proofs.OverRuns.Announced.ShownLaws.{among_shown, disabled_one, disabled_stays, freed_one, freed_stays, shown_among, Hides, StaysShown, IsShown, created_new, created_old, created_only, hidden_old, hidden_only}
 use Rattle.wl_server.specs.Steps.{Entry, AnswersShared, inserted_by, offer_after}
-use Rattle.wl_server.proofs.OverRuns.Announced.WatchedCalls.{creates_lives, destroys_lives, finishes_bind_lives, finishes_lives, relinked_lives, sends_lives, none_done, quietly, silent_sends}
+use Rattle.wl_server.proofs.OverRuns.Announced.WatchedCalls.{destroys_lives, finishes_bind_lives, finishes_lives, relinked_lives, sends_lives, none_done, quietly, silent_sends}
 use Rattle.wl_server.proofs.OverRuns.Announced.WatchedReadings.{next_action_lives}
 use Rattle.wl_server.proofs.OverRuns.Announced.WatchedVerdicts.{PartLives, log_both, registries_both, CameTo, carried_to, exchanged, lives_not, tells_lives}
-use Rattle.wl_server.proofs.OverRuns.Announced.Watching.{Watch, part_scene, Scene, TellsShown, scene_of, told_all, told_none, steady_same, wrote_goes}
+use Rattle.wl_server.proofs.OverRuns.Announced.Watching.{Watch, part_scene, Scene, TellsShown, scene_of, told_all, told_none, steady_same, wrote_goes, born_goes}
 use Rattle.wl_link.specs.Exchange.{Queue}
 use Rattle.wl_link.specs.Reader.{Given}
 use Rattle.wl_server.proofs.OverRuns.Announced.AnnouncementLaws.{adding_adds, adding_keeps, adding_only, announced-append, removing_keeps, removing_only, removing_removes}
@@ -51,6 +51,7 @@ use Rattle.wl_server.specs.Telling.{Core, Tells, Told, core_of, deeds_in, global
 use Rattle.std.specs.Option.{option_map_or}
 use Rattle.wl_wire.proofs.Growth.{row_stays}
 use Rattle.wl_server.proofs.ObjectCalls.Destroying.{named_is_held}
+use Rattle.wl_server.specs.Objects.{new_object}
 
 -- ---- a registry that is watched over the calls that each client feels: globals that come and go
 
@@ -349,7 +350,18 @@ module _ {T U G C : Type 0} (w : World T G C) (id : ClientParts) (r : Id) where
             (part_scene p) o.number x u (named_is_held p.store o x some))
       ])) h
   step_follows offer known (step.CreateObject target i version u) answer s lacked did t about numbered alone (a, is, h) =
-      of_client offer (same_client target id) s _ _ lacked did t (λ p q (no_memory, none, created). creates_lives w.views id r offer p i version u a did q none created) h
+      of_client offer (same_client target id) s _ _ lacked did t (λ p q (no_memory, none, created). (elim (either_option (slice_get offer.table i.0) created) [
+        | inl (unknown, (is, same)) ↦ none_done w.views id r offer p q did none same
+        | inr (row, known, inl (full, is, same)) ↦ none_done w.views id r offer p q did none same
+        | inr (row, known, inr (n, least, g)) ↦
+            elim (either_bool (eqb p.last_serial last_possible_serial) g) [
+              | inl (is, same) ↦ none_done w.views id r offer p q did none same
+              | inr (inr (is, unused, same)) ↦ none_done w.views id r offer p q did none same
+              | inr (inl (is, same)) ↦
+                  quietly w.views id r offer p q _ did (ap log_of none, ap registries_in none) same refl
+                  (born_goes w.views id r offer (part_scene p) n (new_object p i version u) least.absent refl)
+            ]
+      ])) h
   step_follows offer known (step.DestroyObject o) answer s lacked did t about numbered alone (a, is, h) =
       let left : id_of o ≡ r → a ≢ Ok tt = subst (λ (x : Reply T U). IsLeftAlone {T = T} {U = U} {G = G} {C = C} r (Asked (step.DestroyObject o) x)) is alone in
       of_client offer (same_client o.client id) s _ _ lacked did t (λ p q d. destroys_lives w.views id r offer w.sends p o a lacked did q left d) h

@@ -1,10 +1,8 @@
 -- A registry that is watched over what the program does with its client.
 use Rattle.std.proofs.Common.{◌≡◌, ◌≢◌, ◌⊎◌, ℕ, Bool, true, false, cond, eqb, List, [], ◌∷◌, ◌++◌, map, append-nil, Option, None, Some, is_some, Result, Ok, Err, MatchResult, refl, sym, ap, ◌∙◌, true≢false, arith}
 use mathlib.Core.Logic.{inl, inr}
-use Rattle.std.specs.Prelude.{slice_get}
 use Rattle.wl_wire.specs.declared.error.IoFault.{IoFault}
 use Rattle.wl_wire.specs.declared.error.IoFault.TheVariants as fault
-use Rattle.wl_wire.specs.declared.interface.InterfaceId.{InterfaceId}
 use Rattle.wl_link.specs.declared.object.Object.{Object}
 use Rattle.wl_link.proofs.Calls.Branches.{either_bool, either_option}
 use Rattle.wl_link.specs.Exchange.{Queue, Sending}
@@ -12,7 +10,6 @@ use Rattle.wl_link.specs.Identity.{Id}
 use Rattle.wl_link.specs.Link.{LinkState}
 use Rattle.wl_link.specs.Puts.{Said}
 use Rattle.wl_server.specs.declared.reading.action.OpenAction.TheVariants as opened
-use Rattle.wl_server.specs.declared.error.CreateError.{CreateError}
 use Rattle.wl_server.specs.declared.error.DestroyError.{DestroyError}
 use Rattle.wl_server.specs.declared.error.EventError.{EventError}
 use Rattle.wl_server.specs.declared.error.FinishRefused.{FinishRefused}
@@ -25,12 +22,12 @@ use Rattle.wl_server.specs.Finish.{FinishesBind, FinishesRequest, core_finished,
 use Rattle.wl_server.specs.Globals.{Offer}
 use Rattle.wl_server.specs.Ids.{ClientParts, GlobalParts, IdParts}
 use Rattle.wl_server.proofs.OverRuns.Moves.MovesOfCalls.{granted_named, leaving_by, left_deeds, named_serial}
-use Rattle.wl_server.specs.Objects.{Creates, Destroys, destroyable, new_object, unless_refused, without, without_noted}
-use Rattle.wl_server.specs.Part.{Part, end_note, id_at, id_of, last_possible_serial, named, with_link}
+use Rattle.wl_server.specs.Objects.{Destroys, destroyable, unless_refused, without, without_noted}
+use Rattle.wl_server.specs.Part.{Part, end_note, id_at, id_of, named, with_link}
 use Rattle.wl_server.specs.Telling.{Core, Did, Tells, core_of, delete_message, deletions, tells}
 use Rattle.wl_server.proofs.OverRuns.Announced.WatchedReadings.{deletions_other}
 use Rattle.wl_server.proofs.OverRuns.Announced.WatchedVerdicts.{Lives, PartLives, lives_not, lives_same, lives_so, lives_then, log_both, registries_both, tells_lives}
-use Rattle.wl_server.proofs.OverRuns.Announced.Watching.{Goes, Scene, Steady, born_goes, goes_then, others_goes, part_scene, scene_of, set_action_goes, steady_goes, steady_same, steady_then, went_goes, wrote_goes}
+use Rattle.wl_server.proofs.OverRuns.Announced.Watching.{Goes, Scene, Steady, goes_then, others_goes, part_scene, scene_of, set_action_goes, steady_goes, steady_same, steady_then, went_goes, wrote_goes}
 use Rattle.wl_server.proofs.ObjectCalls.Destroying.{named_is_held}
 use Rattle.std.proofs.lemmas.Option.{none-some}
 
@@ -70,24 +67,6 @@ module _ {G C : Type 0} (views : G → ClientParts → C → GlobalParts → Boo
   speaks_then : (c e : Core U C) (puts : List Said) (told : List (Deed U)) → e.is_killed ≡ c.is_killed → registries_in told ≡ [] → Change (scene_of c) puts [] (scene_of c)
       → Still (scene_of c) (scene_of e) → Lives views client r offer c.is_killed e.is_killed (scene_of c) puts (registries_in told) (scene_of e)
   speaks_then c e puts told same none says still = grind (arith, lives_so, scene_of, registries_in, append-nil, goes_then, steady_goes)
-
-  -- ---- data, and new objects
-
-  pub creates_lives : {T : Type 0} (p : Part T U C) (i : InterfaceId) (version : ℕ) (u : U) (answer : Result IdParts CreateError) (did : List (Deed U)) (q : Part T U C)
-      → did ≡ [] → Creates offer.table client p i version u answer q → Run p did q
-  creates_lives p i version u answer did q none h =
-      elim (either_option (slice_get offer.table i.0) h) [
-        | inl (unknown, (is, same)) ↦ none_done p q did none same
-        | inr (row, known, inl (full, is, same)) ↦ none_done p q did none same
-        | inr (row, known, inr (n, least, g)) ↦
-            elim (either_bool (eqb p.last_serial last_possible_serial) g) [
-              | inl (is, same) ↦ none_done p q did none same
-              | inr (inr (is, unused, same)) ↦ none_done p q did none same
-              | inr (inl (is, same)) ↦
-                  quietly p q _ did (ap log_of none, ap registries_in none) same refl
-                  (born_goes views client r offer (part_scene p) n (new_object p i version u) least.absent refl)
-            ]
-      ]
 
   -- ---- an object that leaves
 

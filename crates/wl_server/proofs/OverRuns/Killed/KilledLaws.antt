@@ -156,10 +156,6 @@ module _ {T U G C : Type 0} (w : World T G C) (id : ClientParts) (offer : Offer 
 
 module _ {T U G C : Type 0} (w : World T G C) (id : ClientParts) (offer : Offer G) (before : Seen T U C) (gone : before.part ≡ None) (lacked : Bool) (did : List (Deed U))
     (after : Seen T U C) where
-  -- what a reading of it answers
-  pub out_says : (call : Call T U G C) → PartCall w id offer call before lacked did after → ReadingAnswers id (Io fault.InvalidInput) call
-  out_says call h1 = grind (arith, true≢false, around, either_option)
-
   -- nothing is received from it
   pub out_silent : (call : Call T U G C) → PartCall w id offer call before lacked did after → came_in did ≡ []
   out_silent h1 h = grind (arith, came_in, around, either_option, true≢false, new_reading, action_content, call_quiet)
@@ -185,7 +181,7 @@ module _ {T U G C : Type 0} (w : World T G C) (id : ClientParts) where
       (out_next before mid e none (λ new inserts. later_differs new id
       (let next = (numbered before e.call new by.client inserts).2 in omega (arith, born, next))) by) leads in
       let silent : receives_in (e.did id) ≡ 0 = ap length (out_silent w id before.offer (seen id before) none (e.lacks id) (e.did id) (seen id mid) e.call (by.each id)) in
-      grind (arith, out_says, seen)
+      grind (arith, true≢false, around, either_option, seen)
 
   -- ---- a killed client
 

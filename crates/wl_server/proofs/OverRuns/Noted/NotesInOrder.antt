@@ -23,7 +23,7 @@ use Rattle.wl_server.specs.NoteOrder.Ordered.{HandsOutNone, NoneHandedOut}
 use Rattle.wl_server.specs.PartStep.{Asked, Call, PartCall, World}
 use Rattle.wl_server.specs.Runs.{Leads}
 use Rattle.wl_server.specs.Server.{Seen, ServerState, Stored, client_at, if_serial, new_server, note_of, notes_of, seen, stored_at, told_of}
-use Rattle.wl_server.specs.Steps.{Entry, GathersNotes, HandsOutNotes, MakesNotes, NotesGoOn, OneStep, StepOf}
+use Rattle.wl_server.specs.Steps.{Entry, GathersNotes, MakesNotes, NotesGoOn, OneStep, StepOf}
 use Rattle.wl_server.proofs.CallSteps.Numbering.{GivesWithin, all_each, no_numbers, numbers_left, rise_up, waiting_anew, within_both, within_none}
 use Rattle.wl_server.proofs.CallSteps.Slots.{same_parts, same_self}
 use Rattle.wl_server.proofs.CleanupSteps.Gathering.{notes_append}
@@ -205,21 +205,17 @@ module _ {T U G C : Type 0} where
 module _ {T U G C : Type 0} (w : World T G C) where
   pub takes_of : (s : ServerState T U G C) (e : Entry T U G C) (after : ServerState T U G C) (out : Vec (Note U) Global)
       → e.call ≡ Asked step.TakeNotes (reply.TakeNotes (Ok out)) → OneStep w s e after → Takes s out.items
-  takes_of s e after out is one = of (subst (λ (call : Call T U G C). NotesGoOn s call after) is one.notes)
-    where
-      of : HandsOutNotes s out.items after → Takes s out.items
-      of h =
-          let (order, ordered, (more, behind, along)) = h.in_order in
-          record {
-            more = more;
-            order = order;
-            behind = behind;
-            rise = ordered.rise;
-            places = ordered.numbers;
-            along = along;
-            each = λ id. (append_cancel_left (notes_of id s.notes) (notes_of id more) (made_of id s.clients) (sym (notes_append id s.notes more) ∙
-                (ap (notes_of id) (sym behind) ∙ (grind (arith, seen, notes_of)))));
-          }
+  takes_of s e after out is one = let (order, ordered, (more, behind, along)) = (subst (λ (call : Call T U G C). NotesGoOn s call after) is one.notes).in_order in
+      record {
+        more = more;
+        order = order;
+        behind = behind;
+        rise = ordered.rise;
+        places = ordered.numbers;
+        along = along;
+        each = λ id. (append_cancel_left (notes_of id s.notes) (notes_of id more) (made_of id s.clients) (sym (notes_append id s.notes more) ∙
+            (ap (notes_of id) (sym behind) ∙ (grind (arith, seen, notes_of)))));
+      }
 
   takes_drain : (s : ServerState T U G C) (out : List (Note U)) → Takes s out → Drains s out
   takes_drain s out takes = grind (arith, append-nil)

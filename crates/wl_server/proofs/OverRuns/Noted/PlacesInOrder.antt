@@ -103,11 +103,8 @@ module _ (below : ℕ) (In : ℕ → ℕ → Type 0) (apart : (i j n : ℕ) → 
       x_first : IsNoLater x (place_at false y.slot y.number)
       x_first = found (IsNoLater x) y.slot y.number (x ∷ a) (later_refl x, after_x) back
 
-      number : y.number ≡ x.number
-      number = omega (arith, x_first.1 made, y_low)
-
       is : y ≡ x
-      is = grind (arith, place_is, y_made, number, y_there, there, false≢true, count_is, eq-eqb, sum_by-cons, at_time)
+      is = grind (arith, place_is, y_made, x_first.1 made, y_low, y_there, there, false≢true, count_is, eq-eqb, sum_by-cons, at_time)
 
       same_rest : (slot n : ℕ) → n < below → times_at_time slot n a ≡ times_at_time slot n b
       same_rest slot n less =
@@ -165,13 +162,9 @@ has_number n (m ∷ ns) some = at (λ more. has_number n ns more) (m == n) refl
         let (k, below, here) = later (omega (arith, some, sum_by-cons (λ (k : ℕ). if k == n then 1 else 0) m ns, ap {B = ℕ} (λ (x : Bool). if x then 1 else 0) is)) in
         (suc k, omega (arith, below), here)
 
-not_later : (low : ℕ) (ns : List ℕ) (next n : ℕ) → RiseWithin low ns next → n < low → often n ns ≡ 0
+pub not_later : (low : ℕ) (ns : List ℕ) (next n : ℕ) → RiseWithin low ns next → n < low → often n ns ≡ 0
 not_later low [] next n rise less = refl
 not_later low (m ∷ ns) next n (first, rest) less = grind (arith, sum_by-cons, ne_eqb, not_later (m + 1) ns next n rest)
-
--- numbers that were given later do not count among the early ones
-pub as_often : (ns more ns' : List ℕ) (next next' n : ℕ) → ns' ≡ ns ++ more → RiseWithin next more next' → n < next → often n ns ≡ often n ns'
-as_often ns more ns' next next' n is rise less = grind (arith, sum_by-append, not_later)
 
 -- ---- the places of what was made are early
 
@@ -204,4 +197,5 @@ earlier_first waits ts ts' a b next next' up moved up' moved' rise grow apart =
         let (more, is, later) = grow slot in
         let one = sum_by-IsPermutation (at_time slot n) (all_places false 0 ts) a moved in
         let two = sum_by-IsPermutation (at_time slot n) (all_places waits 0 ts') b moved' in
-        one ∙ ((among_all false slot n ts) ∙ ((as_often (times_at slot ts).made more (times_at slot ts').made next next' n is later less) ∙ (sym (among_all waits slot n ts') ∙ sym two)))
+        one ∙ ((among_all false slot n ts) ∙ ((grind (arith, sum_by-append, not_later, (times_at slot ts).made, (times_at slot ts').made)) ∙ (sym
+        (among_all waits slot n ts') ∙ sym two)))

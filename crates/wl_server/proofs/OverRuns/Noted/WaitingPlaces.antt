@@ -9,7 +9,7 @@ use Rattle.std.proofs.lemmas.List.Sums.{sum_by-append, sum_by-cons}
 use Rattle.wl_server.specs.declared.notes.queues.NotePlace.{NotePlace}
 use Rattle.wl_server.specs.NoteOrder.{IsNoLater, Rise, RiseWithin, all_places, place_at, places_of, times_at}
 use Rattle.wl_server.specs.Server.{NoteTimes}
-use Rattle.wl_server.proofs.OverRuns.Noted.PlacesInOrder.{IsEarly, Sorted, all_append, among, as_often, early_so, has_number, of_made, often, sorted_of, times_at_time}
+use Rattle.wl_server.proofs.OverRuns.Noted.PlacesInOrder.{IsEarly, Sorted, all_append, among, early_so, has_number, of_made, often, sorted_of, times_at_time, not_later}
 use Rattle.wl_server.proofs.CallSteps.Numbering.{rise_up}
 
 -- ---- those that were made come before those that wait
@@ -153,7 +153,7 @@ waiting_first ts ts' a b next next' up moved up' moved' rise grow apart =
     same slot n less =
         let (more, is, later) = grow slot in
         let here = count_parted slot n a one ∙ (sum_by-IsPermutation (at_waiting slot n) (all_places true 0 ts) a moved ∙ among_waiting slot n ts) in
-        here ∙ (as_often (times_at slot ts).waiting more (times_at slot ts').waiting next next' n is later less ∙ sym (count_parted slot n b two ∙
+        here ∙ ((grind (arith, sum_by-append, not_later, (times_at slot ts).waiting, (times_at slot ts').waiting)) ∙ sym (count_parted slot n b two ∙
         (sum_by-IsPermutation (at_waiting slot n) (all_places true 0 ts') b moved' ∙ among_waiting slot n ts')))
 
 -- ---- how many places a client has, of notes that were made and of those that wait

@@ -335,16 +335,13 @@ module _ {T U G C : Type 0} (w : World T G C) where
           places : order ≡ order'
           places = orders_one true (map times_of s.clients) (map times_of t.clients) order order' ordered.rise ordered.numbers ordered'.rise ordered'.numbers same.times
 
-          whole' : y.notes ≡ t.notes ++ (more' ++ g.ends)
-          whole' = g.behind ∙ (ap (λ (l : List (Note U)). l ++ g.ends) behind' ∙ append_assoc t.notes more' g.ends)
-
           told : (id : ClientParts) → notes_of id (more ++ h.ends) ≡ notes_of id (more' ++ g.ends)
           told id =
               append_cancel_left (notes_of id t.notes) (notes_of id (more ++ h.ends)) (notes_of id (more' ++ g.ends))
               (ap (λ (l : List (Note U)). notes_of id l ++ notes_of id (more ++ h.ends)) (sym same.notes)
               ∙ (sym (notes_append id s.notes (more ++ h.ends))
               ∙ (ap (notes_of id) (sym (h.behind ∙ (ap (λ (l : List (Note U)). l ++ h.ends) behind ∙ append_assoc s.notes more h.ends))) ∙ (all id ∙
-              (ap (notes_of id) whole' ∙ notes_append id t.notes (more' ++ g.ends))))))
+              (ap (notes_of id) (g.behind ∙ (ap (λ (l : List (Note U)). l ++ g.ends) behind' ∙ append_assoc t.notes more' g.ends)) ∙ notes_append id t.notes (more' ++ g.ends))))))
 
           is : (id : ClientParts) (k : Happening U) (ks : List (Happening U)) → notes_of id (more' ++ g.ends) ≡ k ∷ ks → IsStored t id
           is = is_stored t (more' ++ g.ends) stored
