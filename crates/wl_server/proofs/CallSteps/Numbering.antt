@@ -327,10 +327,6 @@ waiting_anew ts a none has = grind (arith)
 pub takes_none : (t : NoteTimes) → TakesFirst t t
 takes_none t = record { made = []; waiting = []; of_made = refl; of_waiting = refl }
 
-pub took : (ms ms' ws ws' : List ℕ) → (ns : List ℕ) × (ms ≡ ns ++ ms') → (ns : List ℕ) × (ws ≡ ns ++ ws')
-    → TakesFirst (record { made = ms; waiting = ws }) (record { made = ms'; waiting = ws' })
-took ms ms' ws ws' (ns, made) (ns', waiting) = record { made = ns; waiting = ns'; of_made = made; of_waiting = waiting }
-
 pub takes_all : (t : NoteTimes) → TakesFirst t no_times
 takes_all t = record { made = t.made; waiting = t.waiting; of_made = sym (append-nil t.made); of_waiting = sym (append-nil t.waiting) }
 

@@ -139,9 +139,6 @@ module _ {T U C : Type 0} where
           ((ap (λ (x : Stored T U C). x.serial) is) ∙ known)))
           (on_part (notes_of target notes) s s' (λ p d r. R target p lacked d r) missing lacked did q does is)))
 
-  abbrev Missing : ClientParts → Kind T U C → Type 0 → ClientParts → Bool → Seen T U C → Type 0
-  Missing target R missing id b held = OfClient b held (λ p q. R id p false [] q) missing false [] held
-
 -- ---- a client that is looked up
 
 module _ {T U C : Type 0} where

@@ -33,9 +33,6 @@ at_most n cap none = omega (arith, none)
 pub none_both : (n m count : ℕ) → count ≡ min (n + m) 0xFFFFFFFFFFFFFFFF → count ≡ 0 → (n ≡ 0) × (m ≡ 0)
 none_both n m count is none = (omega (arith, is, none), omega (arith, is, none))
 
-pub some_of : (n m count some more : ℕ) → count ≡ min (n + m) 0xFFFFFFFFFFFFFFFF → count ≢ 0 → n ≤ some → m ≤ more → 0 < some + more
-some_of n m h3 some more is not within within' = grind (arith)
-
 module _ {T U C : Type 0} where
   -- ---- what nobody asks for
 

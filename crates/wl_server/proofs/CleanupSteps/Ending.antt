@@ -1,12 +1,10 @@
 -- The objects of a client that leaves are noted, one after another.
-use Rattle.std.proofs.Common.{◌≡◌, ℕ, ◌+◌, ◌≤◌, List, ◌∷◌, ◌++◌, length, map, arith, append_assoc}
-use Rattle.std.proofs.lemmas.List.{length-append, length-map, map-append}
+use Rattle.std.proofs.Common.{◌≡◌, ℕ, ◌+◌, ◌≤◌, List, ◌++◌, length, map, arith}
 use Rattle.wl_link.specs.declared.object.Object.{Object}
 use Rattle.wl_server.specs.declared.objects.Kept.{Kept}
 use Rattle.wl_server.specs.declared.notes.Note.{Note}
 use Rattle.wl_server.specs.Ids.{ClientParts}
 use Rattle.wl_server.specs.Inside.Leaving.{with_data, ends_of}
-use Rattle.wl_server.specs.Part.{note_of_end}
 use Rattle.wl_server.specs.Server.{note_of}
 use Rattle.wl_server.proofs.CleanupSteps.Outgoing.{ending_length}
 
@@ -19,14 +17,3 @@ module _ {U : Type 0} where
   pub ending_begins : (client : ClientParts) (notes : List (Note U)) (objects : List (ℕ × Object (Kept U))) (n room : ℕ) → n ≡ length notes → n + length (with_data objects) ≤ room
       → Ending client notes objects (notes ++ map (note_of client) (ends_of client objects)) room
   ending_begins client notes objects n room is fits = grind (arith, ending_length)
-
-  -- the first of them leaves
-  pub ended_one : (client : ClientParts) (notes notes' : List (Note U)) (e : ℕ × Object (Kept U)) (objects rest : List (ℕ × Object (Kept U))) (total : List (Note U)) (room : ℕ)
-      → objects ≡ e ∷ rest → Ending client notes objects total room → notes' ≡ notes ++ map (note_of client) (note_of_end client e.0 e.1)
-      → Ending client notes' rest total room
-  ended_one client notes notes' e objects rest total room first before is = grind (arith, length-append, length-map, append_assoc, map-append)
-
-  -- there is room for its note
-  pub ending_room : (client : ClientParts) (notes : List (Note U)) (e : ℕ × Object (Kept U)) (objects rest : List (ℕ × Object (Kept U))) (total : List (Note U)) (room n : ℕ)
-      → objects ≡ e ∷ rest → Ending client notes objects total room → n ≡ length notes → n + length (note_of_end client e.0 e.1) ≤ room
-  ending_room client notes e objects rest total room n first before is = grind (arith, length-append)

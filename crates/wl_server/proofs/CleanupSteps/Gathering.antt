@@ -76,10 +76,6 @@ module _ {T U C : Type 0} (waits : Bool) where
       → count_leaving waits (drop k clients) ≡ length (to_gather waits x) + count_leaving waits (drop (k + 1) clients)
   count_drop clients k x here = grind (arith, count_leaving, drop, length, to_gather, drop_more)
 
-  pub gathers_length : (clients : List (Option (Stored T U C))) (notes : List (Note U)) (clients' : List (Option (Stored T U C))) (notes' : List (Note U))
-      → Gathers waits clients notes clients' notes' → length clients' ≡ length clients
-  gathers_length clients notes clients' notes' by = grind (arith, length-map, option_map, emptied, length)
-
   -- ---- one note is moved
 
   from_length : (slot : ℕ) (x : Option (Stored T U C)) (told behind : List (Happening U)) → to_gather waits x ≡ told ++ behind

@@ -71,9 +71,6 @@ pub put_both_places : {U : Type 0} (slot : ℕ) (made waiting : List (ℕ × Hap
     → order'' ≡ order ++ places_of true slot (record { made = map (λ n. n.0) made; waiting = map (λ n. n.0) waiting })
 put_both_places slot made waiting order order' order'' is is' = grind (arith, place_of, append_assoc, places_by_number, place_at)
 
-pub put_no_places : (waits : Bool) (slot : ℕ) (order : List NotePlace) → order ≡ order ++ places_of waits slot no_times
-put_no_places h1 slot order = grind (arith, append-nil)
-
 no_places : (waits : Bool) (slot : ℕ) (ts : List NoteTimes) → count_places waits ts ≤ 0 → all_places waits slot ts ≡ []
 no_places waits slot [] few = refl
 no_places waits slot (t ∷ ts) few = grind (arith, length-append, place_at, length-map, all_places, nil_from_length, places_of, no_places waits (slot + 1) ts)

@@ -109,9 +109,6 @@ module _ {T U C : Type 0} where
     pub noted : notes' ++ collected ends_at slot (drop slot start) ≡ notes ++ collected ends_at 0 start
     pub gave : given' ++ collected given_at slot (drop slot start) ≡ given ++ collected given_at 0 start
 
-  pub leave_begins : (start : List (Option (Stored T U C))) (notes : List (Note U)) (given : List (ClientParts × T)) → Leave 0 start start notes notes given given
-  leave_begins start notes given = record { same = refl; rest = λ k above. refl; left = λ k x below. absurd (omega (arith, below)); noted = refl; gave = refl }
-
   pub leave_one : (slot : ℕ) (start now : List (Option (Stored T U C))) (notes notes' notes'' : List (Note U)) (given given' given'' : List (ClientParts × T)) (x x' : Option (Stored T U C))
       → Leave slot start now notes notes' given given' → slice_get now slot ≡ Some x → x' ≡ staying x → notes'' ≡ notes' ++ ends_at slot x → given'' ≡ given' ++ given_at slot x
       → Leave (slot + 1) start (slice_set now slot x') notes notes'' given given''

@@ -18,9 +18,6 @@ module _ {T A : Type 0} (sends : T → Queue → Result ℕ IoFault → T → Ty
   abbrev pub PutsFirst : LinkState T → List A → ℕ → Result (Unit {0}) IoFault → LinkState T → Type 0
   PutsFirst before xs n answer after = Puts sends before (map say (take n xs)) answer after
 
-  pub first_none : (link : LinkState T) (xs : List A) → PutsFirst link xs 0 (Ok tt) link
-  first_none link xs = puts_none sends link
-
   -- and so was the next
   pub first_more : (before mid after : LinkState T) (xs : List A) (n : ℕ) (x : A) (answer : Result (Unit {0}) IoFault) → n < length xs → x ≡ get_or xs n x
       → PutsFirst before xs n (Ok tt) mid → Wrote sends mid (say x).message answer after → PutsFirst before xs (n + 1) answer after

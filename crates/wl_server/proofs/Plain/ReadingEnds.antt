@@ -284,9 +284,6 @@ module _ {T U G C : Type 0} (sends : T → Queue → Result ℕ IoFault → T �
 
   -- ---- bytes that are no message
 
-  abbrev Closed : Core U C → Core U C → Type 0
-  Closed c e = (e.is_killed ≡ true) × (e.ended ≡ Some ConnectionClosed) × (e.action ≡ None)
-
   pub garbled_turns : (turn : List Sending → Turn) (before : ReaderState T (Core U C)) (c : Core U C) → IsRead c → ((es : List Sending) → FoundNoMessage sends a (turn es) before)
       → (link : LinkState T) → Turns turn before (garbled c) link
   garbled_turns turn before c h1 h2 link = grind (arith, true≢false, reason_if, not_read, action_in, behind_puts, some_is, not, is_none, is_some)

@@ -78,9 +78,6 @@ module _ {T U C : Type 0} where
 
 -- ---- a read under the signature of the request at the front
 
-abbrev ok_answer : WireMessage → Result WireMessage MessageParseError
-ok_answer m = Ok m
-
 module _ {T U : Type 0} (table : List InterfaceRow) (store : Store (Kept U)) (link : LinkState T) (r : FrontRequest) (front : IsFront table store link r) (after : LinkState T) where
   abbrev AsAsked : Option (List ArgumentType) → Type 0
   AsAsked f = f ≡ Some r.desc.now.signature.items

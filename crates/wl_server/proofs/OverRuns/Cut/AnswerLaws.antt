@@ -153,13 +153,6 @@ module _ {U G C : Type 0} (a : Around G C) where
   action_speaks : (c : Core U C) (action : OpenAction) (h : Handed) → IsReady c → Speaks (hands_out c action h)
   action_speaks c action h r = grind (arith)
 
-  -- what was done beside the answer is no exchange, and hands nothing out
-  record IsPlain (did : List (Deed U)) : Type 0 where
-    quiet : IsBeside (map HandedOut (map Did did ++ []))
-    none : answers_in (map HandedOut (map Did did ++ [])) ≡ []
-    quiet_end : IsBeside (map HandedOut (map Did did ++ Stops fault.Pipe ∷ []))
-    end : answers_in (map HandedOut (map Did did ++ Stops fault.Pipe ∷ [])) ≡ Err fault.Pipe ∷ []
-
   made_speaks : (c : Core U C) (n : ℕ) (v : Verdict (Core U C) (Told U)) → IsReady c → Speaks v → Speaks (made_at a c n v)
   made_speaks c n v r speaks = go (is_valid_new (objects_in c) n)
     where

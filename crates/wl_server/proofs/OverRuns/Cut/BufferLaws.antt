@@ -17,9 +17,6 @@ use Rattle.wl_server.specs.Runs.{Alone, Own}
 use Rattle.wl_server.specs.Server.{Seen}
 use Rattle.wl_server.specs.Steps.{offer_after}
 
-alike : {T : Type 0} (l k : LinkState T) → k.outgoing_capacity ≡ l.outgoing_capacity → 0 < l.outgoing_capacity → 0 < k.outgoing_capacity
-alike l k same holds = subst (λ (n : ℕ). 0 < n) (sym same) holds
-
 module _ {T U C : Type 0} where
   abbrev Holds : Part T U C → Type 0
   Holds p = 0 < p.link.outgoing_capacity
@@ -30,9 +27,6 @@ module _ {T U C : Type 0} where
 
   pub holds_at : (s : Seen T U C) (p : Part T U C) → s.part ≡ Some p → SeenHolds s → Holds p
   holds_at s p there holds = subst (λ (x : Option (Part T U C)). MatchOption x (Unit {0}) (λ q. Holds q)) {x = s.part} {y = Some p} there holds
-
-  over_link : (p q : Part T U C) (link : LinkState T) → q ≡ record p { link = link } → 0 < link.outgoing_capacity → Holds q
-  over_link p q link same holds = subst Holds (sym same) holds
 
 module _ {T U C : Type 0} (sends : T → Queue → Result ℕ IoFault → T → Type 0) (receives : T → ℕ → Result Queue IoFault → T → Type 0)
     (client : ClientParts) where
