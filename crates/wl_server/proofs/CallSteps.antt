@@ -4,10 +4,8 @@ pub mod Numbering
 pub mod Slots
 pub mod Lent
 pub mod OneClient
-pub mod Moved
 pub mod OverScripts
 pub mod Collecting
 pub mod Feeling
+pub mod Kept
 pub mod Visiting
-pub mod Changing
-pub mod ReadingCalls

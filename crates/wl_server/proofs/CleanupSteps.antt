@@ -1,14 +1,13 @@
 -- Killed clients leave, and notes are gathered.
 pub mod Taken
 pub mod Gathering
+pub mod GatheredSlots
 pub mod Ordering
 pub mod Ending
 pub mod Outgoing
-pub mod CleanedSlots
 pub mod Cleaning
 pub mod Rooms
 pub mod CleaningUp
 pub mod Asking
 pub mod Idle
 pub mod TakingNotes
-pub mod GatheredSlots

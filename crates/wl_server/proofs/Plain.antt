@@ -14,7 +14,6 @@ pub mod Cleanup
 pub mod ReadingEnds
 pub mod ReadingNotes
 pub mod Reading
-pub mod Reasons
 pub mod Insertion
 pub mod Globals
 pub mod Events

@@ -1,9 +1,8 @@
 -- A step that each client feels by itself, one slot after another.
-use Rattle.std.proofs.Common.{◌≡◌, ◌∙◌, ℕ, ◌+◌, ◌<◌, Bool, true, false, ◌||◌, List, [], length, map, Option, None, Some, is_some, refl, sym, ap, subst, arith, true≢false}
-use mathlib.Core.Logic.{inl, inr}
+use Rattle.std.proofs.Common.{◌≡◌, ◌∙◌, ℕ, ◌+◌, Bool, true, false, ◌||◌, List, [], length, map, Option, None, Some, is_some, refl, ap, subst, arith, true≢false}
 use Rattle.std.specs.Option.{option_map_or}
-use Rattle.std.specs.Prelude.{◌⊎◌, ◌==◌, if◌then◌else◌, nat_lt, slice_get, slice_set}
-use Rattle.std.proofs.lemmas.Bool.{eqb-true, false≢true}
+use Rattle.std.specs.Prelude.{◌==◌, if◌then◌else◌, slice_get, slice_set}
+use Rattle.std.proofs.lemmas.Bool.{eqb-true, false≢true, cases_lt}
 use Rattle.std.proofs.lemmas.List.{length-set}
 use Rattle.std.proofs.lemmas.Option.{slice_get_past}
 use Rattle.wl_server.specs.declared.notes.Happening.{Happening}
@@ -19,11 +18,27 @@ use Rattle.wl_server.specs.Ids.{ClientParts}
 use Rattle.wl_server.specs.PartStep.{Asked, Call, Feels, PartCall, PartStep, World}
 use Rattle.wl_server.specs.NoteOrder.{AllInTime, AllNumbered, times_of}
 use Rattle.wl_server.specs.Inside.Places.{AllFeel, FeltAt, PlaceFeels}
-use Rattle.wl_server.specs.Server.{Seen, ServerState, Stored, client_at, if_serial, seen_as, notes_of}
-use Rattle.wl_server.specs.Steps.{AsksForRoom, Makes, MakesNotes, NotesGoOn, NumbersClient, AnswersShared, RisesBySlot, inserted_by, lacks_growth, offer_after}
+use Rattle.wl_server.specs.Server.{Seen, ServerState, Stored, client_at, if_serial, seen_as, notes_of, seen}
+use Rattle.wl_server.specs.Steps.{AsksForRoom, Makes, MakesNotes, NotesGoOn, NumbersClient, AnswersShared, RisesBySlot, inserted_by, lacks_growth, offer_after, IsRefused}
 use Rattle.wl_sets.proofs.Lists.{get_set_other, get_set_same, other_of}
 use Rattle.wl_server.proofs.CallSteps.Slots.{Kind, client_present, on_part, same_parts, slot_within}
-use Rattle.wl_server.proofs.CallSteps.Numbering.{turn_still}
+use Rattle.wl_server.proofs.CallSteps.Numbering.{all_same}
+
+-- ---- a step from its parts
+
+module _ {T U G C : Type 0} (w : World T G C) (before : ServerState T U G C) (call : Call T U G C) (refused : Bool) where
+  pub step_by : (lacks : ClientParts → Bool) (did : ClientParts → List (Deed U)) (after : ServerState T U G C) → after.offer ≡ offer_after before.offer call
+      → after.last_client ≡ before.last_client + inserted_by call → NumbersClient before call → AnswersShared before.offer call → RisesBySlot call → AsksForRoom before call
+      → IsRefused (record { call = call; refused = refused; lacks = lacks; did = did }) → NotesGoOn before call after
+      → ((id : ClientParts) → PartCall w id before.offer call (seen id before) (lacks id) (did id) (seen id after)) → Makes w before call refused after
+  step_by lacks did after offer last client global order room is notes each = (record { call = call; refused = refused; lacks = lacks; did = did }, refl, refl, grind (arith))
+
+  -- memory was refused to no client
+  pub step_of : (did : ClientParts → List (Deed U)) (after : ServerState T U G C) → after.offer ≡ offer_after before.offer call
+      → after.last_client ≡ before.last_client + inserted_by call → NumbersClient before call → AnswersShared before.offer call → RisesBySlot call → AsksForRoom before call
+      → lacks_growth call ≡ refused → NotesGoOn before call after
+      → ((id : ClientParts) → PartCall w id before.offer call (seen id before) false (did id) (seen id after)) → Makes w before call refused after
+  step_of did after offer last client global order room growth = step_by (λ id. false) did after offer last client global order room (grind (arith, false≢true))
 
 module _ {T U C : Type 0} (R : Kind T U C) where
   -- ---- the loop over the slots
@@ -55,13 +70,8 @@ module _ {T U C : Type 0} (R : Kind T U C) where
     felt = λ k below. (grind (arith, slice_get, slice_set, eqb-true, get_set_same, get_set_other, other_of, k == slot));
     rest = λ k above. get_set_other now slot k place' (λ e. absurd (omega (arith, e, above))) ∙ all.rest k (omega (arith, above));
     told = λ k below is. (grind (arith, other_of, k == slot));
-    blame = λ is. blames refused lacked refl refl is;
+    blame = λ is. (grind (arith, all.blame, eqb-true, other_of, slot == slot, refused, lacked));
   }
-    where
-      blames : (r l : Bool) → refused ≡ r → lacked ≡ l → (r || l) ≡ true → (k : ℕ) × (k < slot + 1) × ((if k == slot then lacked else all.lacks k) ≡ true)
-      blames true l was is h = grind (arith, eqb-true)
-      blames false true was is h = (slot, omega arith, (grind (arith, other_of, slot == slot)))
-      blames false false was is h = absurd (false≢true h)
 
   -- ---- what is felt by each id
 
@@ -79,25 +89,18 @@ module _ {T U C : Type 0} (R : Kind T U C) where
       × Feels (seen_as gathered (client_in id.serial before)) (λ p q. R id p (lacks_in (client_in id.serial before) lacked) did q)
       (lacks_in (client_in id.serial before) lacked) did (seen_as gathered (client_in id.serial after))
 
-  abbrev FeltIf : ClientParts → List (Happening U) → Bool → Stored T U C → Stored T U C → Bool → Bool → Type 0
-  FeltIf id gathered lacked s s' b b' =
-      (did : List (Deed U))
-      × Feels (seen_as gathered (if b then Some s else None)) (λ p q. R id p (lacks_in (if b then Some s else None) lacked) did q)
-      (lacks_in (if b then Some s else None) lacked) did (seen_as gathered (if b' then Some s' else None))
-
   felt_by : (id : ClientParts) (gathered : List (Happening U)) (lacked : Bool) (before after : Option (Option (Stored T U C)))
       → FeltAt R id.slot before lacked after → FeltBy id gathered lacked before after
-  felt_by id gathered lacked None after (none, is) = subst (λ (x : Option (Option (Stored T U C))). FeltBy id gathered lacked None x) (sym is) ([], (tt, (refl, refl, refl)))
+  felt_by id gathered lacked None after (none, is) = rw is ([], (tt, (refl, refl, refl)))
   felt_by id gathered lacked (Some None) after (place', (none, gone), is) = grind (arith)
-  felt_by id gathered lacked (Some (Some s)) after (place', (s', (did, q, feels, made), now), is) =
-      subst (λ (x : Option (Option (Stored T U C))). FeltBy id gathered lacked (Some (Some s)) x) (sym (is ∙ ap Some now)) (at (s.serial == id.serial) refl)
+  felt_by id gathered lacked (Some (Some s)) after (place', (s', (did, q, feels, made), now), is) = rw (is, now) (at (s.serial == id.serial) refl)
     where
-      at : (b : Bool) → (s.serial == id.serial) ≡ b → FeltIf id gathered lacked s s' b (s'.serial == id.serial)
-      at true same =
-          let here : R id s.part lacked did q =
-          subst (λ (i : ClientParts). R i s.part lacked did q) (same_parts (record { slot = id.slot; serial = s.serial }) id refl (eqb-true s.serial id.serial same)) feels in
-          let as_now : (s'.serial == id.serial) ≡ true = rw (ap (λ (x : Stored T U C). x.serial) made) same in
-          subst (λ (b : Bool). FeltIf id gathered lacked s s' true b) (sym as_now) (did, on_part gathered s s' (λ p d r. R id p lacked d r) (Unit {0}) lacked did q here made)
+      at : (b : Bool) → (s.serial == id.serial) ≡ b → FeltBy id gathered lacked (Some (Some s)) (Some (Some s'))
+      at true same = rw (ap (λ (x : Stored T U C). x.serial) made, same) (
+        did,
+        on_part gathered s s' (λ p d r. R id p lacked d r) (Unit {0}) lacked did q
+            (rw (same_parts (record { slot = id.slot; serial = s.serial }) id refl (eqb-true s.serial id.serial same)) at feels) made,
+      )
       at false other = grind (arith, made)
 
   module _ (refused : Bool) (start now : List (Option (Stored T U C))) (all : AllFeel R refused (length start) start now) where
@@ -106,21 +109,15 @@ module _ {T U C : Type 0} (R : Kind T U C) where
     lacks_of id = lacks_in (client_at id start) (all.lacks id.slot)
 
     pub each_felt : (gathered : List (Happening U)) (id : ClientParts) → FeltBy id gathered (all.lacks id.slot) (slice_get start id.slot) (slice_get now id.slot)
-    each_felt gathered id = at (nat_lt id.slot (length start)) refl
-      where
-        at : (b : Bool) → nat_lt id.slot (length start) ≡ b → FeltBy id gathered (all.lacks id.slot) (slice_get start id.slot) (slice_get now id.slot)
-        at b h1 = grind (arith, felt_by, slice_get_past, slice_get)
+    each_felt gathered id = grind (arith, felt_by, slice_get_past, slice_get, cases_lt id.slot (length start))
 
     pub some_lacks : refused ≡ true → (id : ClientParts) × (lacks_of id ≡ true)
-    some_lacks is = grind (arith, at, slice_get)
+    some_lacks is = let (k, below, lacks) = all.blame is in at k (slice_get start k) refl lacks (all.felt k below)
       where
         at : (k : ℕ) (x : Option (Option (Stored T U C))) → slice_get start k ≡ x → all.lacks k ≡ true → FeltAt R k x (all.lacks k) (slice_get now k)
             → (id : ClientParts) × (lacks_of id ≡ true)
-        at k None here lacks (not, is) = absurd (true≢false (sym lacks ∙ not))
-        at k (Some None) here lacks (place', (not, gone), is) = absurd (true≢false (sym lacks ∙ not))
-        at k (Some (Some s)) here lacks felt =
-            let id : ClientParts = record { slot = k; serial = s.serial } in
-            (id, subst (λ (o : Option (Stored T U C)). lacks_in o (all.lacks k) ≡ true) (sym (client_present id start s here refl)) lacks)
+        at k (Some (Some s)) here lacks felt = (record { slot = k; serial = s.serial }, rw (client_present (record { slot = k; serial = s.serial }) start s here refl) lacks)
+        at k _ here lacks felt = grind (arith, true≢false)
 
     pub one_lacks : (id : ClientParts) → lacks_of id ≡ true → refused ≡ true
     one_lacks id lacks = grind (arith, stored, client_at, slot_within)
@@ -138,23 +135,13 @@ pub record IsFelt {T U G C : Type 0} (call : Call T U G C) : Type 0 where
   pub notes : (before after : ServerState T U G C) → MakesNotes before after → NotesGoOn before call after
 
 module _ {T U G C : Type 0} (w : World T G C) (before : ServerState T U G C) (call : Call T U G C) (felt : IsFelt call) where
-  last : (n : ℕ) → n ≡ 0 → before.last_client ≡ before.last_client + n
-  last n zero = omega (arith, zero)
-
   -- no client made anything of it
   pub makes_unfelt : (refused : Bool) (offer : Offer G) → offer ≡ offer_after before.offer call → AnswersShared before.offer call → lacks_growth call ≡ refused
       → ((id : ClientParts) (b : Seen T U C) → PartCall w id before.offer call b false [] b) → AllNumbered before.clients
       → Makes w before call refused (record before { offer = offer })
-  makes_unfelt refused offer becomes numbers growth to all = (
-    record { call = call; refused = refused; lacks = λ id. false; did = λ id. [] },
-    refl,
-    refl,
-    grind (arith, last, was_refused, turn_still),
-  )
-    where
-      was_refused : (lacks_growth call ≡ true) ⊎ ((id : ClientParts) × (false ≡ true)) → refused ≡ true
-      was_refused (inl grown) = sym growth ∙ grown
-      was_refused (inr (id, lacks)) = absurd (false≢true lacks)
+  makes_unfelt refused offer becomes numbers growth to all =
+      step_of w before call refused (λ id. []) (record before { offer = offer }) becomes (grind (arith, felt.last)) (felt.client before) numbers felt.order (felt.room before) growth
+      (felt.notes before _ (record { gathered = refl; times = all_same _ _ _ refl; numbered = all })) (λ id. to id (seen id before))
 
 module _ {T U G C : Type 0} (w : World T G C) (before : ServerState T U G C) (s : Step T U G C) (answer : Reply T U) (felt : IsFelt (Asked s answer)) where
   -- all clients felt it
@@ -168,25 +155,11 @@ module _ {T U G C : Type 0} (w : World T G C) (before : ServerState T U G C) (s 
     record { call = Asked s answer; refused = refused; lacks = λ id. lacks_of R refused before.clients clients all id; did = λ id. (by id).0 },
     refl,
     refl,
-    record {
-      offer = becomes;
-      last = last w before (Asked s answer) felt _ felt.last;
-      client = felt.client before;
-      global = numbers;
-      order = felt.order;
-      room = felt.room before;
-      refused = (λ is. inr (some_lacks R refused before.clients clients all is), λ h. was_refused h);
-      notes = felt.notes before _ (record { gathered = refl; times = times; numbered = numbered });
-      each = λ id. to id _ _ _ _ (by id).1;
-    },
+    grind (arith, false≢true, felt, to, by, some_lacks R refused before.clients clients all, one_lacks R refused before.clients clients all),
   )
     where
       by : (id : ClientParts) → FeltBy R id (notes_of id before.notes) (all.lacks id.slot) (slice_get before.clients id.slot) (slice_get clients id.slot)
       by id = each_felt R refused before.clients clients all (notes_of id before.notes) id
-
-      was_refused : (lacks_growth (Asked s answer) ≡ true) ⊎ ((id : ClientParts) × (lacks_of R refused before.clients clients all id ≡ true)) → refused ≡ true
-      was_refused (inl grown) = absurd (false≢true (sym growth ∙ grown))
-      was_refused (inr (id, lacks)) = one_lacks R refused before.clients clients all id lacks
 
   -- no client made anything of it
   pub unfelt_call : {was : Bool} (refused : Bool) (offer : Offer G) → offer ≡ offer_after before.offer (Asked s answer) → AnswersShared before.offer (Asked s answer)

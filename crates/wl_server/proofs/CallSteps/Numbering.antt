@@ -2,10 +2,11 @@
 use Rattle.std.proofs.Common.{◌≡◌, ◌≢◌, ◌∙◌, ℕ, zero, suc, ◌+◌, ◌<◌, ◌≤◌, Bool, true, false, List, [], ◌∷◌, ◌++◌, length, map, Option, Some, refl, sym, ap, subst, arith, append_assoc, append-nil}
 use mathlib.Core.Logic.{inl, inr}
 use Rattle.std.specs.Option.{option_map, option_map_or}
-use Rattle.std.specs.Prelude.{◌⊎◌, ◌==◌, Contains, nat_lt, slice_get, slice_set}
-use Rattle.std.proofs.lemmas.Bool.{eqb-true, ltb-false, ltb-true}
-use Rattle.std.proofs.lemmas.List.{length-append}
+use Rattle.std.specs.Prelude.{◌⊎◌, ◌==◌, Contains, slice_get, slice_set}
+use Rattle.std.proofs.lemmas.Bool.{eqb-true}
+use Rattle.std.proofs.lemmas.List.{length-append, nil_from_length, length-map}
 use Rattle.std.proofs.lemmas.List.Elements.{Contains-append_cases, Contains-append_right}
+use Rattle.std.proofs.lemmas.Option.{slice_get-map}
 use Rattle.wl_server.specs.declared.notes.queues.NoteNumbers.{NoteNumbers}
 use Rattle.wl_server.specs.Ids.{ClientParts}
 use Rattle.wl_server.specs.Inside.Inserting.{IsPut}
@@ -14,7 +15,8 @@ use Rattle.wl_server.specs.NoteOrder.{AllInTime, AllNumbered, AllTakeFirst, AreI
 use Rattle.wl_server.specs.Inside.NoteOrder.{NoneNumbered}
 use Rattle.wl_server.specs.Server.{NoteTimes, Stored, client_at, no_times, stored_at}
 use Rattle.wl_sets.proofs.Lists.{get_set_other, get_set_same, other_of}
-use Rattle.wl_server.proofs.CallSteps.Slots.{slot_of_client}
+use Rattle.wl_server.proofs.CallSteps.Slots.{slot_of_client, stored_is}
+use Rattle.wl_server.proofs.CleanupSteps.Gathering.{both_none}
 
 -- ---- numbers that rise
 
@@ -22,21 +24,19 @@ rise_lower : (low mid : ℕ) (ns : List ℕ) (next : ℕ) → low ≤ mid → Ri
 rise_lower low mid [] next less is = omega (arith, less, is)
 rise_lower low mid (n ∷ ns) next less (first, rest) = (omega (arith, less, first), rest)
 
-rise_higher : (low : ℕ) (ns : List ℕ) (next next' : ℕ) → next ≤ next' → RiseWithin low ns next → RiseWithin low ns next'
-rise_higher low [] next next' more is = omega (arith, more, is)
-rise_higher low (n ∷ ns) next next' more (first, rest) = (first, rise_higher (n + 1) ns next next' more rest)
-
 rise_append : (low : ℕ) (ns : List ℕ) (mid : ℕ) (ms : List ℕ) (next : ℕ) → RiseWithin low ns mid → RiseWithin mid ms next → RiseWithin low (ns ++ ms) next
 rise_append low [] mid ms next is more = rise_lower low mid ms next is more
 rise_append low (n ∷ ns) mid ms next (first, rest) more = (first, rise_append (n + 1) ns mid ms next rest more)
+
+rise_higher : (low : ℕ) (ns : List ℕ) (next next' : ℕ) → next ≤ next' → RiseWithin low ns next → RiseWithin low ns next'
+rise_higher low ns next next' more is = rw append-nil at (rise_append low ns next [] next' is more)
 
 rise_last : (low : ℕ) (ns ms : List ℕ) (next : ℕ) → RiseWithin low (ns ++ ms) next → RiseWithin low ms next
 rise_last low [] ms next is = is
 rise_last low (n ∷ ns) ms next (first, rest) = rise_lower low (n + 1) ms next (omega (arith, first)) (rise_last (n + 1) ns ms next rest)
 
 pub rise_up : (low : ℕ) (ns : List ℕ) (next : ℕ) → RiseWithin low ns next → low ≤ next
-rise_up low [] next is = is
-rise_up low (n ∷ ns) next (first, rest) = let more = rise_up (n + 1) ns next rest in omega (arith, first, more)
+rise_up low ns next is = rise_last low ns [] next (rw append-nil is)
 
 among : (low : ℕ) (ns : List ℕ) (next n : ℕ) → RiseWithin low ns next → Contains ns n → (low ≤ n) × (n < next)
 among low [] next n is (k, below, at) = absurd (omega (arith, below))
@@ -49,13 +49,13 @@ pub gives_none : (ns : List ℕ) (next : ℕ) → GivesNumbers ns next ns next
 gives_none ns next = record { more = []; behind = sym (append-nil ns); given = refl; past = refl }
 
 numbers_more : (next k m : ℕ) → numbers_from next (k + m) ≡ numbers_from next k ++ numbers_from (number_past next k) m
-numbers_more next zero m = let none : zero + m ≡ m = omega arith in ap (numbers_from next) none
+numbers_more next zero m = grind (arith)
 numbers_more next (suc k) m =
     let one : suc k + m ≡ suc (k + m) = omega arith in
     ap (numbers_from next) one ∙ ap (λ (l : List ℕ). next ∷ l) (numbers_more (number_after next) k m)
 
 past_more : (next k m : ℕ) → number_past next (k + m) ≡ number_past (number_past next k) m
-past_more next zero m = let none : zero + m ≡ m = omega arith in ap (number_past next) none
+past_more next zero m = grind (arith)
 past_more next (suc k) m =
     let one : suc k + m ≡ suc (k + m) = omega arith in
     ap (number_past next) one ∙ past_more (number_after next) k m
@@ -80,9 +80,6 @@ within_none ns next next' up = record { more = []; behind = sym (append-nil ns);
 pub within_both : (ns ms ks : List ℕ) (a b c : ℕ) → GivesWithin ns a ms b → GivesWithin ms b ks c → GivesWithin ns a ks c
 within_both ns ms ks a b c one two = grind (arith, append_assoc, rise_up, rise_append)
 
-within_lower : (ns : List ℕ) (a b : ℕ) (ns' : List ℕ) (c : ℕ) → (c < last_number → a ≤ b) → GivesWithin ns b ns' c → GivesWithin ns a ns' c
-within_lower ns a b ns' c up gives = record { more = gives.more; behind = gives.behind; rise = λ below. rise_lower a b gives.more c (up below) (gives.rise below) }
-
 -- ---- the notes of one client
 
 pub in_time_none : (t : NoteTimes) (n : NoteNumbers) → NotesInTime t n t n
@@ -92,75 +89,56 @@ pub in_time_both : (t u v : NoteTimes) (a b c : NoteNumbers) → NotesInTime t a
 in_time_both t u v a b c one two = grind (arith, append_assoc, numbers_from, length, numbers_more, number_past, past_more, length-append)
 
 pub in_time_same : (t u : NoteTimes) (a b : NoteNumbers) → u ≡ t → b ≡ a → NotesInTime t a u b
-in_time_same t u a b same none =
-    subst (λ (x : NoteTimes). NotesInTime t a x b) (sym same) (subst (λ (n : NoteNumbers). NotesInTime t a t n) (sym none) (in_time_none t a))
+in_time_same t u a b same none = rw (same, none) (in_time_none t a)
 
 -- a note waits
 pub waits_in_time : (ms ms' ws ws' : List ℕ) (a b : NoteNumbers) → GivesNumbers ws a.waiting ws' b.waiting → ms' ≡ ms → b.made ≡ a.made
     → NotesInTime (record { made = ms; waiting = ws }) a (record { made = ms'; waiting = ws' }) b
 waits_in_time ms ms' ws ws' a b gives same none = grind (arith, gives_none)
 
--- nothing was noted
-pub still_made : (ms ms' ws : List ℕ) (a : NoteNumbers) → ms' ≡ ms → NotesInTime (record { made = ms; waiting = ws }) a (record { made = ms'; waiting = ws }) a
-still_made ms ms' ws a same = grind (arith, gives_none, subst (λ (l : List ℕ). GivesNumbers ms a.made l a.made) (sym same) (gives_none ms a.made))
-
-pub still_waits : (ms ws ws' : List ℕ) (a : NoteNumbers) → ws' ≡ ws → NotesInTime (record { made = ms; waiting = ws }) a (record { made = ms; waiting = ws' }) a
-still_waits ms ws ws' a same = waits_in_time ms ms ws ws' a a (subst (λ (l : List ℕ). GivesNumbers ws a.waiting l a.waiting) (sym same) (gives_none ws a.waiting)) refl refl
-
 -- ---- the slots
 
-get_map : {A B : Type 0} (f : A → B) (xs : List A) (k : ℕ) → slice_get (map f xs) k ≡ option_map f (slice_get xs k)
-get_map f [] k = refl
-get_map f (x ∷ xs) zero = refl
-get_map f (x ∷ xs) (suc k) = get_map f xs k
-
 module _ {T U C : Type 0} where
-  abbrev pub time_in : Option (Option (Stored T U C)) → NoteTimes
-  time_in o = option_map_or (λ t. t) (option_map times_of o) no_times
-
-  pub times_in : (clients : List (Option (Stored T U C))) (k : ℕ) → times_at k (map times_of clients) ≡ time_in (slice_get clients k)
-  times_in clients k = ap (λ (o : Option NoteTimes). option_map_or (λ t. t) o no_times) (get_map times_of clients k)
+  pub times_stored : (clients : List (Option (Stored T U C))) (k : ℕ) → times_at k (map times_of clients) ≡ times_of (stored_at k clients)
+  times_stored clients k = grind (arith, slice_get-map, times_of, no_times, slice_get clients k)
 
   pub times_there : (clients : List (Option (Stored T U C))) (k : ℕ) (x : Option (Stored T U C)) → slice_get clients k ≡ Some x → times_at k (map times_of clients) ≡ times_of x
-  times_there clients k x here = times_in clients k ∙ ap time_in here
+  times_there clients k x here = grind (arith, times_stored clients k)
 
   pub times_same : (clients clients' : List (Option (Stored T U C))) (k : ℕ) → slice_get clients' k ≡ slice_get clients k
       → times_at k (map times_of clients') ≡ times_at k (map times_of clients)
-  times_same clients clients' k same = times_in clients' k ∙ (ap time_in same ∙ sym (times_in clients k))
+  times_same clients clients' k same = grind (arith, times_stored clients k, times_stored clients' k)
 
 -- ---- the notes of all clients
 
 module _ (of : NoteTimes → List ℕ) where
   -- one client got numbers, and the others have theirs
   changed : (ts ts' : List NoteTimes) (i next next' : ℕ) → ((k : ℕ) → k ≢ i → times_at k ts' ≡ times_at k ts)
-      → GivesWithin (of (times_at i ts)) next (of (times_at i ts')) next' → next' < last_number → AreInTime of next ts → AreInTime of next' ts'
-  changed ts ts' i next next' others gives below is = record {
+      → GivesNumbers (of (times_at i ts)) next (of (times_at i ts')) next' → (next < last_number → AreInTime of next ts) → next' < last_number → AreInTime of next' ts'
+  changed ts ts' i next next' others given has below = record {
     rise = λ k. (grind (arith, times_at, rise_append, other_of, rise_higher, rise_up, next, more, k == i));
-    apart = λ j k n a b. differ j k n (old_or_new j n (j == i) refl a) (old_or_new k n (k == i) refl b);
+    apart = λ j k n a b. (grind (arith, is.apart j k n, old_or_new j n (j == i) refl a, old_or_new k n (k == i) refl b));
   }
     where
+      gives : GivesWithin (of (times_at i ts)) next (of (times_at i ts')) next'
+      gives = within (of (times_at i ts)) next (of (times_at i ts')) next' given
+
       more : RiseWithin next gives.more next'
       more = gives.rise below
 
+      is : AreInTime of next ts
+      is = has (let up = rise_up next gives.more next' more in omega (arith, up, below))
+
       -- a number that is there was there, or is new
-      old_or_new : (k n : ℕ) (b : Bool) → (k == i) ≡ b → Contains (of (times_at k ts')) n → Contains (of (times_at k ts)) n ⊎ ((k ≡ i) × (next ≤ n))
+      old_or_new : (k n : ℕ) (b : Bool) → (k == i) ≡ b → Contains (of (times_at k ts')) n → (Contains (of (times_at k ts)) n × (n < next)) ⊎ ((k ≡ i) × (next ≤ n))
       old_or_new k n true same has =
           let at = eqb-true k i same in
-          from (subst (λ (m : ℕ). (Contains (of (times_at m ts)) n → Contains (of (times_at k ts)) n)) at (λ h. h))
-          (Contains-append_cases (of (times_at i ts)) gives.more n
-          (subst (λ (l : List ℕ). Contains l n) gives.behind (subst (λ (m : ℕ). Contains (of (times_at m ts')) n) at has)))
-        where
-          from : (Contains (of (times_at i ts)) n → Contains (of (times_at k ts)) n) → Contains (of (times_at i ts)) n ⊎ Contains gives.more n
-              → Contains (of (times_at k ts)) n ⊎ ((k ≡ i) × (next ≤ n))
-          from back (inl old) = inl (back old)
-          from back (inr new) = inr (eqb-true k i same, (among next gives.more next' n more new).0)
-      old_or_new k n false other has = inl (subst (λ (t : NoteTimes). Contains (of t) n) (others k (other_of k i other)) has)
-
-      differ : (j k n : ℕ) → Contains (of (times_at j ts)) n ⊎ ((j ≡ i) × (next ≤ n)) → Contains (of (times_at k ts)) n ⊎ ((k ≡ i) × (next ≤ n)) → j ≡ k
-      differ j k n (inl a) (inl b) = is.apart j k n a b
-      differ j k n (inl a) (inr (at, high)) = absurd (omega (arith, high, (among 0 (of (times_at j ts)) next n (is.rise j) a).1))
-      differ j k n (inr (at, high)) (inl b) = absurd (omega (arith, high, (among 0 (of (times_at k ts)) next n (is.rise k) b).1))
-      differ j k n (inr (at, high)) (inr (at', high')) = at ∙ sym at'
+          elim (Contains-append_cases (of (times_at i ts)) gives.more n (rw (at, gives.behind) at has)) [
+            | inl old ↦ inl (rw at old, (among 0 (of (times_at i ts)) next n (is.rise i) old).1)
+            | inr new ↦ inr (at, (among next gives.more next' n more new).0)
+          ]
+      old_or_new k n false other has =
+          let old : Contains (of (times_at k ts)) n = rw (others k (other_of k i other)) at has in inl (old, (among 0 (of (times_at k ts)) next n (is.rise k) old).1)
 
   -- the first numbers of clients are gone
   fewer : (ts ts' : List NoteTimes) (next : ℕ) → ((k : ℕ) → (gone : List ℕ) × (of (times_at k ts) ≡ gone ++ of (times_at k ts'))) → AreInTime of next ts → AreInTime of next ts'
@@ -194,94 +172,73 @@ module _ (of : NoteTimes → List ℕ) where
       let up = rise_up mid more.more next' (more.rise below) in
       omega (arith, up, turn_up n ts next ts' mid turn (omega (arith, up, below)))
 
-  turn_each : (n k : ℕ) (ts : List NoteTimes) (next : ℕ) (ts' : List NoteTimes) (next' : ℕ) → k < n → InTurn of n ts next ts' next'
-      → GivesWithin (of (times_at k ts)) next (of (times_at k ts')) next'
-  turn_each zero k ts next ts' next' less is = absurd (omega (arith, less))
-  turn_each (suc n) k ts next ts' next' less (mid, turn, gives) = at (λ before. turn_each n k ts next ts' mid before turn) (k == n) refl
+  -- the notes of a client, whether or not others got numbers meanwhile
+  pub each_turn : (n k : ℕ) (ts : List NoteTimes) (next : ℕ) (ts' : List NoteTimes) (next' : ℕ) → InTurn of n ts next ts' next'
+      → (n ≤ k → times_at k ts' ≡ times_at k ts) → GivesWithin (of (times_at k ts)) next (of (times_at k ts')) next'
+  each_turn zero k ts next ts' next' is past = grind (arith, times_at, within_none)
+  each_turn (suc n) k ts next ts' next' (mid, turn, gives) past = at (λ others. each_turn n k ts next ts' mid turn others) (k == n) refl
     where
       more : GivesWithin (of (times_at n ts)) mid (of (times_at n ts')) next'
       more = within (of (times_at n ts)) mid (of (times_at n ts')) next' gives
 
-      at : (k < n → GivesWithin (of (times_at k ts)) next (of (times_at k ts')) mid) → (b : Bool) → (k == n) ≡ b → GivesWithin (of (times_at k ts)) next (of (times_at k ts')) next'
-      at earlier h2 same = grind (arith, times_at, eqb-true, within_lower, rise_up, turn_up, more, other_of, rise_higher)
+      at : ((n ≤ k → times_at k ts' ≡ times_at k ts) → GivesWithin (of (times_at k ts)) next (of (times_at k ts')) mid) → (b : Bool) → (k == n) ≡ b
+          → GivesWithin (of (times_at k ts)) next (of (times_at k ts')) next'
+      at earlier true same = rw (eqb-true k n same) (within_both _ _ _ next mid next' (within_none (of (times_at n ts)) next mid (turn_up n ts next ts' mid turn)) more)
+      at earlier false other =
+          within_both _ _ _ next mid next' (earlier (λ up. past (let e = other_of k n other in omega (arith, e, up))))
+          (within_none (of (times_at k ts')) mid next' (λ below. rise_up mid more.more next' (more.rise below)))
 
--- the made notes of a client, whether or not others got numbers meanwhile
+  -- one more client got numbers
+  turn_next : (i : ℕ) (ts us vs : List NoteTimes) (a b c : ℕ) → InTurn of i ts a us b → ((k : ℕ) → i ≤ k → times_at k us ≡ times_at k ts)
+      → ((k : ℕ) → k ≢ i → times_at k vs ≡ times_at k us) → GivesNumbers (of (times_at i us)) b (of (times_at i vs)) c → InTurn of (suc i) ts a vs c
+  turn_next i ts us vs a b c turn past others gives =
+      (b, turn_other i ts a us vs b (λ k below. others k (λ e. omega (arith, e, below))) turn, rw (sym (past i (omega arith))) gives)
+
 pub all_each : (ts : List NoteTimes) (a : NoteNumbers) (ts' : List NoteTimes) (b : NoteNumbers) → AllInTime ts a ts' b → (k : ℕ)
     → GivesWithin (times_at k ts).made a.made (times_at k ts').made b.made
-all_each ts a ts' b (slots, all) k = at (nat_lt k slots) refl
-  where
-    at : (x : Bool) → nat_lt k slots ≡ x → GivesWithin (times_at k ts).made a.made (times_at k ts').made b.made
-    at true less = turn_each (λ t. t.made) slots k ts a.made ts' b.made (ltb-true k slots less) all.made
-    at false past = grind (arith, times_at, ltb-false, within_none, turn_up)
+all_each ts a ts' b (slots, all) k = each_turn (λ t. t.made) slots k ts a.made ts' b.made all.made (all.others k)
 
-pub all_waiting : (ts : List NoteTimes) (a : NoteNumbers) (ts' : List NoteTimes) (b : NoteNumbers) → AllInTime ts a ts' b → (k : ℕ)
-    → GivesWithin (times_at k ts).waiting a.waiting (times_at k ts').waiting b.waiting
-all_waiting ts a ts' b (slots, all) k = at (nat_lt k slots) refl
-  where
-    at : (x : Bool) → nat_lt k slots ≡ x → GivesWithin (times_at k ts).waiting a.waiting (times_at k ts').waiting b.waiting
-    at true less = turn_each (λ t. t.waiting) slots k ts a.waiting ts' b.waiting (ltb-true k slots less) all.waiting
-    at false past = grind (arith, times_at, ltb-false, within_none, turn_up)
+-- nobody got numbers
+none_yet : (i : ℕ) (ts ts' : List NoteTimes) (a : NoteNumbers) → ts' ≡ ts → InTimeBelow i ts a ts' a
+none_yet i ts ts' a same = grind (arith, turn_still)
 
 pub all_same : (ts ts' : List NoteTimes) (a : NoteNumbers) → ts' ≡ ts → AllInTime ts a ts' a
-all_same ts ts' a same = subst (λ (us : List NoteTimes). AllInTime ts a us a) (sym same) ((0, (grind (arith, turn_still))))
+all_same ts ts' a same = (0, none_yet 0 ts ts' a same)
 
--- one client got numbers
+-- one client got numbers, behind those of the slots below it
+next_turn : (i : ℕ) (ts us vs : List NoteTimes) (a b c : NoteNumbers) → InTimeBelow i ts a us b → ((k : ℕ) → k ≢ i → times_at k vs ≡ times_at k us)
+    → NotesInTime (times_at i us) b (times_at i vs) c → InTimeBelow (suc i) ts a vs c
+next_turn i ts us vs a b c before others gives = record {
+  made = turn_next (λ t. t.made) i ts us vs a.made b.made c.made before.made before.others others gives.made;
+  waiting = turn_next (λ t. t.waiting) i ts us vs a.waiting b.waiting c.waiting before.waiting before.others others gives.waiting;
+  others = λ k past. others k (λ e. omega (arith, e, past)) ∙ before.others k (omega (arith, past));
+  keeps = λ has. record {
+    made = changed (λ t. t.made) us vs i b.made c.made others gives.made (before.keeps has).made;
+    waiting = changed (λ t. t.waiting) us vs i b.waiting c.waiting others gives.waiting (before.keeps has).waiting;
+  };
+}
+
 pub all_but : (ts ts' : List NoteTimes) (i : ℕ) (a b : NoteNumbers) → ((k : ℕ) → k ≢ i → times_at k ts' ≡ times_at k ts)
     → NotesInTime (times_at i ts) a (times_at i ts') b → AllInTime ts a ts' b
-all_but ts ts' i a b others gives = (
-  suc i,
-  record {
-    made = (a.made, turn_still (λ t. t.made) i ts ts' a.made (λ k below. others k (λ e. omega (arith, e, below))), gives.made);
-    waiting = (a.waiting, turn_still (λ t. t.waiting) i ts ts' a.waiting (λ k below. others k (λ e. omega (arith, e, below))), gives.waiting);
-    others = λ k past. others k (λ e. omega (arith, e, past));
-    keeps = λ has. record {
-      made = λ below. changed (λ t. t.made) ts ts' i a.made b.made others made below (has.made (let up = rise_up a.made made.more b.made (made.rise below) in omega (arith, up, below)));
-      waiting = λ below. changed (λ t. t.waiting) ts ts' i a.waiting b.waiting others waiting below (has.waiting
-          (let up = rise_up a.waiting waiting.more b.waiting (waiting.rise below) in omega (arith, up, below)));
-    };
-  },
-)
-  where
-    made : GivesWithin (times_at i ts).made a.made (times_at i ts').made b.made
-    made = within (times_at i ts).made a.made (times_at i ts').made b.made gives.made
-
-    waiting : GivesWithin (times_at i ts).waiting a.waiting (times_at i ts').waiting b.waiting
-    waiting = within (times_at i ts).waiting a.waiting (times_at i ts').waiting b.waiting gives.waiting
+all_but ts ts' i a b others gives = (suc i, next_turn i ts ts ts' a a b (none_yet i ts ts a refl) others gives)
 
 module _ {T U C : Type 0} where
-  -- the client of a slot was written
-  pub set_in_time : (clients : List (Option (Stored T U C))) (i : ℕ) (x x' : Option (Stored T U C)) (a b : NoteNumbers) → slice_get clients i ≡ Some x
-      → NotesInTime (times_of x) a (times_of x') b → AllInTime (map times_of clients) a (map times_of (slice_set clients i x')) b
-  set_in_time clients i x x' a b here gives =
-      all_but (map times_of clients) (map times_of (slice_set clients i x')) i a b
-      (λ k differ. times_same clients (slice_set clients i x') k (get_set_other clients i k x' (λ e. differ (sym e))))
-      (subst (λ (t : NoteTimes). NotesInTime t a (times_at i (map times_of (slice_set clients i x'))) b) (sym (times_there clients i x here))
-      (subst (λ (t : NoteTimes). NotesInTime (times_of x) a t b) (sym (times_there (slice_set clients i x') i x' (get_set_same clients i x x' here))) gives))
-
   -- the client of the next slot was written, after those below it
   pub next_in_time : (ts : List NoteTimes) (clients : List (Option (Stored T U C))) (i : ℕ) (x x' : Option (Stored T U C)) (a b c : NoteNumbers)
       → InTimeBelow i ts a (map times_of clients) b → slice_get clients i ≡ Some x → NotesInTime (times_of x) b (times_of x') c
       → InTimeBelow (i + 1) ts a (map times_of (slice_set clients i x')) c
   next_in_time ts clients i x x' a b c before here gives =
       let next : suc i ≡ i + 1 = omega arith in
-      subst (λ (n : ℕ). InTimeBelow n ts a (map times_of (slice_set clients i x')) c) next (record {
-        made = (b.made, turn_other (λ t. t.made) i ts a.made (map times_of clients) (map times_of (slice_set clients i x')) b.made still before.made, times.made);
-        waiting = (b.waiting, turn_other (λ t. t.waiting) i ts a.waiting (map times_of clients) (map times_of (slice_set clients i x')) b.waiting still before.waiting, times.waiting);
-        others = λ k past. others k (λ e. omega (arith, e, past)) ∙ before.others k (omega (arith, past));
-        keeps = λ has. (set_in_time clients i x x' b c here gives).1.keeps (before.keeps has);
-      })
-    where
-      others : (k : ℕ) → k ≢ i → times_at k (map times_of (slice_set clients i x')) ≡ times_at k (map times_of clients)
-      others k differ = times_same clients (slice_set clients i x') k (get_set_other clients i k x' (λ e. differ (sym e)))
+      subst (λ (n : ℕ). InTimeBelow n ts a (map times_of (slice_set clients i x')) c) next
+      (next_turn i ts (map times_of clients) (map times_of (slice_set clients i x')) a b c before
+      (λ k differ. times_same clients (slice_set clients i x') k (get_set_other clients i k x' (λ e. differ (sym e))))
+      (rw (times_there clients i x here, times_there (slice_set clients i x') i x' (get_set_same clients i x x' here)) gives))
 
-      still : (k : ℕ) → k < i → times_at k (map times_of (slice_set clients i x')) ≡ times_at k (map times_of clients)
-      still k below = others k (λ e. omega (arith, e, below))
-
-      times : NotesInTime (times_at i ts) b (times_at i (map times_of (slice_set clients i x'))) c
-      times =
-          subst (λ (t : NoteTimes). NotesInTime t b (times_at i (map times_of (slice_set clients i x'))) c)
-          (sym (times_there clients i x here) ∙ before.others i (omega arith))
-          (subst (λ (t : NoteTimes). NotesInTime (times_of x) b t c) (sym (times_there (slice_set clients i x') i x' (get_set_same clients i x x' here))) gives)
+  -- the client of a slot was written
+  pub set_in_time : (clients : List (Option (Stored T U C))) (i : ℕ) (x x' : Option (Stored T U C)) (a b : NoteNumbers) → slice_get clients i ≡ Some x
+      → NotesInTime (times_of x) a (times_of x') b → AllInTime (map times_of clients) a (map times_of (slice_set clients i x')) b
+  set_in_time clients i x x' a b here gives =
+      (i + 1, next_in_time (map times_of clients) clients i x x' a a b (none_yet i (map times_of clients) (map times_of clients) a refl) here gives)
 
   -- the numbers that a server has, after its client of an id was written
   pub numbers_set : (clients : List (Option (Stored T U C))) (id : ClientParts) (s s' : Stored T U C) (a b : NoteNumbers) → Some s ≡ client_at id clients
@@ -297,14 +254,15 @@ module _ {T U C : Type 0} where
 -- ---- as many numbers as notes
 
 module _ {T U C : Type 0} where
-  pub numbered_set : (clients : List (Option (Stored T U C))) (i : ℕ) (x x' : Option (Stored T U C)) → slice_get clients i ≡ Some x
-      → (IsNumbered x → IsNumbered x') → AllNumbered clients → AllNumbered (slice_set clients i x')
-  numbered_set clients i x x' here stays all k = grind (arith, stored_at, slice_set, eqb-true, option_map_or, get_set_same, get_set_other, other_of)
+  -- what is so of the client of each slot stays so where one client was written
+  pub each_stays : (P : Option (Stored T U C) → Type 0) (clients : List (Option (Stored T U C))) (i : ℕ) (x x' : Option (Stored T U C)) → slice_get clients i ≡ Some x
+      → (P x → P x') → ((k : ℕ) → P (stored_at k clients)) → (k : ℕ) → P (stored_at k (slice_set clients i x'))
+  each_stays P clients i x x' here stays all k = grind (arith, all k, slice_set, eqb-true, stored_is, get_set_same, get_set_other, other_of)
 
   -- the client of an id was written
   pub numbered_at : (clients : List (Option (Stored T U C))) (id : ClientParts) (s s' : Stored T U C) → Some s ≡ client_at id clients
       → (IsNumbered (Some s) → IsNumbered (Some s')) → AllNumbered clients → AllNumbered (slice_set clients id.slot (Some s'))
-  numbered_at clients id s s' is stays all = numbered_set clients id.slot (Some s) (Some s') (slot_of_client clients id s is).0 stays all
+  numbered_at clients id s s' is stays all = each_stays IsNumbered clients id.slot (Some s) (Some s') (slot_of_client clients id s is).0 stays all
 
   pub numbered_put : (clients clients' : List (Option (Stored T U C))) (i : ℕ) (s : Stored T U C) → IsPut clients i s clients' → IsNumbered (Some s)
       → AllNumbered clients → AllNumbered clients'
@@ -312,7 +270,7 @@ module _ {T U C : Type 0} where
 
   -- killed clients leave
   pub numbered_staying : (clients : List (Option (Stored T U C))) → AllNumbered clients → AllNumbered (all_staying clients)
-  numbered_staying clients all k = grind (arith, option_map_or, get_map, staying, slice_get, option_map)
+  numbered_staying clients all k = grind (arith, option_map_or, slice_get-map, staying, slice_get, option_map)
 
 -- a new server
 pub no_numbers : (n : NoteNumbers) → HasNumbers n []
@@ -346,16 +304,10 @@ numbers_left ts ts' a first has = record {
 
 -- where all notes were gathered, none waits after killed clients are gone
 pub none_waits : (ts ts' : List NoteTimes) → NoneNumbered true ts → AllTakeFirst ts ts' → NoneWaits ts'
-none_waits ts ts' none first k = grind (arith, last_nil, times_at, waiting_nil)
-  where
-    last_nil : (xs ys : List ℕ) → xs ++ ys ≡ [] → ys ≡ []
-    last_nil [] ys is = is
-    last_nil (x ∷ xs) ys is = let long : suc (length (xs ++ ys)) ≡ 0 = ap length is in absurd (omega (arith, long))
-
-    waiting_nil : (ms ws : List ℕ) → map (place_at false 0) ms ++ map (place_at true 0) ws ≡ [] → ws ≡ []
-    waiting_nil [] [] is = refl
-    waiting_nil [] (w ∷ ws) is = let long : suc (length (map (place_at true 0) ws)) ≡ 0 = ap length is in absurd (omega (arith, long))
-    waiting_nil (m ∷ ms) ws is = grind (arith, length, map, place_at)
+none_waits ts ts' none first k =
+    let (made, waiting) = both_none (map (place_at false 0) (times_at k ts).made) (map (place_at true 0) (times_at k ts).waiting) (none k) in
+    let nil : (times_at k ts).waiting ≡ [] = nil_from_length (times_at k ts).waiting (omega (arith, length-map (times_at k ts).waiting (place_at true 0), ap length waiting)) in
+    (both_none (first k).waiting (times_at k ts').waiting (sym (first k).of_waiting ∙ nil)).1
 
 module _ {T U C : Type 0} where
   pub take_set : (clients : List (Option (Stored T U C))) (i : ℕ) (x x' : Option (Stored T U C)) → slice_get clients i ≡ Some x
@@ -363,14 +315,9 @@ module _ {T U C : Type 0} where
   take_set clients i x x' here first k = at (k == i) refl
     where
       at : (b : Bool) → (k == i) ≡ b → TakesFirst (times_at k (map times_of clients)) (times_at k (map times_of (slice_set clients i x')))
-      at true same =
-          subst (λ (n : ℕ). TakesFirst (times_at n (map times_of clients)) (times_at n (map times_of (slice_set clients i x')))) (sym (eqb-true k i same))
-          (subst (λ (t : NoteTimes). TakesFirst t (times_at i (map times_of (slice_set clients i x')))) (sym (times_there clients i x here))
-          (subst (λ (t : NoteTimes). TakesFirst (times_of x) t) (sym (times_there (slice_set clients i x') i x' (get_set_same clients i x x' here))) first))
-      at false other =
-          subst (λ (t : NoteTimes). TakesFirst (times_at k (map times_of clients)) t)
-          (sym (times_same clients (slice_set clients i x') k (get_set_other clients i k x' (λ e. other_of k i other (sym e))))) (takes_none (times_at k (map times_of clients)))
+      at true same = rw (eqb-true k i same, times_there clients i x here, times_there (slice_set clients i x') i x' (get_set_same clients i x x' here)) first
+      at false other = rw (times_same clients (slice_set clients i x') k (get_set_other clients i k x' (λ e. other_of k i other (sym e)))) (takes_none _)
 
   -- killed clients are gone with what is left of their notes
   pub all_take_leave : (clients : List (Option (Stored T U C))) → AllTakeFirst (map times_of clients) (map times_of (all_staying clients))
-  all_take_leave clients k = grind (arith, times_at, times_of, all_staying, times_in, slice_get, get_map, staying, takes_all, takes_none, option_map, no_times)
+  all_take_leave clients k = grind (arith, times_at, times_of, all_staying, times_stored, slice_get, slice_get-map, staying, takes_all, takes_none, option_map, no_times)

@@ -1,5 +1,5 @@
 -- A call over a transport whose sends and receives are those of a script, as one over the transport by script; and the other way.
-use Rattle.std.proofs.Common.{◌≡◌, ◌+◌, Bool, true, false, List, [], ◌∷◌, ◌++◌, Option, None, Some, Err, refl, sym, ap, subst, ◌∙◌, arith}
+use Rattle.std.proofs.Common.{◌≡◌, ◌+◌, Bool, true, false, List, [], ◌∷◌, ◌++◌, Option, None, Some, Err, refl, ap, ◌∙◌, arith}
 use mathlib.Core.Logic.{inl, inr}
 use Rattle.std.specs.Prelude.{MatchOption}
 use Rattle.std.proofs.lemmas.Bool.{false≢true}
@@ -8,16 +8,15 @@ use Rattle.wl_server.specs.declared.error.ScriptError.TheVariants as script
 use Rattle.wl_server.specs.declared.runs.step.Reply.{Reply}
 use Rattle.wl_server.specs.declared.runs.step.Step.{Step}
 use Rattle.wl_server.specs.declared.runs.step.Step.TheVariants as step
-use Rattle.wl_server.proofs.CallSteps.Slots.{same_self}
+use Rattle.wl_server.proofs.CallSteps.Slots.{same_is, same_self}
 use Rattle.wl_server.proofs.OverRuns.Alone.AccountLaws.{calls}
-use Rattle.wl_server.proofs.Plain.Base.{same_is}
 use Rattle.wl_server.specs.Backend.{BackendState, Calls}
 use Rattle.wl_server.specs.Deeds.{Deed, notes_in}
 use Rattle.wl_server.specs.Globals.{Offer}
 use Rattle.wl_server.specs.Ids.{ClientParts, GlobalParts, same_client}
 use Rattle.wl_server.specs.Moves.{Accept, AcceptFault, Arrive, ArriveFault, Move, Moved, TakeSent}
 use Rattle.wl_server.specs.Part.{Part}
-use Rattle.wl_server.specs.PartStep.{Asked, Call, Changed, MovedFor, OfClient, OnPart, PartStep, Quietly, Unfelt, WithTransport, World, lacks_move, over, over_scripts}
+use Rattle.wl_server.specs.PartStep.{Asked, Call, Changed, MovedFor, OfClient, PartStep, Quietly, Unfelt, WithTransport, World, lacks_move, over, over_scripts}
 use Rattle.wl_server.specs.Runs.{Leads}
 use Rattle.wl_server.specs.Server.{Seen, ServerState, seen}
 use Rattle.wl_server.specs.Steps.{EachStandsFor, Entry, IsChangeFor, MakesNotes, OneStep, StandsFor, StepOf}
@@ -88,17 +87,12 @@ module _ {U G C : Type 0} (views : G → ClientParts → C → GlobalParts → B
       (moves : (id : ClientParts) → (answer : Moved) × MovedFor (over_scripts views) id before.offer target m answer (seen id before) (e.lacks id) (e.did id) (seen id after)) where
     -- what the move makes of the transport of its client, if there is one
     becomes : (t : Script) × IsSet target t true target (e.did target)
-    becomes = subst (λ (b : Bool). OfMoved (over_scripts views) b (moves target).0 m (seen target before) (e.lacks target) (e.did target) (seen target after) → (t : Script) × IsSet target t true target (e.did target))
-        (sym (same_self target)) (on (seen target before) (moves target).0) (moves target).1
+    becomes = of (seen target before).part refl (rw (same_self target) at (moves target).1)
       where
-        on : (s : Seen Script U C) (answer : Moved) → OnMoved (over_scripts views) s.part answer m s (e.lacks target) (e.did target) (seen target after)
-            → (t : Script) × OnPart s (λ p q. Quietly {U = U} false (e.did target) (WithTransport (λ _ t'. t' ≡ t) p q)) (Unit {0}) false (e.did target) (seen target after)
-        on s answer = of s.part refl
-          where
-            of : (o : Option (Part Script U C)) → s.part ≡ o → OnMoved (over_scripts views) o answer m s (e.lacks target) (e.did target) (seen target after)
-                → (t : Script) × OnPart s (λ p q. Quietly {U = U} false (e.did target) (WithTransport (λ _ t'. t' ≡ t) p q)) (Unit {0}) false (e.did target) (seen target after)
-            of None is (missing, (lacked, none, same)) = (blank, rw is (tt, (refl, none, same ∙ ap (λ (x : Option (Part Script U C)). let r : Seen Script U C = record { part = x; made = s.made } in r) is)))
-            of (Some p) is (q, (lacked, none, (t, by, set)), same) = (t, rw is (q, (refl, none, (t, refl, set)), same))
+        of : (o : Option (Part Script U C)) → (seen target before).part ≡ o → OnMoved (over_scripts views) o (moves target).0 m (seen target before) (e.lacks target) (e.did target) (seen target after)
+            → (t : Script) × IsSet target t true target (e.did target)
+        of None is (missing, (lacked, none, same)) = (blank, rw is (tt, (refl, none, same ∙ ap (λ (x : Option (Part Script U C)). let r : Seen Script U C = record { part = x; made = (seen target before).made } in r) is)))
+        of (Some p) is (q, (lacked, none, (t, by, set)), same) = (t, rw is (q, (refl, none, (t, refl, set)), same))
 
     each_set : (id : ClientParts) → IsSet target becomes.0 (same_client target id) id (e.did id)
     each_set id = on (same_client target id) refl (moves id).1

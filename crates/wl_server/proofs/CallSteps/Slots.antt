@@ -1,5 +1,5 @@
 -- What is held of each client id after one slot was written.
-use Rattle.std.proofs.Common.{◌≡◌, ◌≢◌, ℕ, Bool, true, false, ◌<◌, ◌≤◌, List, [], ◌++◌, length, Option, None, Some, is_some, refl, sym, ap, subst, ◌∙◌, append_assoc, true≢false, arith}
+use Rattle.std.proofs.Common.{◌≡◌, ℕ, Bool, true, false, ◌<◌, ◌≤◌, List, [], ◌++◌, length, Option, None, Some, is_some, refl, ap, subst, ◌∙◌, append_assoc, true≢false, arith}
 use Rattle.std.specs.Option.{option_map_or}
 use Rattle.std.specs.Prelude.{if◌then◌else◌, ◌==◌, slice_get, slice_index_or, slice_set}
 use Rattle.std.proofs.lemmas.Bool.{eqb-true, eq-eqb, false≢true}
@@ -11,7 +11,7 @@ use Rattle.wl_server.specs.Deeds.{Deed, notes_in}
 use Rattle.wl_server.specs.Ids.{ClientParts, same_client}
 use Rattle.wl_server.specs.Part.{Part}
 use Rattle.wl_server.specs.PartStep.{OfClient, OnPart}
-use Rattle.wl_server.specs.Server.{Seen, Stored, client_at, if_serial, no_times, notes_of, seen_as, untimed}
+use Rattle.wl_server.specs.Server.{Seen, Stored, client_at, if_serial, no_times, notes_of, seen_as, untimed, stored_at}
 
 -- ---- ids
 
@@ -36,6 +36,10 @@ same_slots a b slot = rw slot refl
 pub same_serials : (a b : ClientParts) → a.slot ≡ b.slot → (a.serial == b.serial) ≡ false → same_client a b ≡ false
 same_serials a b slot serial = rw (eq-eqb a.slot b.slot slot) serial
 
+-- two ids that are the same are one
+pub same_is : (a b : ClientParts) → same_client a b ≡ true → a ≡ b
+same_is a b is = grind (arith, compare, same_parts, true≢false, same_slots, same_serials)
+
 -- ---- one client's share of what was done to one of them
 
 abbrev pub lacks_at : Bool → Bool → Bool
@@ -51,6 +55,12 @@ Kind T U C = ClientParts → Part T U C → Bool → List (Deed U) → Part T U 
 module _ {T U C : Type 0} where
   -- ---- look-ups
 
+  pub stored_is : (clients : List (Option (Stored T U C))) (k : ℕ) (x : Option (Stored T U C)) → slice_get clients k ≡ Some x → stored_at k clients ≡ x
+  stored_is clients k x here = rw here refl
+
+  pub stored_past : (clients : List (Option (Stored T U C))) (k : ℕ) → length clients ≤ k → stored_at k clients ≡ None
+  stored_past clients k past = rw (slice_get_past clients k past) refl
+
   pub client_absent : (id : ClientParts) (xs : List (Option (Stored T U C))) (s : Stored T U C)
       → slice_get xs id.slot ≡ Some (Some s) → (s.serial == id.serial) ≡ false → client_at id xs ≡ None
   client_absent id xs s is differ = rw is (rw differ refl)
@@ -59,21 +69,10 @@ module _ {T U C : Type 0} where
       → slice_get xs id.slot ≡ Some (Some s) → s.serial ≡ id.serial → client_at id xs ≡ Some s
   client_present id xs s is same = rw is (rw (eq-eqb s.serial id.serial same) refl)
 
-  pub client_past : (id : ClientParts) (xs : List (Option (Stored T U C))) → slice_get xs id.slot ≡ None → client_at id xs ≡ None
-  client_past id xs is = rw is refl
-
-  pub client_empty : (id : ClientParts) (xs : List (Option (Stored T U C))) → slice_get xs id.slot ≡ Some None → client_at id xs ≡ None
-  client_empty id xs is = rw is refl
-
   -- ---- the slot of a stored client
 
   pub slot_within : (clients : List (Option (Stored T U C))) (id : ClientParts) → is_some (client_at id clients) ≡ true → id.slot < length clients
-  slot_within clients id some = grind (arith, slice_get, false≢true, is_some, client_past, slice_get_within)
-
-  -- an id that was read is the id
-  pub stored_by : (clients : List (Option (Stored T U C))) (read id : ClientParts) (b : Bool) → read ≡ id → b ≡ is_some (client_at read clients)
-      → is_some (client_at id clients) ≡ b
-  stored_by clients read id b same is = subst (λ (i : ClientParts). is_some (client_at i clients) ≡ b) same (sym is)
+  slot_within clients id some = grind (arith, slice_get, is_some, slice_get_within, slice_get clients id.slot)
 
   -- what was read at the slot of a stored client is the client
   pub slot_reads : (clients : List (Option (Stored T U C))) (id : ClientParts) (n : ℕ) (x : Option (Stored T U C)) → is_some (client_at id clients) ≡ true
@@ -83,15 +82,15 @@ module _ {T U C : Type 0} where
   -- the client of an id is at its slot, under its serial
   pub slot_of_client : (clients : List (Option (Stored T U C))) (id : ClientParts) (s : Stored T U C) → Some s ≡ client_at id clients
       → (slice_get clients id.slot ≡ Some (Some s)) × (s.serial ≡ id.serial)
-  slot_of_client clients id s is = grind (arith, slice_get, eqb-true, option_map_or, client_present, false≢true, is_some, client_absent, client_past, client_empty)
+  slot_of_client clients id s is = grind (arith, slice_get, eqb-true, option_map_or, is_some, stored_at, if_serial, slice_get clients id.slot)
+
+  -- where the client of a slot became another of its serial, every other id names the client that it named
+  pub client_other : (clients : List (Option (Stored T U C))) (target id : ClientParts) (s s' : Stored T U C) → slice_get clients target.slot ≡ Some (Some s)
+      → s'.serial ≡ s.serial → s.serial ≡ target.serial → same_client target id ≡ false → client_at id (slice_set clients target.slot (Some s')) ≡ client_at id clients
+  client_other clients target id s s' here same known other =
+      grind (arith, compare target id, eq-eqb, client_absent, get_set_same, get_set_other, other_of, true≢false, slice_get, if_serial)
 
   -- ---- a step of one client
-
-  as_meant : (b : Bool) (id : ClientParts) (before after : Seen T U C) (R : Kind T U C) (missing : Type 0) (lacked : Bool) (did : List (Deed U))
-      → b ≡ true → OnPart before (λ p q. R id p lacked did q) missing lacked did after
-      → OfClient b before (λ p q. R id p (lacks_at b lacked) (did_at b did) q) missing (lacks_at b lacked) (did_at b did) after
-  as_meant true id before after R missing lacked did meant on = on
-  as_meant false id before after R missing lacked did meant on = absurd (false≢true meant)
 
   pub on_part : (gathered : List (Happening U)) (s s' : Stored T U C) (R : Part T U C → List (Deed U) → Part T U C → Type 0) (missing : Type 0) (lacked : Bool)
       (did : List (Deed U)) (q : Part T U C) → R s.part did q → untimed s' ≡ record { serial = s.serial; part = q; made = s.made ++ notes_in did; times = no_times }
@@ -118,35 +117,18 @@ module _ {T U C : Type 0} where
       → slice_get clients target.slot ≡ Some (Some s) → s.serial ≡ target.serial → R target s.part lacked did q
       → untimed s' ≡ record { serial = s.serial; part = q; made = s.made ++ notes_in did; times = no_times } → (id : ClientParts)
       → DoneFor target R missing lacked did id (held_of notes clients id) (held_of notes (slice_set clients target.slot (Some s')) id)
-  each_set clients notes target s s' R missing lacked did q here known does is id =
-      elim (compare target id) [
-        | Are slot serial ↦ subst (λ (i : ClientParts). DoneFor target R missing lacked did i (held_of notes clients i) (held_of notes (slice_set clients target.slot (Some s')) i))
-            (same_parts target id slot serial) meant
-        | Slots slot ↦ grind (arith, true≢false, same_client, same_slots, seen_as, notes_of, if_serial, option_map_or, get_set_other, other_of)
-        | Serials slot differ ↦ grind (arith, true≢false, same_client, same_serials, seen_as, notes_of, client_absent, at_slot, get_set_same, here, is)
-      ]
+  each_set clients notes target s s' R missing lacked did q here known does is id = at (same_client target id) refl
     where
-      at_slot : (xs : List (Option (Stored T U C))) (x : Stored T U C) → target.slot ≡ id.slot → slice_get xs target.slot ≡ Some (Some x)
-          → slice_get xs id.slot ≡ Some (Some x)
-      at_slot xs x slot is = subst (λ (n : ℕ). slice_get xs n ≡ Some (Some x)) slot is
-
       meant : DoneFor target R missing lacked did target (held_of notes clients target) (held_of notes (slice_set clients target.slot (Some s')) target)
-      meant = as_meant (same_client target target) target _ _ R missing lacked did (same_self target)
-          (subst (λ (x : Option (Stored T U C)). OnPart (seen_as (notes_of target notes) x) (λ p q. R target p lacked did q) missing lacked did
-          (held_of notes (slice_set clients target.slot (Some s')) target)) (sym (client_present target clients s here known))
-          (subst (λ (x : Option (Stored T U C)). OnPart (seen_as (notes_of target notes) (Some s)) (λ p q. R target p lacked did q) missing lacked did
-          (seen_as (notes_of target notes) x)) (sym (client_present target _ s' (get_set_same clients target.slot (Some s) (Some s') here)
-          ((ap (λ (x : Stored T U C). x.serial) is) ∙ known)))
-          (on_part (notes_of target notes) s s' (λ p d r. R target p lacked d r) missing lacked did q does is)))
+      meant = rw (
+        same_self target,
+        client_present target clients s here known,
+        client_present target (slice_set clients target.slot (Some s')) s'
+            (get_set_same clients target.slot (Some s) (Some s') here) (ap (λ (x : Stored T U C). x.serial) is ∙ known),
+      )
+          (on_part (notes_of target notes) s s' (λ p d r. R target p lacked d r) missing lacked did q does is)
 
--- ---- a client that is looked up
-
-module _ {T U C : Type 0} where
-  pub reads_past : (clients : List (Option (Stored T U C))) (id : ClientParts) (slot : ℕ) → slot ≡ id.slot → length clients ≤ slot → client_at id clients ≡ None
-  reads_past clients id slot same past = grind (arith, if_serial, option_map_or, slice_get, slice_get_past)
-
-  pub serial_same : (serial : ℕ) (s : Stored T U C) → s.serial ≡ serial → if_serial serial (Some s) ≡ Some s
-  serial_same serial s same = rw (eq-eqb s.serial serial same) refl
-
-  pub serial_differs : (serial : ℕ) (s : Stored T U C) → s.serial ≢ serial → if_serial serial (Some s) ≡ None
-  serial_differs serial s differ = grind (arith, if_serial, eqb-true)
+      at : (b : Bool) → same_client target id ≡ b → DoneFor target R missing lacked did id (held_of notes clients id) (held_of notes (slice_set clients target.slot (Some s')) id)
+      at true same =
+          subst (λ (i : ClientParts). DoneFor target R missing lacked did i (held_of notes clients i) (held_of notes (slice_set clients target.slot (Some s')) i)) (same_is target id same) meant
+      at false other = grind (arith, seen_as, notes_of, client_other clients target id s s' here (ap (λ (x : Stored T U C). x.serial) is) known other)

@@ -1,5 +1,5 @@
 -- How the calls of a closure that are still to come go on from one that was made.
-use Rattle.std.proofs.Common.{◌≡◌, ℕ, ◌+◌, List, ◌∷◌, ◌++◌, Option, None, Some, MatchOption, option_to_list, sym, subst}
+use Rattle.std.proofs.Common.{◌≡◌, ℕ, ◌+◌, List, ◌∷◌, ◌++◌, Option, None, Some, MatchOption, option_to_list, sym}
 use Rattle.std.specs.List.{FoldsTo}
 use Rattle.wl_server.specs.Ids.{ClientParts}
 use Rattle.wl_server.specs.Lookups.{id_if_stored, live_from}
@@ -11,7 +11,7 @@ module _ {F A : Type 0} (step : F → A → F → Type 0) where
   CalledFor x f f' = MatchOption x (f' ≡ f) (λ a. step f a f')
 
   pub called_first : (x : Option A) (xs : List A) (f f' last : F) → CalledFor x f f' → FoldsTo step f' xs last → FoldsTo step f (option_to_list x ++ xs) last
-  called_first None xs f f' last same folds = subst (λ (g : F). FoldsTo step g xs last) same folds
+  called_first None xs f f' last same folds = rw same at folds
   called_first (Some a) xs f f' last called folds = (f', called, folds)
 
 module _ {T U C F : Type 0} (step : F → ClientParts → F → Type 0) where

@@ -1,5 +1,5 @@
 -- What a cleanup, and what the list of notes, asks for memory for.
-use Rattle.std.proofs.Common.{◌≡◌, ◌≢◌, ℕ, zero, suc, ◌+◌, ◌<◌, ◌≤◌, ◌^◌, Bool, true, false, List, [], ◌∷◌, ◌++◌, length, min, Option, None, Some, Result, OnErr, refl, sym, ap, ◌∙◌, arith}
+use Rattle.std.proofs.Common.{◌≡◌, ◌≢◌, ℕ, zero, suc, ◌+◌, ◌<◌, ◌≤◌, ◌^◌, Bool, true, false, List, [], ◌∷◌, ◌++◌, length, Option, None, Some, Result, OnErr, refl, sym, ap, ◌∙◌, arith}
 use mathlib.Core.Logic.{inl, inr}
 use Rattle.std.specs.Prelude.{◌⊎◌}
 use Rattle.std.proofs.lemmas.List.{nil_from_length}
@@ -21,17 +21,6 @@ none_of n m none all = let few : n < 0xFFFFFFFFFFFFFFFF = omega (arith, none) in
 -- room for what was counted is room for what there is
 pub room_of : (len n m cap : ℕ) → (n < 0xFFFFFFFFFFFFFFFF → m ≤ n) → len + n ≤ cap → cap < 2 ^ 63 → len + m ≤ cap
 room_of len n m cap all room small = let few : n < 0xFFFFFFFFFFFFFFFF = omega (arith, room, small) in let fits = all few in omega (arith, room, fits)
-
--- there is room for nothing
-pub room_of_none : (len cap n m : ℕ) → n ≤ 0 → m ≤ 0 → len ≤ cap → len + n + m ≤ cap
-room_of_none len cap n m none none' within = omega (arith, none, none', within)
-
-pub at_most : (n cap : ℕ) → n ≤ 0 → n ≤ cap
-at_most n cap none = omega (arith, none)
-
--- two counts of which the sum is none, or is not
-pub none_both : (n m count : ℕ) → count ≡ min (n + m) 0xFFFFFFFFFFFFFFFF → count ≡ 0 → (n ≡ 0) × (m ≡ 0)
-none_both n m count is none = (omega (arith, is, none), omega (arith, is, none))
 
 module _ {T U C : Type 0} where
   -- ---- what nobody asks for

@@ -3,7 +3,7 @@ use Rattle.std.proofs.Common.{arith, ◌≡◌, ℕ, Bool, true, false, List, []
 use Rattle.std.specs.FinMap.{entries}
 use Rattle.std.specs.Global.{Global}
 use Rattle.std.specs.Option.{option_map}
-use Rattle.std.specs.Prelude.{MatchBool, if◌then◌else◌}
+use Rattle.std.specs.Prelude.{MatchBool}
 use Rattle.std.proofs.lemmas.Option.{same_Some, none-some}
 use Rattle.wl_wire.specs.declared.error.IoFault.{IoFault}
 use Rattle.wl_link.specs.declared.object.Object.{Object}
@@ -19,9 +19,10 @@ use Rattle.wl_server.specs.Ids.{ClientParts}
 use Rattle.wl_server.specs.Inside.Leaving.{FlushesKilled, ends_in, ends_of, given_in, staying}
 use Rattle.wl_server.specs.Part.{Part, id_at, id_of, note_of_end, with_link}
 use Rattle.wl_server.specs.PartStep.{CleanedAs, Feels, World, share_of}
-use Rattle.wl_server.specs.Server.{Seen, Stored, no_times, seen_as, untimed}
+use Rattle.wl_server.specs.Server.{Seen, Stored, seen_as, untimed}
 use Rattle.wl_server.proofs.Readings.Notes.{notes_append, notes_of_sends}
-use Rattle.wl_server.proofs.CleanupSteps.Outgoing.{if_false, if_true}
+use Rattle.wl_server.proofs.CleanupSteps.Gathering.{both_none}
+use Rattle.wl_link.proofs.Calls.Branches.{at_false, at_true}
 
 -- ---- notes among deeds
 
@@ -50,7 +51,7 @@ module _ {T U G C : Type 0} (w : World T G C) (id : ClientParts) (offer : Offer 
         did,
         (
           None,
-          if_true s.part.is_killed _ _ killed (sent, answer, with_link s.part link, flushed, refl, given, refl),
+          at_true _ s.part.is_killed killed (sent, answer, with_link s.part link, flushed, refl, given, refl),
           grind (arith, append-nil, append_assoc, ends_of, entries, notes_in),
         ),
       )
@@ -59,16 +60,11 @@ module _ {T U G C : Type 0} (w : World T G C) (id : ClientParts) (offer : Offer 
       → n2 ≡ n ++ (s.made ++ s.part.waiting) → n3 ≡ n2 ++ [] → share_of id out.items ≡ [] → CleanedBy (Some s) n false (Some s') n3
   live_cleaned s s' n n2 n3 live part made gathered noted given =
       let told : n3 ++ s'.made ≡ (n ++ s.made) ++ notes_in (map Noted s.part.waiting) = grind (arith, append-nil, append_assoc, noted_notes)
-      in grind (arith, map, if_false)
+      in grind (arith, map, at_false)
 
   left_is : (x : Option (Stored T U C)) → to_gather true x ≡ [] → option_map untimed x ≡ option_map (emptied true) x
   left_is None none = refl
-  left_is (Some s) none = both s.made s.part.waiting none
-      (grind (arith, no_times))
-    where
-      both : {P : Type 0} (a b : List (Happening U)) → a ++ b ≡ [] → (a ≡ [] → b ≡ [] → P) → P
-      both [] b none goes = goes refl none
-      both (h ∷ a) b none goes = grind (arith)
+  left_is (Some s) none = grind (arith, both_none s.made s.part.waiting none)
 
   cleaned_from : (s s1 : Stored T U C) (lacked : Bool) (sent : List (Deed U)) (n n2 n3 : List (Happening U)) → FlushesKilled w.sends s.part lacked sent s1.part → s1.made ≡ s.made ++ notes_in sent
       → n2 ++ [] ≡ n ++ (s1.made ++ s1.part.waiting) → n3 ≡ n2 ++ ends_in id (Some (emptied true s1)) → share_of id out.items ≡ given_in (Some (emptied true s1))
@@ -79,20 +75,8 @@ module _ {T U G C : Type 0} (w : World T G C) (id : ClientParts) (offer : Offer 
           → MatchBool b ((answer : Result (Unit {0}) IoFault) × FlushedTo w.sends s.part answer lacked sent s1.part) ((lacked ≡ false) × (sent ≡ []) × (s1.part ≡ s.part))
           → CleanedBy (Some s) n lacked (staying (Some (emptied true s1))) n3
       at true killed (answer, (es, link, by, lack, sends, is)) =
-          let killed1 : s1.part.is_killed ≡ true = ap (λ (p : Part T U C). p.is_killed) is ∙ killed in
-          let quiet : notes_in sent ≡ [] = ap notes_in sends ∙ notes_of_sends es in
-          subst (λ (b : Bool). CleanedBy (Some s) n lacked (if b then None else Some (emptied true s1)) n3) (sym killed1)
-          (killed_cleaned s link answer lacked sent n n2 n3 killed (es, link, by, lack, sends, refl) quiet (grind (arith, append-nil, made, ap (λ (p : Part T U C). p.waiting) is))
-          (noted ∙ (ap (λ (b : Bool). n2 ++ (if b then ends_of id (entries s1.part.store.objects) else [])) killed1 ∙ ap (λ (p : Part T U C). n2 ++ ends_of id (entries p.store.objects)) is))
-          (given ∙ (ap (λ (b : Bool). if b then (s1.part.link.transport ∷ []) else []) killed1 ∙ ap (λ (p : Part T U C). p.link.transport ∷ []) is)))
-      at false live (not, none, same) =
-          let live1 : s1.part.is_killed ≡ false = ap (λ (p : Part T U C). p.is_killed) same ∙ live in
-          let quiet : notes_in sent ≡ [] = ap notes_in none in
-          subst (λ (l : Bool). CleanedBy (Some s) n l (staying (Some (emptied true s1))) n3) (sym not)
-          (subst (λ (b : Bool). CleanedBy (Some s) n false (if b then None else Some (emptied true s1)) n3) (sym live1)
-          (live_cleaned s (emptied true s1) n n2 n3 live (ap (λ (p : Part T U C). record p { waiting = [] }) same) refl (grind (arith, append-nil, made, ap (λ (p : Part T U C). p.waiting) same))
-          (noted ∙ ap (λ (b : Bool). n2 ++ (if b then ends_of id (entries s1.part.store.objects) else [])) live1)
-          (given ∙ ap (λ (b : Bool). if b then (s1.part.link.transport ∷ []) else []) live1)))
+          grind (arith, append-nil, notes_of_sends {U = U} es, killed_cleaned s link answer lacked sent n n2 n3 killed (es, link, by, lack, sends, refl))
+      at false live (not, none, same) = grind (arith, append-nil, live_cleaned s (emptied true s1) n n2 n3 live)
 
   -- it felt the flush, its notes were gathered, and it left if it was killed
   pub cleaned_one : (x0 x1 x2 : Option (Stored T U C)) (lacked : Bool) (sent : List (Deed U)) (n n2 n3 : List (Happening U))

@@ -1,9 +1,9 @@
 -- A cleanup of all clients, as a step of the server.
-use Rattle.std.proofs.Common.{◌≡◌, ◌+◌, ◌<◌, length, map, Bool, true, false, List, [], ◌∷◌, ◌++◌, suc, Option, None, Some, Ok, Err, Vec, refl, sym, ap, subst, ◌∙◌, arith}
+use Rattle.std.proofs.Common.{◌≡◌, ◌+◌, ◌<◌, length, map, Bool, true, false, List, [], ◌++◌, Option, Ok, Err, Vec, refl, sym, ap, subst, ◌∙◌, arith}
 use mathlib.Core.Logic.{inl, inr}
 use Rattle.std.specs.Global.{Global}
 use Rattle.std.specs.Option.{option_map_or}
-use Rattle.std.specs.Prelude.{◌⊎◌, if◌then◌else◌, slice_get}
+use Rattle.std.specs.Prelude.{◌⊎◌, slice_get}
 use Rattle.std.proofs.lemmas.Bool.{false≢true}
 use Rattle.wl_wire.specs.declared.error.OutOfMemory.{OutOfMemory}
 use Rattle.wl_server.specs.declared.notes.Happening.{Happening}
@@ -18,31 +18,22 @@ use Rattle.wl_server.specs.Inside.Gathering.{count_leaving}
 use Rattle.wl_server.specs.NoteOrder.{AllNumbered, AllTakeFirst, NoneWaits, times_of, to_gather}
 use Rattle.wl_server.specs.Ids.{ClientParts}
 use Rattle.wl_server.specs.Inside.Leaving.{FlushesKilled, collected, ends_at, given_at, staying}
-use Rattle.wl_server.specs.PartStep.{Asked, World, share_of}
+use Rattle.wl_server.specs.PartStep.{World, share_of}
 use Rattle.wl_server.specs.Server.{ServerState, Stored, client_at, notes_of}
 use Rattle.wl_server.specs.Steps.{StepOf}
 use Rattle.wl_server.proofs.CleanupSteps.Asking.{cleanup_asks}
 use Rattle.wl_server.proofs.CleanupSteps.Cleaning.{CleanedBy, cleaned_one}
 use Rattle.wl_server.proofs.CallSteps.Collecting.{Rises, given_for, given_rises, staying_for, collected_at, other_ends, own_ends}
-use Rattle.wl_server.proofs.CallSteps.Feeling.{each_felt, lacks_of, one_lacks, some_lacks}
-use Rattle.wl_server.proofs.CleanupSteps.Gathering.{notes_append}
+use Rattle.wl_server.proofs.CallSteps.Feeling.{each_felt, lacks_of, one_lacks, some_lacks, step_of, step_by}
+use Rattle.wl_server.proofs.CleanupSteps.Gathering.{notes_append, both_none}
 use Rattle.wl_server.proofs.CallSteps.Slots.{Kind}
 use Rattle.wl_server.proofs.CleanupSteps.Outgoing.{ends_rise}
 use Rattle.wl_server.proofs.CleanupSteps.TakingNotes.{none_left, same_left}
-use Rattle.wl_server.proofs.CallSteps.Numbering.{turn_still}
+use Rattle.wl_server.proofs.CallSteps.Numbering.{all_same}
 
 -- who stays has no notes that were made, if all were gathered
 none_made : {T U C : Type 0} (x : Option (Stored T U C)) → to_gather true x ≡ [] → option_map_or (λ s. s.made) (staying x) [] ≡ []
-none_made None none = refl
-none_made {T} {U} {C} (Some s) none = at s.part.is_killed
-  where
-    no_notes : (made waiting : List (Happening U)) → made ++ waiting ≡ [] → made ≡ []
-    no_notes [] waiting is = refl
-    no_notes (h ∷ made) waiting is = let long : suc (length (made ++ waiting)) ≡ 0 = ap length is in absurd (omega (arith, long))
-
-    at : (b : Bool) → option_map_or (λ s. s.made) (if b then None else Some s) [] ≡ []
-    at true = refl
-    at false = no_notes s.made s.part.waiting none
+none_made x none = grind (arith, both_none, x)
 
 module _ {T U G C : Type 0} (w : World T G C) (before : ServerState T U G C) where
   abbrev flush : Kind T U C
@@ -53,22 +44,22 @@ module _ {T U G C : Type 0} (w : World T G C) (before : ServerState T U G C) whe
       → NoneWaits (map times_of clients') → AllNumbered clients' → numbers' ≡ record before.numbers { waiting = 0 }
       → Calls w (record { server = before; refused = was }) step.Cleanup (reply.Cleanup (Ok out))
       (record { server = record before { clients = clients'; notes = notes'; numbers = numbers' }; refused = refused })
-  cleaned_up refused clients' notes' out given are by numbers' first none_waits numbered anew = calls _ _ _ _ _ (
-    record { call = Asked step.Cleanup (reply.Cleanup (Ok out)); refused = refused; lacks = λ id. lacked id; did = λ id. (one id).0 },
-    refl,
-    refl,
-    record {
-      offer = refl;
-      last = omega arith;
-      client = tt;
-      global = tt;
-      order = subst Rises (sym (are ∙ by.gave)) (given_rises 0 by.left);
-      room = tt;
-      refused = (λ is. inr (some_lacks flush refused before.clients by.flushed by.flushes is), λ h. was_refused h);
-      notes = record { told = by.told; ends = collected ends_at 0 by.left; in_order = by.in_order; behind = by.noted; by_slot = ends_rise 0 0 by.left (omega arith); first = first; none_left = λ id. none_left_of id; none_waits = none_waits; numbered = numbered; numbers = anew };
-      each = λ id. (Ok out, refl, (one id).1);
-    },
-  )
+  cleaned_up refused clients' notes' out given are by numbers' first none_waits numbered anew = calls _ _ _ _ _
+      (step_by w before _ refused lacked (λ id. (one id).0) _ refl (omega arith) tt tt (subst Rises (sym (are ∙ by.gave)) (given_rises 0 by.left)) tt
+      (λ is. inr (some_lacks flush refused before.clients by.flushed by.flushes is), λ h. was_refused h)
+      (record {
+        told = by.told;
+        ends = collected ends_at 0 by.left;
+        in_order = by.in_order;
+        behind = by.noted;
+        by_slot = ends_rise 0 0 by.left (omega arith);
+        first = first;
+        none_left = none_left_of;
+        none_waits = none_waits;
+        numbered = numbered;
+        numbers = anew;
+      })
+      (λ id. (Ok out, refl, (one id).1)))
     where
       lacked : ClientParts → Bool
       lacked id = lacks_of flush refused before.clients by.flushed by.flushes id
@@ -98,25 +89,11 @@ module _ {T U G C : Type 0} (w : World T G C) (before : ServerState T U G C) whe
   -- there is no memory for it
   not_cleaned : (e : OutOfMemory) → 0 < count_leaving true before.clients + length (collected given_at 0 before.clients) → AllNumbered before.clients
       → StepOf w before step.Cleanup (reply.Cleanup (Err e)) true before
-  not_cleaned e some all = (
-    record { call = Asked step.Cleanup (reply.Cleanup (Err e)); refused = true; lacks = λ id. false; did = λ id. [] },
-    refl,
-    refl,
-    record {
-      offer = refl;
-      last = omega arith;
-      client = tt;
-      global = tt;
-      order = tt;
-      room = cleanup_asks before.clients some;
-      refused = (λ h. inl refl, λ h. refl);
-      notes = record { gathered = refl; times = (0, (grind (arith, turn_still))); numbered = all };
-      each = λ id. (Err e, refl, (refl, refl, refl));
-    },
-  )
+  not_cleaned e some all =
+      step_of w before _ true (λ id. []) before refl (omega arith) tt tt tt (cleanup_asks before.clients some) refl
+      (record { gathered = refl; times = all_same _ _ _ refl; numbered = all }) (λ id. (Err e, refl, (refl, refl, refl)))
 
   pub cleanup_starved : {was : Bool} (e : OutOfMemory) (notes' : List (Note U)) → notes' ≡ before.notes
       → 0 < count_leaving true before.clients + length (collected given_at 0 before.clients) → AllNumbered before.clients
       → Calls w (record { server = before; refused = was }) step.Cleanup (reply.Cleanup (Err e)) (record { server = record before { notes = notes' }; refused = true })
-  cleanup_starved e notes' same some all =
-      calls _ _ _ _ _ (subst (λ (ns : List (Note U)). StepOf w before step.Cleanup (reply.Cleanup (Err e)) true (record before { notes = ns })) (sym same) (not_cleaned e some all))
+  cleanup_starved e notes' same some all = calls _ _ _ _ _ (rw same (not_cleaned e some all))

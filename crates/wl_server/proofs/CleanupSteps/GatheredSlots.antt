@@ -1,12 +1,26 @@
--- Gathering leaves as many slots as there were.
-use Rattle.std.proofs.Common.{◌≡◌, List, length, Option, Result, false, IfOk, OnErr, arith}
+-- What a server keeps of its clients once notes were gathered, or were not for want of memory.
+use Rattle.std.proofs.Common.{◌≡◌, ℕ, List, length, map, Option, false, ap, arith}
 use Rattle.std.proofs.lemmas.List.{length-map}
-use Rattle.wl_wire.specs.declared.error.OutOfMemory.{OutOfMemory}
-use Rattle.wl_server.specs.declared.notes.Note.{Note}
-use Rattle.wl_server.specs.Inside.Gathering.{Gathers}
+use Rattle.wl_sets.specs.declared.slot_set.SlotSet.{SlotSet}
+use Rattle.wl_server.specs.declared.client.touched.Touched.{Touched}
+use Rattle.wl_server.specs.declared.notes.queues.NoteNumbers.{NoteNumbers}
+use Rattle.wl_server.specs.Inside.Gathering.{all_emptied}
+use Rattle.wl_server.specs.Inside.Touched.{AllQuiet}
+use Rattle.wl_server.specs.NoteOrder.{AllNumbered, AllTakeFirst, times_of}
 use Rattle.wl_server.specs.Server.{Stored}
+use Rattle.wl_server.proofs.CallSteps.Kept.{AreKept}
+use Rattle.wl_server.proofs.CallSteps.Numbering.{numbers_left}
+use Rattle.wl_server.proofs.CleanupSteps.Taken.{taken_gathered}
+use Rattle.wl_server.proofs.Touched.Gathered.{quiet_gathered, sent_emptied}
 
 module _ {T U C : Type 0} where
-  pub slots_kept : (r : Result (Unit {0}) OutOfMemory) (before after : List (Option (Stored T U C))) (notes notes' : List (Note U))
-      → IfOk r (λ _. Gathers false before notes after notes') → OnErr r ((after ≡ before) × (notes' ≡ notes)) → length after ≡ length before
-  slots_kept r before after notes notes' h1 h2 = grind (arith, length-map)
+  pub kept_gathered : (count count' free_from : ℕ) (a : NoteNumbers) (touched : Touched) (to_note : SlotSet) (clients clients' : List (Option (Stored T U C)))
+      → all_emptied false clients' ≡ all_emptied false clients → count ≡ length clients → count' ≡ length clients'
+      → AllTakeFirst (map times_of clients) (map times_of clients') → (AllNumbered clients → AllNumbered clients') → AllQuiet to_note.words.items clients
+      → AreKept count free_from a touched clients → AreKept count' free_from a (record touched { to_note = to_note }) clients'
+  kept_gathered count count' free_from a touched to_note clients clients' same len len' first numbered quiet (slots, has, all, was) = (
+    record { within = grind (arith, slots.within, ap length same, length-map); taken = taken_gathered false free_from clients clients' same slots.taken },
+    numbers_left _ _ _ first has,
+    numbered all,
+    record { sent = sent_emptied false _ clients clients' same was.sent; quiet = quiet_gathered _ clients clients' same first (numbered all) quiet },
+  )

@@ -1,19 +1,19 @@
 -- Gathering notes changes nothing of what is seen of any client.
-use Rattle.std.proofs.Common.{◌≡◌, ℕ, zero, suc, ◌+◌, ◌≤◌, Bool, true, false, List, [], ◌∷◌, ◌++◌, length, map, drop, Option, None, Some, is_some, refl, sym, ap, subst, ◌∙◌, append_assoc, append-nil, arith}
-use Rattle.std.specs.Option.{option_map, option_map_or}
+use Rattle.std.proofs.Common.{◌≡◌, ℕ, zero, suc, ◌+◌, ◌≤◌, Bool, true, false, List, [], ◌∷◌, ◌++◌, length, map, drop, Option, None, Some, is_some, refl, sym, ap, append_assoc, append-nil, arith}
+use Rattle.std.specs.Option.{option_map}
 use Rattle.std.specs.Prelude.{slice_get, slice_set}
 use Rattle.std.proofs.lemmas.Bool.{false≢true}
 use Rattle.std.proofs.lemmas.Grind.{flat_map-append}
-use Rattle.std.proofs.lemmas.List.{length-append, length-map}
-use Rattle.std.proofs.lemmas.Option.{same_Some, none-some}
+use Rattle.std.proofs.lemmas.List.{length-append, length-map, drop_more}
+use Rattle.std.proofs.lemmas.Option.{same_Some, none-some, get_or_from_slice_get, slice_get_within}
 use Rattle.wl_server.specs.declared.notes.Happening.{Happening}
 use Rattle.wl_server.specs.declared.notes.Note.{Note}
-use Rattle.wl_server.specs.Inside.Gathering.{Gathers, MovesNote, count_leaving, emptied, notes_from}
+use Rattle.wl_server.specs.Inside.Gathering.{Gathers, MovesNote, count_leaving, emptied}
 use Rattle.wl_server.specs.NoteOrder.{to_gather}
 use Rattle.wl_server.specs.Ids.{ClientParts, same_client}
-use Rattle.wl_server.specs.Server.{Stored, client_at, if_serial, note_of, notes_of, told_of}
-use Rattle.wl_sets.proofs.Lists.{get_set_other, get_set_same, other_of}
-use Rattle.wl_server.proofs.CallSteps.Slots.{Are, Serials, Slots, client_absent, client_present, compare, same_parts, same_self, same_serials, same_slots}
+use Rattle.wl_server.specs.Server.{Stored, client_at, note_of, notes_of, told_of, stored_at}
+use Rattle.wl_sets.proofs.Lists.{get_set_same}
+use Rattle.wl_server.proofs.CallSteps.Slots.{client_present, same_is, client_other}
 
 -- ---- notes of one client
 
@@ -33,13 +33,28 @@ module _ {U : Type 0} where
 
 pub map_set : {A B : Type 0} (f : A → B) (xs : List A) (k : ℕ) (x y : A) → slice_get xs k ≡ Some x → f y ≡ f x → map f (slice_set xs k y) ≡ map f xs
 map_set f [] k x y here same = refl
-map_set f (z ∷ xs) zero x y here same = ap (λ b. b ∷ map f xs) (same ∙ ap f (sym (same_Some z x here)))
-map_set f (z ∷ xs) (suc k) x y here same = ap (λ l. f z ∷ l) (map_set f xs k x y here same)
+map_set f (z ∷ xs) zero x y here same = grind (arith, same_Some)
+map_set f (z ∷ xs) (suc k) x y here same = grind (arith, map_set f xs k x y here same)
 
 pub set_itself : {A : Type 0} (xs : List A) (k : ℕ) (x : A) → slice_get xs k ≡ Some x → slice_set xs k x ≡ xs
 set_itself [] k x here = refl
-set_itself (z ∷ xs) zero x here = ap (λ y. y ∷ xs) (sym (same_Some z x here))
-set_itself (z ∷ xs) (suc k) x here = ap (λ l. z ∷ l) (set_itself xs k x here)
+set_itself (z ∷ xs) zero x here = grind (arith, same_Some)
+set_itself (z ∷ xs) (suc k) x here = grind (arith, set_itself xs k x here)
+
+pub both_none : {A : Type 0} (xs ys : List A) → xs ++ ys ≡ [] → (xs ≡ []) × (ys ≡ [])
+both_none [] ys is = (refl, is)
+both_none (x ∷ xs) ys is = absurd cc
+
+-- what is left of a list from a place on
+pub rest_at : {A : Type 0} (xs : List A) (k : ℕ) (x : A) → slice_get xs k ≡ Some x → drop k xs ≡ x ∷ drop (k + 1) xs
+rest_at xs k x here = rw (get_or_from_slice_get xs k x x here) at (drop_more xs k x (slice_get_within xs k x here))
+
+-- what is at a slot once each client became another, and may be gone
+pub stored_map : {T U C : Type 0} (f : Option (Stored T U C) → Option (Stored T U C)) → f None ≡ None → (clients : List (Option (Stored T U C))) (k : ℕ)
+    → stored_at k (map f clients) ≡ f (stored_at k clients)
+stored_map f none [] k = sym none
+stored_map f none (x ∷ clients) zero = refl
+stored_map f none (x ∷ clients) (suc k) = stored_map f none clients k
 
 module _ {T U C : Type 0} (waits : Bool) where
   count_set : (clients : List (Option (Stored T U C))) (k : ℕ) (x y : Option (Stored T U C)) → slice_get clients k ≡ Some x
@@ -66,81 +81,41 @@ module _ {T U C : Type 0} (waits : Bool) where
   count_at (z ∷ clients) zero x here = grind (arith, length, to_gather, same_Some)
   count_at (z ∷ clients) (suc k) x here = let more = count_at clients k x here in omega (arith, more)
 
-  drop_more : (clients : List (Option (Stored T U C))) (k : ℕ) (x : Option (Stored T U C)) → slice_get clients k ≡ Some x
-      → count_leaving waits (drop k clients) ≡ length (to_gather waits x) + count_leaving waits (drop (suc k) clients)
-  drop_more [] k x here = absurd (false≢true (ap is_some here))
-  drop_more (z ∷ clients) zero x here = ap (λ (o : Option (Stored T U C)). length (to_gather waits o) + count_leaving waits clients) (same_Some z x here)
-  drop_more (z ∷ clients) (suc k) x here = drop_more clients k x here
-
-  pub count_drop : (clients : List (Option (Stored T U C))) (k : ℕ) (x : Option (Stored T U C)) → slice_get clients k ≡ Some x
-      → count_leaving waits (drop k clients) ≡ length (to_gather waits x) + count_leaving waits (drop (k + 1) clients)
-  count_drop clients k x here = grind (arith, count_leaving, drop, length, to_gather, drop_more)
-
   -- ---- one note is moved
-
-  from_length : (slot : ℕ) (x : Option (Stored T U C)) (told behind : List (Happening U)) → to_gather waits x ≡ told ++ behind
-      → length (notes_from waits slot x told) ≡ length told
-  from_length slot None [] behind left = refl
-  from_length slot None (h ∷ told) behind left = grind (arith)
-  from_length slot (Some s) told behind left = length-map told (note_of (record { slot = slot; serial = s.serial }))
 
   -- what is told of an id
   abbrev ToldOf : List (Option (Stored T U C)) → List (Note U) → List (Option (Stored T U C)) → List (Note U) → ClientParts → Type 0
   ToldOf clients notes clients' notes' id =
       notes_of id notes' ++ to_gather waits (client_at id clients') ≡ notes_of id notes ++ to_gather waits (client_at id clients)
 
-  told_if : (clients clients' : List (Option (Stored T U C))) (notes notes' : List (Note U)) (target : ClientParts) (told : List (Happening U)) (id : ClientParts)
-      → same_client target id ≡ false → notes' ≡ notes ++ map (note_of target) told → client_at id clients' ≡ client_at id clients → ToldOf clients notes clients' notes' id
-  told_if clients clients' notes notes' target told id other is same =
-      ap (λ (o : Option (Stored T U C)). notes_of id notes' ++ to_gather waits o) same
-      ∙ ap (λ (l : List (Happening U)). l ++ to_gather waits (client_at id clients))
-      (ap (notes_of id) is ∙ (notes_append id notes (map (note_of target) told)
-      ∙ (ap (λ (l : List (Happening U)). notes_of id notes ++ l) (notes_other target id told other) ∙ append-nil (notes_of id notes))))
-
   told_at : (clients : List (Option (Stored T U C))) (notes notes' : List (Note U)) (slot : ℕ) (x x' : Option (Stored T U C)) → slice_get clients slot ≡ Some x
       → MovesNote waits slot x notes x' notes' → (id : ClientParts) → ToldOf clients notes (slice_set clients slot x') notes' id
   told_at clients notes notes' slot None None here (h, left, rest, is) id = grind (arith, notes_of, client_at, set_itself, append-nil)
   told_at clients notes notes' slot None (Some s') here (h, left, rest, is) id = absurd (none-some (emptied waits s') (sym rest))
   told_at clients notes notes' slot (Some s) None here (h, left, rest, is) id = absurd (none-some (emptied waits s) rest)
-  told_at clients notes notes' slot (Some s) (Some s') here (h, left, rest, is) id =
-      elim (compare target id) [
-        | Are at same ↦
-            ap (λ (o : Option (Stored T U C)). notes_of id notes' ++ to_gather waits o) (client_present id clients' s'
-            (subst (λ (n : ℕ). slice_get clients' n ≡ Some (Some s')) at (get_set_same clients slot (Some s) (Some s') here))
-            ((ap (λ (e : Stored T U C). e.serial) (same_Some (emptied waits s') (emptied waits s) rest)) ∙ same))
-            ∙ (ap (λ (l : List (Happening U)). l ++ to_gather waits (Some s'))
-            (ap (notes_of id) is ∙ (notes_append id notes (map (note_of target) told)
-            ∙ ap (λ (l : List (Happening U)). notes_of id notes ++ l) (notes_same target id told
-            (subst (λ (i : ClientParts). same_client target i ≡ true) (same_parts target id at same) (same_self target)))))
-            ∙ (grind (arith, append_assoc, notes_of, told, to_gather, client_present, here)))
-        | Slots at ↦ told_if clients clients' notes notes' target told id (same_slots target id at) is
-            (ap (λ (o : Option (Option (Stored T U C))). if_serial id.serial (option_map_or (λ s. s) o None)) (get_set_other clients slot id.slot (Some s') (other_of slot id.slot at)))
-        | Serials at differ ↦ told_if clients clients' notes notes' target told id (same_serials target id at differ) is
-            (client_absent id clients' s' (subst (λ (n : ℕ). slice_get clients' n ≡ Some (Some s')) at (get_set_same clients slot (Some s)
-            (Some s') here)) (rw (ap (λ (e : Stored T U C). e.serial) (same_Some (emptied waits s')
-            (emptied waits s) rest)) differ) ∙ sym (client_absent id clients s (subst (λ (n : ℕ). slice_get clients n ≡ Some
-            (Some s)) at here) differ))
-      ]
+  told_at clients notes notes' slot (Some s) (Some s') here (h, left, rest, is) id = at (same_client target id) refl
     where
-      told : List (Happening U)
-      told = h ∷ []
-
       target : ClientParts
       target = record { slot = slot; serial = s.serial }
 
       clients' : List (Option (Stored T U C))
       clients' = slice_set clients slot (Some s')
 
+      serial : s'.serial ≡ s.serial
+      serial = ap (λ (e : Stored T U C). e.serial) (same_Some (emptied waits s') (emptied waits s) rest)
+
+      now : notes_of id notes' ≡ notes_of id notes ++ notes_of id (map (note_of target) (h ∷ []))
+      now = grind (arith, notes_append id notes (map (note_of target) (h ∷ [])))
+
+      at : (b : Bool) → same_client target id ≡ b → ToldOf clients notes clients' notes' id
+      at true same = grind (arith, now, notes_same target id (h ∷ []) same, append_assoc, to_gather, client_present, same_is target id same, get_set_same, here, serial)
+      at false other = grind (arith, now, notes_other target id (h ∷ []) other, append-nil, client_other clients target id s s' here serial refl other)
+
   -- a note of the client of one slot was moved
   pub gathers_at : (clients : List (Option (Stored T U C))) (notes notes' : List (Note U)) (slot : ℕ) (x x' : Option (Stored T U C)) → slice_get clients slot ≡ Some x
       → MovesNote waits slot x notes x' notes' → Gathers waits clients notes (slice_set clients slot x') notes'
-  gathers_at clients notes notes' slot x x' here (h, left, rest, is) =
-      let told : List (Happening U) = h ∷ [] in
-      let more : length notes' ≡ length notes + length told =
-      ap length is ∙ (length-append notes (notes_from waits slot x told) ∙ ap (λ (n : ℕ). length notes + n) (from_length slot x told (to_gather waits x') left))
-      in
-      record {
-        rest = map_set (option_map (emptied waits)) clients slot x x' here rest;
-        told = told_at clients notes notes' slot x x' here (h, left, rest, is);
-        count = omega (arith, ap length left ∙ length-append told (to_gather waits x'), more, count_set clients slot x x' here);
-      }
+  gathers_at clients notes notes' slot x x' here (h, left, rest, is) = record {
+    rest = map_set (option_map (emptied waits)) clients slot x x' here rest;
+    told = told_at clients notes notes' slot x x' here (h, left, rest, is);
+    count = grind (arith, length-append, length-map, count_set clients slot x x' here);
+  }

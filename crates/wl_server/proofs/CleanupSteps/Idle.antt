@@ -1,5 +1,5 @@
 -- A cleanup of which no client is to be taken out.
-use Rattle.std.proofs.Common.{◌≡◌, ℕ, ◌+◌, ◌≤◌, Bool, false, List, [], ◌∷◌, length, Option, None, Some, refl, ap, arith}
+use Rattle.std.proofs.Common.{◌≡◌, ℕ, ◌+◌, ◌≤◌, Bool, false, List, [], ◌∷◌, length, Option, None, Some, refl, arith}
 use Rattle.std.specs.Prelude.{Result, if◌then◌else◌, slice_get}
 use Rattle.std.proofs.lemmas.List.{length-append, nil_from_length}
 use Rattle.wl_wire.specs.declared.error.IoFault.{IoFault}
@@ -42,8 +42,7 @@ module _ {T U C : Type 0} where
   -- and all stay
   pub none_leaves : (n : ℕ) (clients : List (Option (Stored T U C))) → length (collected given_at n clients) ≤ 0 → clients ≡ all_staying clients
   none_leaves n [] none = refl
-  none_leaves n (None ∷ clients) none = ap (λ (l : List (Option (Stored T U C))). None ∷ l) (none_leaves (n + 1) clients none)
-  none_leaves n (Some s ∷ clients) none = grind (arith, length-append, given_at, collected, live_one, id_in, all_staying, none_leaves (n + 1) clients)
+  none_leaves n (x ∷ clients) none = grind (arith, length-append, given_at, collected, live_one, id_in, all_staying, x, none_leaves (n + 1) clients)
 
   pub none_noted : (clients : List (Option (Stored T U C))) → length (collected given_at 0 clients) ≤ 0 → collected ends_at 0 clients ≡ []
   none_noted clients none = nil_from_length (collected ends_at 0 clients) (omega (arith, none_ends 0 clients none))

@@ -1,9 +1,8 @@
 -- Killed clients leave, slot by slot.
-use Rattle.std.proofs.Common.{◌≡◌, ℕ, zero, suc, ◌+◌, ◌<◌, ◌≤◌, Bool, true, false, List, [], ◌∷◌, ◌++◌, length, map, min, drop, Option, None, Some, is_some, Result, refl, sym, ap, subst, ◌∙◌, arith, append_assoc, append-nil}
+use Rattle.std.proofs.Common.{◌≡◌, ℕ, zero, suc, ◌+◌, ◌<◌, ◌≤◌, Bool, true, false, List, [], ◌∷◌, ◌++◌, length, map, min, drop, Option, None, Some, is_some, Result, refl, ap, ◌∙◌, arith, append_assoc, append-nil}
 use mathlib.Core.Bool.{beq}
 use Rattle.std.specs.FinMap.{entries}
-use Rattle.std.specs.Prelude.{MatchBool, ◌==◌, if◌then◌else◌, slice_get, slice_set}
-use Rattle.std.proofs.lemmas.Bool.{false≢true}
+use Rattle.std.specs.Prelude.{◌==◌, slice_get, slice_set}
 use Rattle.std.proofs.lemmas.List.{drop_all, length-append, length-map}
 use Rattle.std.proofs.lemmas.Option.{same_Some, none-some, slice_get_within}
 use Rattle.wl_wire.specs.declared.error.IoFault.{IoFault}
@@ -18,21 +17,15 @@ use Rattle.wl_server.specs.Felt.{FlushedTo, FlushesLive}
 use Rattle.wl_server.specs.Ids.{ClientParts}
 use Rattle.wl_server.specs.Inside.Leaving.{Flushes, FlushesKilled, all_staying, collected, with_data, ends_at, ends_of, given_at, id_in, staying}
 use Rattle.wl_server.specs.NoteOrder.{RiseFromSlot}
-use Rattle.wl_server.specs.Server.{Stored, no_times, note_of}
+use Rattle.wl_server.specs.Server.{Stored, note_of}
 use Rattle.wl_server.proofs.Readings.Flushing.{live_flushed, does_nothing}
-use Rattle.wl_server.proofs.CleanupSteps.Gathering.{map_set}
+use Rattle.wl_server.proofs.CleanupSteps.Gathering.{map_set, rest_at}
 use Rattle.wl_sets.proofs.Lists.{get_set_other, get_set_same, other_of}
-use Rattle.wl_link.proofs.Calls.Branches.{at_true}
+use Rattle.wl_link.proofs.Calls.Branches.{at_true, at_false}
 
 map_itself : {A : Type 0} (f : A → A) (xs : List A) → ((k : ℕ) (x : A) → slice_get xs k ≡ Some x → f x ≡ x) → map f xs ≡ xs
 map_itself f [] all = refl
-map_itself f (x ∷ xs) all = ap (λ y. y ∷ map f xs) (all 0 x refl) ∙ ap (λ l. x ∷ l) (map_itself f xs (λ k y here. all (suc k) y here))
-
-pub if_true : (b : Bool) (A B : Type 0) → b ≡ true → A → MatchBool b A B
-if_true h1 h2 h3 is a = grind (arith, false≢true)
-
-pub if_false : (b : Bool) (A B : Type 0) → b ≡ false → B → MatchBool b A B
-if_false h1 h2 h3 is a = grind (arith, false≢true)
+map_itself f (x ∷ xs) all = grind (arith, all 0 x, map_itself f xs (λ k y here. all (suc k) y here))
 
 pub same_killed : (a b : Bool) → beq a b ≡ true → a ≡ b
 same_killed a b h1 = grind (arith)
@@ -48,30 +41,19 @@ module _ {U : Type 0} where
 module _ {T U C : Type 0} where
   -- ---- what waits for a killed client
 
-  pub flushes_killed : (sends : T → Queue → Result ℕ IoFault → T → Type 0) (s s' : Stored T U C) (answer : Result (Unit {0}) IoFault) (lacked : Bool) → s.part.is_killed ≡ true
-      → lacked ≡ lacks_memory answer → Does s (λ p did q. FlushedTo sends p answer (lacks_memory answer) did q) s' → Does s (λ p did q. FlushesKilled sends p lacked did q) s'
-  flushes_killed sends s s' answer lacked killed is (did, q, flushed, so) =
-      (did, q, if_true s.part.is_killed _ _ killed (answer, subst (λ (l : Bool). FlushedTo sends s.part answer l did q) (sym is) flushed), so)
-
   pub not_killed : (sends : T → Queue → Result ℕ IoFault → T → Type 0) (s : Stored T U C) → s.part.is_killed ≡ false → Does s (λ p did q. FlushesKilled sends p false did q) s
-  not_killed sends s live = (
-    [],
-    s.part,
-    if_false s.part.is_killed _ _ live (refl, refl, refl),
-    ap (λ (m : List (Happening U)). let x : Stored T U C = record { serial = s.serial; part = s.part; made = m; times = no_times } in x) (sym (append-nil s.made)),
-  )
+  not_killed sends s live = does_nothing s (λ p did q. FlushesKilled sends p false did q) (at_false _ s.part.is_killed live (refl, refl, refl))
 
   pub flushes_where : (sends : T → Queue → Result ℕ IoFault → T → Type 0) (killed : Bool) (s s' : Stored T U C) (answer : Result (Unit {0}) IoFault) (lacked : Bool)
       → s.part.is_killed ≡ killed → lacked ≡ lacks_memory answer → Does s (λ p did q. FlushedTo sends p answer (lacks_memory answer) did q) s'
       → Does s (λ p did q. Flushes sends killed p lacked did q) s'
-  flushes_where sends true s s' answer lacked is refused flushed = flushes_killed sends s s' answer lacked is refused flushed
+  flushes_where sends true s s' answer lacked is refused (did, q, flushed, so) = (did, q, at_true _ s.part.is_killed is (answer, rw refused flushed), so)
   flushes_where sends false s s' answer lacked is refused flushed = live_flushed sends s s' answer lacked is refused flushed
 
   pub not_flushed : (sends : T → Queue → Result ℕ IoFault → T → Type 0) (killed : Bool) (s : Stored T U C) → (s.part.is_killed ≡ killed → ⊥)
       → Does s (λ p did q. Flushes sends killed p false did q) s
   not_flushed sends true s other = not_killed sends s (grind (arith, s.part.is_killed))
-  not_flushed sends false s other = does_nothing s (λ p did q. FlushesLive sends p false did q) (at_true _ s.part.is_killed
-      (grind (arith, s.part.is_killed)) (refl, refl, refl))
+  not_flushed sends false s other = does_nothing s (λ p did q. FlushesLive sends p false did q) (at_true _ s.part.is_killed (grind (arith, s.part.is_killed)) (refl, refl, refl))
 
   -- ---- what is noted of one client
 
@@ -84,16 +66,6 @@ module _ {T U C : Type 0} where
   ends_killed slot o s is killed = ap (ends_at slot) is ∙ rw killed refl
 
   -- ---- slot by slot
-
-  collected_rest : {A : Type 0} (give : ℕ → Option (Stored T U C) → List A) (n k : ℕ) (clients : List (Option (Stored T U C))) (x : Option (Stored T U C)) → slice_get clients k ≡ Some x
-      → collected give n (drop k clients) ≡ give n x ++ collected give (n + 1) (drop (suc k) clients)
-  collected_rest give n k [] x here = absurd (none-some x here)
-  collected_rest give n zero (z ∷ clients) x here = ap (λ (y : Option (Stored T U C)). give n y ++ collected give (n + 1) clients) (same_Some z x here)
-  collected_rest give n (suc k) (z ∷ clients) x here = collected_rest give n k clients x here
-
-  pub collected_drop : {A : Type 0} (give : ℕ → Option (Stored T U C) → List A) (n k : ℕ) (clients : List (Option (Stored T U C))) (x : Option (Stored T U C)) → slice_get clients k ≡ Some x
-      → collected give n (drop k clients) ≡ give n x ++ collected give (n + 1) (drop (k + 1) clients)
-  collected_drop give n k clients x here = grind (arith, collected, collected_rest)
 
   pub part_length : {A : Type 0} (give : ℕ → Option (Stored T U C) → List A) (n slot k : ℕ) (clients : List (Option (Stored T U C))) (x : Option (Stored T U C)) → slot ≡ n + k
       → slice_get clients k ≡ Some x → length (give slot x) ≤ length (collected give n clients)
@@ -116,12 +88,8 @@ module _ {T U C : Type 0} where
     same = map_set staying now slot x x' here (ap staying stays ∙ (grind (arith, staying))) ∙ before.same;
     rest = λ k above. get_set_other now slot k x' (λ e. absurd (omega (arith, above, e))) ∙ before.rest k (omega (arith, above));
     left = λ k y below get. (grind (arith, same_Some, get_set_same, slice_get, slice_set, staying, other_of, get_set_other, k == slot));
-    noted = ap (λ (l : List (Note U)). l ++ collected ends_at (slot + 1) (drop (slot + 1) start)) noted
-        ∙ (append_assoc notes' (ends_at slot x) (collected ends_at (slot + 1) (drop (slot + 1) start))
-        ∙ (ap (λ (l : List (Note U)). notes' ++ l) (sym (collected_drop ends_at slot slot start x (sym (before.rest slot (omega arith)) ∙ here))) ∙ before.noted));
-    gave = ap (λ (l : List (ClientParts × T)). l ++ collected given_at (slot + 1) (drop (slot + 1) start)) gave
-        ∙ (append_assoc given' (given_at slot x) (collected given_at (slot + 1) (drop (slot + 1) start))
-        ∙ (ap (λ (l : List (ClientParts × T)). given' ++ l) (sym (collected_drop given_at slot slot start x (sym (before.rest slot (omega arith)) ∙ here))) ∙ before.gave));
+    noted = grind (arith, append_assoc, ends_at, collected, before.noted, rest_at start slot x, before.rest slot);
+    gave = grind (arith, append_assoc, given_at, collected, before.gave, rest_at start slot x, before.rest slot);
   }
 
   -- there is room for what the next one leaves
@@ -129,10 +97,18 @@ module _ {T U C : Type 0} where
       → has' ++ collected give slot (drop slot start) ≡ has ++ collected give 0 start → slice_get start slot ≡ Some x → n ≡ length has → n' ≡ length has'
       → n + length (collected give 0 start) ≤ room → room' ≡ room → n' + length (give slot x) ≤ room'
   leave_room give slot start has has' x n n' room room' are here is is' fits same =
-      let whole : length has' + length (collected give slot (drop slot start)) ≡ length has + length (collected give 0 start) =
-      sym (length-append has' (collected give slot (drop slot start))) ∙ (ap length are ∙ length-append has (collected give 0 start))
-      in
-      omega (arith, whole, ap length (collected_drop give slot slot start x here) ∙ length-append (give slot x) (collected give (slot + 1) (drop (slot + 1) start)), is, is', fits, same)
+      omega (
+        arith,
+        ap length are,
+        length-append has' (collected give slot (drop slot start)),
+        length-append has (collected give 0 start),
+        is,
+        is',
+        fits,
+        same,
+        ap (λ l. length (collected give slot l)) (rest_at start slot x here),
+        length-append (give slot x) (collected give (slot + 1) (drop (slot + 1) start)),
+      )
 
   pub leave_ends : (slot : ℕ) (start now : List (Option (Stored T U C))) (notes notes' : List (Note U)) (given given' : List (ClientParts × T)) → Leave slot start now notes notes' given given'
       → length start ≤ slot → length now ≡ length start
@@ -146,17 +122,22 @@ module _ {T U C : Type 0} where
       → (one < 0xFFFFFFFFFFFFFFFF → length (give slot x) ≤ one) → count' ≡ min (count + one) 0xFFFFFFFFFFFFFFFF
       → count' < 0xFFFFFFFFFFFFFFFF → length (collected give 0 clients) ≤ count' + length (collected give (slot + 1) (drop (slot + 1) clients))
   counted_more give clients slot x count one count' here before some is below =
-      let fits : count < 0xFFFFFFFFFFFFFFFF = omega (arith, is, below) in
-      let fits' : one < 0xFFFFFFFFFFFFFFFF = omega (arith, is, below) in
-      let all = before fits in
-      omega (arith, is, below, all, some fits', ap length (collected_drop give slot slot clients x here) ∙ length-append (give slot x) (collected give (slot + 1) (drop (slot + 1) clients)))
+      omega (
+        arith,
+        is,
+        below,
+        before (omega (arith, is, below)),
+        some (omega (arith, is, below)),
+        ap (λ l. length (collected give slot l)) (rest_at clients slot x here),
+        length-append (give slot x) (collected give (slot + 1) (drop (slot + 1) clients)),
+      )
 
   pub counted_fewer : {A : Type 0} (give : ℕ → Option (Stored T U C) → List A) (clients : List (Option (Stored T U C))) (slot : ℕ) (x : Option (Stored T U C)) (count one count' : ℕ)
       → slice_get clients slot ≡ Some x → count + length (collected give slot (drop slot clients)) ≤ length (collected give 0 clients)
       → one ≤ length (give slot x) → count' ≡ min (count + one) 0xFFFFFFFFFFFFFFFF
       → count' + length (collected give (slot + 1) (drop (slot + 1) clients)) ≤ length (collected give 0 clients)
   counted_fewer give clients slot x count one count' here before some is =
-      omega (arith, is, before, some, ap length (collected_drop give slot slot clients x here) ∙ length-append (give slot x) (collected give (slot + 1) (drop (slot + 1) clients)))
+      omega (arith, is, before, some, ap (λ l. length (collected give slot l)) (rest_at clients slot x here), length-append (give slot x) (collected give (slot + 1) (drop (slot + 1) clients)))
 
 -- ---- the notes of ends are in the order of the slots
 
@@ -172,9 +153,7 @@ noted_rise slot id (h ∷ hs) rest is rise = grind (arith, note_of, noted_rise s
 pub ends_rise : {T U C : Type 0} (low slot : ℕ) (clients : List (Option (Stored T U C))) → low ≤ slot → RiseFromSlot low (collected ends_at slot clients)
 ends_rise low slot [] less = tt
 ends_rise low slot (None ∷ clients) less = ends_rise low (slot + 1) clients (omega (arith, less))
-ends_rise {T = T} {U = U} {C = C} low slot (Some s ∷ clients) less = at s.part.is_killed (ends_rise slot (slot + 1) clients (omega arith))
-  where
-    at : (b : Bool) → RiseFromSlot slot (collected ends_at (slot + 1) clients)
-        → RiseFromSlot low ((if b then map (note_of (id_in slot s)) (ends_of (id_in slot s) (entries s.part.store.objects)) else []) ++ collected ends_at (slot + 1) clients)
-    at true rest = from_lower low slot _ less (noted_rise slot (id_in slot s) (ends_of (id_in slot s) (entries s.part.store.objects)) _ refl rest)
-    at false rest = from_lower low slot _ less rest
+ends_rise low slot (Some s ∷ clients) less =
+    let rest = ends_rise slot (slot + 1) clients (omega arith) in
+    from_lower low slot _ less
+    (grind (arith, s.part.is_killed, rest, noted_rise slot (id_in slot s) (ends_of (id_in slot s) (entries s.part.store.objects)) (collected ends_at (slot + 1) clients) refl rest))

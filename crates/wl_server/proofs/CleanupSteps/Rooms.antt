@@ -1,5 +1,5 @@
 -- The room that a cleanup made is enough, also once the killed clients were flushed and all notes gathered.
-use Rattle.std.proofs.Common.{◌≡◌, ℕ, suc, ◌+◌, Bool, true, List, [], ◌∷◌, length, Option, None, Some, is_some, Result, refl, sym, subst, arith, append-nil}
+use Rattle.std.proofs.Common.{◌≡◌, ℕ, suc, ◌+◌, Bool, true, List, [], ◌∷◌, length, Option, Some, is_some, Result, refl, sym, subst, arith, append-nil}
 use Rattle.std.specs.Option.{option_map, option_map_or}
 use Rattle.std.specs.Prelude.{map, slice_get}
 use Rattle.std.proofs.lemmas.List.{length-append}
@@ -31,18 +31,16 @@ module _ {T U C : Type 0} where
   same_counts : (n : ℕ) (xs ys : List (Option (Stored T U C))) → length ys ≡ length xs
       → ((slot k : ℕ) (x y : Option (Stored T U C)) → slot ≡ n + k → slice_get xs k ≡ Some x → slice_get ys k ≡ Some y → SamePlace slot x y) → SameCounts n xs ys
   same_counts n [] [] len all = (refl, refl, refl)
-  same_counts n [] (y ∷ ys) len all = absurd (omega (arith, len))
-  same_counts n (x ∷ xs) [] len all = absurd (omega (arith, len))
   same_counts n (x ∷ xs) (y ∷ ys) len all =
       let here = all n 0 x y (omega arith) refl refl in
       let more = same_counts (n + 1) xs ys (omega (arith, len)) (λ slot k a b at is is'. all slot (suc k) a b (omega (arith, at)) is is') in grind (arith, length-append, ends_at, collected, given_at)
+  same_counts n _ _ len all = absurd (omega (arith, len))
 
   -- ---- a flush
 
   same_place : (sends : T → Queue → Result ℕ IoFault → T → Type 0) (slot : ℕ) (x y : Option (Stored T U C)) (lacked : Bool)
       → PlaceFeels (λ id p lacked did q. FlushesKilled sends p lacked did q) slot x lacked y → SamePlace slot x y
-  same_place sends slot None y lacked (not, is) = subst (λ (o : Option (Stored T U C)). SamePlace slot None o) (sym is) (refl, refl, refl)
-  same_place sends slot (Some s) y lacked (s', (did, q, flushes, made), is) = grind (arith, no_times, append-nil, notes_in, notes_of_sends, with_link)
+  same_place sends slot x y lacked h = grind (arith, no_times, append-nil, notes_in, notes_of_sends, with_link, x)
 
   pub flushed_counts : (sends : T → Queue → Result ℕ IoFault → T → Type 0) (refused : Bool) (start now : List (Option (Stored T U C)))
       → AllFeel (λ id p lacked did q. FlushesKilled sends p lacked did q) refused (length start) start now → SameCounts 0 start now

@@ -1,15 +1,22 @@
 -- The slots that have clients keep them.
-use Rattle.std.proofs.Common.{◌≡◌, ◌∙◌, ℕ, zero, suc, ◌+◌, ◌≤◌, Bool, true, false, List, [], ◌∷◌, length, Option, None, Some, Result, Ok, Err, IfOk, OnErr, is_some, IsSome, refl, sym, ap, subst, arith, below_more}
-use Rattle.std.specs.Option.{option_map_or}
-use Rattle.std.specs.Prelude.{slice_get, slice_set}
-use Rattle.wl_wire.specs.declared.error.OutOfMemory.{OutOfMemory}
+use Rattle.std.proofs.Common.{◌≡◌, ◌∙◌, ℕ, ◌+◌, ◌≤◌, Bool, true, List, length, Option, None, Some, Result, is_some, IsSome, refl, ap, arith, below_more}
+use Rattle.std.specs.Option.{option_map_or, option_map}
+use Rattle.std.specs.Prelude.{slice_get, slice_set, ◌==◌}
+use Rattle.std.proofs.lemmas.List.{length-map}
+use Rattle.wl_wire.specs.declared.error.IoFault.{IoFault}
+use Rattle.wl_link.specs.Exchange.{Queue}
 use Rattle.wl_server.specs.declared.notes.Note.{Note}
-use Rattle.wl_server.specs.Inside.Gathering.{Gathers, all_emptied}
+use Rattle.wl_server.specs.Ids.{ClientParts}
+use Rattle.wl_server.specs.Inside.Cleanup.{CleansUp}
+use Rattle.wl_server.specs.Inside.Gathering.{all_emptied, emptied}
+use Rattle.wl_server.specs.Inside.Leaving.{staying}
 use Rattle.wl_server.specs.Inside.Inserting.{AreTaken, HasSlots, IsPut}
 use Rattle.wl_server.specs.Inside.Places.{AllFeel}
 use Rattle.wl_server.specs.Server.{Stored, stored_at}
 use Rattle.wl_server.specs.Steps.{IsLeastFree}
+use Rattle.wl_sets.proofs.Lists.{get_set_other, get_set_same, other_of}
 use Rattle.wl_server.proofs.CallSteps.Slots.{Kind}
+use Rattle.wl_server.proofs.CleanupSteps.Gathering.{stored_map}
 
 module _ {T U C : Type 0} where
   pub none_taken : (clients : List (Option (Stored T U C))) → AreTaken 0 clients
@@ -28,17 +35,9 @@ module _ {T U C : Type 0} where
 
   -- ---- where one client is written
 
-  set_at : (clients : List (Option (Stored T U C))) (i k : ℕ) (y : Option (Stored T U C)) → IsSome y → IsSome (stored_at k clients)
-      → IsSome (stored_at k (slice_set clients i y))
-  set_at [] i k y some is = is
-  set_at (x ∷ clients) zero zero y some is = some
-  set_at (x ∷ clients) zero (suc k) y some is = is
-  set_at (x ∷ clients) (suc i) zero y some is = is
-  set_at (x ∷ clients) (suc i) (suc k) y some is = set_at clients i k y some is
-
   pub taken_set : (n i : ℕ) (clients : List (Option (Stored T U C))) (s : Stored T U C) → AreTaken n clients → AreTaken n (slice_set clients i (Some s))
   unfolding AreTaken
-  taken_set n i clients s taken k below = set_at clients i k (Some s) refl (taken k below)
+  taken_set n i clients s taken k below = grind (arith, taken k below, stored_at, slice_get, slice_set, get_set_same, get_set_other, other_of, k == i, slice_get clients i)
 
   pub slots_set : (count n i : ℕ) (clients : List (Option (Stored T U C))) (s : Stored T U C) → HasSlots count n clients → HasSlots count n (slice_set clients i (Some s))
   slots_set count n i clients s has = record { within = has.within; taken = taken_set n i clients s has.taken }
@@ -58,19 +57,19 @@ module _ {T U C : Type 0} where
 
   -- ---- where notes are gathered
 
-  emptied_at : (waits : Bool) (k : ℕ) (clients : List (Option (Stored T U C))) → is_some (stored_at k (all_emptied waits clients)) ≡ is_some (stored_at k clients)
-  emptied_at waits k [] = refl
-  emptied_at waits zero (None ∷ clients) = refl
-  emptied_at waits zero (Some s ∷ clients) = refl
-  emptied_at waits (suc k) (x ∷ clients) = emptied_at waits k clients
-
   pub taken_gathered : (waits : Bool) (n : ℕ) (before after : List (Option (Stored T U C)))
       → all_emptied waits after ≡ all_emptied waits before → AreTaken n before → AreTaken n after
   unfolding AreTaken
   taken_gathered waits n before after same taken k below =
-      sym (emptied_at waits k after) ∙ (ap (λ (xs : List (Option (Stored T U C))). is_some (stored_at k xs)) same ∙ (emptied_at waits k before ∙ taken k below))
+      grind (arith, taken k below, same, stored_map (option_map (emptied waits)) refl after k, stored_map (option_map (emptied waits)) refl before k, is_some)
 
-  pub taken_kept : (n : ℕ) (r : Result (Unit {0}) OutOfMemory) (before after : List (Option (Stored T U C))) (notes notes' : List (Note U))
-      → IfOk r (λ _. Gathers false before notes after notes') → OnErr r ((after ≡ before) × (notes' ≡ notes)) → AreTaken n before → AreTaken n after
-  taken_kept n (Ok u) before after notes notes' gathered unchanged taken = taken_gathered false n before after gathered.rest taken
-  taken_kept n (Err e) before after notes notes' gathered unchanged taken = subst (λ (xs : List (Option (Stored T U C))). AreTaken n xs) (sym unchanged.0) taken
+  -- ---- how many slots there are
+
+  pub slots_emptied : (waits : Bool) (before after : List (Option (Stored T U C))) → all_emptied waits after ≡ all_emptied waits before → length after ≡ length before
+  slots_emptied waits before after same = grind (arith, ap length same, length-map)
+
+  -- a cleanup leaves as many as there were
+  pub slots_cleaned : (sends : T → Queue → Result ℕ IoFault → T → Type 0) (before : List (Option (Stored T U C))) (notes : List (Note U)) (refused : Bool)
+      (after : List (Option (Stored T U C))) (notes' : List (Note U)) (given : List (ClientParts × T))
+      → CleansUp sends before notes refused after notes' given → length after ≡ length before
+  slots_cleaned sends before notes refused after notes' given by = ap length by.stay ∙ (length-map by.left staying ∙ (slots_emptied true by.flushed by.left by.gathers.rest ∙ by.flushes.len))

@@ -1,10 +1,8 @@
 -- The notes that were gathered are handed out, as a step of the server.
-use Rattle.std.proofs.Common.{◌≡◌, ◌≢◌, ◌<◌, Bool, true, false, List, [], ◌++◌, map, Option, Ok, Err, Vec, refl, sym, ap, subst, ◌∙◌, append-nil, arith}
-use mathlib.Core.Logic.{inl, inr}
+use Rattle.std.proofs.Common.{◌≡◌, ◌≢◌, ◌<◌, Bool, true, false, List, [], ◌++◌, map, Option, Ok, Err, Vec, refl, sym, ap, ◌∙◌, append-nil, arith}
 use Rattle.std.specs.Global.{Global}
 use Rattle.std.specs.Option.{option_map, option_map_or}
-use Rattle.std.specs.Prelude.{◌⊎◌, slice_get}
-use Rattle.std.proofs.lemmas.Bool.{false≢true}
+use Rattle.std.specs.Prelude.{slice_get}
 use Rattle.std.proofs.lemmas.Option.{slice_get-map}
 use Rattle.wl_wire.specs.declared.error.OutOfMemory.{OutOfMemory}
 use Rattle.wl_server.specs.declared.notes.Note.{Note}
@@ -17,11 +15,12 @@ use Rattle.wl_server.specs.Inside.Gathering.{AllLeft, Gathers, count_leaving, em
 use Rattle.wl_server.specs.NoteOrder.{AllNumbered, AllTakeFirst, IsInOrder, times_of, to_gather}
 use Rattle.wl_server.specs.Globals.{Offer}
 use Rattle.wl_server.specs.Ids.{ClientParts}
-use Rattle.wl_server.specs.PartStep.{Asked, NotesTaken, World}
+use Rattle.wl_server.specs.PartStep.{NotesTaken, World}
 use Rattle.wl_server.specs.Server.{ServerState, Stored, client_at, if_serial, notes_of, seen_as}
 use Rattle.wl_server.specs.Steps.{SomeClient, StepOf}
 use Rattle.wl_server.proofs.CleanupSteps.Asking.{one_leaves}
-use Rattle.wl_server.proofs.CallSteps.Numbering.{turn_still}
+use Rattle.wl_server.proofs.CallSteps.Numbering.{all_same}
+use Rattle.wl_server.proofs.CallSteps.Feeling.{step_of}
 
 module _ {T U C : Type 0} where
   -- ---- what is left of each client
@@ -57,66 +56,25 @@ module _ {T U G C : Type 0} (w : World T G C) (before : ServerState T U G C) whe
   taken_so : (clients' : List (Option (Stored T U C))) (out : Vec (Note U) Global) → Gathers false before.clients before.notes clients' out.items → AllLeft false clients'
       → IsInOrder false before.clients before.notes out.items → AllTakeFirst (map times_of before.clients) (map times_of clients') → AllNumbered clients'
       → StepOf w before step.TakeNotes (reply.TakeNotes (Ok out)) false (record before { clients = clients'; notes = [] })
-  taken_so clients' out by left in_order first numbered = (
-    record {
-      call = Asked step.TakeNotes (reply.TakeNotes (Ok out));
-      refused = false;
-      lacks = λ id. false;
-      did = λ id. map NoteTaken (notes_of id before.notes ++ option_map_or (λ s. s.made) (client_at id before.clients) []);
-    },
-    refl,
-    refl,
-    record {
-      offer = refl;
-      last = omega arith;
-      client = tt;
-      global = tt;
-      order = tt;
-      room = tt;
-      refused = (λ h. absurd (false≢true h), λ h. was_refused h);
-      notes = record { in_order = in_order; none = refl; numbered = numbered; first = first; numbers = refl };
-      each = λ id. (Ok out, refl, each_taken w before.offer before.clients before.notes clients' out by left id);
-    },
-  )
-    where
-      was_refused : (false ≡ true) ⊎ ((id : ClientParts) × (false ≡ true)) → false ≡ true
-      was_refused (inl h) = h
-      was_refused (inr (id, h)) = h
+  taken_so clients' out by left in_order first numbered =
+      step_of w before _ false (λ id. map NoteTaken (notes_of id before.notes ++ option_map_or (λ s. s.made) (client_at id before.clients) [])) _ refl (omega arith) tt tt tt tt refl
+      (record { in_order = in_order; none = refl; numbered = numbered; first = first; numbers = refl })
+      (λ id. (Ok out, refl, each_taken w before.offer before.clients before.notes clients' out by left id))
 
   pub notes_taken : {was : Bool} (clients' : List (Option (Stored T U C))) (gathered : List (Note U)) (out : Vec (Note U) Global) (notes' : List (Note U)) → out.items ≡ gathered → notes' ≡ []
       → Gathers false before.clients before.notes clients' gathered → AllLeft false clients' → IsInOrder false before.clients before.notes gathered
       → AllTakeFirst (map times_of before.clients) (map times_of clients') → AllNumbered clients'
       → Calls w (record { server = before; refused = was }) step.TakeNotes (reply.TakeNotes (Ok out)) (record { server = record before { clients = clients'; notes = notes' }; refused = false })
-  notes_taken clients' gathered out notes' are none by left in_order first numbered =
-      calls _ _ _ _ _
-      (subst (λ (ns : List (Note U)). StepOf w before step.TakeNotes (reply.TakeNotes (Ok out)) false (record before { clients = clients'; notes = ns })) (sym none)
-      (grind (arith, taken_so)))
+  notes_taken clients' gathered out notes' are none by left in_order first numbered = calls _ _ _ _ _ (rw none (grind (arith, taken_so)))
 
   -- there is no memory for it
   not_taken : (e : OutOfMemory) → SomeClient before.clients (λ s. s.made ≢ []) → AllNumbered before.clients → StepOf w before step.TakeNotes (reply.TakeNotes (Err e)) true before
-  not_taken e some all = (
-    record { call = Asked step.TakeNotes (reply.TakeNotes (Err e)); refused = true; lacks = λ id. false; did = λ id. [] },
-    refl,
-    refl,
-    record {
-      offer = refl;
-      last = omega arith;
-      client = tt;
-      global = tt;
-      order = tt;
-      room = some;
-      refused = (λ h. inl refl, λ h. refl);
-      notes = record { gathered = refl; times = (0, (grind (arith, turn_still))); numbered = all };
-      each = λ id. (Err e, refl, (refl, refl, refl));
-    },
-  )
+  not_taken e some all =
+      step_of w before _ true (λ id. []) before refl (omega arith) tt tt tt some refl (record { gathered = refl; times = all_same _ _ _ refl; numbered = all }) (λ id. (Err e, refl, (refl, refl, refl)))
 
   pub notes_starved : {was : Bool} (e : OutOfMemory) (clients' : List (Option (Stored T U C))) (notes' : List (Note U)) → clients' ≡ before.clients → notes' ≡ before.notes
       → 0 < count_leaving false before.clients → AllNumbered before.clients
       → Calls w (record { server = before; refused = was }) step.TakeNotes (reply.TakeNotes (Err e)) (record { server = record before { clients = clients'; notes = notes' }; refused = true })
   notes_starved e clients' notes' same same' some all =
-      calls _ _ _ _ _
-      (subst (λ (xs : List (Option (Stored T U C))). StepOf w before step.TakeNotes (reply.TakeNotes (Err e)) true (record before { clients = xs; notes = notes' })) (sym same)
-      (subst (λ (ns : List (Note U)). StepOf w before step.TakeNotes (reply.TakeNotes (Err e)) true (record before { notes = ns })) (sym same')
-      (not_taken e (let (slot, s, here, is) = one_leaves false before.clients some in
-      (slot, s, here, λ none. is (append-nil s.made ∙ none))) all)))
+      let (slot, s, here, is) = one_leaves false before.clients some in
+      calls _ _ _ _ _ (rw (same, same') (not_taken e (slot, s, here, λ none. is (append-nil s.made ∙ none)) all))

@@ -35,19 +35,15 @@ use Rattle.wl_server.proofs.OverRuns.Moves.BaseMovesLaw.{reads_of}
 
 -- ---- a call that does not read the client
 
-module _ {U : Type 0} where
-  came_of : (d e : Doings U) → d ≡ e → e.came ≡ [] → d.came ≡ []
-  came_of d e is nothing' = ap (λ (x : Doings U). x.came) is ∙ nothing'
-
 module _ {T U C : Type 0} (sends : T → Queue → Result ℕ IoFault → T → Type 0) (receives : T → ℕ → Result Queue IoFault → T → Type 0) (client : ClientParts) where
   moves_quiet : (p q : Part T U C) (d : Doings U) → Moves unread_moves sends receives client p d q → d.came ≡ []
-  moves_quiet p q d (stayed is same) = came_of d _ is refl
+  moves_quiet p q d (stayed is same) = ap (λ (x : Doings U). x.came) is
   moves_quiet p q d (followed {m = m} {a = a} {b = b} first second is) = grind (arith, no_more, moves_quiet p m a first, moves_quiet m q b second)
   moves_quiet p q d (handed_out {a = a} ids moves among is) = ap (λ (x : Doings U). x.came) is ∙ moves_quiet p q a moves
   moves_quiet p q d (moved move) = grind (arith, true≢false)
 
   goes_quiet : (s t : Seen T U C) (d : Doings U) → Goes unread_moves sends receives client s d t → d.came ≡ []
-  goes_quiet s t d h1 = grind (arith, unfelt, came_of, within, moves_quiet, taken_out, notes_taken)
+  goes_quiet s t d h1 = grind (arith, unfelt, within, moves_quiet, taken_out, notes_taken)
 
 pub call_quiet : {T U G C : Type 0} (w : World T G C) (id : ClientParts) (offer : Offer G) (before after : Seen T U C) (lacked : Bool) (did : List (Deed U)) (call : Call T U G C)
     → reads_of id call ≡ false → PartCall w id offer call before lacked did after → came_in did ≡ []
@@ -60,7 +56,7 @@ module _ {T U G C : Type 0} (sends : T → Queue → Result ℕ IoFault → T �
   -- the receives of its turns, and those that are left
   turns_bounded : (left : ℕ) (p after : ReaderState T (Core U C)) (turns : List Turn) (out : Gives (Told U)) → Reads sends (server a) receives left p turns out after
       → length (received U turns) + out.left ≤ left
-  turns_bounded left p after [] out (same, ends) = let few = stops_left sends receives (server a) left p out ends in omega (arith, few)
+  turns_bounded left p after [] out (same, ends) = omega (arith, stops_left sends receives (server a) left p out ends)
   turns_bounded left p after (Received r ∷ turns) out (on, lacks, (n, is, (link, filled, finds, h))) = grind (arith, either_result, counted_answer, count_of, with_link, length, received, turns_bounded n (with_link p link) after turns out)
   turns_bounded left p after (Handled es ∷ turns) out (on, (v, link, first, lacked, mid, rest, found', by, split, next)) = grind (arith, length, received, none_sent, turns_bounded left mid after turns rest next)
   turns_bounded left p after (Unread es ∷ turns) out (on, (v, link, first, lacked, mid, rest, found', by, split, next)) = grind (arith, length, received, none_sent, turns_bounded left mid after turns rest next)
@@ -82,11 +78,8 @@ module _ {T U G C : Type 0} (w : World T G C) (id : ClientParts) (offer : Offer 
 
 module _ {T U G C : Type 0} where
   over_both : (id : ClientParts) (run others : List (Entry T U G C)) → receives_over id (run ++ others) ≡ receives_over id run + receives_over id others
-  over_both id [] others = omega arith
-  over_both id (e ∷ run) others = let rest = over_both id run others in omega (arith, rest)
-
-  over_split : (id : ClientParts) (run first next : List (Entry T U G C)) → run ≡ first ++ next → receives_over id run ≡ receives_over id first + receives_over id next
-  over_split id run first next is = ap (receives_over id) is ∙ over_both id first next
+  over_both id [] others = grind (arith)
+  over_both id (e ∷ run) others = grind (arith, over_both id run others)
 
 module _ {T U G C : Type 0} (w : World T G C) (id : ClientParts) where
   one_quiet : (before after : ServerState T U G C) (e : Entry T U G C) → reads_of id e.call ≡ false → OneStep w before e after → receives_in (e.did id) ≡ 0
@@ -107,7 +100,7 @@ module _ {T U G C : Type 0} (w : World T G C) (id : ClientParts) where
 module _ {H T U G C : Type 0} (w : World T G C) (answers : Answering H T U G C) (id : ClientParts) where
   handles_quiet : (h h' : H) (before : BackendState T U G C) (after : ServerState T U G C) (a : Action) (run : List (Entry T U G C)) (lacked : Bool) (why : Option FinishError)
       → Handles w answers id h before a run lacked why h' after → receives_over id run ≡ 0
-  handles_quiet h h' before after a run lacked why h1 = grind (arith, calls_quiet, one_quiet, over_split, reads_of, true≢false, nothing, seen, receives_over, over_both)
+  handles_quiet h h' before after a run lacked why h1 = grind (arith, calls_quiet, one_quiet, over_both, reads_of, true≢false, nothing, seen, receives_over, over_both)
 
   -- so many receives were made, and so many are left
   abbrev Spends : Reading → List (Entry T U G C) → Reading → Type 0
@@ -123,7 +116,7 @@ module _ {H T U G C : Type 0} (w : World T G C) (answers : Answering H T U G C) 
       → Rounds w answers id h r before run lacked h' r' after → Spends r run r'
   rounds_spend h h' r r' before after run lacked (none nothing' unlacked) = omega (arith, ap (receives_over id) nothing')
   rounds_spend h h' r r' before after run lacked (more {h1 = h1} {r1 = r1} {s1 = s1} {first = first} {next = next} {before = was} {now = now} rounds round run_is lacked_is) =
-      omega (arith, rounds_spend h h1 r r1 before s1 first was rounds, round_spends h1 h' r1 r' s1 after next now None round, over_split id run first next run_is)
+      omega (arith, rounds_spend h h1 r r1 before s1 first was rounds, round_spends h1 h' r1 r' s1 after next now None round, ap (receives_over id) run_is, over_both id first next)
 
   last_spends : (h h' : H) (r r' : Reading) (before after : ServerState T U G C) (run : List (Entry T U G C)) (lacked : Bool) (f : IoFault)
       → Last w answers id h r before run lacked f h' r' after → Spends r run r'
@@ -136,7 +129,7 @@ module _ {H T U G C : Type 0} (w : World T G C) (answers : Answering H T U G C) 
   run_bounded h h' before after run lacked answer serves =
       let s = serves.rounds_end in
       let first = rounds_spend h s.handler new_reading s.reading before s.mid s.first s.first_lacked s.rounds in
-      omega (arith, first, last_spends s.handler h' s.reading serves.left s.mid after s.last s.last_lacked serves.fault s.end, over_split id run s.first s.last s.run_is)
+      omega (arith, first, last_spends s.handler h' s.reading serves.left s.mid after s.last s.last_lacked serves.fault s.end, ap (receives_over id) s.run_is, over_both id s.first s.last)
 
   -- the cleanup at the end of a dispatch receives nothing
   pub dispatch_bounded : (h h' : H) (before mid : ServerState T U G C) (after : BackendState T U G C) (calls : List (Entry T U G C)) (lacked : Bool) (answer result : Result ℕ IoFault)

@@ -1,5 +1,5 @@
 -- From what the calls of a dispatch say of themselves to what it does.
-use Rattle.std.proofs.Common.{◌≡◌, ◌<◌, ◌≤◌, ℕ, ◌+◌, length, get_or, take, arith, List, [], ◌∷◌, ◌++◌, append_assoc, append-nil, Bool, false, Option, None, Some, is_some, Result, Ok, Err, ap, refl, sym, subst, ◌∙◌, true≢false}
+use Rattle.std.proofs.Common.{◌≡◌, ◌<◌, ◌≤◌, ℕ, ◌+◌, length, get_or, take, arith, List, [], ◌∷◌, ◌++◌, append_assoc, append-nil, Bool, false, Option, None, Some, is_some, Result, Ok, Err, ap, refl, sym, ◌∙◌, true≢false}
 use Rattle.std.specs.Prelude.{◌||◌}
 use Rattle.std.proofs.lemmas.List.{take_all, take_more}
 use Rattle.wl_wire.specs.declared.error.IoFault.{IoFault}
@@ -14,7 +14,7 @@ use Rattle.wl_server.specs.declared.runs.step.Step.TheVariants as step
 use Rattle.wl_server.specs.Backend.{BackendState, Calls}
 use Rattle.wl_server.specs.Dispatch.{Answering, Answers, DispatchesAll, DispatchesClient, EndsDispatch, Handles, Last, IsDispatched, EachIsDispatched, Round, Rounds, RoundsEnd, dispatched, fault_of_end, fault_of_reading, more, no_action, none, not_ended, refusal_in, total_with}
 use Rattle.wl_server.specs.Ids.{ClientParts}
-use Rattle.wl_server.specs.Inside.Dispatching.{CleansUp, Fewer, RoundsSoFar, ClientsSoFar, MakesAllRounds, MakesRound, MakesRounds}
+use Rattle.wl_server.specs.Inside.Dispatching.{CleansUp, RoundsSoFar, ClientsSoFar, MakesAllRounds, MakesRound, MakesRounds}
 use Rattle.wl_server.specs.PartStep.{World}
 use Rattle.wl_server.specs.Reached.{Reached}
 use Rattle.wl_server.specs.Reading.{new_reading}
@@ -25,10 +25,7 @@ use Rattle.wl_server.proofs.Dispatches.Waiting.{round_fewer}
 use Rattle.wl_server.proofs.OverRuns.Alone.AccountLaws.{is_accounted_for}
 use Rattle.wl_server.proofs.OverRuns.Alone.IsolationLaw.{join_runs}
 use Rattle.wl_server.proofs.OverRuns.Cut.CuttingLaws.{histories_cut}
-use Rattle.wl_server.proofs.ObjectCalls.Closing.{or_false}
-
-or_assoc : (a b c : Bool) → ((a || b) || c) ≡ (a || (b || c))
-or_assoc h1 b c = grind (arith)
+use Rattle.std.proofs.Math.Bool.{or-false, or_assoc}
 
 pub handles_by : {H T U G C : Type 0} (w : World T G C) (answers : Answering H T U G C) (id : ClientParts) (h h' : H) (before left after : BackendState T U G C)
     (a : Action) (end : Step T U G C) (answer : Reply T U) → Answers w answers id h before a end h' left → Reached w id before.server left.server
@@ -54,13 +51,6 @@ handles_by w answers id h h' before left after a end answer so reached calls =
     )
 
 module _ {H T U G C : Type 0} (w : World T G C) (answers : Answering H T U G C) (id : ClientParts) where
-  -- a reading that hands out no action is the last
-  last_by : (h : H) (r r' : Reading) (before after : BackendState T U G C) (error : ActionError)
-      → Calls w before (step.NextActionWithin id r) (reply.NextActionWithin (Err error) r') after
-      → (run : List (Entry T U G C)) × Last w answers id h r before.server run after.refused (fault_of_reading error) h r' after.server
-  last_by h r r' before after error calls =
-      let (e, is, refused, one) = calls.step in (e ∷ [], no_action e error one is refl (sym refused) refl refl)
-
   -- a reading that hands out an action, and what the handler made of that
   round_by : (h h' : H) (r r' : Reading) (before found : BackendState T U G C) (after : ServerState T U G C) (a : Action) (lacked : Bool) (why : Option FinishError)
       → Calls w before (step.NextActionWithin id r) (reply.NextActionWithin (Ok a) r') found
@@ -94,59 +84,52 @@ module _ {H T U G C : Type 0} (w : World T G C) (answers : Answering H T U G C) 
       → was ≡ before.refused → Calls w before (step.NextActionWithin id r) (reply.NextActionWithin (Err error) r') left → f ≡ fault_of_reading error → after ≡ keeping was left
       → MakesRound w answers id h r before (Some f) h r' after
   serves_last h r r' before left error f after was was_is calls is kept =
-      let (run, last) = last_by h r r' before left error calls in record {
-        run = run;
+      let (e, call, refused, one) = calls.step in rw (kept, is) (record {
+        run = e ∷ [];
         lacked = left.refused;
-        round = subst (λ (x : IoFault). Last w answers id h r before.server run left.refused x h r' after.server) (sym is)
-            (subst (λ (s : ServerState T U G C). Last w answers id h r before.server run left.refused (fault_of_reading error) h r' s) (sym (ap (λ (b : BackendState T U G C). b.server) kept)) last);
-        refused = ap (λ (b : BackendState T U G C). b.refused) kept ∙ ap (λ (b : Bool). b || left.refused) was_is;
+        round = no_action e error one call refl (sym refused) refl refl;
+        refused = ap (λ (b : Bool). b || left.refused) was_is;
         fewer = λ none. absurd (true≢false (ap is_some none));
-      }
+      })
 
   pub serves_refused : (h h' : H) (r r' : Reading) (before found left : BackendState T U G C) (a : Action) (error : FinishError) (f : IoFault) (after : BackendState T U G C) (was read : Bool)
       → was ≡ before.refused → read ≡ found.refused → Calls w before (step.NextActionWithin id r) (reply.NextActionWithin (Ok a) r') found
       → (run : List (Entry T U G C)) × Handles w answers id h found a run left.refused (Some error) h' left.server → f ≡ fault_of_end error → after ≡ keeping (was || read) left
       → MakesRound w answers id h r before (Some f) h' r' after
   serves_refused h h' r r' before found left a error f after was read was_is read_is calls handles is kept =
-      let (run, round) = round_by h h' r r' before found left.server a left.refused (Some error) calls handles in
-      let last : Last w answers id h r before.server run (found.refused || left.refused) (fault_of_end error) h' r' left.server = not_ended error round refl in record {
+      let (run, round) = round_by h h' r r' before found left.server a left.refused (Some error) calls handles in rw (kept, is) (record {
         run = run;
         lacked = found.refused || left.refused;
-        round = subst (λ (x : IoFault). Last w answers id h r before.server run (found.refused || left.refused) x h' r' after.server) (sym is)
-            (subst (λ (s : ServerState T U G C). Last w answers id h r before.server run (found.refused || left.refused) (fault_of_end error) h' r' s)
-            (sym (ap (λ (b : BackendState T U G C). b.server) kept)) last);
-        refused = ap (λ (b : BackendState T U G C). b.refused) kept ∙ (grind (arith, or_assoc, before.refused, found.refused, left.refused));
+        round = not_ended error round refl;
+        refused = grind (arith, or_assoc, was_is, read_is);
         fewer = λ none. absurd (true≢false (ap is_some none));
-      }
+      })
 
   pub serves_round : (h h' : H) (r r' : Reading) (before found left : BackendState T U G C) (a : Action) (after : BackendState T U G C) (was read : Bool)
       → was ≡ before.refused → read ≡ found.refused → Calls w before (step.NextActionWithin id r) (reply.NextActionWithin (Ok a) r') found
       → (run : List (Entry T U G C)) × Handles w answers id h found a run left.refused None h' left.server → after ≡ keeping (was || read) left
       → MakesRound w answers id h r before None h' r' after
   serves_round h h' r r' before found left a after was read was_is read_is calls handles kept =
-      let (run, round) = round_by h h' r r' before found left.server a left.refused None calls handles in
-      let server : after.server ≡ left.server = ap (λ (b : BackendState T U G C). b.server) kept in record {
+      let (run, round) = round_by h h' r r' before found left.server a left.refused None calls handles in rw kept (record {
         run = run;
         lacked = found.refused || left.refused;
-        round = subst (λ (s : ServerState T U G C). Round w answers id h r before.server run (found.refused || left.refused) None h' r' s) (sym server) round;
-        refused = ap (λ (b : BackendState T U G C). b.refused) kept ∙ (grind (arith, or_assoc, before.refused, found.refused, left.refused));
-        fewer = λ none.
-            subst (λ (s : ServerState T U G C). Fewer id r before.server r' s) (sym server)
-            (round_fewer w id answers h h' r r' before found left.server a handles.0 left.refused None calls handles.1);
-      }
+        round = round;
+        refused = grind (arith, or_assoc, was_is, read_is);
+        fewer = λ none. round_fewer w id answers h h' r r' before found left.server a handles.0 left.refused None calls handles.1;
+      })
 
   -- ---- actions one after another
 
   rounds_join : (h h1 h' : H) (r r1 r' : Reading) (s s1 s' : ServerState T U G C) (first next : List (Entry T U G C)) (before now : Bool)
       → Rounds w answers id h r s first before h1 r1 s1 → Rounds w answers id h1 r1 s1 next now h' r' s' → Rounds w answers id h r s (first ++ next) (before || now) h' r' s'
-  rounds_join h h1 h' r r1 r' s s1 s' first next before now one (none no_run unlacked) = grind (arith, append-nil, or_false)
+  rounds_join h h1 h' r r1 r' s s1 s' first next before now one (none no_run unlacked) = grind (arith, append-nil, or-false)
   rounds_join h h1 h' r r1 r' s s1 s' first next before now one (more {first = earlier} {next = last} {before = b} {now = c} others round run_is lacked_is) =
       more (rounds_join h h1 _ r r1 _ s s1 _ first earlier before b one others) round (ap (λ (x : List (Entry T U G C)). first ++ x) run_is ∙ sym (append_assoc first earlier last))
       (ap (λ (x : Bool). before || x) lacked_is ∙ sym (or_assoc before b c))
 
   -- nothing yet
   pub so_far_none : (h : H) (r : Reading) (before : BackendState T U G C) → RoundsSoFar w answers id h r before h r before
-  so_far_none h r before = record { run = []; lacked = false; rounds = none refl refl; refused = sym (or_false before.refused) }
+  so_far_none h r before = record { run = []; lacked = false; rounds = none refl refl; refused = sym (or-false before.refused) }
 
   pub so_far_more : {h h1 h' : H} {r r1 r' : Reading} {before mid after : BackendState T U G C} {end : Option IoFault} → RoundsSoFar w answers id h r before h1 r1 mid
       → MakesRound w answers id h1 r1 mid end h' r' after → end ≡ None → RoundsSoFar w answers id h r before h' r' after
@@ -225,45 +208,35 @@ module _ {H T U G C : Type 0} (w : World T G C) (answers : Answering H T U G C) 
 -- ---- that it is a run
 
 module _ {H T U G C : Type 0} (w : World T G C) (answers : Answering H T U G C) (id : ClientParts) where
-  abbrev Runs : ServerState T U G C → List (Entry T U G C) → ServerState T U G C → Type 0
-  Runs before run after = Leads w before run after
-
   handles_lead : {h h' : H} {before : BackendState T U G C} {a : Action} {run : List (Entry T U G C)} {lacked : Bool} {why : Option FinishError} {after : ServerState T U G C}
-      → Handles w answers id h before a run lacked why h' after → Runs before.server run after
-  handles_lead {h} {h'} {before} {a} {run} {lacked} {why} {after} x =
-      subst (λ (r : List (Entry T U G C)). Runs before.server r after) (sym x.run_is)
-      (join_runs w before.server x.left.server after x.calls (x.ended ∷ []) x.leads (after, x.ends, refl))
+      → Handles w answers id h before a run lacked why h' after → Leads w before.server run after
+  handles_lead x = rw x.run_is (join_runs w _ x.left.server _ x.calls (x.ended ∷ []) x.leads (_, x.ends, refl))
 
   round_leads : {h h' : H} {r r' : Reading} {before : ServerState T U G C} {run : List (Entry T U G C)} {lacked : Bool} {why : Option FinishError} {after : ServerState T U G C}
-      → Round w answers id h r before run lacked why h' r' after → Runs before run after
-  round_leads {h} {h'} {r} {r'} {before} {run} {lacked} {why} {after} x =
-      subst (λ (y : List (Entry T U G C)). Runs before y after) (sym x.run_is) (x.found.server, x.reads, handles_lead x.handles)
+      → Round w answers id h r before run lacked why h' r' after → Leads w before run after
+  round_leads x = rw x.run_is (x.found.server, x.reads, handles_lead x.handles)
 
   rounds_lead : {h h' : H} {r r' : Reading} {before : ServerState T U G C} {run : List (Entry T U G C)} {lacked : Bool} {after : ServerState T U G C}
-      → Rounds w answers id h r before run lacked h' r' after → Runs before run after
-  rounds_lead {h} {h'} {r} {r'} {before} {run} {lacked} {after} (none no_run unlacked) = subst (λ (y : List (Entry T U G C)). Runs before y before) (sym no_run) refl
-  rounds_lead {h} {h'} {r} {r'} {before} {run} {lacked} {after} (more {s1 = mid} {first = first} {next = next} rounds round run_is lacked_is) =
-      subst (λ (y : List (Entry T U G C)). Runs before y after) (sym run_is) (join_runs w before mid after first next (rounds_lead rounds) (round_leads round))
+      → Rounds w answers id h r before run lacked h' r' after → Leads w before run after
+  rounds_lead (none no_run unlacked) = rw no_run refl
+  rounds_lead (more {s1 = mid} {first = first} {next = next} rounds round run_is lacked_is) = rw run_is (join_runs w _ mid _ first next (rounds_lead rounds) (round_leads round))
 
   last_leads : {h h' : H} {r r' : Reading} {before : ServerState T U G C} {run : List (Entry T U G C)} {lacked : Bool} {f : IoFault} {after : ServerState T U G C}
-      → Last w answers id h r before run lacked f h' r' after → Runs before run after
-  last_leads {h} {h'} {r} {r'} {before} {run} {lacked} {f} {after} (no_action e error one is run_is lacked_is fault_is same) =
-      subst (λ (y : List (Entry T U G C)). Runs before y after) (sym run_is) (after, one, refl)
+      → Last w answers id h r before run lacked f h' r' after → Leads w before run after
+  last_leads (no_action e error one is run_is lacked_is fault_is same) = rw run_is (_, one, refl)
   last_leads (not_ended why round is) = round_leads round
 
   serves_lead : {h h' : H} {before : ServerState T U G C} {run : List (Entry T U G C)} {lacked : Bool} {answer : Result ℕ IoFault} {after : ServerState T U G C}
-      → IsDispatched w answers id h before run lacked answer h' after → Runs before run after
-  serves_lead {h} {h'} {before} {run} {lacked} {answer} {after} x =
-      subst (λ (y : List (Entry T U G C)). Runs before y after) (sym x.rounds_end.run_is)
-      (join_runs w before x.rounds_end.mid after x.rounds_end.first x.rounds_end.last (rounds_lead x.rounds_end.rounds) (last_leads x.rounds_end.end))
+      → IsDispatched w answers id h before run lacked answer h' after → Leads w before run after
+  serves_lead x =
+      let s = x.rounds_end in rw s.run_is (join_runs w _ s.mid _ s.first s.last (rounds_lead s.rounds) (last_leads s.end))
 
 module _ {H T U G C : Type 0} (w : World T G C) (answers : Answering H T U G C) where
   each_lead : {ids : List ClientParts} {h h' : H} {before : ServerState T U G C} {run : List (Entry T U G C)} {lacked : Bool} {total : ℕ} {after : ServerState T U G C}
       → EachIsDispatched w answers ids h before run lacked total h' after → Leads w before run after
-  each_lead {ids} {h} {h'} {before} {run} {lacked} {total} {after} (none no_ids no_run unlacked no_total) = grind (arith)
-  each_lead {ids} {h} {h'} {before} {run} {lacked} {total} {after} (more {s1 = mid} {first = first} {next = next} id answer each serves ids_are run_is lacked_is total_is) =
-      subst (λ (y : List (Entry T U G C)). Leads w before y after) (sym run_is)
-      (join_runs w before mid after first next (each_lead each) (serves_lead w answers id serves))
+  each_lead (none no_ids no_run unlacked no_total) = grind (arith)
+  each_lead (more {s1 = mid} {first = first} {next = next} id answer each serves ids_are run_is lacked_is total_is) =
+      rw run_is (join_runs w _ mid _ first next (each_lead each) (serves_lead w answers id serves))
 
 -- ---- its end
 
@@ -290,20 +263,12 @@ module _ {H T U G C : Type 0} (w : World T G C) (answers : Answering H T U G C) 
       → begun ≡ record before { refused = false } → MakesAllRounds w answers id h begun answer h' mid → CleansUp w mid answer result after
       → DispatchesClient w answers id h before.server result h' after
   dispatches_client {h} {h'} {begun} {mid} {after} {answer} {result} id before calm all ends =
-      let from : begun.server ≡ before.server = ap (λ (b : BackendState T U G C). b.server) calm in
-      let serves = subst (λ (s : ServerState T U G C). IsDispatched w answers id h s all.run all.lacked answer h' mid.server) from all.dispatched in (
-        all.run,
-        all.lacked,
-        answer,
-        mid.server,
-        serves,
-        ends_dispatch w before.server all.run all.lacked (serves_lead w answers id serves)
-            (all.refused ∙ ap (λ (b : BackendState T U G C). b.refused || all.lacked) calm) ends,
-      )
+      let done : MakesAllRounds w answers id h (record before { refused = false }) answer h' mid = rw calm at all in
+      (done.run, done.lacked, answer, mid.server, done.dispatched, ends_dispatch w before.server done.run done.lacked (serves_lead w answers id done.dispatched) done.refused ends)
 
   -- of several
   pub each_none : (ids : List ClientParts) (h : H) (before : BackendState T U G C) → ids ≡ [] → ClientsSoFar w answers ids h before 0 h before
-  each_none ids h before is = record { run = []; lacked = false; each = none is refl refl refl; refused = sym (or_false before.refused) }
+  each_none ids h before is = record { run = []; lacked = false; each = none is refl refl refl; refused = sym (or-false before.refused) }
 
   pub each_more : {earlier ids : List ClientParts} {h h1 h' : H} {before mid after : BackendState T U G C} {count total : ℕ} {answer : Result ℕ IoFault} (id : ClientParts)
       → ClientsSoFar w answers earlier h before count h1 mid → MakesAllRounds w answers id h1 mid answer h' after → ids ≡ earlier ++ (id ∷ []) → total ≡ total_with count answer
@@ -336,4 +301,4 @@ module _ {H T U G C : Type 0} (w : World T G C) (answers : Answering H T U G C) 
 
   pub all_served : {h h' : H} {before after : BackendState T U G C} {total : ℕ} (ids : List ClientParts) (n : ℕ) → length ids ≤ n
       → ClientsSoFar w answers (take n ids) h before total h' after → ClientsSoFar w answers ids h before total h' after
-  all_served {h} {h'} {before} {after} {total} ids n all each = grind (arith, take_all)
+  all_served ids n all each = grind (arith, take_all)

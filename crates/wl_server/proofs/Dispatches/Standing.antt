@@ -52,21 +52,18 @@ module _ {T U G C : Type 0} (w : World T G C) (id : ClientParts) where
   call_stands offer call s lacked did t spared other h stands = go (concerns id call) refl
     where
       go : (b : Bool) → concerns id call ≡ b → Stands t.part
-      go true about =
-          goes_stand w.sends w.receives id s t _
-          (call_moves standing w id offer call s lacked did t about
-          (grind (arith, true≢false)) h) stands
-      go false far = subst Stands (sym (ap (λ (x : Seen T U C). x.part) (other_call w id offer call s lacked did t other far h).2)) stands
+      go true about = goes_stand w.sends w.receives id s t _ (call_moves standing w id offer call s lacked did t about (grind (arith, true≢false)) h) stands
+      go false far = rw (other_call w id offer call s lacked did t other far h).2 stands
 
   -- so it is over all calls of a handler, if the id was given before
   pub run_stands : (before after : ServerState T U G C) (run : List (Entry T U G C)) → id.serial ≤ before.last_client → Leads w before run after → AllSpare id run
       → Stands (seen id before).part → Stands (seen id after).part
-  run_stands before after [] born same spared stands = subst (λ (s : ServerState T U G C). Stands (seen id s).part) (sym same) stands
+  run_stands before after [] born same spared stands = rw same stands
   run_stands before after (e ∷ run) born (mid, by, leads) (spared, others) stands =
       run_stands mid after run (let grown = by.last in omega (arith, born, grown)) leads others
       (call_stands before.offer e.call (seen id before) (e.lacks id) (e.did id) (seen id mid) spared (λ new inserts. later_differs new id
       (let next = (numbered before e.call new by.client inserts).2 in omega (arith, born, next))) (by.each id) stands)
 
   pub born_still : (before after : ServerState T U G C) (run : List (Entry T U G C)) → id.serial ≤ before.last_client → Leads w before run after → id.serial ≤ after.last_client
-  born_still before after [] born same = let e = ap (λ (s : ServerState T U G C). s.last_client) same in omega (arith, born, e)
-  born_still before after (e ∷ run) born (mid, by, leads) = born_still mid after run (let grown = by.last in omega (arith, born, grown)) leads
+  born_still before after [] born same = grind (arith)
+  born_still before after (e ∷ run) born (mid, by, leads) = grind (arith, by.last, born_still mid after run)

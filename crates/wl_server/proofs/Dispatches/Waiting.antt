@@ -1,10 +1,10 @@
 -- That a dispatch ends: each action that is read takes a message off what waits to be read of its client, or a receive is
 -- used up; and what is called in between adds nothing to what waits.
-use Rattle.std.proofs.Common.{◌≡◌, ◌⊎◌, ℕ, suc, ◌<◌, ◌≤◌, Bool, true, false, List, [], ◌∷◌, ◌++◌, length, Option, Some, Result, Ok, Err, refl, sym, ap, subst, ◌∙◌, true≢false, arith}
+use Rattle.std.proofs.Common.{◌≡◌, ◌⊎◌, ℕ, suc, ◌<◌, ◌≤◌, Bool, true, false, List, [], ◌∷◌, ◌++◌, length, Option, Some, Result, Ok, Err, refl, sym, ap, ◌∙◌, true≢false, arith}
 use Rattle.std.specs.Option.{option_map_or}
 use Rattle.std.specs.Prelude.{◌||◌, MatchResult}
 use Rattle.std.proofs.lemmas.List.{length-drop}
-use mathlib.Core.Logic.{inl, inr}
+use mathlib.Core.Logic.{inl}
 use Rattle.wl_wire.specs.declared.error.IoFault.{IoFault}
 use Rattle.wl_wire.specs.declared.error.IoFault.TheVariants as fault
 use Rattle.wl_wire.specs.declared.argument.ArgumentType.{ArgumentType}
@@ -17,11 +17,9 @@ use Rattle.wl_link.specs.Link.{LinkState, ReadOne, count_of, counted_answer}
 use Rattle.wl_link.specs.Puts.{PutsOut, Said, lacks_memory}
 use Rattle.wl_link.specs.Reader.{CarriesOut, Given, Gives, Handled, Reader, Reads, Received, Stops as StopsReading, Turn, Unread, Verdict, came_to, put_and_gave, stops, with_link as at_link, ReaderState}
 use Rattle.wl_link.proofs.Streams.StreamLaws.{read_left}
-use Rattle.wl_server.specs.declared.error.ActionError.{ActionError}
 use Rattle.wl_server.specs.declared.error.ActionError.TheVariants.{Io}
 use Rattle.wl_server.specs.declared.error.FinishError.{FinishError}
 use Rattle.wl_server.specs.declared.reading.action.Action.{Action}
-use Rattle.wl_server.specs.declared.reading.action.Action.TheVariants as action
 use Rattle.wl_server.specs.declared.reading.action.Reading.{Reading}
 use Rattle.wl_server.specs.declared.runs.step.Reply.{Reply}
 use Rattle.wl_server.specs.declared.runs.step.Reply.TheVariants as reply
@@ -36,7 +34,7 @@ use Rattle.wl_server.specs.Inside.Dispatching.{Fewer, waiting_of, waits}
 use Rattle.wl_server.specs.Part.{Part}
 use Rattle.wl_server.specs.PartStep.{Asked, Call, PartCall, ReadsFor, World, around}
 use Rattle.wl_server.specs.Reached.{AllSpare}
-use Rattle.wl_server.specs.Reading.{Around, NextAction, action_content, action_in, answered, server}
+use Rattle.wl_server.specs.Reading.{Around, NextAction, action_in, answered, server}
 use Rattle.wl_server.specs.Runs.{Leads}
 use Rattle.wl_server.specs.Server.{Seen, ServerState, seen}
 use Rattle.wl_server.specs.Steps.{Entry, OneStep}
@@ -48,14 +46,6 @@ use Rattle.wl_server.proofs.OverRuns.Moves.BaseMovesLaw.{AnyGoes, any_moves, rea
 use Rattle.wl_server.proofs.OverRuns.Moves.MovesOfReadings.{gave_none}
 
 -- ---- what calls keep
-
-module _ {T U C : Type 0} where
-  -- the same waits to be read of it
-  abbrev Keeps : Part T U C → Part T U C → Type 0
-  Keeps p q = q.link.incoming ≡ p.link.incoming
-
-  same_keeps : (p q : Part T U C) → q ≡ p → Keeps p q
-  same_keeps p q same = ap (λ (x : Part T U C). x.link.incoming) same
 
 -- the client is not read
 abbrev pub unread_moves : Kind
@@ -70,8 +60,8 @@ module _ {T U C : Type 0} (sends : T → Queue → Result ℕ IoFault → T → 
       (put_and_gave put ((tells c ms).events (came_to speaker (tells c ms) answer))) (lacks_memory answer || false)
       (inl (es, [], put, answer, after, false, puts, (refl, refl, refl), refl, refl, refl, refl))).incoming
 
-  moves_keep : (p q : Part T U C) (d : Doings U) → Moves unread_moves sends receives client p d q → Keeps p q
-  moves_keep p q d (stayed is same) = same_keeps p q same
+  moves_keep : (p q : Part T U C) (d : Doings U) → Moves unread_moves sends receives client p d q → q.link.incoming ≡ p.link.incoming
+  moves_keep p q d (stayed is same) = ap (λ (x : Part T U C). x.link.incoming) same
   moves_keep p q d (followed {m = m} {a = a} {b = b} first second is) = moves_keep m q b second ∙ moves_keep p m a first
   moves_keep p q d (handed_out {a = a} ids moves among is) = moves_keep p q a moves
   moves_keep p q d (moved move) = grind (arith, true≢false, told_keeps (core_of p))
@@ -100,7 +90,7 @@ module _ {T U G C : Type 0} (w : World T G C) (id : ClientParts) where
   -- so does what a handler calls
   calls_add_nothing : (before after : ServerState T U G C) (run : List (Entry T U G C)) → Leads w before run after → AllSpare id run
       → waiting_of id after ≤ waiting_of id before
-  calls_add_nothing before after [] same spared = let e : waiting_of id after ≡ waiting_of id before = ap (λ (s : ServerState T U G C). waiting_of id s) same in omega (arith, e)
+  calls_add_nothing before after [] same spared = grind (arith)
   calls_add_nothing before after (e ∷ run) (mid, one, leads) (spared, others) = grind (arith, one_adds_nothing, true≢false, unread_goes, goes_no_more, seen, calls_add_nothing mid after run leads others)
 
 -- ---- what a reading takes
@@ -126,10 +116,6 @@ module _ {T Core Event Finish : Type 0} (sends : T → Queue → Result ℕ IoFa
   abbrev Less : ℕ → ReaderState T Core → Gives Event → ReaderState T Core → Type 0
   Less left p out end = (out.left < left) ⊎ ((out.left ≡ left) × (length end.link.incoming.bytes < length p.link.incoming.bytes))
 
-  as_much_behind : (left : ℕ) (p mid end : ReaderState T Core) (out rest : Gives Event) → out.left ≡ rest.left → length mid.link.incoming.bytes ≤ length p.link.incoming.bytes
-      → NotMore left mid rest end → NotMore left p out end
-  as_much_behind left p mid end out rest is no_longer h9 = grind (arith)
-
   received : (left n : ℕ) (p end : ReaderState T Core) (link : LinkState T) (turns : List Turn) (out : Gives Event) (c : Result (Unit {0}) IoFault) → left ≡ suc n
       → MatchResult c (λ _. Reads sends reader receives n (at_link p link) turns out end)
       (λ f. (turns ≡ []) × (out ≡ stops (Some f) (lacks_memory (Err f)) n) × (end ≡ record { core = reader.faulted p.core f; link = link }))
@@ -140,11 +126,9 @@ module _ {T Core Event Finish : Type 0} (sends : T → Queue → Result ℕ IoFa
   reads_no_more left p end [] out (same, ends) = grind (arith, stops_left)
   reads_no_more left p end (Received r ∷ turns) out (on, lacks, (n, is, (link, filled, finds, h))) = grind (arith, received, counted_answer, count_of, at_link, reads_no_more n (at_link p link) end turns out)
   reads_no_more left p end (Handled es ∷ turns) out (on, (v, link, first, lacked, mid, rest, (m, read, is), carried, split, more)) =
-      let shorter = taken_shorter (reader.signature p.core) p.link link m read in
-      as_much_behind left p mid end out rest (ap (λ (o : Gives Event). o.left) split) (omega (arith, shorter, carried_length v link mid es first lacked carried)) (reads_no_more left mid end turns rest more)
+      grind (arith, taken_shorter (reader.signature p.core) p.link link m read, carried_length v link mid es first lacked carried, split, reads_no_more left mid end turns rest more)
   reads_no_more left p end (Unread es ∷ turns) out (on, (v, link, first, lacked, mid, rest, (malformed, same, is), carried, split, more)) =
-      let before = ap (λ (l : LinkState T). length l.incoming.bytes) same in
-      as_much_behind left p mid end out rest (ap (λ (o : Gives Event). o.left) split) (omega (arith, before, carried_length v link mid es first lacked carried)) (reads_no_more left mid end turns rest more)
+      grind (arith, same, carried_length v link mid es first lacked carried, split, reads_no_more left mid end turns rest more)
 
 -- ---- a reading that hands out an action
 
@@ -174,15 +158,7 @@ module _ {T U G C : Type 0} (w : World T G C) (id : ClientParts) where
       → NextAction w.sends w.receives (around w id offer) r p (Ok h) r' lacked did q
       → (r'.turns_left < r.turns_left) ⊎ ((r'.turns_left ≡ r.turns_left) × (length q.link.incoming.bytes < length p.link.incoming.bytes))
   part_less offer r r' p q h lacked did next =
-      elim (either_option p.action next) [
-        | inr (action, there, (is, same, unlacked, none, stays)) ↦ absurd cc
-        | inl (none, next') ↦
-            elim (either_bool p.is_killed next') [
-              | inl (is, same, unlacked, none', stays) ↦ absurd cc
-              | inr (turns, out, end, reads, is, left, lacks, did_so, ends) ↦
-                  grind (arith, reads_less w.sends w.receives (around w id offer) r.turns_left (reader_part p) end turns out h reads (sym is))
-            ]
-      ]
+      grind (arith, either_option, either_bool, reads_less w.sends w.receives (around w id offer) r.turns_left (reader_part p))
 
   -- what the call is to this client
   of_call : (before after : ServerState T U G C) (e : Entry T U G C) (call : Call T U G C) → e.call ≡ call → OneStep w before e after
@@ -195,33 +171,23 @@ module _ {T U G C : Type 0} (w : World T G C) (id : ClientParts) where
   reads_fewer r r' before a found calls =
       let (e, is, refused, one) = calls.step in
       let (answer, left, so, reads) = of_call before.server found.server e (Asked (step.NextActionWithin id r) (reply.NextActionWithin (Ok a) r')) is one in
-      go answer left so (e.lacks id) (e.did id) reads
+      let answer_is : answer ≡ Ok a = cc in
+      let left_is : left ≡ r' = cc in
+      at (e.lacks id) (e.did id) (rw (answer_is, left_is) at reads)
     where
-      go : (answer : Result Action ActionError) (left : Reading) → ◌≡◌ {A = Reply T U} (reply.NextActionWithin (Ok a) r') (reply.NextActionWithin answer left) → (lacked : Bool) (did : List (Deed U))
-          → ReadsFor w id before.server.offer id r (action_content answer) left (seen id before.server) lacked did (seen id found.server)
+      at : (lacked : Bool) (did : List (Deed U)) → ReadsFor w id before.server.offer id r (Ok (handed a)) r' (seen id before.server) lacked did (seen id found.server)
           → Fewer id r before.server r' found.server
-      go answer left so lacked did reads =
-          let answer_is : answer ≡ Ok a = cc in
-          let left_is : left ≡ r' = cc in
-          at lacked did (subst (λ (x : Reading). ReadsFor w id before.server.offer id r (Ok (handed a)) x (seen id before.server) lacked did (seen id found.server)) left_is
-          (subst (λ (x : Result Action ActionError). ReadsFor w id before.server.offer id r (action_content x) left (seen id before.server) lacked did (seen id found.server)) answer_is reads))
-        where
-          at : (lacked : Bool) (did : List (Deed U)) → ReadsFor w id before.server.offer id r (Ok (handed a)) r' (seen id before.server) lacked did (seen id found.server)
-              → Fewer id r before.server r' found.server
-          at lacked did reads = grind (arith, either_option, seen, own_step, same_client, same_self, waits, part_less, handed, waiting_of, length, waits_in)
+      at lacked did reads = grind (arith, either_option, seen, own_step, same_client, same_self, waits, part_less, handed, waiting_of, length, waits_in)
 
   -- a round whose end was accepted leaves less to do
   pub round_fewer : {H : Type 0} (answers : Answering H T U G C) (h h' : H) (r r' : Reading) (before found : BackendState T U G C) (after : ServerState T U G C) (a : Action)
       (run : List (Entry T U G C)) (lacked : Bool) (why : Option FinishError) → Calls w before (step.NextActionWithin id r) (reply.NextActionWithin (Ok a) r') found
       → Handles w answers id h found a run lacked why h' after → Fewer id r before.server r' after
   round_fewer answers h h' r r' before found after a run lacked why calls handles =
-      go (reads_fewer r r' before a found calls) (calls_add_nothing w id found.server handles.left.server handles.calls handles.leads handles.spared)
-      (one_adds_nothing w id handles.left.server after handles.ended (ap (λ (c : Call T U G C). reads_of id c) handles.ended_is ∙ unread a handles.end handles.answer handles.answers_so) handles.ends)
+      let first = reads_fewer r r' before a found calls in
+      let called = calls_add_nothing w id found.server handles.left.server handles.calls handles.leads handles.spared in
+      let ended = one_adds_nothing w id handles.left.server after handles.ended (ap (λ (c : Call T U G C). reads_of id c) handles.ended_is ∙ unread a handles.end handles.answer handles.answers_so) handles.ends in
+      grind (arith, first, called, ended)
     where
       unread : (a : Action) (end : Step T U G C) (answer : Reply T U) → Answers w answers id h found a end h' handles.left → reads_of id (Asked end answer) ≡ false
-      unread (action.Request sender opcode args is_destructor created) end answer (u, so, is) = ap (λ (s : Step T U G C). reads_of {T = T} {U = U} {G = G} {C = C} id (Asked s answer)) is
-      unread (action.Bind global object) end answer (u, so, is) = ap (λ (s : Step T U G C). reads_of {T = T} {U = U} {G = G} {C = C} id (Asked s answer)) is
-
-      go : Fewer id r before.server r' found.server → waiting_of id handles.left.server ≤ waiting_of id found.server → waiting_of id after ≤ waiting_of id handles.left.server
-          → Fewer id r before.server r' after
-      go h1 first second = grind (arith)
+      unread a end answer so = grind (arith, reads_of, a)

@@ -1,5 +1,5 @@
 -- What becomes of the globals by a change at one name.
-use Rattle.std.proofs.Common.{◌≡◌, ◌<◌, ℕ, ◌+◌, true, false, List, Option, Some, Err, Result, is_some, refl, ap, ◌∙◌, nat_le, subst, arith, Ok}
+use Rattle.std.proofs.Common.{◌≡◌, ◌<◌, ℕ, ◌+◌, true, false, List, Option, Some, Err, Result, is_some, refl, nat_le, arith, Ok}
 use Rattle.std.specs.Prelude.{MatchOption, slice_get}
 use Rattle.std.proofs.lemmas.Bool.{eq-eqb, false≢true, ne_eqb}
 use Rattle.wl_wire.specs.declared.interface.InterfaceId.{InterfaceId}
@@ -53,9 +53,5 @@ module _ {G : Type 0} where
       → last < last_possible_serial → answer ≡ Err e → e ≡ new.OutOfMemory → InsertsNew name_range store x answer after
       → CreatesGlobal table (globals_of store last) i version (Err refused.OutOfMemory)
   name_lacks_memory table store after last i version row x answer e known fits left is memory inserts =
-      at (subst (λ (r : Result ℕ NewError). InsertsNew name_range store x r after) (is ∙ ap Err memory) inserts)
-    where
-      at : InsertsNew name_range store x (Err new.OutOfMemory) after → CreatesGlobal table (globals_of store last) i version (Err refused.OutOfMemory)
-      at ((name, least, unused), same) =
-          let id : GlobalParts = record { name = name; serial = last + 1 } in
-          rw (known, fits) (id, (least, left, refl), unused)
+      let ((name, least, unused), same) = rw (is, memory) at inserts in
+      rw (known, fits) (record { name = name; serial = last + 1 }, (least, left, refl), unused)

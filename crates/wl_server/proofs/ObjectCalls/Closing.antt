@@ -1,5 +1,6 @@
 -- What a client comes to that was told messages: it is closed down where one could not be put.
-use Rattle.std.proofs.Common.{◌≡◌, ◌∙◌, ℕ, Bool, true, false, ◌||◌, List, [], ◌++◌, Result, Ok, Err, refl, ap, subst, arith}
+use Rattle.std.proofs.Common.{◌≡◌, ◌∙◌, ℕ, Bool, false, List, [], ◌++◌, Result, Ok, Err, refl, ap, subst, arith}
+use Rattle.std.proofs.Math.Bool.{or-false}
 use Rattle.wl_wire.specs.declared.error.IoFault.{IoFault}
 use Rattle.wl_link.specs.Exchange.{Queue}
 use Rattle.wl_link.specs.Link.{LinkState}
@@ -12,10 +13,6 @@ use Rattle.wl_server.specs.Server.{Stored, no_times}
 use Rattle.wl_server.specs.Telling.{Core, Tells, Told, closed_down, end_deeds, part_of, speaker, tells}
 use Rattle.wl_server.specs.Inside.Carried.{told_notes}
 use Rattle.wl_server.proofs.Readings.Notes.{tells_put}
-
-pub or_false : (b : Bool) → (b || false) ≡ b
-or_false true = refl
-or_false false = refl
 
 module _ {U C : Type 0} where
   -- the core where all messages were put, and where one was not
@@ -45,6 +42,6 @@ module _ {T U C : Type 0} where
       × (notes_in did ≡ notes_in (end_deeds d.ended)))
       (grind (arith)) (
         t.0,
-        subst (λ (b : Bool). Tells sends v before b t.0 (part_of (record { core = came_to speaker v told; link = after }))) (or_false (lacks_memory told)) t.1,
+        subst (λ (b : Bool). Tells sends v before b t.0 (part_of (record { core = came_to speaker v told; link = after }))) (or-false (lacks_memory told)) t.1,
         t.2 ∙ ap (λ (l : List (Happening U)). l ++ notes_in (end_deeds (came_to speaker v told).ended)) (silent (came_to speaker v told)),
       )

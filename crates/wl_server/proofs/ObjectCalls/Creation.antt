@@ -1,6 +1,6 @@
 -- How an insertion, or why there is none, is a creation.
-use Rattle.std.proofs.Common.{◌≡◌, ℕ, ◌+◌, ◌<◌, Bool, true, false, List, [], Option, Some, is_some, Result, Ok, Err, MatchOption, Bor, not, option_copied, option_map, refl, ap, subst, inl, inr, true≢false, arith}
-use Rattle.std.specs.Prelude.{◌==◌, slice_get}
+use Rattle.std.proofs.Common.{◌≡◌, ℕ, ◌+◌, ◌<◌, Bool, true, false, List, [], Option, Some, is_some, Result, Ok, Err, MatchOption, Bor, not, option_copied, option_map, refl, true≢false, arith}
+use Rattle.std.specs.Prelude.{slice_get}
 use Rattle.std.proofs.lemmas.Bool.{eqb-true, eq-eqb, false≢true}
 use Rattle.wl_wire.specs.declared.interface.InterfaceId.{InterfaceId}
 use Rattle.wl_wire.specs.Table.{InterfaceRow}
@@ -20,7 +20,7 @@ use Rattle.wl_server.specs.Objects.{Creates}
 use Rattle.wl_server.specs.Part.{Part, fresh_object, last_possible_serial}
 use Rattle.wl_server.specs.Server.{Stored, no_times}
 use Rattle.wl_server.proofs.CallSteps.Doing.{does_quietly}
-use Rattle.wl_server.proofs.CleanupSteps.Outgoing.{if_false, if_true}
+use Rattle.wl_link.proofs.Calls.Branches.{at_false, at_true}
 
 known : {A : Type 0} (o : Option A) (X Y : Type 0) → is_some o ≡ true → Y → MatchOption o X (λ _. Y)
 known h1 h2 h3 is y = grind (arith, false≢true)
@@ -45,11 +45,7 @@ module _ {T U C : Type 0} (table : List InterfaceRow) (client : ClientParts) (s 
 
   pub lacks_serial : is_some (slice_get table i.0) ≡ true → s.part.last_serial < 0x10000000000000000 → (s.part.last_serial + 1 < 0x10000000000000000 → ⊥) → (e : CreateError) → LacksSerial s.part.store e
       → Does s (λ p did q. Created (Err e) p did q) s
-  lacks_serial is fits last e (inl (full, why)) =
-      does_quietly s (Created (Err e)) s.part (refl, known (slice_get table i.0) _ _ is (inl (full, ap Err why, refl)))
-  lacks_serial is fits last e (inr (n, least, why)) =
-      does_quietly s (Created (Err e)) s.part
-      (refl, known (slice_get table i.0) _ _ is (inr (n, least, if_true (s.part.last_serial == last_possible_serial) _ _ (eq-eqb s.part.last_serial last_possible_serial (omega (arith, fits, last))) (ap Err why, refl))))
+  lacks_serial is fits last e lacks = does_quietly s (Created (Err e)) s.part (refl, grind (arith, known, at_true, eq-eqb, last_possible_serial))
 
   module _ (is_known : is_some (slice_get table i.0) ≡ true) (few : s.part.last_serial + 1 < 0x10000000000000000) where
     abbrev pub with_both : Store (Kept U) → ℕ → Part T U C
@@ -61,25 +57,14 @@ module _ {T U C : Type 0} (table : List InterfaceRow) (client : ClientParts) (s 
         → Does s (λ p did q. Created (Ok (record { number = n; serial = serial; client = client; interface = i })) p did q)
         (record { serial = s.serial; part = with_both store serial; made = s.made; times = no_times })
     created n serial x store next is (least, put) =
-        does_quietly s (Created (Ok (id serial))) (with_both store serial) (
-          refl,
-          grind (arith, known, slice_get, if_false, last_possible_serial, eqb-true, id, stored, is, next),
-        )
-      where
-        id : ℕ → IdParts
-        id k = record { number = n; serial = k; client = client; interface = i }
+        let id : IdParts = record { number = n; serial = serial; client = client; interface = i } in
+        does_quietly s (Created (Ok id)) (with_both store serial) (refl, grind (arith, known, slice_get, at_false, last_possible_serial, eqb-true, stored, is, next))
 
     pub exhausted : (e : NewError) (x : Object (Kept U)) (store : Store (Kept U)) → e ≡ new.IdsExhausted → InsertsNew server_range s.part.store x (Err e) store
         → Refused create.IdsExhausted store
-    exhausted e x store is inserts = at (subst (λ (e : NewError). InsertsNew server_range s.part.store x (Err e) store) is inserts)
-      where
-        at : InsertsNew server_range s.part.store x (Err new.IdsExhausted) store → Refused create.IdsExhausted store
-        at (full, same) =
-            does_quietly s (Created (Err create.IdsExhausted)) (over store) (refl, known (slice_get table i.0) _ _ is_known (inl (full, refl, ap over same)))
+    exhausted e x store is inserts = does_quietly s (Created (Err create.IdsExhausted)) (over store) (refl, grind (arith, known, slice_get, over))
 
     pub no_memory : (e : NewError) (x : Object (Kept U)) (store : Store (Kept U)) → e ≡ new.OutOfMemory → InsertsNew server_range s.part.store x (Err e) store
         → Refused create.OutOfMemory store
-    no_memory e x store is inserts = does_quietly s (Created (Err create.OutOfMemory)) (over store) (
-      refl,
-      grind (arith, known, slice_get, if_false, last_possible_serial, eqb-true, over),
-    )
+    no_memory e x store is inserts =
+        does_quietly s (Created (Err create.OutOfMemory)) (over store) (refl, grind (arith, known, slice_get, at_false, last_possible_serial, eqb-true, over))

@@ -1,5 +1,5 @@
 -- How what was done to an object that the program destroys is its destruction.
-use Rattle.std.proofs.Common.{◌≡◌, ◌∙◌, ℕ, true, false, eqb, List, [], ◌++◌, append-nil, None, Some, is_some, IfSome, Result, Ok, Err, MatchResult, refl, sym, ap, subst, inl, inr, arith}
+use Rattle.std.proofs.Common.{◌≡◌, ℕ, true, false, eqb, List, [], ◌++◌, append-nil, None, Some, is_some, IfSome, Result, Ok, Err, MatchResult, refl, subst, inl, inr, arith}
 use Rattle.std.proofs.lemmas.Bool.{false≢true}
 use Rattle.wl_wire.specs.declared.error.IoFault.{IoFault}
 use Rattle.wl_wire.specs.declared.error.IoFault.TheVariants as fault
@@ -15,19 +15,19 @@ use Rattle.wl_server.specs.declared.error.DestroyError.TheVariants as destroy
 use Rattle.wl_server.specs.declared.objects.Kept.{Kept}
 use Rattle.wl_server.specs.declared.notes.DisconnectReason.TheVariants.{ConnectionClosed}
 use Rattle.wl_server.specs.declared.notes.Happening.{Happening}
-use Rattle.wl_server.specs.Inside.Carried.{told_notes}
+use Rattle.wl_server.specs.Inside.Carried.{told_notes, IsCarried}
 use Rattle.wl_server.specs.Inside.Client.{Does}
-use Rattle.wl_server.specs.Deeds.{Deed, notes_in}
+use Rattle.wl_server.specs.Deeds.{Deed}
 use Rattle.wl_server.specs.Inside.Destruction.{lacks_destroy}
 use Rattle.wl_server.specs.Ids.{IdParts}
-use Rattle.wl_server.specs.Objects.{Destroys, destroyable, destroys}
+use Rattle.wl_server.specs.Objects.{Destroys, destroyable, destroys, unless_refused}
 use Rattle.wl_server.specs.Part.{Part, id_of, named, note_of_end, registries_without, serial_of}
 use Rattle.wl_server.specs.Inside.Puts.{Puts}
 use Rattle.wl_server.specs.Server.{Stored, no_times, untimed}
-use Rattle.wl_server.specs.Telling.{Core, Kills, Told, core_of, deletions, end_deeds, speaker}
+use Rattle.wl_server.specs.Telling.{Core, Kills, Told, core_of, deletions, speaker}
 use Rattle.wl_server.proofs.CallSteps.Doing.{does_quietly}
 use Rattle.wl_server.proofs.Readings.Notes.{tells_carried}
-use Rattle.wl_server.proofs.ObjectCalls.Posting.{arrived, kills_is, linked}
+use Rattle.wl_server.proofs.ObjectCalls.Posting.{kills_is, linked}
 
 -- ---- what an id names
 
@@ -53,55 +53,30 @@ module _ {T U C : Type 0} (sends : T → Queue → Result ℕ IoFault → T → 
     silent : (c : Core U C) → told_notes (verdict.events c) ≡ []
     silent c = grind (arith, is_some, named, id_of, x.value.user_data)
 
-    abbrev with_notes : Stored T U C → List (Happening U) → Stored T U C
-    with_notes a notes = record { serial = a.serial; part = a.part; made = notes; times = no_times }
-
     -- other notes wait
     abbrev pub with_waiting : Stored T U C → List (Happening U) → Stored T U C
     with_waiting a waiting = record (untimed a) { part = record a.part { waiting = waiting } }
 
+    as_carried : (answer : Result (Unit {0}) DestroyError) (after : Stored T U C) → answer ≡ unless_refused destroy.OutOfMemory (lacks_destroy answer)
+        → IsCarried sends verdict s (lacks_destroy answer) after → Does s (λ p did q. Destruction answer p did q) after
+    as_carried answer after so carried = let t = tells_carried sends verdict s after (lacks_destroy answer) carried in (t.0, t.1, rw is (so, t.2), t.3)
+
     -- there was no memory for its note
     pub starved : (waiting : List (Happening U)) → waiting ≡ s.part.waiting → is_some x.value.user_data ≡ true
         → Does s (λ p did q. Destruction (Err destroy.OutOfMemory) p did q) (with_waiting s waiting)
-    starved waiting same asks = let t = tells_carried sends verdict s (with_waiting s waiting) (lacks_destroy (Err destroy.OutOfMemory)) (
-      core_of s.part,
-      s.part.link,
-      inr (asks, refl, refl, refl),
-      ap (with_waiting s) same ∙ ap (with_notes s) (sym (rw (silent (core_of s.part)) (append-nil s.made))),
-    ) in
-        (t.0, t.1, (rw is (refl, t.2)), t.3)
+    starved waiting same asks = as_carried (Err destroy.OutOfMemory) (with_waiting s waiting) refl
+        (core_of s.part, s.part.link, inr (asks, refl, refl, refl), grind (arith, silent (core_of s.part), append-nil))
 
     -- there was no memory for the message
     pub untold : (link : LinkState T) (waiting : List (Happening U)) (n : ℕ) (wrote : Result (Unit {0}) IoFault) → waiting ≡ s.part.waiting → n ≡ id.number
         → Puts sends s.part.link (deletions n) wrote link → lacks_memory wrote ≡ true
         → Does s (λ p did q. Destruction (Err destroy.OutOfMemory) p did q) (with_waiting (linked s link) waiting)
-    untold link waiting n wrote same number puts lacked = let t = tells_carried sends verdict s (with_waiting (linked s link) waiting) (lacks_destroy
-        (Err destroy.OutOfMemory)) (
-          core_of s.part,
-          link,
-          inl (Err fault.OutOfMemory, link, [], false, (grind (arith, false≢true, subst (λ (k : ℕ). Puts sends s.part.link (deletions k) wrote link) number puts)), (refl, refl, refl), refl, refl),
-          ap (with_waiting (linked s link)) same ∙ ap (with_notes (linked s link)) (sym (rw (silent (core_of s.part)) (append-nil s.made))),
-        ) in
-        (t.0, t.1, (rw is (refl, t.2)), t.3)
-
-    -- it is gone, and this is the link
-    abbrev pub gone : LinkState T → Stored T U C
-    gone link = record {
-      serial = s.serial;
-      part = record s.part {
-        link = link;
-        store = removed s.part.store id.number;
-        registries = registries_without s.part.registries id.number x;
-        waiting = s.part.waiting ++ note_of_end id.client id.number x;
-      };
-      made = s.made;
-      times = no_times;
-    }
-
-    gone_to : (link : LinkState T) (wrote : Result (Unit {0}) IoFault) (after : Stored T U C) → lacks_memory wrote ≡ false
-        → MatchResult wrote (λ _. untimed after ≡ gone link) (λ _. Does (gone link) (λ p did q. Kills p ConnectionClosed did q) after)
-        → untimed after ≡ arrived s (came_to speaker verdict wrote) link
-    gone_to link wrote after h1 h2 = grind (arith, append-nil, false≢true, kills_is)
+    untold link waiting n wrote same number puts lacked = as_carried (Err destroy.OutOfMemory) (with_waiting (linked s link) waiting) refl (
+      core_of s.part,
+      link,
+      inl (Err fault.OutOfMemory, link, [], false, (grind (arith, false≢true, subst (λ (k : ℕ). Puts sends s.part.link (deletions k) wrote link) number puts)), (refl, refl, refl), refl, refl),
+      grind (arith, silent (core_of s.part), append-nil),
+    )
 
     abbrev pub with_all : LinkState T → Store (Kept U) → List Id → List (Happening U) → Stored T U C
     with_all link store registries waiting = record {
@@ -120,16 +95,9 @@ module _ {T U C : Type 0} (sends : T → Queue → Result ℕ IoFault → T → 
         → MatchResult wrote (λ _. untimed after ≡ with_all link store registries waiting)
         (λ _. Does (with_all link store registries waiting) (λ p did q. Kills p ConnectionClosed did q) after)
         → Does s (λ p did q. Destruction (Ok tt) p did q) after
-    destroyed link n store registries before waiting wrote after number puts lacked without forgotten noted same told =
-        let core : Core U C = came_to speaker verdict wrote in
-        let t = tells_carried sends verdict s after (lacks_destroy (Ok tt)) (
-          core,
-          link,
-          inl (wrote, link, [], false, subst (λ (k : ℕ). Puts sends s.part.link (deletions k) wrote link) number puts, (refl, refl, refl), refl, rw lacked refl),
-          gone_to link wrote after lacked
-              (subst (λ (b : Stored T U C). MatchResult wrote (λ _. untimed after ≡ b) (λ _. Does b
-              (λ p did q. Kills p ConnectionClosed did q) after)) (grind (arith, registries_without, note_of_end, named_is_held, named)) told)
-              ∙ ap (λ (notes : List (Happening U)). with_notes (arrived s core link) (s.made ++ (notes ++ notes_in (end_deeds core.ended)))) (sym
-              (silent core)),
-        ) in
-        (t.0, t.1, (rw is (refl, t.2)), t.3)
+    destroyed link n store registries before waiting wrote after number puts lacked without forgotten noted same told = as_carried (Ok tt) after refl (
+      came_to speaker verdict wrote,
+      link,
+      inl (wrote, link, [], false, subst (λ (k : ℕ). Puts sends s.part.link (deletions k) wrote link) number puts, (refl, refl, refl), refl, rw lacked refl),
+      grind (arith, append-nil, false≢true, kills_is, registries_without, note_of_end, named_is_held, named, silent (came_to speaker verdict wrote)),
+    )

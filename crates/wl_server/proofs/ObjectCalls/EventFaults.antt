@@ -1,5 +1,5 @@
 -- The checks of an event's arguments.
-use Rattle.std.proofs.Common.{◌≡◌, ℕ, ◌<◌, ◌∷◌, [], List, length, drop, None, refl, sym, ap, arith}
+use Rattle.std.proofs.Common.{◌≡◌, ℕ, ◌<◌, ◌∷◌, [], List, length, drop, None, refl, arith}
 use Rattle.std.proofs.lemmas.List.{drop_all}
 use Rattle.std.proofs.lemmas.Bool.{cases_lt}
 use Rattle.wl_wire.specs.declared.argument.Argument.{Argument}
@@ -19,12 +19,8 @@ module _ {U : Type 0} (client : ClientParts) (store : Store (Kept U)) (row : Mes
   faults-no_args [] asked = refl
   faults-no_args (k ∷ kinds) asked = refl
 
-  no_faults_left : (kinds : List ArgumentType) (asked : List InterfaceId) (args : List (Argument IdParts Token)) (i : ℕ)
-      → (i < length kinds → i < length args → ⊥) → argument_faults client store row (drop i kinds) asked (drop i args) ≡ []
-  no_faults_left kinds asked args i none = grind (arith, cases_lt, length, drop_all, faults-no_args, drop)
-
   -- so there is none behind what was looked at
   pub no_fault : (kinds : List ArgumentType) (asked : List InterfaceId) (args : List (Argument IdParts Token)) (i : ℕ)
       → (i < length kinds → i < length args → ⊥)
       → None ≡ first_refusal (argument_faults client store row (drop i kinds) asked (drop i args))
-  no_fault kinds asked args i none = sym (ap first_refusal (no_faults_left kinds asked args i none))
+  no_fault kinds asked args i none = grind (arith, cases_lt, length, drop_all, faults-no_args, drop)

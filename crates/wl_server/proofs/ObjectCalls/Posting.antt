@@ -1,5 +1,5 @@
 -- How an error that was posted on an object is a verdict that was carried out.
-use Rattle.std.proofs.Common.{◌≡◌, ◌∙◌, ℕ, Bool, true, false, ◌||◌, List, [], ◌∷◌, ◌++◌, is_some, Result, Ok, Err, MatchResult, refl, ap, subst, append-nil, inl, arith}
+use Rattle.std.proofs.Common.{◌≡◌, ◌∙◌, ℕ, Bool, true, false, ◌||◌, List, [], ◌∷◌, ◌++◌, is_some, Result, Ok, MatchResult, refl, ap, subst, append-nil, inl, arith}
 use Rattle.std.proofs.lemmas.Bool.{false≢true}
 use Rattle.wl_wire.specs.declared.error.IoFault.{IoFault}
 use Rattle.wl_wire.specs.declared.error.ProtocolError.{ProtocolError}
@@ -10,7 +10,6 @@ use Rattle.wl_link.specs.Puts.{FlushesOut, lacks_memory}
 use Rattle.wl_link.specs.Reader.{came_to}
 use Rattle.wl_server.specs.declared.notes.DisconnectReason.{DisconnectReason}
 use Rattle.wl_server.specs.declared.notes.DisconnectReason.TheVariants.{ConnectionClosed, ProtocolError as BrokeProtocol}
-use Rattle.wl_server.specs.declared.notes.Happening.{Happening}
 use Rattle.wl_server.specs.Inside.Carried.{IsCarried}
 use Rattle.wl_server.specs.Inside.Client.{Does}
 use Rattle.wl_server.specs.Deeds.{notes_in}
@@ -36,16 +35,8 @@ module _ {T U C : Type 0} where
     times = no_times;
   }
 
-  abbrev with_made : Stored T U C → List (Happening U) → Stored T U C
-  with_made s made = record { serial = s.serial; part = s.part; made = made; times = no_times }
-
   pub kills_is : (s after : Stored T U C) (reason : DisconnectReason) → Does s (λ p did q. Kills p reason did q) after → untimed after ≡ ended s reason
   kills_is s after reason (did, q, (deeds, part), is) = grind (arith)
-
-  -- where a write failed the client is closed down, and any later reason counts no more
-  abbrev pub spoken : Result (Unit {0}) IoFault → Stored T U C → DisconnectReason → Stored T U C
-  spoken (Ok _) s reason = ended s reason
-  spoken (Err _) s reason = ended s ConnectionClosed
 
   -- the client as it is where its core came to this
   abbrev pub arrived : Stored T U C → Core U C → LinkState T → Stored T U C
@@ -91,10 +82,5 @@ module _ {T U C : Type 0} (sends : T → Queue → Result ℕ IoFault → T → 
     came_to speaker (posts table (core_of s.part) id code text) wrote,
     flushed.part.link,
     inl (wrote, put.part.link, es, lacked, puts, flushes, refl, ap (λ (b : Bool). b || lacked) refused-is),
-    kills_is told after (BrokeProtocol error) kills
-        ∙ (grind (arith, kills_is, with_made, ended, append-nil, BrokeProtocol error))
-        ∙ ap (λ (e : ProtocolError). spoken wrote flushed (BrokeProtocol e)) is
-        ∙ ap (λ (x : Stored T U C). spoken wrote x (BrokeProtocol (error_of table id code text)))
-        (flushed-is ∙ ap (λ (x : Stored T U C). linked x flushed.part.link) put-is)
-        ∙ (grind (arith, flushed.part.link)),
+    kills_is told after (BrokeProtocol error) kills ∙ (grind (arith, kills_is, append-nil, is, put-is, flushed-is, put.part.link, flushed.part.link)),
   )

@@ -1,5 +1,5 @@
 -- What an event that is sent does, from the steps of its sending.
-use Rattle.std.proofs.Common.{◌≡◌, ◌∙◌, ℕ, Bool, true, false, List, [], ◌∷◌, ◌++◌, append-nil, map, Option, Some, IfSome, Result, Ok, Err, MatchBool, refl, sym, ap, subst, inl, inr, arith, is_some}
+use Rattle.std.proofs.Common.{◌≡◌, ◌∙◌, ℕ, Bool, true, false, List, [], ◌∷◌, ◌++◌, append-nil, map, Option, Some, IfSome, Result, Ok, Err, refl, sym, ap, subst, inl, inr, arith, is_some}
 use Rattle.std.proofs.lemmas.Bool.{false≢true}
 use Rattle.wl_wire.specs.declared.error.IoFault.{IoFault}
 use Rattle.wl_wire.specs.declared.argument.Argument.{Argument}
@@ -14,7 +14,6 @@ use Rattle.wl_link.specs.Store.{Store, held}
 use Rattle.wl_server.specs.declared.error.EventError.{EventError}
 use Rattle.wl_server.specs.declared.error.EventError.TheVariants as refused
 use Rattle.wl_server.specs.declared.objects.Kept.{Kept}
-use Rattle.wl_server.specs.declared.notes.Happening.{Happening}
 use Rattle.wl_server.specs.Inside.Client.{Does}
 use Rattle.wl_server.specs.Deeds.{Deed, Put, Sent, notes_in}
 use Rattle.wl_server.specs.Inside.Ending.{notes_ending, registries_ending, store_ending, told_of_end, PutsEnd, TellsEnd}
@@ -25,7 +24,9 @@ use Rattle.wl_server.specs.Part.{Part, named, with_link, id_of}
 use Rattle.wl_server.specs.Inside.Puts.{Puts}
 use Rattle.wl_server.specs.Server.{Stored, no_times, untimed}
 use Rattle.wl_server.specs.Telling.{Core, Tells, closed_down, core_of, end_deeds, part_of, tells}
+use Rattle.wl_link.proofs.Calls.Branches.{at_false}
 use Rattle.wl_server.proofs.CallSteps.Doing.{told_untimed}
+use Rattle.wl_server.proofs.Readings.Flushing.{does_nothing}
 use Rattle.wl_server.proofs.ObjectCalls.Closing.{client_of, closing, told_by}
 use Rattle.wl_server.proofs.ObjectCalls.Destroying.{named_is_held}
 use Rattle.wl_server.proofs.Readings.Notes.{notes_append, notes_of_sends}
@@ -143,12 +144,7 @@ module _ {T U C : Type 0} (client : ClientParts) (m : SessionMessage) (sender : 
     -- there was no room for the note of its sender's end
     pub no_room : (s s1 : Stored T U C) (ends : Bool) → AsksForMemory sender ends → untimed s1 ≡ untimed s
         → Does s (λ p did q. SendsGranted sends client p m sender ends (Err refused.OutOfMemory) true did q) s1
-    no_room s s1 ends asks same = (
-      [],
-      s.part,
-      inl (asks, refl, refl, refl, refl),
-      same ∙ ap (λ (made : List (Happening U)). let x : Stored T U C = record (untimed s) { made = made } in x) (sym (append-nil s.made)),
-    )
+    no_room s s1 ends asks same = ([], s.part, inl (asks, refl, refl, refl, refl), grind (arith, append-nil, same))
 
     -- there was no memory for the write
     pub not_written : (s s1 : Stored T U C) (ends : Bool) (mid : LinkState T) (written : Result (Unit {0}) IoFault)
@@ -164,23 +160,16 @@ module _ {T U C : Type 0} (client : ClientParts) (m : SessionMessage) (sender : 
 -- ---- an event, refused or not
 
 module _ {T U C : Type 0} (sends : T → Queue → Result ℕ IoFault → T → Type 0) (client : ClientParts) (table : List InterfaceRow) (s : Stored T U C) (m : SessionMessage) where
-  same_made : untimed s ≡ record { serial = s.serial; part = s.part; made = s.made ++ []; times = no_times }
-  same_made = ap (λ (made : List (Happening U)). let x : Stored T U C = record (untimed s) { made = made } in x) (sym (append-nil s.made))
-
   -- to a killed client nothing is sent
   pub to_killed : s.part.is_killed ≡ true → Does s (λ p did q. SendsEvent sends client table p m (Ok tt) false did q) s
-  to_killed killed = ([], s.part, rw killed (refl, refl, refl, refl), same_made)
+  to_killed killed = does_nothing s (λ p did q. SendsEvent sends client table p m (Ok tt) false did q) (rw killed (refl, refl, refl, refl))
 
   pub was_refused : (e : EventError) → s.part.is_killed ≡ false → event_check client s.part.store table m ≡ Err e
       → Does s (λ p did q. SendsEvent sends client table p m (Err e) false did q) s
-  was_refused e live is = ([], s.part, rw (live, is) (refl, refl, refl, refl), same_made)
+  was_refused e live is = does_nothing s (λ p did q. SendsEvent sends client table p m (Err e) false did q) (rw (live, is) (refl, refl, refl, refl))
 
   pub was_granted : (sender : Object (Kept U)) (ends : Bool) (answer : Result (Unit {0}) EventError) (lacked : Bool) (after : Stored T U C)
       → s.part.is_killed ≡ false → event_check client s.part.store table m ≡ Ok (sender, ends)
       → Does s (λ p did q. SendsGranted sends client p m sender ends answer lacked did q) after
       → Does s (λ p did q. SendsEvent sends client table p m answer lacked did q) after
-  was_granted sender ends answer lacked after live is (did, q, granted, same) =
-      (did, q, where_live _ _ s.part.is_killed live (rw is granted), same)
-    where
-      where_live : (A B : Type 0) (killed : Bool) → killed ≡ false → B → MatchBool killed A B
-      where_live h1 h2 h3 live there = grind (arith, false≢true)
+  was_granted sender ends answer lacked after live is (did, q, granted, same) = (did, q, at_false _ s.part.is_killed live (rw is granted), same)

@@ -7,7 +7,7 @@ use Rattle.wl_server.specs.Inside.Client.{Does}
 use Rattle.wl_server.specs.Finish.{data_given}
 use Rattle.wl_server.specs.Ids.{IdParts}
 use Rattle.wl_server.specs.Objects.{DataSet}
-use Rattle.wl_server.specs.Part.{Part, named}
+use Rattle.wl_server.specs.Part.{named}
 use Rattle.wl_server.specs.PartStep.{Quietly}
 use Rattle.wl_server.specs.Server.{Stored, no_times}
 use Rattle.wl_server.proofs.CallSteps.Doing.{does_quietly}
@@ -16,14 +16,7 @@ use Rattle.wl_server.proofs.CallSteps.Slots.{Kind}
 abbrev pub sets : {T U C : Type 0} → IdParts → U → Result (Unit {0}) InvalidId → Kind T U C
 sets o u answer id p lacked did q = Quietly lacked did (DataSet p o u answer q)
 
--- a store is given data: so a part is
-data_set : {T U C : Type 0} (p : Part T U C) (id : IdParts) (u : U) (answer : Result (Unit {0}) InvalidId) (store : Store (Kept U))
-    → MatchOption (named p.store id) (answer ≡ Err _) (λ _. answer ≡ Ok tt) → store ≡ data_given p.store id.number (named p.store id) u
-    → DataSet p id u answer (record p { store = store })
-data_set {T} {U} {C} p id u answer store = grind (arith)
-
 pub set_does : {T U C : Type 0} (s : Stored T U C) (id : IdParts) (u : U) (answer : Result (Unit {0}) InvalidId) (store : Store (Kept U))
     → MatchOption (named s.part.store id) (answer ≡ Err _) (λ _. answer ≡ Ok tt) → store ≡ data_given s.part.store id.number (named s.part.store id) u
     → Does s (λ p did q. Quietly false did (DataSet p id u answer q)) (record { serial = s.serial; part = record s.part { store = store }; made = s.made; times = no_times })
-set_does s id u answer store answered given =
-    does_quietly s (λ p did q. Quietly false did (DataSet p id u answer q)) _ (refl, refl, data_set s.part id u answer store answered given)
+set_does s id u answer store answered given = does_quietly s (λ p did q. Quietly false did (DataSet p id u answer q)) _ (refl, refl, grind (arith))

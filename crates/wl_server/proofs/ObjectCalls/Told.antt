@@ -1,5 +1,5 @@
 -- What the post of an error makes of the link of a live client whose object is kept.
-use Rattle.std.proofs.Common.{arith, ◌≡◌, ◌∙◌, ℕ, Bool, true, false, ◌||◌, List, Option, Some, Result, MatchResult, refl, sym, ap, subst, inl, inr, true≢false}
+use Rattle.std.proofs.Common.{arith, ◌≡◌, ℕ, Bool, true, ◌||◌, List, Option, Some, Result, MatchResult, refl, ap, inl, inr}
 use Rattle.std.specs.Option.{option_map}
 use Rattle.std.specs.Prelude.{slice_set}
 use Rattle.std.proofs.lemmas.Option.{same_Some}
@@ -26,27 +26,19 @@ module _ {T U C : Type 0} where
       → refused ≡ lacks_memory wrote → MatchResult wrote (λ _. told ≡ flushed) (λ _. Does flushed (λ p did q. Kills p ConnectionClosed did q) told)
       → Does told (λ p did q. Kills p reason did q) after → TellsOrLacks sends before n code text (refused || lacked) after.part.link
   told_exactly sends before put flushed told after reason n code text wrote es refused lacked wrote-is flushes refused-is tells kills =
-      subst (λ (l : LinkState T). TellsOrLacks sends before n code text (refused || lacked) l) (sym ((ap (λ (x : Stored T U C). x.part.link)
-      (kills_is told after reason kills)) ∙ (grind (arith, kills_is))))
-      (inl (wrote, put.part.link, es, lacked, wrote-is, flushes, ap (λ (b : Bool). b || lacked) refused-is))
+      let link : after.part.link ≡ flushed.part.link = grind (arith, kills_is) in
+      rw link (inl (wrote, put.part.link, es, lacked, wrote-is, flushes, ap (λ (b : Bool). b || lacked) refused-is))
 
   -- there was no memory for the texts
   pub lacked_exactly : (sends : T → Queue → Result ℕ IoFault → T → Type 0) (s after : Stored T U C) (n code : ℕ) (text : List ℕ)
       → Does s (λ p did q. Kills p ConnectionClosed did q) after → TellsOrLacks sends s.part.link n code text true after.part.link
   lacked_exactly sends s after n code text kills = inr (refl, (ap (λ (x : Stored T U C). x.part.link) (kills_is s after ConnectionClosed kills)))
 
-  -- a killed client is not live
-  pub not_live : {P : Type 0} (p : Part T U C) → p.is_killed ≡ true → p.is_killed ≡ false → P
-  not_live p dead live = absurd (true≢false (sym dead ∙ live))
-
   -- ---- at the slot of the client
-
-  does_serial : (c c' : Stored T U C) (R : Part T U C → List _ → Part T U C → Type 0) → Does c R c' → c'.serial ≡ c.serial
-  does_serial c c' R (did, q, does, is) = ap (λ (s : Stored T U C). s.serial) is
 
   -- what is so of the client before the call and after it is so of what is held of its id
   pub at_slot : (Q : Part T U C → Part T U C → Type 0) (clients : List (Option (Stored T U C))) (target read : ClientParts) (c c' : Stored T U C)
       (R : Part T U C → List _ → Part T U C → Type 0) → read ≡ target → Some c ≡ client_at read clients
       → Does c R c' → Q c.part c'.part → (p q : Part T U C) → option_map (λ s. s.part) (client_at target clients) ≡ Some p
       → option_map (λ s. s.part) (client_at target (slice_set clients read.slot (Some c'))) ≡ Some q → Q p q
-  at_slot Q clients target read c c' R same is does holds p q before after = grind (arith, get_set_same, does_serial, same_Some)
+  at_slot Q clients target read c c' R same is does holds p q before after = grind (arith, get_set_same, same_Some)

@@ -11,5 +11,4 @@ pub mod ShareLaws
 pub mod WholeLaws
 pub mod WholeRuns
 pub mod DispatchLaws
-pub mod SparedLaws
 pub mod LookupLaws

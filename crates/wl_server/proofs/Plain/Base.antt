@@ -1,19 +1,21 @@
 -- What a call is of each client, and what a step leaves of one as it was.
-use Rattle.std.proofs.Common.{◌≡◌, Bool, true, false, List, [], ◌++◌, append-nil, Option, None, Some, refl, sym, ap, subst, ◌∙◌, arith, true≢false}
+use Rattle.std.proofs.Common.{◌≡◌, Bool, true, false, List, [], ◌++◌, append-nil, Option, None, Some, is_some, refl, sym, ap, subst, ◌∙◌, arith, true≢false}
 use mathlib.Core.Logic.{inl, inr}
-use Rattle.std.specs.Prelude.{◌⊎◌, MatchBool}
+use Rattle.std.specs.Prelude.{◌⊎◌, MatchBool, MatchOption}
 use Rattle.wl_link.proofs.Calls.Branches.{either_option}
 use Rattle.wl_server.specs.declared.runs.step.Reply.{Reply}
 use Rattle.wl_server.specs.declared.runs.step.Step.{Step}
 use Rattle.wl_server.specs.Backend.{BackendState, Calls}
 use Rattle.wl_server.specs.Deeds.{Deed, notes_in}
-use Rattle.wl_server.specs.Ids.{ClientParts, same_client}
-use Rattle.wl_server.specs.Part.{Part}
-use Rattle.wl_server.specs.PartStep.{Asked, Call, OfClient, OnPart, PartStep, World}
-use Rattle.wl_server.specs.Plain.{IsUnchanged}
+use Rattle.wl_server.specs.Ids.{ClientParts, same_client, IdParts}
+use Rattle.wl_server.specs.Part.{Part, named}
+use Rattle.wl_server.specs.Lookups.{and_then}
+use Rattle.wl_server.specs.PartStep.{Asked, Call, OfClient, OnPart, PartCall, PartStep, World}
+use Rattle.wl_server.specs.Plain.{GlobalsStay, IsUnchanged, OtherClientsStay, client_in, notes_made_in, object_in}
 use Rattle.wl_server.specs.Server.{Seen, seen}
-use Rattle.wl_server.specs.Steps.{Entry, IsRefused, inserted_by, lacks_growth, offer_after}
-use Rattle.wl_server.proofs.CallSteps.Slots.{compare, same_parts, same_self, same_serials, same_slots}
+use Rattle.wl_server.specs.Steps.{Entry, IsRefused, Makes, inserted_by, lacks_growth, offer_after}
+use Rattle.wl_server.proofs.CallSteps.Slots.{same_self}
+pub use Rattle.wl_server.proofs.CallSteps.Slots.{same_is}
 
 -- ---- a choice that is known
 
@@ -27,6 +29,10 @@ pub split_bool : {P Q : Type 0} (b : Bool) → MatchBool b P Q → ((b ≡ true)
 split_bool true p = inl (refl, p)
 split_bool false q = inr (refl, q)
 
+pub match_option : {A P : Type 0} {Q : A → Type 0} (o : Option A) → (o ≡ None → P) → ((x : A) → o ≡ Some x → Q x) → MatchOption o P Q
+match_option None none some = none refl
+match_option (Some x) none some = some x refl
+
 pub one_value : {A : Type 0} {a b : A} (o : Option A) → o ≡ Some a → o ≡ Some b → a ≡ b
 one_value o is other = cc
 
@@ -36,10 +42,6 @@ none_and_some o none is = absurd cc
 -- two answers of which each is true if the other is
 as_true : (a b : Bool) → (a ≡ true → b ≡ true) → (b ≡ true → a ≡ true) → a ≡ b
 as_true a b h1 h2 = grind (arith)
-
--- two ids that are the same are one
-pub same_is : (a b : ClientParts) → same_client a b ≡ true → a ≡ b
-same_is a b is = grind (arith, compare, same_parts, true≢false, same_slots, same_serials)
 
 -- ---- a call
 
@@ -89,32 +91,10 @@ module _ {T U G C : Type 0} {w : World T G C} {before after : BackendState T U G
   pub calm : lacks_growth (Asked s answer) ≡ false → NeverLacks → after.refused ≡ false
   calm growth never = by_growth never ∙ growth
 
-  -- in a call about one client: to that client
-  pub of_own : (id : ClientParts) → lacks_growth (Asked s answer) ≡ false
-      → ((other : ClientParts) (lacked : Bool) (did : List (Deed U)) → same_client id other ≡ false
-      → PartStep w other before.server.offer s answer (seen other before.server) lacked did (seen other after.server) → lacked ≡ false)
-      → (did : List (Deed U)) × PartStep w id before.server.offer s answer (seen id before.server) after.refused did (seen id after.server)
-  of_own id growth others =
-      let (e, is, refused, by) = call.step in (
-        e.did id,
-        subst (λ (b : Bool). PartStep w id before.server.offer s answer (seen id before.server) b (e.did id) (seen id after.server))
-            (sym
-            (lacks_as id e by.refused (ap lacks_growth is ∙ growth) (λ other differ. others other (e.lacks other) (e.did other) differ
-            (grind (arith, seen)))) ∙ refused)
-            (grind (arith, seen)),
-      )
-
   -- to some client, if not for what the call makes of its own
   pub some_lacks : lacks_growth (Asked s answer) ≡ false → after.refused ≡ true
       → (id : ClientParts) × (did : List (Deed U)) × PartStep w id before.server.offer s answer (seen id before.server) true did (seen id after.server)
   some_lacks growth known = grind (arith, true≢false, lacks_growth, seen)
-
-  -- to this client
-  pub refused_to : (id : ClientParts)
-      → ((lacked : Bool) (did : List (Deed U)) → PartStep w id before.server.offer s answer (seen id before.server) lacked did (seen id after.server) → lacked ≡ true)
-      → after.refused ≡ true
-  refused_to id lacks =
-      let (e, is, refused, by) = call.step in sym refused ∙ by.refused.1 (inr (id, lacks (e.lacks id) (e.did id) (grind (arith, seen))))
 
 -- ---- what is held of one client
 
@@ -124,29 +104,86 @@ module _ {T U C : Type 0} where
       → t ≡ record { part = Some q; made = s.made ++ notes_in did } → t ≡ s
   nothing_new s t p q did there same none is = grind (arith, append-nil)
 
-module _ {T U C : Type 0} (b : Bool) (s : Seen T U C) (R : Part T U C → Part T U C → Type 0) (missing : Type 0) (lacked : Bool) (did : List (Deed U)) (t : Seen T U C) where
-  -- another client stays
-  pub other_stays : b ≡ false → OfClient b s R missing lacked did t → t ≡ s
-  other_stays is h = grind (arith, true≢false, calm)
-
-  -- what each such step of the part leaves as it was stays
-  pub keeps : {A : Type 0} (f : Option (Part T U C) → A) → (b ≡ true → (p q : Part T U C) → R p q → f (Some q) ≡ f (Some p)) → OfClient b s R missing lacked did t
-      → f t.part ≡ f s.part
-  keeps {A = A} f each h = grind (arith, calm, either_option)
-
-  -- so do the notes that were made, where such a step notes nothing
-  pub notes_stay : ((p q : Part T U C) → R p q → notes_in did ≡ []) → OfClient b s R missing lacked did t → t.made ≡ s.made
-  notes_stay silent h = grind (arith, calm, either_option, append-nil)
-
-  -- no memory is refused to it, where none is in such a step
-  pub never : ((p q : Part T U C) → R p q → lacked ≡ false) → OfClient b s R missing lacked did t → lacked ≡ false
-  never so h = grind (arith, calm, either_option)
-
-  -- so is a client that is not stored
-  pub missing_stays : (b ≡ true → s.part ≡ None) → OfClient b s R missing lacked did t → t ≡ s
-  missing_stays absent h = grind (arith, calm, either_option, none_and_some)
-
 -- a step about this very client
 pub own : {T U C : Type 0} (id : ClientParts) (s : Seen T U C) (R : Part T U C → Part T U C → Type 0) (missing : Type 0) (lacked : Bool) (did : List (Deed U)) (t : Seen T U C)
     → OfClient (same_client id id) s R missing lacked did t → OnPart s R missing lacked did t
 own id s R missing lacked did t h = grind (arith, true≢false, same_client id id, same_self id)
+
+-- ---- a call about one client
+
+-- what it comes to for that client, whether memory was refused to it or not: it is not stored, or its part changes so
+pub data OnOne {T U C : Type 0} (R : Bool → List (Deed U) → Part T U C → Part T U C → Type 0) (missing : Type 0) (s : Seen T U C) (lacked : Bool) (t : Seen T U C) : Type 0 where
+  not_stored : s.part ≡ None → missing → lacked ≡ false → t ≡ s → OnOne R missing s lacked t
+  became : (p q : Part T U C) (did : List (Deed U)) → s.part ≡ Some p → R lacked did p q → t ≡ record { part = Some q; made = s.made ++ notes_in did } → OnOne R missing s lacked t
+
+one_of : {T U C : Type 0} (id : ClientParts) (R : Bool → List (Deed U) → Part T U C → Part T U C → Type 0) (missing : Type 0) (s : Seen T U C) (lacked : Bool) (did : List (Deed U)) (t : Seen T U C)
+    → OfClient (same_client id id) s (R lacked did) missing lacked did t → OnOne R missing s lacked t
+one_of id R missing s lacked did t h =
+    elim (either_option s.part (own id s (R lacked did) missing lacked did t h)) [
+      | inl (none, (m, (calm, nothing, same))) ↦ not_stored none m calm same
+      | inr (p, there, (q, r, same)) ↦ became p q did there r same
+    ]
+
+-- what was noted stays where nothing is noted
+made_own : {T U C : Type 0} {R : Bool → List (Deed U) → Part T U C → Part T U C → Type 0} {missing : Type 0} {s t : Seen T U C} {lacked : Bool} → OnOne R missing s lacked t
+    → ((did : List (Deed U)) (p q : Part T U C) → R lacked did p q → notes_in did ≡ []) → t.made ≡ s.made
+made_own h silent = grind (arith, append-nil)
+
+-- So it does to the client, and nothing else has changed. Memory was refused in it exactly if it was to the client.
+pub record IsOfOne {T U G C : Type 0} (before after : BackendState T U G C) (target : ClientParts) (R : Bool → List (Deed U) → Part T U C → Part T U C → Type 0)
+    (missing : Type 0) : Type 0 where
+  pub own : OnOne R missing (seen target before.server) after.refused (seen target after.server)
+  pub clients : OtherClientsStay before target after
+  pub globals : GlobalsStay before after
+  pub last : after.server.last_client ≡ before.server.last_client
+
+-- a call is so if what it is of each client is
+pub of_one : {T U G C : Type 0} {w : World T G C} {before after : BackendState T U G C} {call : Call T U G C} → Makes w before.server call after.refused after.server → (target : ClientParts)
+    → (R : ClientParts → Bool → List (Deed U) → Part T U C → Part T U C → Type 0) (missing : Type 0)
+    → ((id : ClientParts) (s t : Seen T U C) (lacked : Bool) (did : List (Deed U)) → PartCall w id before.server.offer call s lacked did t
+    → OfClient (same_client target id) s (R id lacked did) missing lacked did t)
+    → lacks_growth call ≡ false → offer_after before.server.offer call ≡ before.server.offer → inserted_by call ≡ 0 → IsOfOne before after target (R target) missing
+of_one {w = w} {before = before} {after = after} {call = call} (e, is, refused, step) target R missing by growth offer none =
+    let each : (id : ClientParts) → OfClient (same_client target id) (seen id before.server) (R id (e.lacks id) (e.did id)) missing (e.lacks id) (e.did id) (seen id after.server)
+    = λ id. by id _ _ _ _ (subst (λ (c : Call _ _ _ _). PartCall w id before.server.offer c (seen id before.server) (e.lacks id) (e.did id) (seen id after.server)) is (step.each id)) in
+    let lacks : after.refused ≡ e.lacks target
+    = sym refused ∙ lacks_as target e step.refused (ap lacks_growth is ∙ growth) (λ other differ. (when_false _ (same_client target other) differ (each other)).0) in
+    record {
+      own = subst (λ (b : Bool). OnOne (R target) missing (seen target before.server) b (seen target after.server)) (sym lacks) (one_of target (R target) missing _ _ _ _ (each target));
+      clients = λ other differ. (when_false _ (same_client target other) differ (each other)).2;
+      globals = step.offer ∙ (ap (offer_after before.server.offer) is ∙ offer);
+      last = grind (arith, step.last);
+    }
+
+module _ {T U G C : Type 0} {before after : BackendState T U G C} {target : ClientParts} {R : Bool → List (Deed U) → Part T U C → Part T U C → Type 0}
+    {missing : Type 0} (one : IsOfOne before after target R missing) where
+  -- so it is of what follows for the client
+  pub refine : {R' : Bool → List (Deed U) → Part T U C → Part T U C → Type 0} → ((lacked : Bool) (did : List (Deed U)) (p q : Part T U C) → R lacked did p q → R' lacked did p q)
+      → IsOfOne before after target R' missing
+  refine each = record {
+    own = elim one.own [ not_stored none m calm same ↦ not_stored none m calm same | became p q did there r same ↦ became p q did there (each after.refused did p q r) same ];
+    clients = one.clients;
+    globals = one.globals;
+    last = one.last;
+  }
+
+  -- what such a step leaves of the part stays of each client
+  pub stays : {A : Type 0} (f : Option (Part T U C) → A) (id : ClientParts)
+      → (same_client target id ≡ true → (did : List (Deed U)) (p q : Part T U C) → (seen target before.server).part ≡ Some p → R after.refused did p q → f (Some q) ≡ f (Some p))
+      → f (seen id after.server).part ≡ f (seen id before.server).part
+  stays f id each = grind (arith, one.own, one.clients, same_is, same_client target id)
+
+  pub names_stay : (o : IdParts)
+      → (same_client target o.client ≡ true → (did : List (Deed U)) (p q : Part T U C) → (seen target before.server).part ≡ Some p → R after.refused did p q → named q.store o ≡ named p.store o)
+      → object_in after o ≡ object_in before o
+  names_stay o each = stays (λ x. and_then x (λ p. named p.store o)) o.client each
+
+  pub stored_stay : (id : ClientParts) → is_some (client_in after id) ≡ is_some (client_in before id)
+  stored_stay id = stays (λ x. is_some x) id (λ about did p q there r. refl)
+
+  pub made_stay : ((did : List (Deed U)) (p q : Part T U C) → R after.refused did p q → notes_in did ≡ []) → (id : ClientParts) → notes_made_in after id ≡ notes_made_in before id
+  made_stay silent id = grind (arith, made_own one.own silent, one.clients, same_is, same_client target id)
+
+  -- a call that changes nothing of its client changes nothing
+  pub nothing_changes : seen target after.server ≡ seen target before.server → IsUnchanged before after
+  nothing_changes same = record { offer = one.globals; last = one.last; each = λ id. grind (arith, one.clients, same_is, same_client target id) }

@@ -1,11 +1,9 @@
 -- A new object of the server's.
-use Rattle.std.proofs.Common.{◌≡◌, ℕ, Bool, true, false, List, [], None, Some, Result, Ok, Err, refl, sym, ap, subst, arith, true≢false}
-use mathlib.Core.Logic.{inl, inr}
+use Rattle.std.proofs.Common.{◌≡◌, ℕ, Bool, List, [], None, Some, Result, Ok, Err, refl, ap, arith, true≢false, append-nil}
 use Rattle.std.proofs.lemmas.Bool.{eq-eqb, ne_eqb}
 use Rattle.std.specs.Prelude.{slice_get}
 use Rattle.wl_wire.specs.declared.interface.InterfaceId.{InterfaceId}
 use Rattle.wl_wire.specs.Table.{InterfaceRow}
-use Rattle.wl_link.proofs.Calls.Branches.{either_option}
 use Rattle.wl_link.proofs.Ids.StoreLaws.{held_stored, stored_here}
 use Rattle.wl_link.specs.declared.object.Object.{Object}
 use Rattle.wl_link.specs.Store.{IsLeastAbsent, held, server_range, stored}
@@ -18,13 +16,12 @@ use Rattle.wl_server.specs.Backend.{BackendState, Calls}
 use Rattle.wl_server.specs.Deeds.{Deed, notes_in}
 use Rattle.wl_server.specs.Identified.{named_of}
 use Rattle.wl_server.specs.Ids.{ClientParts, IdParts, same_client}
-use Rattle.wl_server.specs.Lookups.{and_then}
 use Rattle.wl_server.specs.Objects.{Creates, new_object, with_new_at}
 use Rattle.wl_server.specs.Part.{Part, fresh_object, id_at, id_of, last_possible_serial, named, same_id, serial_of}
-use Rattle.wl_server.specs.PartStep.{OfClient, World, lacks_create}
-use Rattle.wl_server.specs.Plain.{CreatedAs, CreatesObject}
-use Rattle.wl_server.specs.Server.{Seen, seen}
-use Rattle.wl_server.proofs.Plain.Base.{keeps, notes_stay, nothing_new, of_each, of_own, offer_of, other_stays, own, unchanged, when_false}
+use Rattle.wl_server.specs.PartStep.{World, lacks_create}
+use Rattle.wl_server.specs.Plain.{CreatedAs, CreatesObject, OtherObjectsStay}
+use Rattle.wl_server.specs.Server.{Seen}
+use Rattle.wl_server.proofs.Plain.Base.{IsOfOne, OnOne, became, made_stay, names_stay, not_stored, nothing_changes, nothing_new, of_one}
 use Rattle.wl_server.proofs.Plain.Naming.{both_none, named_here, nothing_has, other_named}
 
 -- the object was put at a number that held none
@@ -51,74 +48,42 @@ module _ {T U C : Type 0} {client : ClientParts} {p : Part T U C} {i : Interface
   new_interface : id.interface ≡ i
   new_interface = ap (λ (o : IdParts). o.interface) new.id_is
 
--- ---- of one client
+-- ---- the call
 
-abbrev Unknown : Result IdParts CreateError → Type 0
-Unknown answer = answer ≡ Err create.InvalidId
+-- what it does to its client
+abbrev Does : {T U C : Type 0} → List InterfaceRow → InterfaceId → ℕ → U → Result IdParts CreateError → ClientParts → Bool → List (Deed U) → Part T U C → Part T U C → Type 0
+Does table i version u answer client lacked did p q = (lacked ≡ lacks_create answer) × (did ≡ []) × Creates table client p i version u answer q
 
-ok_unknown : {id : IdParts} → Unknown (Ok id) → ⊥
-ok_unknown is = absurd cc
+module _ {T U G C : Type 0} (before after : BackendState T U G C) (target : ClientParts) (i : InterfaceId) (version : ℕ) (u : U) where
+  abbrev Creating : Result IdParts CreateError → Type 0
+  Creating answer = IsOfOne before after target (Does before.server.offer.table i version u answer target) (answer ≡ Err create.InvalidId)
 
-abbrev Does : {T U C : Type 0} → List InterfaceRow → ClientParts → InterfaceId → ℕ → U → Result IdParts CreateError → Bool → List (Deed U) → Part T U C → Part T U C → Type 0
-Does table client i version u answer lacked did p q = (lacked ≡ lacks_create answer) × (did ≡ []) × Creates table client p i version u answer q
+  created : (id : IdParts) (s t : Seen T U C) (lacked : Bool) → OnOne (Does before.server.offer.table i version u (Ok id) target) (◌≡◌ {A = Result IdParts CreateError} (Ok id) (Err create.InvalidId)) s lacked t
+      → (id.client ≡ target) × (id.interface ≡ i) × (named_of s id ≡ None) × (named_of t id ≡ Some (fresh_object i version id.serial (Some u)))
+  created id s t lacked h = grind (arith, made_new, new_client, new_interface, named, serial_of, id_of, id_at, both_none, new_after)
 
-abbrev Of : {T U C : Type 0} → List InterfaceRow → ClientParts → ClientParts → InterfaceId → ℕ → U → Result IdParts CreateError → Seen T U C → Bool → List (Deed U) → Seen T U C
-    → Type 0
-Of table target client i version u answer s lacked did t = OfClient (same_client target client) s (Does table client i version u answer lacked did) (Unknown answer) lacked did t
+  others_stay : (id : IdParts) → Creating (Ok id) → OtherObjectsStay before id after
+  others_stay id one other differ =
+      names_stay one other (grind (arith, named, other_named, stored, made, held_stored, nothing_has, held, same_id, id_of, made_new, true≢false, same_client))
 
-module _ {T U C : Type 0} (table : List InterfaceRow) (client : ClientParts) (i : InterfaceId) (version : ℕ) (u : U) (s t : Seen T U C) (lacked : Bool) (did : List (Deed U)) where
-  created : (id : IdParts) → Of table client client i version u (Ok id) s lacked did t
-      → (id.client ≡ client) × (id.interface ≡ i) × (named_of s id ≡ None) × (named_of t id ≡ Some (fresh_object i version id.serial (Some u)))
-  created id h = grind (arith, own, ok_unknown, made_new, new_client, new_interface, named, serial_of, id_of, id_at, both_none, new_after)
+  not_created : (e : CreateError) (s t : Seen T U C) (lacked : Bool) → OnOne (Does before.server.offer.table i version u (Err e) target) (◌≡◌ {A = Result IdParts CreateError} (Err e) (Err create.InvalidId)) s lacked t
+      → t ≡ s
+  not_created e s t lacked h = grind (arith, slice_get, last_possible_serial, nothing_new, notes_in, append-nil)
 
-not_created : {T U C : Type 0} (b : Bool) (table : List InterfaceRow) (client : ClientParts) (i : InterfaceId) (version : ℕ) (u : U) (e : CreateError) (s t : Seen T U C)
-    (lacked : Bool) (did : List (Deed U)) → OfClient b s (Does table client i version u (Err e) lacked did) (Unknown (Err e)) lacked did t → t ≡ s
-not_created false table client i version u e s t lacked did (calm, none, same) = same
-not_created true table client i version u e s t lacked did h =
-    elim (either_option s.part h) [
-      | inl (none, (is, (calm, nothing, same))) ↦ same
-      | inr (p, there, (q, (memory, none, makes), same)) ↦ nothing_new s t p q did there (grind (arith, slice_get, last_possible_serial)) (ap notes_in none) same
-    ]
+  created_as : (answer : Result IdParts CreateError) → Creating answer → CreatedAs before target i version u answer after
+  created_as (Ok id) one = let (of, interface, none, new) = created id _ _ after.refused one.own in (of, interface, rw of none, rw of new, others_stay id one)
+  created_as (Err e) one = nothing_changes one (not_created e _ _ after.refused one.own)
 
 module _ {T U G C : Type 0} {w : World T G C} {before after : BackendState T U G C} (target : ClientParts) (i : InterfaceId) (version : ℕ) (u : U) where
-  create_each : (answer : Result IdParts CreateError) → Calls w before (step.CreateObject target i version u) (reply.CreateObject answer) after → (id : ClientParts)
-      → (lacked : Bool) × (did : List (Deed U)) × Of before.server.offer.table target id i version u answer (seen id before.server) lacked did (seen id after.server)
-  create_each answer call id =
-      let (lacked, did, (r, is, h)) = of_each call id in (
-        lacked,
-        did,
-        subst (λ (a : Result IdParts CreateError). Of before.server.offer.table target id i version u a (seen id before.server) lacked did (seen id after.server)) (sym (cc)) h,
-      )
-
-  created_as : (answer : Result IdParts CreateError) → Calls w before (step.CreateObject target i version u) (reply.CreateObject answer) after
-      → CreatedAs before target i version u answer after
-  created_as (Ok id) call =
-      let (lacked, did, h) = create_each (Ok id) call target in
-      let (client, interface, none, new) = created before.server.offer.table target i version u _ _ lacked did id h in (
-        client,
-        interface,
-        subst (λ (c : ClientParts). and_then (seen c before.server).part (λ p. named p.store id) ≡ None) (sym client) none,
-        subst (λ (c : ClientParts). and_then (seen c after.server).part (λ p. named p.store id) ≡ Some (fresh_object i version id.serial (Some u))) (sym client) new,
-        λ other differ.
-            let (lacked, did, h) = create_each (Ok id) call other.client in
-            keeps (same_client target other.client) _ _ _ lacked did _ (λ x. and_then x (λ p. named p.store other))
-            (grind (arith, named, other_named, stored, made, held_stored, nothing_has, held, same_id, id_of, made_new, true≢false, same_client)) h,
-      )
-  created_as (Err e) call =
-      unchanged call refl refl (λ id.
-      let (lacked, did, h) = create_each (Err e) call id in not_created (same_client target id) before.server.offer.table id i version u e _ _ lacked did h)
-
   pub creates_object : (answer : Result IdParts CreateError) → Calls w before (step.CreateObject target i version u) (reply.CreateObject answer) after
       → CreatesObject before target i version u answer after
   creates_object answer call = record {
-    object = created_as answer call;
-    clients = λ other differ. let (lacked, did, h) = create_each answer call other in other_stays (same_client target other) _ _ _ lacked did _ differ h;
-    notes = λ other.
-        let (lacked, did, h) = create_each answer call other in
-        notes_stay (same_client target other) _ _ _ lacked did _ (λ p q (memory, none, makes). ap notes_in none) h;
-    globals = offer_of call;
-    memory = (
-        let (did, (r, is, h)) = of_own call target refl (λ other lacked did differ (r, is, h). (when_false _ (same_client target other) differ h).0) in
-        grind (arith, either_option, seen, own, lacks_create, after.refused)
-        );
+    object = created_as before after target i version u answer one;
+    clients = one.clients;
+    notes = made_stay one (λ did p q r. ap notes_in r.1);
+    globals = one.globals;
+    memory = elim one.own [ not_stored none is calm same ↦ grind (arith, is) | became p q did there r same ↦ r.0 ];
   }
+    where
+      one : Creating before after target i version u answer
+      one = of_one call.step target (Does before.server.offer.table i version u answer) _ (λ id s t lacked did (r, is, h). let e : r ≡ answer = cc in rw e at h) refl refl refl

@@ -1,10 +1,10 @@
 -- Globals that are created, disabled and removed.
-use Rattle.std.proofs.Common.{◌≡◌, ◌⊎◌, ℕ, Bool, true, false, cond, List, [], ◌∷◌, ◌++◌, append-nil, Option, None, Some, Result, Ok, Err, MatchOption, refl, ap, subst, ◌∙◌, arith, true≢false}
+use Rattle.std.proofs.Common.{◌≡◌, ◌⊎◌, ℕ, Bool, true, false, cond, List, [], ◌∷◌, ◌++◌, append-nil, None, Some, Result, Ok, Err, refl, ap, subst, ◌∙◌, arith, true≢false, sym}
 use mathlib.Core.Logic.{inl, inr}
-use Rattle.std.specs.Prelude.{◌==◌, MatchBool, nat_le, option_map, slice_get}
+use Rattle.std.specs.Prelude.{◌==◌, nat_le, option_map, slice_get}
 use Rattle.std.proofs.lemmas.Bool.{eq-eqb, ne_eqb}
 use Rattle.wl_wire.specs.declared.interface.InterfaceId.{InterfaceId}
-use Rattle.wl_link.proofs.Calls.Branches.{either_bool, either_option}
+use Rattle.wl_link.proofs.Calls.Branches.{either_option}
 use Rattle.wl_link.proofs.Ids.StoreLaws.{removed_here, rewritten_here, stored_here}
 use Rattle.wl_link.specs.declared.object.Object.{Object}
 use Rattle.wl_link.specs.Exchange.{Queue}
@@ -28,91 +28,62 @@ use Rattle.wl_server.specs.Globals.{IsNextGlobal, Offer, as_disabled, disabled, 
 use Rattle.wl_server.specs.Ids.{ClientParts, GlobalParts, IdParts}
 use Rattle.wl_server.specs.Lookups.{and_then}
 use Rattle.wl_server.specs.Part.{Part, named, with_link}
-use Rattle.wl_server.specs.PartStep.{Asked, Call, Feels, FeelsGlobal, FeelsLoss, Unfelt, World}
+use Rattle.wl_server.specs.PartStep.{Asked, Call, Feels, FeelsGlobal, FeelsLoss, World}
 use Rattle.wl_server.specs.Plain.{as_killed}
 use Rattle.wl_server.specs.Plain.Globals.{DisablesGlobal, GlobalCreatedAs, IsToldOrKilled, KillsSome, MayBeTold, OffersGlobal, RemovesGlobal}
 use Rattle.wl_server.specs.Server.{Seen, seen}
 use Rattle.wl_server.specs.Steps.{AnswersShared}
-use Rattle.wl_server.specs.Telling.{Core, core_of, end_deeds, part_of, tells}
+use Rattle.wl_server.specs.Telling.{closed_down, core_of, end_deeds, part_of, tells}
+use Rattle.wl_server.specs.Inside.Carried.{told_notes}
 use Rattle.wl_server.proofs.OverRuns.Ids.GivenLaws.{created_elsewhere, disabled_changes, freed_changes}
-use Rattle.wl_server.proofs.Plain.Base.{by_growth, keeps, of_each, offer_of, some_lacks}
-use Rattle.wl_server.proofs.Plain.Verdicts.{told, told_ended, told_starved}
+use Rattle.wl_server.proofs.Plain.Base.{by_growth, match_option, nothing_new, of_each, offer_of, some_lacks, split_bool}
+use Rattle.wl_server.proofs.Readings.Finishing.{where_some}
+use Rattle.wl_server.proofs.Plain.Verdicts.{IsTold, told}
 
 -- ---- a client that is told
 
-pub split : {P Q : Type 0} (b : Bool) → MatchBool b P Q → ((b ≡ true) × P) ⊎ ((b ≡ false) × Q)
-split h1 p = grind (arith)
-
-pub which : (b : Bool) → (b ≡ true) ⊎ (b ≡ false)
-which h1 = grind (arith)
-
-module _ {T U C : Type 0} (sends : T → Queue → Result ℕ IoFault → T → Type 0) (messages : List Said) (lacked : Bool) (did : List (Deed U)) where
-  -- told, or killed
-  hears_as : (s t : Seen T U C) (p q : Part T U C) → s.part ≡ Some p → Hears sends p messages lacked did q → t ≡ record { part = Some q; made = s.made ++ notes_in did }
-      → (link : LinkState T)
-      × ((t ≡ record { part = Some (with_link p link); made = s.made })
-      ⊎ ((p.is_killed ≡ false) × (t ≡ record { part = Some (as_killed (with_link p link)); made = s.made ++ Disconnected ConnectionClosed ∷ [] })))
-  hears_as s t p q there h is =
-      elim (split p.is_killed h) [
-        | inl (dead, (calm, none, same)) ↦ (p.link, inl (alive p.link same (ap notes_in none)))
-        | inr (live, tells') ↦
-            elim (which lacked) [
-              | inl starved ↦
-                  let u = told_starved sends (tells (core_of p) messages) refl p.link lacked did q starved tells' in (u.link, inr (live, dead live u.link u.part_is u.notes_are))
-              | inr calm ↦
-                  let u = told_ended sends (tells (core_of p) messages) (λ c. refl) p.link lacked did q calm tells' in
-                  elim u.core_is [
-                    | inl same ↦ (
-                      u.link,
-                      inl (alive u.link (u.part_is ∙ ap (λ (c : Core U C). part_of (record { core = c; link = u.link })) same)
-                          (u.notes_are ∙ ap (λ (c : Core U C). notes_in (end_deeds {U = U} c.ended)) same)),
-                    )
-                    | inr (some, same) ↦ (
-                      u.link,
-                      grind (arith, dead, part_of, notes_in, end_deeds),
-                    )
-                  ]
-            ]
-      ]
-    where
-      alive : (link : LinkState T) → q ≡ with_link p link → notes_in did ≡ [] → t ≡ record { part = Some (with_link p link); made = s.made }
-      alive link part notes = grind (arith, append-nil)
-
-      dead : p.is_killed ≡ false → (link : LinkState T) → q ≡ as_killed (with_link p link) → notes_in did ≡ notes_in (end_deeds (cond p.is_killed None (Some ConnectionClosed)))
-          → t ≡ record { part = Some (as_killed (with_link p link)); made = s.made ++ Disconnected ConnectionClosed ∷ [] }
-      dead live link part notes = grind (arith, end_deeds)
-
-module _ {T U C : Type 0} (sends : T → Queue → Result ℕ IoFault → T → Type 0) (messages : Part T U C → List Said) (lacked : Bool) (did : List (Deed U)) where
-  -- so is a client that feels a call
-  feels_any : (s t : Seen T U C) → Feels s (λ p q. Hears sends p (messages p) lacked did q) lacked did t → IsToldOrKilled s t
-  feels_any s t h = at s.part refl h
-    where
-      at : (o : Option (Part T U C)) → s.part ≡ o
-          → MatchOption o ((Unit {0}) × Unfelt s lacked did t) (λ p. (q : Part T U C) × Hears sends p (messages p) lacked did q × (t ≡ record { part = Some q; made = s.made ++ notes_in did }))
-          → MatchOption o (t ≡ s)
-          (λ p. (link : LinkState T)
-          × ((t ≡ record { part = Some (with_link p link); made = s.made })
-          ⊎ ((p.is_killed ≡ false) × (t ≡ record { part = Some (as_killed (with_link p link)); made = s.made ++ Disconnected ConnectionClosed ∷ [] }))))
-      at None none (u, (calm, nothing, same)) = same
-      at (Some p) there (q, hears, is) = hears_as sends (messages p) lacked did s t p q there hears is
-
-  -- if memory was refused to it, it is killed now
-  felt_lacked : (s t : Seen T U C) → lacked ≡ true → Feels s (λ p q. Hears sends p (messages p) lacked did q) lacked did t
-      → (option_map (λ p. p.is_killed) s.part ≡ Some false) × (option_map (λ p. p.is_killed) t.part ≡ Some true)
-  felt_lacked s t lacks h = grind (arith, either_option, true≢false, split, told_starved, tells, core_of, option_map)
-
-module _ {T U C : Type 0} where
+module _ {T U C : Type 0} (s t : Seen T U C) where
   -- a client that feels nothing
-  unfelt_as : (s t : Seen T U C) → t ≡ s → IsToldOrKilled s t
-  unfelt_as s t same = at s.part refl
-    where
-      at : (o : Option (Part T U C)) → s.part ≡ o
-          → MatchOption o (t ≡ s)
-          (λ p. (link : LinkState T)
-          × ((t ≡ record { part = Some (with_link p link); made = s.made })
-          ⊎ ((p.is_killed ≡ false) × (t ≡ record { part = Some (as_killed (with_link p link)); made = s.made ++ Disconnected ConnectionClosed ∷ [] }))))
-      at None none = same
-      at (Some p) there = (p.link, inl (same ∙ ap (λ (o : Option (Part T U C)). let x : Seen T U C = record { part = o; made = s.made } in x) there))
+  unfelt_as : t ≡ s → IsToldOrKilled s t
+  unfelt_as same = match_option s.part (λ none. same) (λ p there. (p.link, inl (grind (arith))))
+
+  -- its objects stay
+  objects_stay : IsToldOrKilled s t → (o : IdParts) → and_then t.part (λ p. named p.store o) ≡ and_then s.part (λ p. named p.store o)
+  objects_stay h o = grind (arith, either_option, named)
+
+  module _ (sends : T → Queue → Result ℕ IoFault → T → Type 0) (messages : Part T U C → List Said) (lacked : Bool) (did : List (Deed U)) where
+    -- one that hears of the call is told, or killed
+    feels_any : Feels s (λ p q. Hears sends p (messages p) lacked did q) lacked did t → IsToldOrKilled s t
+    feels_any h =
+        elim (either_option s.part h) [
+          | inl (none, (u, (calm, nothing, same))) ↦ unfelt_as same
+          | inr (p, there, (q, hears, is)) ↦
+              elim (split_bool p.is_killed hears) [
+                | inl (dead, (calm, none, same)) ↦ unfelt_as (nothing_new s t p q did there same (ap notes_in none) is)
+                | inr (live, tells') ↦ where_some s.part p (sym there) _ _ (was_told p q live (told sends (tells (core_of p) (messages p)) p.link lacked did q tells') is)
+              ]
+        ]
+      where
+        was_told : (p q : Part T U C) → p.is_killed ≡ false → IsTold (tells (core_of p) (messages p)) lacked did q → t ≡ record { part = Some q; made = s.made ++ notes_in did }
+            → (link : LinkState T)
+            × ((t ≡ record { part = Some (with_link p link); made = s.made })
+            ⊎ ((p.is_killed ≡ false) × (t ≡ record { part = Some (as_killed (with_link p link)); made = s.made ++ Disconnected ConnectionClosed ∷ [] })))
+        was_told p q live u is = (u.link, (grind (arith, append-nil, part_of, notes_in, end_deeds, told_notes, closed_down, core_of, as_killed)))
+
+    -- if memory was refused to it, it is killed now
+    felt_lacked : lacked ≡ true → Feels s (λ p q. Hears sends p (messages p) lacked did q) lacked did t
+        → (option_map (λ p. p.is_killed) s.part ≡ Some false) × (option_map (λ p. p.is_killed) t.part ≡ Some true)
+    felt_lacked lacks h = grind (arith, either_option, true≢false, split_bool, told, tells, core_of, closed_down, option_map)
+
+module _ {T U G C : Type 0} (w : World T G C) (id : ClientParts) (offer : Offer G) where
+  loss_as : (g : GlobalParts) (s t : Seen T U C) (lacked : Bool) (did : List (Deed U)) → FeelsLoss w id offer g s lacked did t → IsToldOrKilled s t
+  loss_as g s t lacked did h =
+      elim (split_bool (is_enabled (global_of offer.globals g)) h) [ inl (on, feels) ↦ feels_any s t w.sends (λ p. removals p g.name) lacked did feels | inr (off, (calm, none, same)) ↦ unfelt_as s t same ]
+
+  new_as : (i : InterfaceId) (version : ℕ) (handler : G) (s t : Seen T U C) (lacked : Bool) (did : List (Deed U)) (r : Result GlobalParts GlobalError)
+      → FeelsGlobal w id offer i version handler r s lacked did t → IsToldOrKilled s t
+  new_as i version handler s t lacked did (Ok g) h = feels_any s t w.sends _ lacked did h
+  new_as i version handler s t lacked did (Err e) h = unfelt_as s t h.2
 
 -- ---- what an id names
 
@@ -131,54 +102,26 @@ module _ {T U G C : Type 0} {w : World T G C} {before after : BackendState T U G
   shared_of = let (e, is, refused, by) = call.step in subst (λ (c : Call T U G C). AnswersShared before.server.offer c) is by.global
 
 module _ {T U G C : Type 0} (w : World T G C) (before after : BackendState T U G C) where
-  -- of each client: what it felt, and that its objects stay
-  abbrev Each : Type 0
-  Each =
-      (id : ClientParts) → IsToldOrKilled (seen id before.server) (seen id after.server)
-      × ((o : IdParts) → and_then (seen id after.server).part (λ p. named p.store o) ≡ and_then (seen id before.server).part (λ p. named p.store o))
+  may_be_told : ((id : ClientParts) → IsToldOrKilled (seen id before.server) (seen id after.server)) → MayBeTold before after
+  may_be_told each = record { each = each; objects = λ o. objects_stay _ _ (each o.client) o }
 
-  may_be_told : Each → MayBeTold before after
-  may_be_told each = record { each = λ id. (each id).0; objects = λ o. (each o.client).1 o }
+  module _ (g : GlobalParts) where
+    loss_told : ((id : ClientParts) → (lacked : Bool) × (did : List (Deed U)) × FeelsLoss w id before.server.offer g (seen id before.server) lacked did (seen id after.server)) → MayBeTold before after
+    loss_told each = may_be_told (λ id. let (lacked, did, h) = each id in loss_as w id before.server.offer g _ _ lacked did h)
 
-  felt_by : (id : ClientParts) (messages : Part T U C → List Said) (lacked : Bool) (did : List (Deed U))
-      → Feels (seen id before.server) (λ p q. Hears w.sends p (messages p) lacked did q) lacked did (seen id after.server)
-      → IsToldOrKilled (seen id before.server) (seen id after.server)
-      × ((o : IdParts) → and_then (seen id after.server).part (λ p. named p.store o) ≡ and_then (seen id before.server).part (λ p. named p.store o))
-  felt_by id messages lacked did h = (
-    feels_any w.sends messages lacked did (seen id before.server) (seen id after.server) h,
-    grind (arith, keeps, seen, and_then, named, either_bool, told, tells, core_of),
-  )
+    -- a loss is told where the global was enabled, and memory was refused to a client that is killed now
+    loss_lacked : (id : ClientParts) (did : List (Deed U)) → FeelsLoss w id before.server.offer g (seen id before.server) true did (seen id after.server)
+        → (is_enabled (global_of before.server.offer.globals g) ≡ true) × KillsSome before after
+    loss_lacked id did h =
+        elim (split_bool (is_enabled (global_of before.server.offer.globals g)) h) [
+          | inl (enabled, feels) ↦ let (live, dead) = felt_lacked _ _ w.sends (λ p. removals p g.name) true did refl feels in (enabled, (id, live, dead))
+          | inr (off, (calm, nothing, stays)) ↦ absurd (true≢false calm)
+        ]
 
-  loss_each : (g : GlobalParts) → ((id : ClientParts) → (lacked : Bool) × (did : List (Deed U)) × FeelsLoss w id before.server.offer g (seen id before.server) lacked did (seen id after.server)) → Each
-  loss_each g each id =
-      let (lacked, did, h) = each id in
-      at id lacked did (is_enabled (global_of before.server.offer.globals g)) h
-    where
-      at : (id : ClientParts) (lacked : Bool) (did : List (Deed U)) (b : Bool)
-          → MatchBool b (Feels (seen id before.server) (λ p q. Hears w.sends p (removals p g.name) lacked did q) lacked did (seen id after.server))
-          (Unfelt (seen id before.server) lacked did (seen id after.server))
-          → IsToldOrKilled (seen id before.server) (seen id after.server)
-          × ((o : IdParts) → and_then (seen id after.server).part (λ p. named p.store o) ≡ and_then (seen id before.server).part (λ p. named p.store o))
-      at id lacked did true felt = felt_by id (λ p. removals p g.name) lacked did felt
-      at id lacked did false (calm, none, same) = (unfelt_as _ _ same, λ o. ap (λ (x : Seen T U C). and_then x.part (λ p. named p.store o)) same)
-
-  new_each : (i : InterfaceId) (version : ℕ) (handler : G) (r : Result GlobalParts GlobalError)
+  new_told : (i : InterfaceId) (version : ℕ) (handler : G) (r : Result GlobalParts GlobalError)
       → ((id : ClientParts) → (lacked : Bool) × (did : List (Deed U)) × FeelsGlobal w id before.server.offer i version handler r (seen id before.server) lacked did (seen id after.server))
-      → Each
-  new_each i version handler (Ok g) each id =
-      let (lacked, did, h) = each id in
-      felt_by id (λ p. news before.server.offer.table p (w.views handler id p.client_data g) (record { name = g.name; interface = i; version = version })) lacked did h
-  new_each i version handler (Err e) each id = let (lacked, did, (calm, none, same)) = each id in
-      (unfelt_as _ _ same, λ o. ap (λ (x : Seen T U C). and_then x.part (λ p. named p.store o)) same)
-
-  -- a loss is told where the global was enabled, and memory was refused to a client that is killed now
-  loss_lacked : (g : GlobalParts) (id : ClientParts) (did : List (Deed U)) → FeelsLoss w id before.server.offer g (seen id before.server) true did (seen id after.server)
-      → (is_enabled (global_of before.server.offer.globals g) ≡ true) × KillsSome before after
-  loss_lacked g id did h =
-      elim (split (is_enabled (global_of before.server.offer.globals g)) h) [
-        | inl (enabled, feels) ↦ let (live, dead) = felt_lacked w.sends (λ p. removals p g.name) true did _ _ refl feels in (enabled, (id, live, dead))
-        | inr (off, (calm, nothing, stays)) ↦ absurd (true≢false calm)
-      ]
+      → MayBeTold before after
+  new_told i version handler r each = may_be_told (λ id. let (lacked, did, h) = each id in new_as w id before.server.offer i version handler _ _ lacked did r h)
 
 module _ {T U G C : Type 0} {w : World T G C} {before after : BackendState T U G C} where
   pub disables_global : (g : GlobalParts) → Calls w before (step.DisableGlobal g) reply.DisableGlobal after → DisablesGlobal before g after
@@ -186,7 +129,7 @@ module _ {T U G C : Type 0} {w : World T G C} {before after : BackendState T U G
     global = ap (λ (o : Offer G). global_of o.globals g) (offer_of call) ∙
         (grind (arith, held, global_here, rewritten, as_disabled, rewritten_here, before.server.offer.globals, global_of before.server.offer.globals g));
     others = grind (arith, global_of, offer_of, cond, option_map, as_disabled, disabled, disabled_changes);
-    clients = may_be_told w before after (loss_each w before after g (λ id. let (lacked, did, (is, h)) = of_each call id in (lacked, did, h)));
+    clients = loss_told w before after g (λ id. let (lacked, did, (is, h)) = of_each call id in (lacked, did, h));
     memory = λ known. let (id, did, (is, h)) = some_lacks call refl known in loss_lacked w before after g id did h;
   }
 
@@ -195,7 +138,7 @@ module _ {T U G C : Type 0} {w : World T G C} {before after : BackendState T U G
     global = ap (λ (o : Offer G). global_of o.globals g) (offer_of call) ∙
         (grind (arith, global_serial, removed_here, before.server.offer.globals, global_of before.server.offer.globals g));
     others = grind (arith, global_of, offer_of, cond, freed, freed_changes);
-    clients = may_be_told w before after (loss_each w before after g (λ id. let (lacked, did, (is, h)) = of_each call id in (lacked, did, h)));
+    clients = loss_told w before after g (λ id. let (lacked, did, (is, h)) = of_each call id in (lacked, did, h));
     memory = λ known. let (id, did, (is, h)) = some_lacks call refl known in loss_lacked w before after g id did h;
   }
 
@@ -224,6 +167,6 @@ module _ {T U G C : Type 0} {w : World T G C} {before after : BackendState T U G
         → OffersGlobal before i version handler answer after
     offers_global answer call = record {
       global = created_as answer call;
-      clients = may_be_told w before after (new_each w before after i version handler answer (create_each answer call));
+      clients = new_told w before after i version handler answer (create_each answer call);
       memory = grind (arith, some_lacks, felt_lacked, news, seen, by_growth);
     }

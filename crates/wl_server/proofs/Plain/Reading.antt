@@ -1,13 +1,13 @@
 -- A reading of one client.
-use Rattle.std.proofs.Common.{◌≡◌, ℕ, Bool, true, false, List, ◌++◌, append-nil, Option, Some, is_some, Result, Err, refl, sym, ap, subst, ◌∙◌, arith, true≢false, cond, [], ◌∷◌, map, None, ◌≤◌, eqb, eqb-true, IsSome}
+use Rattle.std.proofs.Common.{◌≡◌, ℕ, Bool, true, false, List, ◌++◌, append-nil, Option, Some, is_some, Result, Err, refl, sym, ap, subst, ◌∙◌, arith, true≢false, cond, [], None, ◌≤◌, eqb, eqb-true, IsSome}
 use mathlib.Core.Logic.{inl, inr}
 use Rattle.std.specs.Prelude.{◌⊎◌, IsSome, min, option_map, nat_lt, ◌==◌}
 use Rattle.wl_wire.specs.declared.error.IoFault.{IoFault}
 use Rattle.wl_wire.specs.declared.error.IoFault.TheVariants as fault
-use Rattle.wl_link.proofs.Calls.Branches.{either_option, either_result}
-use Rattle.wl_link.specs.Exchange.{Queue, Sending}
+use Rattle.wl_link.proofs.Calls.Branches.{either_option}
+use Rattle.wl_link.specs.Exchange.{Queue}
 use Rattle.wl_wire.specs.MessageRows.{request_row}
-use Rattle.wl_link.specs.Reader.{ReaderState, Turn, handled_in, CarriesOut, Given, Gives, Halts, Handled, HandedOut, Reads, Received, Unread, Verdict, came_to, given_first, put_and_gave, stops, with_link}
+use Rattle.wl_link.specs.Reader.{ReaderState, Turn, handled_in, Gives, Reads, Verdict}
 use Rattle.wl_link.specs.Store.{held, Store, removed}
 use Rattle.wl_server.specs.declared.error.ActionError.{ActionError}
 use Rattle.wl_server.specs.declared.error.ActionError.TheVariants.{Io}
@@ -15,40 +15,33 @@ use Rattle.wl_server.specs.declared.notes.Happening.{Happening}
 use Rattle.wl_server.specs.declared.reading.action.Action.{Action}
 use Rattle.wl_server.specs.declared.reading.action.OpenAction.{OpenAction}
 use Rattle.wl_server.specs.declared.reading.action.Reading.{Reading}
-use Rattle.wl_server.specs.declared.runs.step.Reply.{Reply}
 use Rattle.wl_server.specs.declared.runs.step.Reply.TheVariants as reply
 use Rattle.wl_server.specs.declared.runs.step.Step.TheVariants as step
 use Rattle.wl_server.specs.Backend.{BackendState, Calls}
-use Rattle.wl_server.specs.Deeds.{Bind, Deed, Handed, Request, notes_in, Remembered}
-use Rattle.wl_server.specs.Globals.{Offer, shown}
+use Rattle.wl_server.specs.Deeds.{Bind, Deed, Handed, Request, notes_in}
 use Rattle.wl_server.specs.Ids.{ClientParts, IdParts, same_client}
-use Rattle.wl_server.specs.Lookups.{and_then}
 use Rattle.wl_server.specs.Part.{Part, fresh_object, id_at, named, id_of, serial_of}
-use Rattle.wl_server.specs.PartStep.{ReadsFor, World, around}
-use Rattle.wl_server.specs.Plain.{killed_in}
+use Rattle.wl_server.specs.PartStep.{Asked, OfClient, World, around}
+use Rattle.wl_server.specs.Steps.{Makes}
+use Rattle.wl_server.specs.Plain.{client_in, killed_in, object_in}
 use Rattle.wl_server.specs.Plain.Reading.{IsHandedOut, IsOld, ReadAs, ReadingMemory, ReadsClient, ReadsWithin}
-use Rattle.wl_server.specs.Reading.{Around, NextAction, action_content, answered, new_reading, read_on, action_in, binds, breaks, converted, garbled, new_at, other_request, reads_on, replies, server, stops_if, synced, with_registry, registers, syncs}
-use Rattle.wl_server.specs.ReadingEnds.{ComesOfLast, ReadingEnds}
+use Rattle.wl_server.specs.Reading.{Around, NextAction, action_content, answered, exchanges_in, new_reading, read_on, binds, breaks, converted, garbled, other_request, server, registers, syncs}
+use Rattle.wl_server.specs.ReadingEnds.{ComesOfLast, EndsForAReason, ReadingEnds}
 use Rattle.wl_server.specs.Server.{Seen, seen}
-use Rattle.wl_server.specs.Telling.{Core, end_deeds, part_of, reader_part, Did, Told, closed_down, deletions, done_message, introductions, objects_in, with_objects}
+use Rattle.wl_server.specs.Telling.{Core, deeds_of, end_deeds, part_of, reader_part, Told, closed_down, objects_in}
 use Rattle.wl_server.proofs.Dispatches.Receiving.{reading_bounded}
-use Rattle.wl_server.proofs.Plain.Base.{keeps, nothing_new, of_each, of_own, offer_of, other_stays, own, split_bool, when_false, when_true}
-use Rattle.wl_server.proofs.Plain.ReadingEnds.{reading_ends, IsRead, Turned, garbled_turns, reads_of, request_turns, still_answered}
+use Rattle.wl_server.proofs.Plain.Base.{IsOfOne, became, names_stay, none_and_some, nothing_new, of_one, one_value, same_is, split_bool, stored_stay, not_stored}
+use Rattle.wl_server.proofs.OverRuns.Cut.CuttingLaws.{reads_to}
+use Rattle.wl_server.proofs.Readings.Finishing.{where_none, where_some}
+use Rattle.wl_server.proofs.Plain.ReadingEnds.{MemoryOf, reading_ends, reading_memory}
 use Rattle.wl_server.proofs.Plain.ReadingNotes.{notes_of_reading}
 use Rattle.wl_wire.specs.Message.{WireMessage}
 use Rattle.wl_wire.specs.Table.{MessageRow, name_of, callback_id, registry_id}
 use Rattle.wl_link.specs.declared.object.Object.{Object}
-use Rattle.wl_link.specs.Link.{LinkState, count_of, counted_answer}
-use Rattle.wl_link.specs.Puts.{Said, lacks_memory}
 use Rattle.wl_server.specs.declared.objects.Kept.{Kept}
 use Rattle.wl_server.specs.Errors.{since_text}
 use Rattle.wl_server.specs.Requests.{Outcome, convert, start, Whole, Wrong, is_valid_new, made_object, with_made}
-use Rattle.wl_server.specs.Telling as telling
 use Rattle.wl_server.proofs.OverRuns.Announced.RequestCases.{request_case}
-use Rattle.wl_server.proofs.Plain.Verdicts.{no_flush}
-use Rattle.wl_server.proofs.ObjectCalls.Closing.{or_false}
-use Rattle.wl_server.proofs.Readings.Handling.{behind_puts}
-use Rattle.wl_server.proofs.Readings.Finishing.{wanted_memory}
 use Rattle.std.proofs.lemmas.Bool.{ne_eqb}
 use Rattle.wl_wire.specs.declared.interface.InterfaceId.{InterfaceId}
 use Rattle.wl_link.proofs.Ids.StoreLaws.{held_removed, held_stored}
@@ -172,88 +165,6 @@ module _ {T U G C : Type 0} (sends : T → Queue → Result ℕ IoFault → T �
       })
       left before end turns out reads
 
--- ---- whether memory was refused in a reading, by its answer
-
--- Memory was refused if the answer is `OutOfMemory`, and it may have been if it is `Pipe`. Else it was not.
-abbrev pub MemoryOf : Result Handed ActionError → Bool → Type 0
-MemoryOf (Err (Io fault.OutOfMemory)) refused = refused ≡ true
-MemoryOf (Err (Io fault.Pipe)) refused = Unit {0}
-MemoryOf _ refused = refused ≡ false
-
-module _ {T U G C : Type 0} (sends : T → Queue → Result ℕ IoFault → T → Type 0) (receives : T → ℕ → Result Queue IoFault → T → Type 0) (a : Around G C) where
-  -- if memory was refused, the client is killed, and the answer is `Pipe`
-  abbrev Pipes : List (Given (Told U)) → Bool → ReaderState T (Core U C) → Type 0
-  Pipes first lacked mid = lacked ≡ true → (mid.core.is_killed ≡ true) × (action_in first ≡ Err (Io fault.Pipe))
-
-  abbrev Lacking : Verdict (Core U C) (Told U) → Type 0
-  Lacking v =
-      (link : LinkState T) (es : List Sending) (first : List (Given (Told U))) (lacked : Bool) (mid : ReaderState T (Core U C))
-      → CarriesOut sends (server a) v link es first lacked mid → Pipes first lacked mid
-
-  -- a verdict that puts nothing and asks for nothing
-  quiet_lacks : (v : Verdict (Core U C) (Told U)) → v.puts ≡ [] → v.flushes ≡ false → v.asks ≡ false → Lacking v
-  quiet_lacks v h1 h2 h3 = grind (arith, true≢false, lacks_memory, no_flush)
-
-  breaks_lacks : (c : Core U C) (code : ℕ) (text : List ℕ) → Lacking (breaks a c code text)
-  breaks_lacks c code text = grind (arith, action_in, behind_puts, came_to, server, breaks)
-
-  replies_lacks : (m : Core U C) (puts : List Said) (did : List (Deed U)) → action_in (map HandedOut (map Did did ++ telling.Stops fault.Pipe ∷ [])) ≡ Err (Io fault.Pipe)
-      → Lacking (replies m puts did)
-  replies_lacks m puts did h1 = grind (arith, came_to, server, replies, closed_down, wanted_memory, or_false, lacks_memory, no_flush, action_in, put_and_gave, stops_if, behind_puts, true≢false)
-
-  handles_lacks : (c : Core U C) (m : WireMessage) → Lacking ((server a).handles c m)
-  handles_lacks c m =
-      request_case a c Lacking (quiet_lacks (garbled c) refl refl refl) (breaks_lacks c)
-      (λ n valid. replies_lacks (synced a c n) (done_message (new_at a c n) ∷ deletions n) [] refl)
-      (λ n valid. replies_lacks (with_registry a c n) (introductions a.table (new_at a c n) 0 (shown a.views a.globals a.client c.client_data)) (Remembered (new_at a c n) ∷ []) refl)
-      (λ g version n x valid. quiet_lacks (binds a c g version n x) refl refl refl) m (λ receiver row holds other. others receiver row)
-    where
-      converts : (receiver : Object (Kept U)) (row : MessageRow) (o : Outcome U) → Lacking (converted a c m receiver row o)
-      converts receiver row h3 = grind (arith, breaks_lacks, with_objects, quiet_lacks, converted)
-
-      others : (receiver : Object (Kept U)) (row : MessageRow) → Lacking (other_request a c m receiver row)
-      others receiver row = go (nat_lt receiver.version row.since)
-        where
-          go : (b : Bool) → Lacking (cond b
-              (breaks a c 1 (since_text m.opcode receiver.version row.since (name_of a.table receiver.interface.0) m.sender))
-              (converted a c m receiver row (convert a.client receiver.version (start (objects_in c) row) [] m.args)))
-          go true = breaks_lacks c 1 _
-          go false = converts receiver row (convert a.client receiver.version (start (objects_in c) row) [] m.args)
-
-  -- ---- over the turns
-
-  abbrev pub MemoryAt : Gives (Told U) → Type 0
-  MemoryAt out = MemoryOf (answered out.stopped out.gave) out.refused
-
-  halts_memory : (left : ℕ) (before : ReaderState T (Core U C)) (out : Gives (Told U)) → Halts sends (server a) left before out → MemoryAt out
-  halts_memory left before out h1 = grind (arith)
-
-  no_more : (left : ℕ) (mid end : ReaderState T (Core U C)) (turns : List Turn) (rest : Gives (Told U)) → reads_on mid.core ≡ false
-      → Reads sends (server a) receives left mid turns rest end → rest ≡ stops None false left
-  no_more left mid end [] rest off (same, stops') = when_false _ (reads_on mid.core) off stops'
-  no_more left mid end (Received r ∷ turns) rest off h = absurd (true≢false (sym h.0 ∙ off))
-  no_more left mid end (Handled es ∷ turns) rest off h = absurd (true≢false (sym h.0 ∙ off))
-  no_more left mid end (Unread es ∷ turns) rest off h = absurd (true≢false (sym h.0 ∙ off))
-
-  then_memory : (t : Turn) (before mid end : ReaderState T (Core U C)) (left : ℕ) (turns : List Turn) (first : List (Given (Told U))) (lacked : Bool) (rest out : Gives (Told U))
-      → out ≡ given_first first lacked rest → Turned sends receives a t before first mid → Pipes first lacked mid → Reads sends (server a) receives left mid turns rest end
-      → (IsRead mid.core → MemoryAt rest) → MemoryAt out
-  then_memory t before mid end left turns first lacked rest out h1 h2 h3 h4 h5 = grind (arith, still_answered, answered, true≢false, given_first, no_more, action_in, append-nil)
-
-  pub reads_memory : (left : ℕ) (before : ReaderState T (Core U C)) (turns : List Turn) (out : Gives (Told U)) (end : ReaderState T (Core U C)) → IsRead before.core
-      → Reads sends (server a) receives left before turns out end → MemoryAt out
-  reads_memory left before [] out end r (same, stops') = halts_memory left before out (when_true _ (reads_on before.core) (reads_of before.core r) stops')
-  reads_memory left before (Received got ∷ turns) out end r (on, lacks, (n, is, (link, filled, room, h))) = grind (arith, either_result, counted_answer, count_of, with_link, reads_memory n (with_link before link) turns out end r)
-  reads_memory left before (Handled es ∷ turns) out end r (on, (v, link, first, lacked, mid, rest, (m, read, is), by, split, more)) =
-      let by' = subst (λ (w : Verdict (Core U C) (Told U)). CarriesOut sends (server a) w link es first lacked mid) is by in
-      then_memory (Handled es) before mid end left turns first lacked rest out split (request_turns sends receives a before.core r before.link link m read es first lacked mid by')
-      (handles_lacks before.core m link es first lacked mid by') more (λ r'. reads_memory left mid turns rest end r' more)
-  reads_memory left before (Unread es ∷ turns) out end r (on, (v, link, first, lacked, mid, rest, (read, same, is), by, split, more)) =
-      let by' = subst (λ (w : Verdict (Core U C) (Told U)). CarriesOut sends (server a) w link es first lacked mid) is by in
-      then_memory (Unread es) before mid end left turns first lacked rest out split
-      (garbled_turns sends receives a Unread before before.core r (λ es'. read) link es first lacked mid by')
-      (quiet_lacks (garbled before.core) refl refl refl link es first lacked mid by') more (λ r'. reads_memory left mid turns rest end r' more)
-
 module _ {T U C : Type 0} where
   abbrev seen_as : Part T U C → List (Happening U) → Seen T U C
   seen_as q made = record { part = Some q; made = made }
@@ -295,114 +206,151 @@ module _ {T U G C : Type 0} (sends : T → Queue → Result ℕ IoFault → T �
       → (other : IdParts) → IsOld (Some p) other → named q.store other ≡ named p.store other
   next_stays p q r r' answer lacked did h other old = grind (arith, either_option, named, split_bool, reads_keep, reader_part)
 
-module _ {T U G C : Type 0} (w : World T G C) (id target : ClientParts) (offer : Offer G) (r r' : Reading) (answer : Result Handed ActionError) (s t : Seen T U C) (lacked : Bool)
-    (did : List (Deed U)) where
-  pub stays_named : ReadsFor w id offer target r answer r' s lacked did t → (other : IdParts) → IsOld s.part other
-      → and_then t.part (λ p. named p.store other) ≡ and_then s.part (λ p. named p.store other)
-  stays_named h other old = grind (arith, split_bool, same_client, and_then, named, either_option, next_stays, around)
+  -- what it leaves goes on from what it found
+  next_goes : (p q : Part T U C) (r r' : Reading) (answer : Result Handed ActionError) (lacked : Bool) (did : List (Deed U)) → NextAction sends receives a r p answer r' lacked did q
+      → (r' ≡ r) ⊎ ((turns handled : ℕ) × (r' ≡ read_on r turns handled))
+  next_goes p q r r' answer lacked did h = grind (arith, either_option, split_bool, handled_in)
 
-module _ {T U G C : Type 0} (w : World T G C) (id : ClientParts) (offer : Offer G) (r r' : Reading) (answer : Result Handed ActionError) (s t : Seen T U C) (lacked : Bool) (did : List (Deed U)) where
-  pub reads_as : ReadsFor w id offer id r answer r' s lacked did t → ReadAs offer.table id answer s t
-  reads_as h =
-      elim (either_option s.part (own id s (λ p q. NextAction w.sends w.receives (around w id offer) r p answer r' lacked did q)
-      ((answer ≡ Err (Io fault.InvalidInput)) × (r' ≡ r)) lacked did t h)) [
-        | inl (none, ((says, same), (calm, nothing, stays))) ↦ inl (none, says, stays)
-        | inr (p, there, (q, next, is)) ↦ next_as w.sends w.receives (around w id offer) s t p q r r' answer lacked did there is next
-      ]
+  -- whether memory was refused
+  next_memory : (p q : Part T U C) (r r' : Reading) (answer : Result Handed ActionError) (lacked : Bool) (did : List (Deed U)) → NextAction sends receives a r p answer r' lacked did q
+      → MemoryOf answer lacked
+  next_memory p q r r' answer lacked did h = grind (arith, either_option, split_bool, reading_memory)
+
+  next_killed : (p q : Part T U C) (r r' : Reading) (answer : Result Handed ActionError) (lacked : Bool) (did : List (Deed U)) → NextAction sends receives a r p answer r' lacked did q
+      → answer ≡ Err (Io fault.Pipe) → lacked ≡ true → (p.is_killed ≡ false) × (q.is_killed ≡ true)
+  next_killed p q r r' answer lacked did h pipe lacks = grind (arith, either_option, split_bool, reading_ends, true≢false, reader_part)
+
+-- ---- the call
+
+module _ {T U G C : Type 0} (w : World T G C) (before after : BackendState T U G C) (id : ClientParts) (r : Reading) (answer : Result Action ActionError) (P : Reading → Type 0) where
+  -- what a reading does to its client, if what it leaves is so
+  abbrev Does : ClientParts → Bool → List (Deed U) → Part T U C → Part T U C → Type 0
+  Does client lacked did p q = (left : Reading) × P left × NextAction w.sends w.receives (around w client before.server.offer) r p (action_content answer) left lacked did q
+
+  abbrev pub IsReading : Type 0
+  IsReading = IsOfOne before after id (Does id) ((action_content answer ≡ Err (Io fault.InvalidInput)) × P r)
+
+  abbrev here : Around G C
+  here = around w id before.server.offer
+
+  module _ (one : IsReading) where
+    pub reads_as : ReadAs before.server.offer.table id (action_content answer) (seen id before.server) (seen id after.server)
+    reads_as =
+        elim one.own [
+          | not_stored none (says, so) calm same ↦ inl (none, says, same)
+          | became p q did there (left, so, next) same ↦ next_as w.sends w.receives here _ _ p q r left (action_content answer) after.refused did there same next
+        ]
+
+    -- whether memory was refused
+    memory_by : (a : Result Handed ActionError) → MemoryOf a after.refused
+        → (a ≡ Err (Io fault.Pipe) → after.refused ≡ true → (killed_in before id ≡ Some false) × (killed_in after id ≡ Some true)) → ReadingMemory before id a after
+    memory_by (Err (Io fault.Pipe)) memory pipe = pipe refl
+    memory_by _ memory pipe = memory
+
+    reads_memory : ReadingMemory before id (action_content answer) after
+    reads_memory =
+        elim one.own [
+          | not_stored none (says, so) calm same ↦ rw says calm
+          | became p q did there (left, so, next) same ↦
+              memory_by _ (next_memory w.sends w.receives here p q r left _ after.refused did next)
+              (λ pipe lacks. let (live, dead) = next_killed w.sends w.receives here p q r left _ after.refused did next pipe lacks in (
+                ap (option_map (λ (x : Part T U C). x.is_killed)) there ∙ ap Some live,
+                ap (λ (x : Seen T U C). option_map (λ (p : Part T U C). p.is_killed) x.part) same ∙ ap Some dead,
+              ))
+        ]
+
+    names_old : (other : IdParts) → IsOld (client_in before other.client) other → object_in after other ≡ object_in before other
+    names_old other old =
+        names_stay one other
+        (λ about did p q there (left, so, next). next_stays w.sends w.receives here p q r left _ after.refused did next other
+        (subst (λ (o : Option (Part T U C)). IsOld o other) (rw (same_is id other.client about) at there) old))
+
+    pub reads_client : ReadsClient before id answer after
+    reads_client = record { client = reads_as; objects = names_old; clients = one.clients; stored = stored_stay one; globals = one.globals; memory = reads_memory }
+
+    -- ---- why it ends
+
+    ends_so : (p q : Part T U C) (did : List (Deed U)) (left : Reading) → seen id after.server ≡ record { part = Some q; made = (seen id before.server).made ++ notes_in did }
+        → NextAction w.sends w.receives here r p (action_content answer) left after.refused did q → p.is_killed ≡ false → p.action ≡ None
+        → (turns : List Turn) × (out : Gives (Told U)) × (end : ReaderState T (Core U C)) × Reads w.sends (server here) w.receives r.turns_left (reader_part p) turns out end
+        × (action_content answer ≡ answered out.stopped out.gave) × (after.refused ≡ out.refused)
+        × ReadingEnds w.sends w.receives here (reader_part p) turns (action_content answer) after.refused out.left end × (left ≡ read_on r out.left (handled_in turns))
+        × (seen id after.server ≡ record { part = Some (part_of end); made = (seen id before.server).made ++ notes_in (end_deeds {U = U} end.core.ended) })
+    ends_so p q did left same next live idle =
+        let (turns, out, end, reads, says, left_is, lacks, did_so, ends) = reads_to w.sends w.receives here r p (action_content answer) left after.refused did q live idle next in (
+          turns,
+          out,
+          end,
+          reads,
+          says,
+          lacks,
+          (grind (arith, reading_ends w.sends w.receives here r.turns_left p turns out end live idle reads)),
+          left_is,
+          (grind (arith, part_of end, deeds_of (exchanges_in turns) out.gave end.core, notes_in (end_deeds {U = U} end.core.ended), notes_of_reading w.sends w.receives here r.turns_left (reader_part p) turns out end reads)),
+        )
+
+    pub ends_for_a_reason : (left : Reading) × P left × EndsForAReason w before id r answer left after
+    ends_for_a_reason =
+        elim one.own [
+          | not_stored none (says, so) calm same ↦ (r, so, λ p there live idle. absurd (none_and_some _ none there))
+          | became p q did there (left, so, next) same ↦ (
+            left,
+            so,
+            λ p' there'.
+                ends_so p' q did left same (subst (λ (x : Part T U C). NextAction w.sends w.receives here r x (action_content answer) left after.refused did q) (one_value _ there there') next),
+          )
+        ]
+
+    -- what it leaves goes on from what it found
+    goes_on : (left : Reading) × P left × ((left ≡ r) ⊎ ((turns handled : ℕ) × (left ≡ read_on r turns handled)))
+    goes_on =
+        elim one.own [
+          | not_stored none (says, so) calm same ↦ (r, so, inl refl)
+          | became p q did there (left, so, next) same ↦ (left, so, next_goes w.sends w.receives here p q r left _ after.refused did next)
+        ]
+
+-- what a reading is of a client, whatever it leaves
+of_reading : {T U C : Type 0} {R R' : Part T U C → Part T U C → Type 0} {missing missing' : Type 0} (b : Bool) (s t : Seen T U C) (lacked : Bool) (did : List (Deed U))
+    → ((p q : Part T U C) → R p q → R' p q) → (missing → missing') → OfClient b s R missing lacked did t → OfClient b s R' missing' lacked did t
+of_reading false s t lacked did each none h = h
+of_reading true s t lacked did each none h =
+    elim (either_option s.part h) [
+      | inl (is, (m, rest)) ↦ where_none _ (sym is) _ _ (none m, rest)
+      | inr (p, there, (q, r, same)) ↦ where_some _ p (sym there) _ _ (q, each p q r, same)
+    ]
 
 module _ {T U G C : Type 0} (w : World T G C) (before after : BackendState T U G C) (id : ClientParts) where
-  -- ---- whether memory was refused
+  next_action_one : (answer : Result Action ActionError) → Calls w before (step.NextAction id) (reply.NextAction answer) after
+      → IsReading w before after id new_reading answer (λ left. Unit {0})
+  next_action_one answer call =
+      of_one call.step id (Does w before after id new_reading answer (λ left. Unit {0})) _
+      (λ client s t lacked did (a, left, is, h). let e : a ≡ answer = cc in of_reading (same_client id client) s t lacked did (λ p q next. (left, tt, next)) (λ m. (m.0, tt)) (rw e at h)) refl refl refl
 
-  memory_by : (answer : Result Handed ActionError) → MemoryOf answer after.refused
-      → (answer ≡ Err (Io fault.Pipe) → after.refused ≡ true → (killed_in before id ≡ Some false) × (killed_in after id ≡ Some true)) → ReadingMemory before id answer after
-  memory_by (Err (Io fault.Pipe)) memory pipe = pipe refl
-  memory_by _ memory pipe = memory
-
-  memory_as : (r r' : Reading) (answer : Result Handed ActionError) (did : List (Deed U))
-      → ReadsFor w id before.server.offer id r answer r' (seen id before.server) after.refused did (seen id after.server) → ReadingMemory before id answer after
-  memory_as r r' answer did h =
-      elim (either_option (seen id before.server).part (own id _ _ _ after.refused did _ h)) [
-        | inl (none, ((says, same), (calm, nothing, stays))) ↦ subst (λ (x : Result Handed ActionError). ReadingMemory before id x after)
-            (sym says) calm
-        | inr (p, there, (q, next, is)) ↦
-            elim (either_option p.action next) [
-              | inr (action, is_open, (says, same, calm, none, stays)) ↦ subst (λ (x : Result Handed ActionError). ReadingMemory before id x after)
-                  (sym says) calm
-              | inl (idle, g) ↦
-                  elim (split_bool p.is_killed g) [
-                    | inl (dead, (says, same, calm, none, stays)) ↦ subst (λ (x : Result Handed ActionError). ReadingMemory before id x after)
-                        (sym says) (λ known. absurd (true≢false (sym known ∙ calm)))
-                    | inr (live, (turns, out, end, reads, says, same, calm, did_so, ends)) ↦
-                        let memory = reads_memory w.sends w.receives (around w id before.server.offer) r.turns_left (reader_part p) turns out end
-                        (record { live = live; idle = idle; fresh = refl }) reads in
-                        memory_by answer
-                        (subst (λ (x : Result Handed ActionError). MemoryOf x after.refused) (sym says) (subst (λ (b : Bool). MemoryOf (answered out.stopped out.gave) b) (sym calm) memory))
-                        (λ pipe known. (
-                          ap (option_map (λ (x : Part T U C). x.is_killed)) there ∙ ap Some live,
-                          ap (λ (x : Seen T U C). option_map (λ (p : Part T U C). p.is_killed) x.part) is ∙ ap (λ (x : Part T U C). Some x.is_killed) ends
-                              ∙ ap Some
-                              (subst (λ (x : Result Handed ActionError). ReadingEnds w.sends w.receives (around w id before.server.offer)
-                              (reader_part p) turns x out.refused out.left end) (sym says ∙ pipe)
-                              (reading_ends w.sends w.receives (around w id before.server.offer) r.turns_left p turns out end live idle reads)).1.0,
-                        ))
-                  ]
-            ]
-      ]
-
-  -- ---- a reading
-
-  -- what is read of each client
-  abbrev Each : Reading → Result Action ActionError → Type 0
-  Each r answer =
-      (other : ClientParts) → (lacked : Bool) × (did : List (Deed U)) × (r' : Reading)
-      × ReadsFor w other before.server.offer id r (action_content answer) r' (seen other before.server) lacked did (seen other after.server)
-
-  reads_all : (r : Reading) (answer : Result Action ActionError) → after.server.offer ≡ before.server.offer → ReadingMemory before id (action_content answer) after → Each r answer
-      → ReadsClient before id answer after
-  reads_all r answer offer memory each = record {
-    client = (let (lacked, did, r', h) = each id in reads_as w id before.server.offer r r' (action_content answer) _ _ lacked did h);
-    objects = λ other old.
-        let (lacked, did, r', h) = each other.client in
-        stays_named w other.client id before.server.offer r r' (action_content answer) _ _ lacked did h other old;
-    clients = λ other differ. let (lacked, did, r', h) = each other in other_stays (same_client id other) _ _ _ lacked did _ differ h;
-    stored = λ other.
-        let (lacked, did, r', h) = each other in
-        keeps (same_client id other) _ _ _ lacked did _ (λ x. is_some x) (λ about p q next. refl) h;
-    globals = offer;
-    memory = memory;
-  }
+  pub within_one : (reading left : Reading) (answer : Result Action ActionError)
+      → Makes w before.server (Asked (step.NextActionWithin id reading) (reply.NextActionWithin answer left)) after.refused after.server
+      → IsReading w before after id reading answer (λ l. l ≡ left)
+  within_one reading left answer made =
+      of_one made id (Does w before after id reading answer (λ l. l ≡ left)) _
+      (λ client s t lacked did (a, l, is, h). let e : a ≡ answer = cc in let same : l ≡ left = cc in
+      of_reading (same_client id client) s t lacked did (λ p q next. (l, same, next)) (λ m. (m.0, sym m.1 ∙ same)) (rw e at h)) refl refl refl
 
   pub next_action_reads : (answer : Result Action ActionError) → Calls w before (step.NextAction id) (reply.NextAction answer) after → ReadsClient before id answer after
-  next_action_reads answer call =
-      reads_all new_reading answer (offer_of call)
-      (let (did, (r, left, is, h)) = of_own call id refl (λ other lacked did differ (r, left, is, h). (when_false _ (same_client id other) differ h).0) in
-      grind (arith, memory_as, new_reading, action_content, seen))
-      (λ other.
-      let (lacked, did, (r, left, is, h)) = of_each call other in grind (arith, new_reading, action_content, seen))
+  next_action_reads answer call = reads_client w before after id new_reading answer _ (next_action_one answer call)
 
-  -- ---- a reading that goes on with what an earlier one left
-
-  goes_on : (r r' : Reading) (answer : Result Handed ActionError) (lacked : Bool) (did : List (Deed U))
-      → ReadsFor w id before.server.offer id r answer r' (seen id before.server) lacked did (seen id after.server) → (r' ≡ r) ⊎ ((left handled : ℕ) × (r' ≡ read_on r left handled))
-  goes_on r r' answer lacked did h1 = grind (arith, either_option, seen, own, split_bool, handled_in, same_client)
+  pub next_action_ends : (answer : Result Action ActionError) → Calls w before (step.NextAction id) (reply.NextAction answer) after
+      → (left : Reading) × EndsForAReason w before id new_reading answer left after
+  next_action_ends answer call = let (left, so, ends) = ends_for_a_reason w before after id new_reading answer _ (next_action_one answer call) in (left, ends)
 
   pub reads_within : (reading left : Reading) (answer : Result Action ActionError) → Calls w before (step.NextActionWithin id reading) (reply.NextActionWithin answer left) after
       → ReadsWithin before id reading answer left after
-  reads_within reading left answer call = record {
-    reads = reads_all reading answer (offer_of call)
-        (let (did, (r, l, is, h)) = of_own call id refl (λ other lacked did differ (r, l, is, h). (when_false _ (same_client id other) differ h).0) in
-        grind (arith, memory_as, action_content, seen))
-        (λ other.
-        let (lacked, did, (r, l, is, h)) = of_each call other in grind (arith, action_content, seen));
-    turns = (
-        let (e, is, refused, by) = call.step in
-        let few = reading_bounded w id before.server after.server e reading left answer is by in omega (arith, few)
-        );
-    count = (
-        let (lacked, did, (r, l, is, h)) = of_each call id in
-        grind (arith, min, subst (λ (x : Reading). (x ≡ reading) ⊎ ((left handled : ℕ) × (x ≡ read_on reading left handled))) (inside r l is) (goes_on reading l (action_content r) lacked did h))
-        );
-  }
-    where
-      inside : (r : Result Action ActionError) (l : Reading) → ◌≡◌ {A = Reply T U} (reply.NextActionWithin answer left) (reply.NextActionWithin r l) → l ≡ left
-      inside r l is = cc
+  reads_within reading left answer call =
+      let one = within_one reading left answer call.step in
+      let (e, is, refused, by) = call.step in
+      let few = reading_bounded w id before.server after.server e reading left answer is by in
+      record { reads = reads_client w before after id reading answer _ one; turns = omega (arith, few); count = grind (arith, min, goes_on w before after id reading answer _ one) }
+
+  pub next_action_within_ends : (reading left : Reading) (answer : Result Action ActionError)
+      → Calls w before (step.NextActionWithin id reading) (reply.NextActionWithin answer left) after → EndsForAReason w before id reading answer left after
+  next_action_within_ends reading left answer call =
+      let (l, same, ends) = ends_for_a_reason w before after id reading answer _ (within_one reading left answer call.step) in
+      subst (λ (l : Reading). EndsForAReason w before id reading answer l after) same ends

@@ -13,7 +13,7 @@ use Rattle.wl_link.specs.declared.object.Object.{Object}
 use Rattle.wl_link.proofs.Ids.StoreLaws.{stored_here, held_stored}
 use Rattle.wl_link.specs.Exchange.{Queue, Sending}
 use Rattle.wl_link.specs.Link.{FilledBy, LinkState, count_of, counted_answer}
-use Rattle.wl_link.specs.Puts.{Said}
+use Rattle.wl_link.specs.Puts.{Said, lacks_memory}
 use Rattle.wl_link.specs.Reader.{CarriesOut, Given, Gives, Handled, HandedOut, Halts, Reads, ReadsAs, Received, Turn, Unread, Verdict, came_to, given_first, put_and_gave, stops, with_link, ReaderState}
 use Rattle.wl_link.specs.Store.{held, Store}
 use Rattle.wl_server.specs.declared.error.ActionError.{ActionError}
@@ -37,6 +37,7 @@ use Rattle.wl_server.specs.Telling.{Core, Did, Told, deletions, done_message, in
 use Rattle.wl_server.specs.Telling as telling
 use Rattle.wl_server.proofs.OverRuns.Moves.MovesOfRequests.{valid_new}
 use Rattle.wl_server.proofs.Plain.Base.{none_and_some, when_false, when_true}
+use Rattle.wl_server.proofs.Plain.Verdicts.{carried, no_flush}
 use Rattle.wl_server.proofs.Readings.Handling.{behind_puts}
 use Rattle.std.proofs.lemmas.Option.{none-some}
 use Rattle.std.specs.List.{list_any}
@@ -63,14 +64,7 @@ new_in_both _ _ payload fds r = absurd r
 
 new_on_the_wire : (args : List (Argument IdParts Token)) → is_some (new_id_in args) ≡ list_any is_new (map wire_argument args)
 new_on_the_wire [] = refl
-new_on_the_wire (arg.NewId id ∷ args) = refl
-new_on_the_wire (arg.Int z ∷ args) = new_on_the_wire args
-new_on_the_wire (arg.Uint n ∷ args) = new_on_the_wire args
-new_on_the_wire (arg.Fixed z ∷ args) = new_on_the_wire args
-new_on_the_wire (arg.Str text ∷ args) = new_on_the_wire args
-new_on_the_wire (arg.Object id ∷ args) = new_on_the_wire args
-new_on_the_wire (arg.Array bytes ∷ args) = new_on_the_wire args
-new_on_the_wire (arg.Fd token ∷ args) = new_on_the_wire args
+new_on_the_wire (x ∷ args) = grind (arith, x, new_on_the_wire args)
 
 module _ {T U G C : Type 0} (sends : T → Queue → Result ℕ IoFault → T → Type 0) (a : Around G C) (p : ReaderState T (Core U C)) (m : WireMessage) (link : LinkState T) where
   -- a message that was read has its signature from the table
@@ -79,6 +73,11 @@ module _ {T U G C : Type 0} (sends : T → Queue → Result ℕ IoFault → T �
       × (option_map (λ (r : MessageRow). r.signature) (row_in a.table (held p.core.store m.sender) m.opcode) ≡ Some signature)
       × (list_any is_new_id signature ≡ list_any is_new m.args)
   read_signed read = grind (arith, true≢false, is_new_id, ap₂, new_in_both)
+
+  -- it is to an object that is kept, and the table has the request
+  pub read_row : ReadsAs sends (server a) p (Ok m) link
+      → (receiver : Object (Kept U)) × (row : MessageRow) × (held p.core.store m.sender ≡ Some receiver) × (request_row a.table receiver.interface m.opcode ≡ Some row)
+  read_row read = grind (arith, read_signed, option_map, row_in)
 
   -- it makes an object by the table exactly if one of its arguments is a new number
   pub makes_new : ReadsAs sends (server a) p (Ok m) link → (row : MessageRow) → row_in a.table (held p.core.store m.sender) m.opcode ≡ Some row
@@ -225,6 +224,12 @@ module _ {U C : Type 0} where
   pub reads_of : (c : Core U C) → IsRead c → reads_on c ≡ true
   reads_of c r = ap (λ (b : Bool). not b && is_none c.action) r.live ∙ ap (λ (o : Option OpenAction). is_none o) r.idle
 
+-- Memory was refused in a reading if the answer is `OutOfMemory`, and it may have been if it is `Pipe`. Else it was not.
+abbrev pub MemoryOf : Result Handed ActionError → Bool → Type 0
+MemoryOf (Err (Io fault.OutOfMemory)) refused = refused ≡ true
+MemoryOf (Err (Io fault.Pipe)) refused = Unit {0}
+MemoryOf _ refused = refused ≡ false
+
 -- ---- a bind
 
 module _ {U G C : Type 0} (a : Around G C) (c : Core U C) (P : Verdict (Core U C) (Told U) → Type 0) where
@@ -239,9 +244,7 @@ module _ {U G C : Type 0} (a : Around G C) (c : Core U C) (P : Verdict (Core U C
   AreUnbound args = (g version n : ℕ) (name : Option (List ℕ)) → ¬ (args ≡ arg.Uint g ∷ arg.Str name ∷ arg.Uint version ∷ arg.NewId n ∷ [])
 
   bound_case : (args : List WireArgument) → (AreUnbound args → P (garbled c)) → ((code : ℕ) (text : List ℕ) → P (breaks a c code text)) → Bound args → P (registry_request a c args)
-  bound_case (arg.Uint g ∷ arg.Str None ∷ arg.Uint version ∷ arg.NewId n ∷ []) garbled' breaks' bound = grind (arith, held, binds_to)
-  bound_case (arg.Uint g ∷ arg.Str (Some interface) ∷ arg.Uint version ∷ arg.NewId n ∷ []) garbled' breaks' bound = grind (arith, held, binds_to, may_bind, is_valid_new, objects_in)
-  bound_case _ garbled' breaks' bound = grind (arith, true≢false)
+  bound_case args garbled' breaks' bound = grind (arith, args, held, binds_to, may_bind, is_valid_new, objects_in, true≢false)
 
   -- ---- a request to a display
 
@@ -251,8 +254,7 @@ module _ {U G C : Type 0} (a : Around G C) (c : Core U C) (P : Verdict (Core U C
 
   asked_case : (opcode : ℕ) (args : List WireArgument) → (AreUnasked args → P (garbled c)) → ((code : ℕ) (text : List ℕ) → P (breaks a c code text))
       → ((n : ℕ) → P (syncs a c n)) → ((n : ℕ) → P (registers a c n)) → P (display_request a c opcode args)
-  asked_case opcode (arg.NewId n ∷ []) garbled' breaks' syncs' registers' = grind (arith, new_id_text, is_valid_new (objects_in c) n, eqb opcode 0)
-  asked_case opcode _ garbled' breaks' syncs' registers' = grind (arith, true≢false)
+  asked_case opcode args garbled' breaks' syncs' registers' = grind (arith, new_id_text, args, eqb opcode 0, objects_in c, true≢false)
 
 module _ {T U G C : Type 0} (sends : T → Queue → Result ℕ IoFault → T → Type 0) (receives : T → ℕ → Result Queue IoFault → T → Type 0) (a : Around G C) where
   -- what is answered at the end of a reading for what the message at the front came to in this turn
@@ -270,13 +272,14 @@ module _ {T U G C : Type 0} (sends : T → Queue → Result ℕ IoFault → T �
   answers_end t before refused left _ end so = absurd so
 
   -- what a verdict came to: the client is read on, and nothing is answered; or this is answered
-  abbrev pub Turned : Turn → ReaderState T (Core U C) → List (Given (Told U)) → ReaderState T (Core U C) → Type 0
-  Turned t before first mid = (IsRead mid.core × Silent first) ⊎ ((reads_on mid.core ≡ false) × Answers t before (action_in first) mid)
+  abbrev pub Turned : Turn → ReaderState T (Core U C) → List (Given (Told U)) → Bool → ReaderState T (Core U C) → Type 0
+  Turned t before first lacked mid =
+      (IsRead mid.core × Silent first × (lacked ≡ false)) ⊎ ((reads_on mid.core ≡ false) × (Answers t before (action_in first) mid × MemoryOf (action_in first) lacked))
 
   abbrev Turns : (List Sending → Turn) → ReaderState T (Core U C) → Verdict (Core U C) (Told U) → LinkState T → Type 0
   Turns turn before v link =
       (es : List Sending) (first : List (Given (Told U))) (lacked : Bool) (mid : ReaderState T (Core U C)) → CarriesOut sends (server a) v link es first lacked mid
-      → Turned (turn es) before first mid
+      → Turned (turn es) before first lacked mid
 
   -- a killed client is read no more
   not_read : (c : Core U C) → c.is_killed ≡ true → reads_on c ≡ false
@@ -286,17 +289,17 @@ module _ {T U G C : Type 0} (sends : T → Queue → Result ℕ IoFault → T �
 
   pub garbled_turns : (turn : List Sending → Turn) (before : ReaderState T (Core U C)) (c : Core U C) → IsRead c → ((es : List Sending) → FoundNoMessage sends a (turn es) before)
       → (link : LinkState T) → Turns turn before (garbled c) link
-  garbled_turns turn before c h1 h2 link = grind (arith, true≢false, reason_if, not_read, action_in, behind_puts, some_is, not, is_none, is_some)
+  garbled_turns turn before c h1 h2 link = grind (arith, true≢false, reason_if, not_read, action_in, behind_puts, some_is, not, is_none, is_some, lacks_memory, no_flush)
 
   -- ---- a client that broke the protocol
 
   abbrev Ended : Core U C → Type 0
   Ended e = (e.is_killed ≡ true) × IsSome e.ended × (e.action ≡ None)
 
-  ended_turned : (t : Turn) (before : ReaderState T (Core U C)) (first : List (Given (Told U))) (mid : ReaderState T (Core U C)) → TookMessage sends a t before
-      → action_in first ≡ Err (Io fault.Pipe) → Ended mid.core → Turned t before first mid
-  ended_turned t before first mid took is (dead, reason, idle) =
-      inr (not_read mid.core dead, subst (λ (x : Result Handed ActionError). Answers t before x mid) (sym is) (took, reason, (dead, reason, idle)))
+  ended_turned : (t : Turn) (before : ReaderState T (Core U C)) (first : List (Given (Told U))) (lacked : Bool) (mid : ReaderState T (Core U C)) → TookMessage sends a t before
+      → action_in first ≡ Err (Io fault.Pipe) → Ended mid.core → Turned t before first lacked mid
+  ended_turned t before first lacked mid took is (dead, reason, idle) =
+      inr (not_read mid.core dead, subst (λ (x : Result Handed ActionError). Answers t before x mid × MemoryOf x lacked) (sym is) ((took, reason, (dead, reason, idle)), tt))
 
   breaks_turns : (turn : List Sending → Turn) (before : ReaderState T (Core U C)) (m : Core U C) (code : ℕ) (text : List ℕ) → IsRead m
       → ((es : List Sending) → TookMessage sends a (turn es) before) → (link : LinkState T) → Turns turn before (breaks a m code text) link
@@ -317,22 +320,19 @@ module _ {T U G C : Type 0} (sends : T → Queue → Result ℕ IoFault → T �
 
   replies_turns : (turn : List Sending → Turn) (before : ReaderState T (Core U C)) (m : Core U C) (puts : List Said) (did : List (Deed U)) → Mute did → IsRead m
       → ((es : List Sending) → TookMessage sends a (turn es) before) → (link : LinkState T) → Turns turn before (replies m puts did) link
-  replies_turns turn before m puts did h1 h2 h3 link = grind (arith, true≢false, some_is, reason_if, is_some, put_and_gave, map, stops_if, stops_when, append-nil, append_assoc, behind_puts, came_to, server, replies, ended_turned, action_in, handed_both, not_read)
+  replies_turns turn before m puts did h1 h2 h3 link = grind (arith, true≢false, some_is, reason_if, is_some, put_and_gave, map, stops_if, stops_when, lacks_memory, no_flush, append-nil, append_assoc, behind_puts, came_to, server, replies, ended_turned, action_in, handed_both, not_read)
 
   -- ---- an action
 
   hands_out_turns : (before : ReaderState T (Core U C)) (m : Core U C) (action : OpenAction) (h : Handed) → m.is_killed ≡ false → m.ended ≡ None
       → ((link : LinkState T) → ComesOfFront sends a h before (record { core = record m { action = Some action }; link = link })) → (link : LinkState T)
       → Turns Handled before (hands_out m action h) link
-  hands_out_turns before m action h live fresh comes link es first lacked mid (inr (asks, memory, none, gave, is)) = absurd (true≢false (sym asks))
-  hands_out_turns before m action h live fresh comes link es first lacked mid (inl (es1, es2, put, wrote, l, lacks, (none, nothing, ok, same), flushed, is, core, gave, refused)) =
-      let at_m : mid.core ≡ record m { action = Some action } = core ∙ ap (λ (w : Result (Unit {0}) IoFault). came_to (server a) (hands_out m action h) w) ok in
-      inr (
-        ap reads_on at_m ∙ ap (λ (b : Bool). not b && false) live,
-        subst (λ (x : Result Handed ActionError). Answers (Handled es) before x mid) (sym (ap action_in gave ∙ behind_puts put _))
-            (subst (λ (e : Core U C). (e.is_killed ≡ false) × (e.ended ≡ None) × TookOne (Handled es) × ComesOfFront sends a h before (record { core = e; link = mid.link }))
-            (sym at_m) (live, fresh, (es, refl), comes mid.link)),
-      )
+  hands_out_turns before m action h live fresh comes link es first lacked mid by =
+      let (came, (put, given)) = carried (server a) (λ c f. refl) sends (hands_out m action h) link es first lacked mid by in
+      let says : action_in first ≡ Ok h = ap action_in given ∙ behind_puts put _ in
+      let core : mid.core ≡ record m { action = Some action } = grind (arith, came, true≢false) in
+      let is : mid ≡ record { core = record m { action = Some action }; link = mid.link } = ap (λ (c : Core U C). let x : ReaderState T (Core U C) = record { core = c; link = mid.link } in x) core in
+      inr ((grind (arith, core, live)), rw says (((grind (arith, core)), (grind (arith, core)), (es, refl), rw is (comes mid.link)), (grind (arith, came))))
 
   module _ (c : Core U C) (r : IsRead c) (from link : LinkState T) (m : WireMessage)
       (read : ReadsAs sends (server a) (record { core = c; link = from }) (Ok m) link) where
@@ -404,30 +404,29 @@ module _ {T U G C : Type 0} (sends : T → Queue → Result ℕ IoFault → T �
         )) link
 
     pub request_turns : Turns Handled here ((server a).handles c m) link
-    request_turns = whole (held c.store m.sender) (row_in a.table (held c.store m.sender) m.opcode) refl refl
+    request_turns =
+        let (receiver, row, holds, has) = read_row sends a here m link read in
+        subst (λ (o : Option (Object (Kept U))). P (request a c m o (row_in a.table o m.opcode))) (sym holds)
+        (subst (λ (o : Option MessageRow). P (request a c m (Some receiver) o)) (sym has)
+        (go receiver row holds has (eqb receiver.interface.0 display_id.0) (eqb receiver.interface.0 registry_id.0) refl refl))
       where
         P : Verdict (Core U C) (Told U) → Type 0
         P v = Turns Handled here v link
 
-        whole : (receiver : Option (Object (Kept U))) (row : Option MessageRow) → held c.store m.sender ≡ receiver → row_in a.table receiver m.opcode ≡ row
-            → P (request a c m receiver row)
-        whole None row holds has = absurd (grind (arith, read_signed, here, none_and_some, option_map, row_in, held, ap (λ (o : Option (Object (Kept U))). row_in a.table o m.opcode) holds))
-        whole (Some receiver) None holds has = absurd (grind (arith, read_signed, here, none_and_some, option_map, row_in, held, ap (λ (o : Option (Object (Kept U))). row_in a.table o m.opcode) holds ∙ has))
-        whole (Some receiver) (Some row) holds has = go (eqb receiver.interface.0 display_id.0) (eqb receiver.interface.0 registry_id.0) refl refl
-          where
-            go : (b t : Bool) → eqb receiver.interface.0 display_id.0 ≡ b → eqb receiver.interface.0 registry_id.0 ≡ t
-                → P (cond b (display_request a c m.opcode m.args) (cond t (registry_request a c m.args) (other_request a c m receiver row)))
-            go true t display registry =
-                asked_case a c P m.opcode m.args
-                (λ unasked. garbled_turns Handled here c r (λ es. (m, link, read, (receiver, holds, inl (eqb-true receiver.interface.0 display_id.0 display, unasked)))) link)
-                (λ code text. breaks_turns Handled here c code text r took link)
-                (λ n. replies_turns Handled here (synced a c n) (done_message (new_at a c n) ∷ deletions n) [] (λ rest. refl) (record { live = r.live; idle = r.idle; fresh = r.fresh }) took link)
-                (λ n. replies_turns Handled here (with_registry a c n) (introductions a.table (new_at a c n) 0 (shown a.views a.globals a.client c.client_data)) (Remembered (new_at a c n) ∷ []) (λ rest. refl) (record { live = r.live; idle = r.idle; fresh = r.fresh }) took link)
-            go false true display registry =
-                bound_case a c P m.args
-                (λ unbound. garbled_turns Handled here c r (λ es. (m, link, read, (receiver, holds, inr (eqb-true receiver.interface.0 registry_id.0 registry, unbound)))) link)
-                (λ code text. breaks_turns Handled here c code text r took link) (binds_turns receiver holds registry)
-            go false false display registry = other_turns receiver row holds has
+        go : (receiver : Object (Kept U)) (row : MessageRow) → held c.store m.sender ≡ Some receiver → request_row a.table receiver.interface m.opcode ≡ Some row → (b t : Bool)
+            → eqb receiver.interface.0 display_id.0 ≡ b → eqb receiver.interface.0 registry_id.0 ≡ t
+            → P (cond b (display_request a c m.opcode m.args) (cond t (registry_request a c m.args) (other_request a c m receiver row)))
+        go receiver row holds has true t display registry =
+            asked_case a c P m.opcode m.args
+            (λ unasked. garbled_turns Handled here c r (λ es. (m, link, read, (receiver, holds, inl (eqb-true receiver.interface.0 display_id.0 display, unasked)))) link)
+            (λ code text. breaks_turns Handled here c code text r took link)
+            (λ n. replies_turns Handled here (synced a c n) (done_message (new_at a c n) ∷ deletions n) [] (λ rest. refl) (record { live = r.live; idle = r.idle; fresh = r.fresh }) took link)
+            (λ n. replies_turns Handled here (with_registry a c n) (introductions a.table (new_at a c n) 0 (shown a.views a.globals a.client c.client_data)) (Remembered (new_at a c n) ∷ []) (λ rest. refl) (record { live = r.live; idle = r.idle; fresh = r.fresh }) took link)
+        go receiver row holds has false true display registry =
+            bound_case a c P m.args
+            (λ unbound. garbled_turns Handled here c r (λ es. (m, link, read, (receiver, holds, inr (eqb-true receiver.interface.0 registry_id.0 registry, unbound)))) link)
+            (λ code text. breaks_turns Handled here c code text r took link) (binds_turns receiver holds registry)
+        go receiver row holds has false false display registry = other_turns receiver row holds has
 
   -- ---- over the turns
 
@@ -457,6 +456,9 @@ module _ {T U G C : Type 0} (sends : T → Queue → Result ℕ IoFault → T �
   abbrev pub Done : ReaderState T (Core U C) → List Turn → Gives (Told U) → ReaderState T (Core U C) → Type 0
   Done start turns out end = ReadingEnds sends receives a start turns (answered out.stopped out.gave) out.refused out.left end
 
+  abbrev pub MemoryAt : Gives (Told U) → Type 0
+  MemoryAt out = MemoryOf (answered out.stopped out.gave) out.refused
+
   done_at : (start : ReaderState T (Core U C)) (turns : List Turn) (out out' : Gives (Told U)) (end end' : ReaderState T (Core U C)) → out ≡ out' → end ≡ end' → Done start turns out' end'
       → Done start turns out end
   done_at start turns out out' end end' is same so =
@@ -469,39 +471,52 @@ module _ {T U G C : Type 0} (sends : T → Queue → Result ℕ IoFault → T �
   halts_end left before out r (inr (inr (lacks, (n, one, is)))) = done_at before [] out _ before before is refl (inr (refl, inr lacks), (r.live, r.fresh, r.idle))
 
   -- an action or a reason is there, and nothing more is read
-  turned_end : (t : Turn) (start : ReaderState T (Core U C)) (left : ℕ) (mid end : ReaderState T (Core U C)) (turns : List Turn) (first : List (Given (Told U))) (lacked : Bool) (rest : Gives (Told U))
-      → reads_on mid.core ≡ false → Answers t start (action_in first) mid → Reads sends (server a) receives left mid turns rest end
-      → Done start (t ∷ turns) (given_first first lacked rest) end
-  turned_end t start left mid end [] first lacked rest off so (same, stops') = grind (arith, stops, when_false, reads_on, given_first, action_in, append-nil, answers_end, true≢false)
-  turned_end t start left mid end (Received r ∷ turns) first lacked rest off so h = absurd (true≢false (sym h.0 ∙ off))
-  turned_end t start left mid end (Handled es ∷ turns) first lacked rest off so h = absurd (true≢false (sym h.0 ∙ off))
-  turned_end t start left mid end (Unread es ∷ turns) first lacked rest off so h = absurd (true≢false (sym h.0 ∙ off))
+  no_more : (left : ℕ) (mid end : ReaderState T (Core U C)) (turns : List Turn) (rest : Gives (Told U)) → reads_on mid.core ≡ false
+      → Reads sends (server a) receives left mid turns rest end → (turns ≡ []) × (end ≡ mid) × (rest ≡ stops None false left)
+  no_more left mid end [] rest off (same, stops') = (refl, same, when_false _ (reads_on mid.core) off stops')
+  no_more left mid end (Received r ∷ turns) rest off h = absurd (true≢false (sym h.0 ∙ off))
+  no_more left mid end (Handled es ∷ turns) rest off h = absurd (true≢false (sym h.0 ∙ off))
+  no_more left mid end (Unread es ∷ turns) rest off h = absurd (true≢false (sym h.0 ∙ off))
 
-  then_ends : (t : Turn) (start : ReaderState T (Core U C)) (left : ℕ) (mid end : ReaderState T (Core U C)) (turns : List Turn) (first : List (Given (Told U))) (lacked : Bool) (rest out : Gives (Told U))
-      → out ≡ given_first first lacked rest → TurnLeads sends receives a t start mid → Turned t start first mid → Reads sends (server a) receives left mid turns rest end
-      → (IsRead mid.core → Done mid turns rest end) → Done start (t ∷ turns) out end
-  then_ends t start left mid end turns first lacked rest out h1 h2 h3 h4 h5 = grind (arith, done_at, given_first, still_answered, ends_later, answered, turned_end, later_turn, itself_later, stops, when_false, reads_on, action_in, append-nil, answers_end, true≢false)
+  module _ (t : Turn) (start mid end : ReaderState T (Core U C)) (left : ℕ) (turns : List Turn) (first : List (Given (Told U))) (lacked : Bool) (rest out : Gives (Told U)) where
+    then_ends : out ≡ given_first first lacked rest → TurnLeads sends receives a t start mid → Turned t start first lacked mid → Reads sends (server a) receives left mid turns rest end
+        → (IsRead mid.core → Done mid turns rest end) → Done start (t ∷ turns) out end
+    then_ends h1 h2 h3 h4 h5 =
+        grind (arith, done_at, given_first, still_answered, ends_later, answered, no_more, later_turn, itself_later, stops, reads_on, action_in, append-nil, answers_end, true≢false)
+
+    then_memory : out ≡ given_first first lacked rest → Turned t start first lacked mid → Reads sends (server a) receives left mid turns rest end → (IsRead mid.core → MemoryAt rest) → MemoryAt out
+    then_memory h1 h2 h3 h4 = grind (arith, still_answered, answered, true≢false, given_first, no_more, action_in, append-nil)
+
+    then_both : out ≡ given_first first lacked rest → TurnLeads sends receives a t start mid → Turned t start first lacked mid → Reads sends (server a) receives left mid turns rest end
+        → (IsRead mid.core → Done mid turns rest end × MemoryAt rest) → Done start (t ∷ turns) out end × MemoryAt out
+    then_both split leads turned more on = (then_ends split leads turned more (λ r. (on r).0), then_memory split turned more (λ r. (on r).1))
 
   pub read_ends : (left : ℕ) (before : ReaderState T (Core U C)) (turns : List Turn) (out : Gives (Told U)) (end : ReaderState T (Core U C)) → IsRead before.core
-      → Reads sends (server a) receives left before turns out end → Done before turns out end
+      → Reads sends (server a) receives left before turns out end → Done before turns out end × MemoryAt out
   read_ends left before [] out end r (same, stops') = grind (arith, done_at, halts_end, when_true, reads_on, reads_of, true≢false, not, is_none)
   read_ends left before (Received got ∷ turns) out end r (on, lacks, (n, is, (link, filled, room, h))) =
       elim (split_result (counted_answer (count_of got)) h) [
         | inl (u, ok, more) ↦
-            ends_later (Received got) turns (answered out.stopped out.gave) false out.refused out.left end before (with_link before link)
-            (link, subst (λ (c : Result (Unit {0}) IoFault). FilledBy receives before.link got c link) ok filled, refl)
-            (read_ends n (with_link before link) turns out end r more)
-        | inr (f, failed, (over, stopped, same)) ↦ grind (arith, done_at, some_is, reason_if, true≢false, is_some)
+            let (ends, memory) = read_ends n (with_link before link) turns out end r more in (
+              ends_later (Received got) turns (answered out.stopped out.gave) false out.refused out.left end before (with_link before link)
+                  (link, subst (λ (c : Result (Unit {0}) IoFault). FilledBy receives before.link got c link) ok filled, refl) ends,
+              memory,
+            )
+        | inr (f, failed, (over, stopped, same)) ↦ grind (arith, done_at, some_is, reason_if, true≢false, is_some, lacks_memory)
       ]
   read_ends left before (Handled es ∷ turns) out end r (on, (v, link, first, lacked, mid, rest, (m, read, is), by, split, more)) =
-      then_ends (Handled es) before left mid end turns first lacked rest out split (v, link, first, lacked, (m, read, is), by)
+      then_both (Handled es) before mid end left turns first lacked rest out split (v, link, first, lacked, (m, read, is), by)
       (request_turns before.core r before.link link m read es first lacked mid
       (subst (λ (w : Verdict (Core U C) (Told U)). CarriesOut sends (server a) w link es first lacked mid) is by)) more (λ r'. read_ends left mid turns rest end r' more)
   read_ends left before (Unread es ∷ turns) out end r (on, (v, link, first, lacked, mid, rest, (read, same, is), by, split, more)) =
-      then_ends (Unread es) before left mid end turns first lacked rest out split (v, link, first, lacked, (read, same, is), by)
+      then_both (Unread es) before mid end left turns first lacked rest out split (v, link, first, lacked, (read, same, is), by)
       (grind (arith, garbled_turns, server)) more (λ r'. read_ends left mid turns rest end r' more)
 
   -- a reading of a live client without an open action
   pub reading_ends : (left : ℕ) (before : Part T U C) (turns : List Turn) (out : Gives (Told U)) (end : ReaderState T (Core U C)) → before.is_killed ≡ false → before.action ≡ None
       → Reads sends (server a) receives left (reader_part before) turns out end → Done (reader_part before) turns out end
-  reading_ends left before turns out end live idle reads = read_ends left (reader_part before) turns out end (record { live = live; idle = idle; fresh = refl }) reads
+  reading_ends left before turns out end live idle reads = (read_ends left (reader_part before) turns out end (record { live = live; idle = idle; fresh = refl }) reads).0
+
+  pub reading_memory : (left : ℕ) (before : Part T U C) (turns : List Turn) (out : Gives (Told U)) (end : ReaderState T (Core U C)) → before.is_killed ≡ false → before.action ≡ None
+      → Reads sends (server a) receives left (reader_part before) turns out end → MemoryAt out
+  reading_memory left before turns out end live idle reads = (read_ends left (reader_part before) turns out end (record { live = live; idle = idle; fresh = refl }) reads).1

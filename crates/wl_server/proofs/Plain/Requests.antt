@@ -6,7 +6,6 @@ use Rattle.wl_wire.specs.declared.error.IoFault.{IoFault}
 use Rattle.wl_link.proofs.Calls.Branches.{either_option}
 use Rattle.wl_link.specs.declared.object.Object.{Object}
 use Rattle.wl_link.specs.Exchange.{Queue}
-use Rattle.wl_link.specs.Reader.{Verdict}
 use Rattle.wl_link.specs.Store.{Store, removed}
 use Rattle.wl_server.specs.declared.error.FinishError.{FinishError}
 use Rattle.wl_server.specs.declared.error.FinishError.TheVariants as finish
@@ -20,19 +19,20 @@ use Rattle.wl_server.specs.declared.runs.step.Step.TheVariants as step
 use Rattle.wl_server.specs.Backend.{BackendState, Calls}
 use Rattle.wl_server.specs.Deeds.{Deed, notes_in}
 use Rattle.wl_server.specs.Finish.{FinishesRequest, ended_by, ends, ends_request, refusal, store_with_data}
-use Rattle.wl_server.specs.Ids.{ClientParts, IdParts, same_client}
+use Rattle.wl_server.specs.Ids.{ClientParts, IdParts}
 use Rattle.wl_server.specs.Inside.Carried.{told_notes}
 use Rattle.wl_server.specs.Inside.Finishing.{is_out_of_memory, lacks_finish}
 use Rattle.wl_server.specs.Lookups.{and_then}
 use Rattle.wl_server.specs.Objects.{unless_refused}
 use Rattle.wl_server.specs.Part.{Part, id_of, named, same_id, serial_of, end_note, id_at, note_of_end, with_user_data}
-use Rattle.wl_server.specs.PartStep.{OfClient, World}
+use Rattle.wl_server.specs.PartStep.{Asked, World}
+use Rattle.wl_server.specs.Steps.{Makes}
 use Rattle.wl_server.specs.Plain.{EndsOpenRequest, IsRefusedWhole, RequestEndedAs, RequestIsEnded, RequestRefusedAs, is_made, with_given, EndIsTold, end_note_of, notes_if_kept, sender_notes}
 use Rattle.wl_server.specs.Server.{Seen, seen}
-use Rattle.wl_server.specs.Telling.{Tells, Told, core_of, Core, closed_down, end_deeds}
-use Rattle.wl_server.proofs.Plain.Base.{calm, keeps, never, nothing_new, of_each, offer_of, other_stays, own, refused_to, unchanged}
+use Rattle.wl_server.specs.Telling.{Tells, core_of, closed_down, end_deeds}
+use Rattle.wl_server.proofs.Plain.Base.{IsOfOne, became, nothing_changes, nothing_new, of_one, stored_stay, not_stored}
 use Rattle.wl_server.proofs.Plain.Naming.{names_so, removed_named, removed_others, rewritten_named, rewritten_others}
-use Rattle.wl_server.proofs.Plain.Verdicts.{told, told_nothing, told_starved, IsTold, told_ended}
+use Rattle.wl_server.proofs.Plain.Verdicts.{IsTold, told}
 
 -- ---- two ids of a client that are the same name the same
 
@@ -105,68 +105,35 @@ module _ {T U C : Type 0} where
   why_calm p u e h1 = grind (arith)
 
 module _ {T U C : Type 0} (sends : T → Queue → Result ℕ IoFault → T → Type 0) (client : ClientParts) (u : Option U) where
-  abbrev Does : Answer U → Bool → List (Deed U) → Part T U C → Part T U C → Type 0
-  Does answer lacked did p q = FinishesRequest sends client p u answer lacked did q
-
-  comes_to : (answer : Answer U) (lacked : Bool) (did : List (Deed U)) (p q : Part T U C) → Does answer lacked did p q
+  comes_to : (answer : Answer U) (lacked : Bool) (did : List (Deed U)) (p q : Part T U C) → FinishesRequest sends client p u answer lacked did q
       → IsRefused p u answer lacked did q ⊎ IsTaken sends client p u answer lacked did q
   comes_to answer lacked did p q h = grind (arith, either_option, refusal)
 
-  -- ---- the client behind a finish
+-- ---- the client behind a finish
 
-  ended_part : (p q : Part T U C) (sender : IdParts) (created : Option IdParts) (o : Option (Object (Kept U))) (lacked : Bool) (did : List (Deed U)) → lacked ≡ false
-      → Tells sends (ends client (core_of p) sender o created u) p.link lacked did q
-      → (q.store ≡ store_with_data (left_by p.store sender.number o) created u) × (q.action ≡ None)
-  ended_part p q sender created o lacked did h1 h2 = grind (arith, calm, told, ends, core_of)
+module _ {T U C : Type 0} (client : ClientParts) (u : Option U) (p q : Part T U C) (sender : IdParts) (created : Option IdParts) (o : Option (Object (Kept U))) (did : List (Deed U)) where
+  ended_part : IsTold (ends client (core_of p) sender o created u) false did q → (q.store ≡ store_with_data (left_by p.store sender.number o) created u) × (q.action ≡ None)
+  ended_part t = grind (arith, ends, core_of, true≢false, closed_down, o)
 
-  abbrev IsNoted : Part T U C → Part T U C → IdParts → Bool → Option (Object (Kept U)) → List (Deed U) → Type 0
-  IsNoted p q sender is_destructor o did =
+  abbrev IsNoted : Bool → Type 0
+  IsNoted is_destructor =
       ((q.is_killed ≡ p.is_killed) × (notes_in did ≡ notes_if_kept client sender.number o))
       ⊎ ((is_destructor ≡ true) × (q.is_killed ≡ true)
       × (notes_in did ≡ notes_if_kept client sender.number o ++ cond p.is_killed [] (Disconnected ConnectionClosed ∷ [])))
 
-  part_noted : (p q : Part T U C) (sender : IdParts) (is_destructor : Bool) (created : Option IdParts) (o : Option (Object (Kept U))) → ended_by p.store sender is_destructor ≡ o
-      → (lacked : Bool) (did : List (Deed U)) → lacked ≡ false → Tells sends (ends client (core_of p) sender o created u) p.link lacked did q
-      → IsNoted p q sender is_destructor o did
-  part_noted p q sender is_destructor created None is lacked did calm h = grind (arith, ends, core_of, told_ended, end_deeds)
-  part_noted p q sender is_destructor created (Some x) is lacked did calm h =
-      let v : Verdict (Core U C) (Told U) = ends client (core_of p) sender (Some x) created u in
-      let t : IsTold v did q = told_ended sends v (λ c. refl) p.link lacked did q calm h in
-      let gone : named v.core.store sender ≡ None = made_none (removed p.store sender.number) created u sender (removed_named p.store sender) in
-      grind (arith, told_notes, notes_in, end_deeds, append-nil, is_some, note_of_end, id_of, id_at, end_note, ended_named, closed_down, closing)
-    where
-      closing : (killed : Bool) → notes_in {U = U} (end_deeds (cond killed None (Some ConnectionClosed))) ≡ cond killed [] (Disconnected ConnectionClosed ∷ [])
-      closing true = refl
-      closing false = refl
+  part_noted : (is_destructor : Bool) → ended_by p.store sender is_destructor ≡ o → IsTold (ends client (core_of p) sender o created u) false did q → IsNoted is_destructor
+  part_noted is_destructor is t =
+      grind (arith, ends, told_notes, notes_in, end_deeds, append-nil, is_some, note_of_end, id_of, id_at, end_note, ended_named, closed_down, core_of, true≢false, made_none, removed_named, o)
 
-  record IsStarvedPart (p q : Part T U C) (sender : IdParts) (is_destructor : Bool) (did : List (Deed U)) : Type 0 where
+  -- memory was refused for the end of the sender
+  record IsStarvedPart (is_destructor : Bool) : Type 0 where
     destroys : is_destructor ≡ true
     there : IsSome (named p.store sender)
     core_is : core_of q ≡ core_of p
     notes_are : notes_in did ≡ []
 
-  starved_part : (p q : Part T U C) (sender : IdParts) (is_destructor : Bool) (created : Option IdParts) (o : Option (Object (Kept U))) → ended_by p.store sender is_destructor ≡ o
-      → (lacked : Bool) (did : List (Deed U)) → lacked ≡ true → Tells sends (ends client (core_of p) sender o created u) p.link lacked did q
-      → IsStarvedPart p q sender is_destructor did
-  starved_part p q sender is_destructor created None is lacked did lacks h = grind (arith, true≢false, told_nothing, ends, core_of)
-  starved_part p q sender is_destructor created (Some x) is lacked did lacks h =
-      let (destroys, there) = ended_named p.store sender is_destructor x is in
-      let starved = told_starved sends (ends client (core_of p) sender (Some x) created u) refl p.link lacked did q lacks h in
-      grind (arith, is_some, core_of, true≢false, named)
-
--- ---- of one client
-
-module _ {T U C : Type 0} (sends : T → Queue → Result ℕ IoFault → T → Type 0) (client : ClientParts) (u : Option U) (answer : Answer U) where
-  abbrev Of : Bool → Seen T U C → Bool → List (Deed U) → Seen T U C → Type 0
-  Of b s lacked did t = OfClient b s (Does sends client u answer lacked did) (Unknown u answer) lacked did t
-
-  -- a refusal that is for no want of memory changes nothing
-  refused_same : (b : Bool) (s t : Seen T U C) (lacked : Bool) (did : List (Deed U)) → (answer ≡ Ok tt → ⊥) → lacks_finish answer ≡ false → Of b s lacked did t → t ≡ s
-  refused_same b s t lacked did h1 h2 h3 = grind (arith, either_option, comes_to, nothing_new, notes_in, unless_refused, why_calm, refusal, append-nil)
-
-  -- whether memory is refused is told by the answer
-  pub own_lacks : (s t : Seen T U C) (lacked : Bool) (did : List (Deed U)) → lacks_finish answer ≡ true → Of (same_client client client) s lacked did t → lacked ≡ true
-  own_lacks s t lacked did lacks h = grind (arith, either_option, own, true≢false, comes_to, why_calm)
+  starved_part : (is_destructor : Bool) → ended_by p.store sender is_destructor ≡ o → IsTold (ends client (core_of p) sender o created u) true did q → IsStarvedPart is_destructor
+  starved_part is_destructor is t = grind (arith, ends, core_of, is_some, true≢false, named, ended_named, notes_in, end_deeds, told_notes, o)
 
 module _ {U : Type 0} (u : Option U) where
   not_ok : (r : FinishRefused (Option U)) → ◌≡◌ {A = Answer U} (Err r) (Ok tt) → ⊥
@@ -185,52 +152,39 @@ module _ {U : Type 0} (u : Option U) where
 -- ---- of a call
 
 module _ {T U G C : Type 0} (w : World T G C) (before after : BackendState T U G C) (target : ClientParts) (u : Option U) where
-  abbrev IsAnswered : Answer U → Type 0
-  IsAnswered answer = Calls w before (step.FinishRequest target u) (reply.FinishRequest answer) after
+  -- what the call does to its client
+  abbrev Does : Answer U → ClientParts → Bool → List (Deed U) → Part T U C → Part T U C → Type 0
+  Does answer client lacked did p q = FinishesRequest w.sends client p u answer lacked did q
 
-  request_each : (answer : Answer U) → IsAnswered answer → (id : ClientParts)
-      → (lacked : Bool) × (did : List (Deed U)) × OfClient (same_client target id) (seen id before.server) (Does w.sends id u answer lacked did) (Unknown u answer) lacked did (seen id after.server)
-  request_each answer call id =
-      let (lacked, did, (r, is, h)) = of_each call id in (
-        lacked,
-        did,
-        subst
-            (λ (a : Answer U). OfClient (same_client target id) (seen id before.server) (Does w.sends id u a lacked did) (Unknown u a) lacked did (seen id after.server))
-            (sym (cc)) h,
-      )
+  abbrev Ending : Answer U → Type 0
+  Ending answer = IsOfOne before after target (Does answer target) (Unknown u answer)
 
-  request_memory : (answer : Answer U) → lacks_finish answer ≡ false → IsAnswered answer → after.refused ≡ false
-  request_memory answer quiet call =
-      calm call refl (grind (arith, never, same_client, comes_to, why_calm, lacks_finish))
+  -- memory was refused if the answer says so
+  pub finish_starved : (answer : Answer U) → Ending answer → lacks_finish answer ≡ true → after.refused ≡ true
+  finish_starved answer one lacks = grind (arith, one, true≢false, comes_to, why_calm)
 
-  request_same : (r : FinishRefused (Option U)) → is_out_of_memory r.error ≡ false → IsAnswered (Err r) → IsRefusedWhole before after
-  request_same r quiet call = (
-    unchanged call refl refl (λ id.
-        let (lacked, did, h) = request_each (Err r) call id in
-        refused_same w.sends id u (Err r) (same_client target id) _ _ lacked did (not_ok u r) quiet h),
-    request_memory (Err r) quiet call,
-  )
+  abbrev Became : Part T U C → List (Deed U) → Type 0
+  Became q did = seen target after.server ≡ record { part = Some q; made = (seen target before.server).made ++ notes_in did }
 
   -- ---- by the answer
 
-  starved_as : (p q : Part T U C) (lacked : Bool) (did : List (Deed U)) (r : FinishRefused (Option U)) → IsTaken w.sends target p u (Err r) lacked did q → lacked ≡ true
-      → (seen target before.server).part ≡ Some p → seen target after.server ≡ record { part = Some q; made = (seen target before.server).made ++ notes_in did }
-      → after.refused ≡ true → RequestRefusedAs before target u finish.OutOfMemory after
-  starved_as p q lacked did r e lacks there same refused =
-      let starved = starved_part w.sends target u p q e.sender e.is_destructor e.created (ended_by p.store e.sender e.is_destructor) refl lacked did lacks e.tells in grind (arith, and_then, is_some, named, option_map, core_of, seen, append-nil)
+  starved_as : (p q : Part T U C) (did : List (Deed U)) (r : FinishRefused (Option U)) → IsTaken w.sends target p u (Err r) true did q
+      → (seen target before.server).part ≡ Some p → Became q did → after.refused ≡ true → RequestRefusedAs before target u finish.OutOfMemory after
+  starved_as p q did r e there same refused =
+      let starved = starved_part target u p q e.sender e.created (ended_by p.store e.sender e.is_destructor) did e.is_destructor refl (told w.sends _ p.link true did q e.tells) in
+      grind (arith, and_then, is_some, named, option_map, core_of, seen, append-nil)
 
-  end_told : (p q : Part T U C) (did : List (Deed U)) (sender : IdParts) (is_destructor : Bool) → (seen target before.server).part ≡ Some p
-      → seen target after.server ≡ record { part = Some q; made = (seen target before.server).made ++ notes_in did }
-      → IsNoted w.sends target u p q sender is_destructor (ended_by p.store sender is_destructor) did → EndIsTold before target sender is_destructor after
+  end_told : (p q : Part T U C) (did : List (Deed U)) (sender : IdParts) (is_destructor : Bool) → (seen target before.server).part ≡ Some p → Became q did
+      → IsNoted target u p q sender None (ended_by p.store sender is_destructor) did is_destructor → EndIsTold before target sender is_destructor after
   end_told p q did sender is_destructor there same noted = grind (arith, option_map, notes_if_kept, ended_by, sender_notes, named, end_note_of)
 
-  ended_as : (p q : Part T U C) (lacked : Bool) (did : List (Deed U)) → (e : IsTaken w.sends target p u (Ok tt) lacked did q)
-      → (seen target before.server).part ≡ Some p → seen target after.server ≡ record { part = Some q; made = (seen target before.server).made ++ notes_in did }
+  ended_as : (p q : Part T U C) (did : List (Deed U)) → (e : IsTaken w.sends target p u (Ok tt) false did q)
+      → (seen target before.server).part ≡ Some p → Became q did
       → RequestIsEnded before target e.sender e.is_destructor e.created u after
-  ended_as p q lacked did e there same =
+  ended_as p q did e there same =
       let now : (seen target after.server).part ≡ Some q = ap (λ (x : Seen T U C). x.part) same in
       let o : Option (Object (Kept U)) = ended_by p.store e.sender e.is_destructor in
-      let (store, none_open) = ended_part w.sends target u p q e.sender e.created o lacked did (grind (arith, no_refusal, e.answer_is)) e.tells in
+      let (store, none_open) = ended_part target u p q e.sender e.created o did (told w.sends _ p.link false did q e.tells) in
       let left : Store (Kept U) = left_by p.store e.sender.number o in
       let found : (id : IdParts) → and_then (seen target after.server).part (λ p. named p.store id) ≡ named (store_with_data left e.created u) id =
       λ id. ap (λ (x : Option (Part T U C)). and_then x (λ p. named p.store id)) now ∙ ap (λ (s : Store (Kept U)). named s id) store in
@@ -244,38 +198,42 @@ module _ {T U G C : Type 0} (w : World T G C) (before after : BackendState T U G
         made = grind (arith, named, store_with_data, made_named, option_map, with_given, ended_named, removed_others, names_so, true≢false, same_id, id_of);
         others = grind (arith, made_others, ended_named, removed_others, names_so, true≢false, same_id, id_of);
         told = end_told p q did e.sender e.is_destructor there same
-            (part_noted w.sends target u p q e.sender e.is_destructor e.created o refl lacked did (grind (arith, no_refusal, e.answer_is)) e.tells);
+            (part_noted target u p q e.sender e.created o did e.is_destructor refl (told w.sends _ p.link false did q e.tells));
       }
 
-  request_ended_as : (answer : Answer U) → IsAnswered answer → RequestEndedAs before target u answer after
-  request_ended_as (Ok ok) call =
-      let (lacked, did, h) = request_each (Ok tt) call target in
-      elim (either_option (seen target before.server).part (own target _ _ _ lacked did _ h)) [
-        | inl (none, (is, rest)) ↦ absurd (no_refusal u finish.InvalidId is)
-        | inr (p, there, (q, does, same)) ↦
-            elim (comes_to w.sends target u (Ok tt) lacked did p q does) [
+  calm_of : {p q : Part T U C} {did : List (Deed U)} → IsTaken w.sends target p u (Ok tt) after.refused did q → after.refused ≡ false
+  calm_of e = grind (arith, no_refusal, e.answer_is)
+
+  request_ended_as : (answer : Answer U) → Ending answer → RequestEndedAs before target u answer after
+  request_ended_as (Ok ok) one =
+      elim one.own [
+        | not_stored none is calm same ↦ absurd (no_refusal u finish.InvalidId is)
+        | became p q did there does same ↦
+            elim (comes_to w.sends target u (Ok tt) after.refused did p q does) [
               | inl r ↦ absurd (no_refusal u r.error r.answer_is)
-              | inr e ↦
-                  (e.sender, e.is_destructor, e.created, ended_as p q lacked did e there same, request_memory (Ok tt) refl call)
+              | inr e ↦ let e' = rw (calm_of e) at e in (e'.sender, e'.is_destructor, e'.created, ended_as p q did e' there same, calm_of e)
             ]
       ]
-  request_ended_as (Err r) call =
-      let (lacked, did, h) = request_each (Err r) call target in
-      elim (either_option (seen target before.server).part (own target _ _ _ lacked did _ h)) [
-        | inl (none, (is, rest)) ↦
-            let (error, back) = was_refused_for u r finish.InvalidId is in
-            (back, because error (none, request_same r (ap is_out_of_memory error) call))
-        | inr (p, there, (q, does, same)) ↦
-            elim (comes_to w.sends target u (Err r) lacked did p q does) [
-              | inl x ↦ grind (arith, was_refused_for, because, is_some, option_map, request_same, is_out_of_memory, why_calm)
+  request_ended_as (Err r) one =
+      elim one.own [
+        | not_stored none is calm same ↦ let (error, back) = was_refused_for u r finish.InvalidId is in (back, because error (none, (nothing_changes one same, calm)))
+        | became p q did there does same ↦
+            elim (comes_to w.sends target u (Err r) after.refused did p q does) [
+              | inl x ↦
+                  let whole : IsRefusedWhole before after = (nothing_changes one (nothing_new _ _ p q did there x.part_is (ap notes_in x.did_is) same), x.calm) in
+                  grind (arith, was_refused_for, because, is_some, option_map)
               | inr e ↦
-                  let (lacks, error, back) = was_starved u r lacked e.answer_is in
-                  (back, because error (starved_as p q lacked did r e lacks there same (refused_to call target (grind (arith, own_lacks, lacks_finish)))))
+                  let (lacks, error, back) = was_starved u r after.refused e.answer_is in (back, because error (starved_as p q did r (rw lacks at e) there same lacks))
             ]
       ]
     where
       because : {e : FinishError} → r.error ≡ e → RequestRefusedAs before target u e after → RequestRefusedAs before target u r.error after
       because error h = subst (λ (e : FinishError). RequestRefusedAs before target u e after) (sym error) h
 
-  pub ends_open_request : (answer : Answer U) → IsAnswered answer → EndsOpenRequest before target u answer after
-  ends_open_request answer call = grind (arith, request_ended_as, request_each, other_stays, same_client, keeps, is_some, offer_of)
+  pub ending_one : (answer : Answer U) → Makes w before.server (Asked (step.FinishRequest target u) (reply.FinishRequest answer)) after.refused after.server → Ending answer
+  ending_one answer made = of_one made target (Does answer) _ (λ id s t lacked did (r, is, h). let e : r ≡ answer = cc in rw e at h) refl refl refl
+
+  pub ends_open_request : (answer : Answer U) → Calls w before (step.FinishRequest target u) (reply.FinishRequest answer) after → EndsOpenRequest before target u answer after
+  ends_open_request answer call =
+      let one = ending_one answer call.step in
+      record { request = request_ended_as answer one; clients = one.clients; stored = stored_stay one; globals = one.globals }

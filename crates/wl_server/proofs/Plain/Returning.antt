@@ -1,5 +1,5 @@
 -- What becomes of the data of an action, in the words of the look-ups.
-use Rattle.std.proofs.Common.{arith, ◌≡◌, Bool, List, Option, None, Some, Result, Ok}
+use Rattle.std.proofs.Common.{arith, ◌≡◌, Bool, Option, None, Some, Result, Ok}
 use Rattle.std.specs.Prelude.{IfOk, MatchOption, slice_set, option_map}
 use Rattle.std.specs.Result.{result_and}
 use Rattle.wl_link.specs.Store.{Store}
@@ -31,17 +31,17 @@ module _ {T U C : Type 0} (p q : Part T U C) where
       → p.action ≡ Some (opened.Request sender is_destructor created) → IfOk answer (λ back. DataHeld q.store created u back) → RequestLeaves p u answer q
   request_leaves u sender is_destructor created h5 is held = grind (arith)
 
--- ---- the client that was looked up
+-- ---- the client that was looked up, and then written
 
-module _ {T U C : Type 0} (clients : List (Option (Stored T U C))) (id : ClientParts) (s t : Stored T U C) where
-  pub found_after : Some s ≡ client_at id clients → t.serial ≡ s.serial → client_at id (slice_set clients id.slot (Some t)) ≡ Some t
-  found_after is same = grind (arith, get_set_same)
+module _ {T U G C : Type 0} (before after : BackendState T U G C) (id : ClientParts) (s t : Stored T U C)
+    (there : Some s ≡ client_at id before.server.clients) (same : t.serial ≡ s.serial) (now : after.server.clients ≡ slice_set before.server.clients id.slot (Some t)) where
+  parts : (client_in before id ≡ Some s.part) × (client_in after id ≡ Some t.part)
+  parts = grind (arith, option_map, get_set_same)
 
-module _ {T U G C : Type 0} (before after : BackendState T U G C) (client : ClientParts) (p q : Part T U C) where
-  pub bind_returns : (u : U) (answer : Result (Option U) (FinishRefused U)) → client_in before client ≡ Some p → client_in after client ≡ Some q
-      → EndsBind before client u (result_and answer (Ok tt)) after → BindLeaves p u answer q → ReturnsBindData before client u answer after
-  bind_returns u answer h1 h2 h3 h4 = grind (arith)
+  pub bind_returns : (u : U) (answer : Result (Option U) (FinishRefused U)) → BindLeaves s.part u answer t.part → EndsBind before id u (result_and answer (Ok tt)) after
+      → ReturnsBindData before id u answer after
+  bind_returns u answer leaves ends = let (was, is) = parts in grind (arith)
 
-  pub request_returns : (u : Option U) (answer : Result (Option U) (FinishRefused (Option U))) → client_in before client ≡ Some p → client_in after client ≡ Some q
-      → EndsOpenRequest before client u (result_and answer (Ok tt)) after → RequestLeaves p u answer q → ReturnsRequestData before client u answer after
-  request_returns u answer h1 h2 h3 h4 = grind (arith)
+  pub request_returns : (u : Option U) (answer : Result (Option U) (FinishRefused (Option U))) → RequestLeaves s.part u answer t.part
+      → EndsOpenRequest before id u (result_and answer (Ok tt)) after → ReturnsRequestData before id u answer after
+  request_returns u answer leaves ends = let (was, is) = parts in grind (arith)

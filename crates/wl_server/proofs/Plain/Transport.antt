@@ -1,23 +1,22 @@
 -- A transport that the program changed.
-use Rattle.std.proofs.Common.{◌≡◌, ◌∙◌, ◌+◌, ℕ, zero, suc, Bool, List, [], ◌∷◌, ◌++◌, Option, None, Some, option_map, is_some, refl, sym, ap, true≢false, arith}
+use Rattle.std.proofs.Common.{◌≡◌, ◌∙◌, ◌+◌, ℕ, zero, suc, Bool, List, [], ◌∷◌, ◌++◌, Option, None, Some, option_map, is_some, refl, sym, ap, true≢false, arith, false}
 use mathlib.Core.Logic.{inl, inr}
 use Rattle.std.specs.FinMap as finmap
 use Rattle.std.specs.Prelude.{map, slice_set}
-use Rattle.wl_link.proofs.Calls.Branches.{either_option}
 use Rattle.wl_link.specs.Link.{LinkState, with_transport}
 use Rattle.wl_link.specs.Store.{held}
 use Rattle.wl_server.specs.Backend.{BackendState, IsChange}
 use Rattle.wl_server.specs.Deeds.{Deed, notes_in}
 use Rattle.wl_server.specs.Globals.{global_of}
-use Rattle.wl_server.specs.Ids.{ClientParts, same_client}
+use Rattle.wl_server.specs.Ids.{ClientParts}
 use Rattle.wl_server.specs.Lending.{over_transport, server_over, state_over}
 use Rattle.wl_server.specs.Lookups.{and_then, id_if, id_if_stored, live_from, name_if}
 use Rattle.wl_server.specs.Next.{NextClient}
 use Rattle.wl_server.specs.Part.{Part, id_at, named, with_link}
-use Rattle.wl_server.specs.PartStep.{OfClient, Quietly, WithTransport, World}
+use Rattle.wl_server.specs.PartStep.{Quietly, WithTransport, World}
 use Rattle.wl_server.specs.Plain.Transport.{LeavesTransport}
 use Rattle.wl_server.specs.Server.{Stored, client_at, seen, stored_at}
-use Rattle.wl_server.proofs.Plain.Base.{keeps, none_and_some, notes_stay, one_value, other_stays, own}
+use Rattle.wl_server.proofs.Plain.Base.{IsOfOne, made_stay, none_and_some, of_one, one_value, stays}
 
 none_too : {A : Type 0} (o p : Option A) → is_some o ≡ is_some p → p ≡ None → o ≡ None
 none_too None p is none = refl
@@ -59,42 +58,44 @@ module _ {T U C : Type 0} (t : T) where
   next_stays last slot clients None (inl each) = inl (λ k under. is_free slot k clients ∙ each k under)
   next_stays last slot clients None (inr none) = inr none
 
+-- what the change does to its client
+abbrev Does : {T U C : Type 0} → T → ClientParts → Bool → List (Deed U) → Part T U C → Part T U C → Type 0
+Does t id lacked did p q = Quietly lacked did (WithTransport (λ _ t'. t' ≡ t) p q)
+
 module _ {T U G C : Type 0} (w : World T G C) (before : BackendState T U G C) (id : ClientParts) (t : T) (change : IsChange w before.server id t (server_over before.server id t)) where
-  -- what the change is of each client
-  of_change : (other : ClientParts)
-      → (lacked : Bool) × (did : List (Deed U))
-      × OfClient (same_client id other) (seen other before.server) (λ p q. Quietly lacked did (WithTransport (λ _ t'. t' ≡ t) p q)) (Unit {0}) lacked did
-      (seen other (server_over before.server id t))
-  of_change other =
-      let (e, is, refused, by) = change.step in grind (arith, seen, server_over)
+  abbrev after : BackendState T U G C
+  after = record { server = server_over before.server id t; refused = false }
+
+  one : IsOfOne before after id (Does t id) (Unit {0})
+  one = of_one change.step id (Does t) (Unit {0}) (λ other s s' lacked did h. h) refl refl refl
 
   -- what no transport changes is as before
   keeps_all : {A : Type 0} (f : Option (Part T U C) → A) → ((p : Part T U C) (link : LinkState T) → f (Some (with_link p link)) ≡ f (Some p)) → (other : ClientParts)
       → f (seen other (server_over before.server id t)).part ≡ f (seen other before.server).part
-  keeps_all f h1 other = grind (arith, of_change, keeps, same_client, with_transport, seen, server_over, either_option)
+  keeps_all f same other = stays one f other (λ about did p q there r. ap (λ (x : Part T U C). f (Some x)) r.2.2 ∙ same p _)
 
   changed_part : (p : Part T U C) → (seen id before.server).part ≡ Some p → (seen id (server_over before.server id t)).part ≡ Some (changed_to t p)
-  changed_part p h1 = grind (arith, of_change, either_option, seen, own, none_and_some, changed_to, one_value, server_over, same_client)
+  changed_part p h1 = grind (arith, one, none_and_some, changed_to, one_value)
 
   pub leaves_transport : (s : Stored T U C) → Some s ≡ client_at id before.server.clients → LeavesTransport before id t (state_over before id t)
-  leaves_transport s is = record {
-    transport = ap (option_map (λ p. p.link.transport)) (changed_part s.part (ap (option_map (λ (x : Stored T U C). x.part)) (sym is)));
-    client = changed_part s.part (ap (option_map (λ (x : Stored T U C). x.part)) (sym is)) ∙ ap (option_map (changed_to t)) (sym (ap (option_map
-        (λ (x : Stored T U C). x.part)) (sym is)));
-    clients = λ other differ. let (lacked, did, h) = of_change other in other_stays (same_client id other) _ _ _ lacked did _ differ h;
-    objects = λ o. keeps_all (λ x. and_then x (λ p. named p.store o)) (λ p link. refl) o.client;
-    notes = λ other.
-        let (lacked, did, h) = of_change other in notes_stay (same_client id other) _ _ _ lacked did _ (λ p q (calm, none, is). ap notes_in none) h;
-    globals = refl;
-    lookups = record {
-      client = λ o. keeps_all (option_map (λ p. o.client)) (λ p link. refl) o.client;
-      client_data = λ other. keeps_all (option_map (λ p. p.client_data)) (λ p link. refl) other;
-      for_number = λ other i n. keeps_all (λ x. and_then x (λ p. and_then (held p.store n) (id_if other i n))) (λ p link. refl) other;
-      clients = live_over t 0 id.slot before.server.clients;
-      next = λ told. next_stays t before.server.last_client id.slot before.server.clients told;
-      objects = λ other. keeps_all (option_map (λ p. map (λ e. id_at other e.0 e.1) (finmap.entries p.store.objects))) (λ p link. refl) other;
-      name = λ views g other.
-          keeps_all (λ x. and_then x (λ p. and_then (global_of before.server.offer.globals g) (name_if views other p.client_data g.name))) (λ p link. refl) other;
-    };
-    memory = refl;
-  }
+  leaves_transport s is =
+      let there : (seen id before.server).part ≡ Some s.part = ap (option_map (λ (x : Stored T U C). x.part)) (sym is) in
+      record {
+        transport = ap (option_map (λ p. p.link.transport)) (changed_part s.part there);
+        client = changed_part s.part there ∙ ap (option_map (changed_to t)) (sym there);
+        clients = one.clients;
+        objects = λ o. keeps_all (λ x. and_then x (λ p. named p.store o)) (λ p link. refl) o.client;
+        notes = made_stay one (λ did p q r. ap notes_in r.1);
+        globals = refl;
+        lookups = record {
+          client = λ o. keeps_all (option_map (λ p. o.client)) (λ p link. refl) o.client;
+          client_data = λ other. keeps_all (option_map (λ p. p.client_data)) (λ p link. refl) other;
+          for_number = λ other i n. keeps_all (λ x. and_then x (λ p. and_then (held p.store n) (id_if other i n))) (λ p link. refl) other;
+          clients = live_over t 0 id.slot before.server.clients;
+          next = λ told. next_stays t before.server.last_client id.slot before.server.clients told;
+          objects = λ other. keeps_all (option_map (λ p. map (λ e. id_at other e.0 e.1) (finmap.entries p.store.objects))) (λ p link. refl) other;
+          name = λ views g other.
+              keeps_all (λ x. and_then x (λ p. and_then (global_of before.server.offer.globals g) (name_if views other p.client_data g.name))) (λ p link. refl) other;
+        };
+        memory = refl;
+      }

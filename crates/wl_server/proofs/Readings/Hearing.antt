@@ -22,7 +22,7 @@ use Rattle.wl_server.specs.Telling.{Core, Kills, Tells, closed_down, core_of, en
 use Rattle.wl_server.proofs.Readings.Flushing.{does_nothing}
 use Rattle.wl_server.proofs.Readings.Notes.{tells_put}
 use Rattle.wl_server.proofs.GlobalCalls.Putting.{puts_none}
-use Rattle.wl_server.proofs.ObjectCalls.Closing.{or_false}
+use Rattle.std.proofs.Math.Bool.{or-false}
 
 -- a write that failed closes the client down, for whatever reason
 came_failed : {U C : Type 0} (c : Core U C) (messages : List Said) (f : IoFault) → came_to speaker (tells c messages) (Err f) ≡ closed_down c
@@ -64,7 +64,7 @@ module _ {T U C : Type 0} (sends : T → Queue → Result ℕ IoFault → T → 
   live_hears s after messages (Err f) link lacked live puts is (killing, q, (deeds, part), becomes) =
       let (did, tells, notes) = tells_put sends (tells (core_of s.part) messages) s.part.link link link (Err f) [] false puts (refl, refl, refl) in
       let core = came_failed (core_of s.part) messages f in
-      as_heard s after messages (lacks_memory (Err f) || false) lacked did _ q (notes_in killing) live tells (is ∙ sym (or_false (lacks_memory (Err f))))
+      as_heard s after messages (lacks_memory (Err f) || false) lacked did _ q (notes_in killing) live tells (is ∙ sym (or-false (lacks_memory (Err f))))
       (part ∙ ap (λ (c : Core U C). part_of (record { core = c; link = link })) (sym core))
       (notes ∙ ap (λ (c : Core U C). notes_in (end_deeds {U = U} c.ended)) core ∙ ap (λ (ds : List (Deed U)). notes_in ds) (sym deeds))
       becomes

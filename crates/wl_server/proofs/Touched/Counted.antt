@@ -1,5 +1,5 @@
 -- What is counted of the clients is the same where those that were not touched are passed over.
-use Rattle.std.proofs.Common.{◌≡◌, ◌∙◌, ℕ, ◌+◌, ◌<◌, ◌≤◌, Bool, true, false, List, [], ◌++◌, length, map, drop, Option, None, Some, refl, sym, ap, arith, append-nil}
+use Rattle.std.proofs.Common.{◌≡◌, ◌∙◌, ℕ, ◌+◌, ◌<◌, ◌≤◌, Bool, true, false, List, [], ◌++◌, length, map, drop, Option, Some, refl, sym, ap, arith, append-nil}
 use Rattle.std.specs.Prelude.{if◌then◌else◌, slice_get}
 use Rattle.wl_server.specs.declared.notes.queues.NotePlace.{NotePlace}
 use Rattle.wl_server.specs.Inside.Gathering.{count_leaving}
@@ -9,9 +9,8 @@ use Rattle.wl_sets.specs.SlotSets.{IsOut}
 use Rattle.wl_server.specs.Inside.Touched.{AllQuiet, IsQuiet}
 use Rattle.wl_server.specs.NoteOrder.{all_places, places_at, places_of, times_of, to_gather}
 use Rattle.wl_server.specs.Server.{Stored}
-use Rattle.wl_server.proofs.CleanupSteps.Gathering.{count_drop}
-use Rattle.wl_server.proofs.CleanupSteps.Ordering.{Placed, placed_more, placed_so_far, places_rest}
-use Rattle.wl_server.proofs.CleanupSteps.Outgoing.{collected_drop}
+use Rattle.wl_server.proofs.CleanupSteps.Gathering.{rest_at}
+use Rattle.wl_server.proofs.CleanupSteps.Ordering.{Placed, placed_more, placed_so_far}
 use Rattle.wl_server.proofs.Touched.Kept.{carry, out_here, there}
 
 same_both : (b : Bool) (n : ℕ) → n ≡ n + (if b then 0 else 0)
@@ -28,8 +27,7 @@ module _ {T U C : Type 0} where
   quiet_places waits slot h3 quiet = grind (arith, places_of)
 
   pub quiet_given : (slot : ℕ) (x : Option (Stored T U C)) → IsQuiet x → given_at slot x ≡ []
-  quiet_given slot None quiet = refl
-  quiet_given slot (Some s) calm = rw calm.live refl
+  quiet_given slot x quiet = grind (arith, x)
 
   pub quiet_ends : (slot : ℕ) (x : Option (Stored T U C)) → IsQuiet x → ends_at slot x ≡ []
   quiet_ends slot h2 quiet = grind (arith)
@@ -45,18 +43,18 @@ module _ {T U C : Type 0} where
     pub pass_notes : (waits : Bool) → count_leaving waits (drop from clients) ≡ count_leaving waits (drop to clients)
     pass_notes waits =
         pass (λ k. count_leaving waits (drop from clients) ≡ count_leaving waits (drop k clients)) refl
-        (λ k x here calm before. (let more = count_drop waits clients k x here in let none = ap length (quiet_notes waits x calm) in omega (arith, before, more, none)))
+        (λ k x here calm before. (let more = ap (count_leaving waits) (rest_at clients k x here) in let none = ap length (quiet_notes waits x calm) in omega (arith, before, more, none)))
 
     pub pass_places : (waits : Bool) → count_places waits (map times_of (drop from clients)) ≡ count_places waits (map times_of (drop to clients))
     pass_places waits =
         pass (λ k. count_places waits (map times_of (drop from clients)) ≡ count_places waits (map times_of (drop k clients))) refl
-        (λ k x here calm before. (let more = places_rest waits clients k x here in let none = ap length (quiet_places waits 0 x calm) in omega (arith, before, more, none)))
+        (λ k x here calm before. (let more = ap (λ xs. count_places waits (map times_of xs)) (rest_at clients k x here) in let none = ap length (quiet_places waits 0 x calm) in omega (arith, before, more, none)))
 
     pub pass_collected : {A : Type 0} (give : ℕ → Option (Stored T U C) → List A) → ((k : ℕ) (x : Option (Stored T U C)) → IsQuiet x → give k x ≡ [])
         → collected give from (drop from clients) ≡ collected give to (drop to clients)
     pass_collected give none =
         pass (λ k. collected give from (drop from clients) ≡ collected give k (drop k clients)) refl
-        (λ k x here calm before. before ∙ (collected_drop give k k clients x here ∙ ap (λ l. l ++ collected give (k + 1) (drop (k + 1) clients)) (none k x calm)))
+        (λ k x here calm before. before ∙ (ap (collected give k) (rest_at clients k x here) ∙ ap (λ l. l ++ collected give (k + 1) (drop (k + 1) clients)) (none k x calm)))
 
     pub pass_placed : (waits : Bool) (order : List NotePlace) → Placed waits clients from order → Placed waits clients to order
     pass_placed waits order h1 = grind (arith, pass, placed_more, places_at, length, quiet_notes, same_both, carry, there, out_here, to_gather)

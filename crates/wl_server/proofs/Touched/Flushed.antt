@@ -1,9 +1,9 @@
 -- A flush of clients, of which only those that were touched are looked at.
-use Rattle.std.proofs.Common.{◌≡◌, ◌∙◌, ℕ, ◌+◌, ◌<◌, ◌≤◌, Bool, true, false, ◌||◌, List, [], ◌∷◌, length, Option, None, Some, Result, Ok, refl, ap, subst, arith}
+use Rattle.std.proofs.Common.{◌≡◌, ◌∙◌, ℕ, ◌<◌, ◌≤◌, Bool, true, false, List, [], ◌∷◌, length, Option, None, Some, Result, Ok, refl, ap, arith}
+use Rattle.std.proofs.Math.Bool.{or-false}
 use Rattle.wl_wire.specs.declared.error.IoFault.{IoFault}
 use Rattle.wl_link.specs.Exchange.{Queue, Sending}
 use Rattle.wl_link.specs.Link.{Flushes}
-use Rattle.wl_link.specs.Puts.{lacks_memory}
 use Rattle.wl_server.specs.Deeds.{notes_in}
 use Rattle.wl_server.specs.Felt.{FlushedTo, FlushesLive}
 use Rattle.wl_server.specs.Inside.Client.{Does}
@@ -14,10 +14,10 @@ use Rattle.wl_server.specs.Part.{Part}
 use Rattle.wl_server.specs.Server.{Stored}
 use Rattle.wl_server.proofs.CallSteps.Feeling.{one_more_felt}
 use Rattle.wl_server.proofs.CleanupSteps.Gathering.{set_itself}
-use Rattle.wl_server.proofs.Readings.Flushing.{does_nothing, live_flushed}
+use Rattle.wl_server.proofs.Readings.Flushing.{does_nothing}
 use Rattle.wl_server.proofs.Readings.Notes.{notes_of_sends}
 use Rattle.wl_server.proofs.Touched.Kept.{carry, out_here, there}
-use Rattle.wl_link.proofs.Calls.Branches.{at_true}
+use Rattle.wl_link.proofs.Calls.Branches.{at_true, at_false}
 
 module _ {T U C : Type 0} where
   module _ (sends : T → Queue → Result ℕ IoFault → T → Type 0) where
@@ -27,8 +27,7 @@ module _ {T U C : Type 0} where
       where
         at : (b : Bool) → s.part.is_killed ≡ b → Does s (λ p did q. FlushesLive sends p false did q) s
         at true killed = does_nothing s (λ p did q. FlushesLive sends p false did q) (at_true _ s.part.is_killed killed (refl, refl, refl))
-        at false live = live_flushed sends s s (Ok tt) false live refl (does_nothing s (λ p did q. FlushedTo sends p (Ok tt) (lacks_memory
-            (Ok tt)) did q) ([], s.part.link, (refl, (sent, refl, refl), refl), refl, refl, refl))
+        at false live = does_nothing s (λ p did q. FlushesLive sends p false did q) (at_false _ s.part.is_killed live (Ok tt, ([], s.part.link, (refl, (sent, refl, refl), refl), refl, refl, refl)))
 
     -- a flush of a client that has sent all leaves it so
     pub sent_flushed : (s s' : Stored T U C) (answer : Result (Unit {0}) IoFault) (lacked : Bool) → Does s (λ p did q. FlushedTo sends p answer lacked did q) s'
@@ -51,10 +50,7 @@ module _ {T U C : Type 0} where
         → AllFeel (λ id p lacked did q. FlushesLive sends p lacked did q) refused to start now
     felt_on refused from to start now words up within out sent all =
         carry (λ k. AllFeel (λ id p lacked did q. FlushesLive sends p lacked did q) refused k start now) from to up all
-        (λ k low high before.
-        (let (place, here) = there now k (omega (arith, within, high)) in
-        (subst (λ (b : Bool). AllFeel (λ id p lacked did q. FlushesLive sends p lacked did q) b (k + 1) start now) (grind (arith))
-        (subst (λ (xs : List (Option (Stored T U C))). AllFeel (λ id p lacked did q. FlushesLive sends p lacked did q) (refused || false)
-        (k + 1) start xs) (set_itself now k place here)
+        (λ k low high before. (let (place, here) = there now k (omega (arith, within, high)) in
+        rw (set_itself now k place here, or-false refused) at
         (one_more_felt (λ id p lacked did q. FlushesLive sends p lacked did q) refused false k start now place place before here (sent_felt k place
-        (out_here HasSent words now k place here (out k low high) sent)))))))
+        (out_here HasSent words now k place here (out k low high) sent)))))

@@ -1,9 +1,9 @@
 -- The clients that were not touched are still so once notes were gathered, and after a cleanup.
-use Rattle.std.proofs.Common.{◌≡◌, ◌∙◌, ℕ, zero, suc, Bool, true, false, List, [], ◌∷◌, ◌++◌, length, map, Option, None, Some, is_some, Result, IfOk, OnErr, refl, sym, ap, subst, arith}
+use Rattle.std.proofs.Common.{◌≡◌, ◌∙◌, ℕ, Bool, true, false, List, [], length, map, Option, None, Some, is_some, Result, IfOk, OnErr, refl, sym, ap, subst, arith}
 use mathlib.Core.Logic.{inl, inr}
 use Rattle.std.specs.Option.{option_map, option_map_or}
 use Rattle.std.specs.Prelude.{nat_lt, slice_get}
-use Rattle.std.proofs.lemmas.Bool.{false≢true}
+use Rattle.std.proofs.lemmas.List.{nil_from_length}
 use Rattle.wl_wire.specs.declared.error.IoFault.{IoFault}
 use Rattle.wl_wire.specs.declared.error.OutOfMemory.{OutOfMemory}
 use Rattle.wl_link.proofs.Calls.Branches.{either_bool}
@@ -15,42 +15,20 @@ use Rattle.wl_server.specs.Inside.Gathering.{Gathers, all_emptied, emptied}
 use Rattle.wl_server.specs.Inside.Leaving.{FlushesKilled, all_staying, staying}
 use Rattle.wl_server.specs.Inside.Places.{AllFeel, FeltAt}
 use Rattle.wl_server.specs.Inside.Touched.{AllQuiet, AllSent, HasSent, IsQuiet}
-use Rattle.wl_server.specs.NoteOrder.{AllNumbered, AllTakeFirst, IsNumbered, NoneWaits, TakesFirst, times_at, times_of}
+use Rattle.wl_server.specs.NoteOrder.{AllNumbered, AllTakeFirst, IsNumbered, NoneWaits, TakesFirst, times_at, times_of, to_gather}
 use Rattle.wl_server.specs.Part.{Part}
 use Rattle.wl_server.specs.Server.{NoteTimes, Stored, stored_at}
 use Rattle.wl_server.proofs.Touched.Flushed.{sent_flushed}
-use Rattle.wl_server.proofs.Touched.Kept.{out_each, out_always}
-
--- ---- lists
-
-none_more : {A : Type 0} (xs ys : List A) → [] ≡ xs ++ ys → ys ≡ []
-none_more [] ys is = sym is
-none_more (x ∷ xs) ys is = let long = ap length is in absurd (omega (arith, long))
-
-pub none_first : {A : Type 0} (xs ys : List A) → xs ++ ys ≡ [] → xs ≡ []
-none_first [] ys is = refl
-none_first (x ∷ xs) ys is = let long = ap length is in absurd (omega (arith, long))
-
-none_long : {A : Type 0} (xs : List A) → length xs ≡ 0 → xs ≡ []
-none_long [] is = refl
-none_long (x ∷ xs) is = absurd (omega (arith, is))
+use Rattle.wl_server.proofs.Touched.Kept.{out_all, out_each}
+use Rattle.wl_server.proofs.CleanupSteps.Gathering.{both_none, stored_map}
+use Rattle.wl_server.proofs.CallSteps.Numbering.{times_stored}
 
 module _ {T U C : Type 0} where
-  pub times_stored : (clients : List (Option (Stored T U C))) (k : ℕ) → times_at k (map times_of clients) ≡ times_of (stored_at k clients)
-  times_stored [] k = refl
-  times_stored (x ∷ clients) zero = refl
-  times_stored (x ∷ clients) (suc k) = times_stored clients k
-
   -- ---- notes are gathered
-
-  emptied_at : (waits : Bool) (clients : List (Option (Stored T U C))) (k : ℕ) → stored_at k (all_emptied waits clients) ≡ option_map (emptied waits) (stored_at k clients)
-  emptied_at waits [] k = refl
-  emptied_at waits (x ∷ clients) zero = refl
-  emptied_at waits (x ∷ clients) (suc k) = emptied_at waits clients k
 
   same_emptied : (waits : Bool) (clients clients' : List (Option (Stored T U C))) (k : ℕ) → all_emptied waits clients' ≡ all_emptied waits clients
       → option_map (emptied waits) (stored_at k clients') ≡ option_map (emptied waits) (stored_at k clients)
-  same_emptied waits clients clients' k same = grind (arith, emptied_at, stored_at)
+  same_emptied waits clients clients' k same = grind (arith, same, stored_map (option_map (emptied waits)) refl clients k, stored_map (option_map (emptied waits)) refl clients' k)
 
   pub sent_emptied : (waits : Bool) (words : List ℕ) (clients clients' : List (Option (Stored T U C))) → all_emptied waits clients' ≡ all_emptied waits clients
       → AllSent words clients → AllSent words clients'
@@ -59,7 +37,7 @@ module _ {T U C : Type 0} where
 
   quiet_as : (o o' : Option (Stored T U C)) → option_map (emptied false) o' ≡ option_map (emptied false) o → TakesFirst (times_of o) (times_of o') → IsNumbered o'
       → IsQuiet o → IsQuiet o'
-  quiet_as o o' h1 h2 h3 h4 = grind (arith, is_some, none_more, none_long)
+  quiet_as o o' h1 h2 h3 h4 = grind (arith, is_some, both_none, nil_from_length)
 
   pub quiet_gathered : (words : List ℕ) (clients clients' : List (Option (Stored T U C))) → all_emptied false clients' ≡ all_emptied false clients
       → AllTakeFirst (map times_of clients) (map times_of clients') → AllNumbered clients' → AllQuiet words clients → AllQuiet words clients'
@@ -78,19 +56,9 @@ module _ {T U C : Type 0} where
 
   -- ---- a cleanup
 
-  staying_at : (clients : List (Option (Stored T U C))) (k : ℕ) → stored_at k (all_staying clients) ≡ staying (stored_at k clients)
-  staying_at [] k = refl
-  staying_at (x ∷ clients) zero = refl
-  staying_at (x ∷ clients) (suc k) = staying_at clients k
-
-  calm_staying : (o : Option (Stored T U C)) → (to_none : (s : Stored T U C) → o ≡ Some s → (s.made ≡ []) × (s.part.waiting ≡ []))
-      → (times_of (staying o)).waiting ≡ [] → IsNumbered (staying o) → IsQuiet (staying o)
-  calm_staying o to_none h1 h2 = grind (arith, times_of, none_long)
-
-  stored_there : (clients : List (Option (Stored T U C))) (k : ℕ) (s : Stored T U C) → stored_at k clients ≡ Some s → slice_get clients k ≡ Some (Some s)
-  stored_there [] k s is = absurd (false≢true (ap is_some is))
-  stored_there (x ∷ clients) zero s is = ap Some is
-  stored_there (x ∷ clients) (suc k) s is = stored_there clients k s is
+  calm_staying : (o : Option (Stored T U C)) → to_gather true o ≡ [] → (times_of (staying o)).waiting ≡ [] → IsNumbered (staying o) → IsQuiet (staying o)
+  calm_staying None none waits numbered = tt
+  calm_staying (Some s) none waits numbered = grind (arith, both_none s.made s.part.waiting none, nil_from_length, s.part.is_killed)
 
   module _ (sends : T → Queue → Result ℕ IoFault → T → Type 0) where
     sent_place : (k : ℕ) (lacked : Bool) (before after : Option (Option (Stored T U C))) → FeltAt (λ id p lacked did q. FlushesKilled sends p lacked did q) k before lacked after
@@ -112,17 +80,12 @@ module _ {T U C : Type 0} where
         → CleansUp sends clients notes refused clients' notes' given → AllSent words clients → AllSent words clients'
     sent_cleaned words clients clients' notes notes' refused given by sent =
         subst (λ (xs : List (Option (Stored T U C))). AllSent words xs) (sym by.stay)
-        (out_each HasSent words by.left (all_staying by.left) (λ k has. subst HasSent (sym (staying_at by.left k)) (grind (arith, stored_at k by.left)))
+        (out_each HasSent words by.left (all_staying by.left) (λ k has. (grind (arith, has, stored_map staying refl by.left k, staying, stored_at k by.left)))
         (sent_emptied true words by.flushed by.left by.gathers.rest (sent_killed words refused clients by.flushed by.flushes sent)))
 
     -- after a cleanup no client has a note, and each is live
     pub quiet_cleaned : (words : List ℕ) (clients clients' : List (Option (Stored T U C))) (notes notes' : List (Note U)) (refused : Bool) (given : List (ClientParts × T))
         → CleansUp sends clients notes refused clients' notes' given → NoneWaits (map times_of clients') → AllNumbered clients' → AllQuiet words clients'
     quiet_cleaned words clients clients' notes notes' refused given by waits numbered =
-        out_always IsQuiet words clients'
-        (λ k. (let is : stored_at k clients' ≡ staying (stored_at k by.left) = ap (λ (xs : List (Option (Stored T U C))). stored_at k xs) by.stay ∙ staying_at by.left k in
-        subst IsQuiet (sym is)
-        (calm_staying (stored_at k by.left)
-        (λ s here. (let none = by.all k (Some s) (stored_there by.left k s here) in (none_first s.made s.part.waiting none, none_more s.made s.part.waiting (sym none))))
-        (subst (λ (o : Option (Stored T U C)). (times_of o).waiting ≡ []) is (sym (ap (λ (t : NoteTimes). t.waiting) (times_stored clients' k)) ∙ waits k))
-        (subst IsNumbered is (numbered k)))))
+        out_all IsQuiet words clients'
+        (λ k out. (grind (arith, by.stay, stored_map staying refl by.left k, calm_staying, by.all k, times_stored clients' k, waits k, numbered k, slice_get by.left k)))

@@ -35,35 +35,26 @@ abbrev tells_of : Id → Shown → Said
 tells_of registry g = global_message table registry g
 
 -- a registry that was told of two globals when it was made, and one that was told of them later
-told_at_first : announced (map (tells_of (at 2 1)) (one ∷ two ∷ [])) (at 2 1) ≡ first ∷ second ∷ []
-told_at_first = refl
-
-told_later : announced (done_message (at 3 2) ∷ delete_message 3 ∷ tells_of (at 2 1) one ∷ done_message (at 3 3) ∷ tells_of (at 2 1) two ∷ []) (at 2 1) ≡ first ∷ second ∷ []
-told_later = refl
+told_of_two : (announced (map (tells_of (at 2 1)) (one ∷ two ∷ [])) (at 2 1) ≡ first ∷ second ∷ [])
+    × (announced (done_message (at 3 2) ∷ delete_message 3 ∷ tells_of (at 2 1) one ∷ done_message (at 3 3) ∷ tells_of (at 2 1) two ∷ []) (at 2 1) ≡ first ∷ second ∷ [])
+told_of_two = (refl, refl)
 
 -- a global is taken back; it may have been hidden, so that it was never announced
-taken_back_again : announced (tells_of (at 2 1) one ∷ tells_of (at 2 1) two ∷ removal_message 1 (at 2 1) ∷ []) (at 2 1) ≡ second ∷ []
-taken_back_again = refl
+taken_back_again : (announced (tells_of (at 2 1) one ∷ tells_of (at 2 1) two ∷ removal_message 1 (at 2 1) ∷ []) (at 2 1) ≡ second ∷ [])
+    × (announced (removal_message 1 (at 2 1) ∷ []) (at 2 1) ≡ [])
+taken_back_again = (refl, refl)
 
-never_announced : announced (removal_message 1 (at 2 1) ∷ []) (at 2 1) ≡ []
-never_announced = refl
-
--- a name is used again: the new global stands behind the others
-used_again : announced (tells_of (at 2 1) one ∷ tells_of (at 2 1) two ∷ removal_message 1 (at 2 1) ∷ tells_of (at 2 1) one ∷ []) (at 2 1) ≡ second ∷ first ∷ []
-used_again = refl
-
--- and were it not taken back before, both would be announced
-used_before_it_was_taken_back : announced (tells_of (at 2 1) one ∷ tells_of (at 2 1) (record one { version = 1 }) ∷ []) (at 2 1) ≡ first ∷ record first { version = 1 } ∷ []
-used_before_it_was_taken_back = refl
+-- a name is used again: the new global stands behind the others; and were it not taken back before, both would be announced
+used_again : (announced (tells_of (at 2 1) one ∷ tells_of (at 2 1) two ∷ removal_message 1 (at 2 1) ∷ tells_of (at 2 1) one ∷ []) (at 2 1) ≡ second ∷ first ∷ [])
+    × (announced (tells_of (at 2 1) one ∷ tells_of (at 2 1) (record one { version = 1 }) ∷ []) (at 2 1) ≡ first ∷ record first { version = 1 } ∷ [])
+used_again = (refl, refl)
 
 -- two registries of one client, and two objects of one number: each is told by its own messages
 two_registries : (announced (tells_of (at 2 1) one ∷ tells_of (at 3 2) two ∷ []) (at 2 1) ≡ first ∷ [])
     × (announced (tells_of (at 2 1) one ∷ tells_of (at 3 2) two ∷ []) (at 3 2) ≡ second ∷ [])
-two_registries = (refl, refl)
-
-two_of_one_number : (announced (tells_of (at 2 1) one ∷ tells_of (at 2 2) two ∷ []) (at 2 1) ≡ first ∷ [])
+    × (announced (tells_of (at 2 1) one ∷ tells_of (at 2 2) two ∷ []) (at 2 1) ≡ first ∷ [])
     × (announced (tells_of (at 2 1) one ∷ tells_of (at 2 2) two ∷ []) (at 2 2) ≡ second ∷ [])
-two_of_one_number = (refl, refl)
+two_registries = (refl, refl, refl, refl)
 
 -- ---- what has to be announced
 

@@ -52,27 +52,19 @@ module _ (store : Store (Kept ℕ)) where
   checked sender m = checked_sender client store table sender m
 
   -- the sender is looked at first, then the opcode, then the signature
-  an_event_of_nothing : checked None (event 9 []) ≡ Err refused.InvalidId
-  an_event_of_nothing = refl
-
-  an_unknown_event : checked (Some quad) (event 9 (arg.Uint 1 ∷ [])) ≡ Err refused.UnknownOpcode
-  an_unknown_event = refl
-
-  an_event_of_other_arguments : checked (Some quad) (event 1 (arg.Object (id_in other 0 0 quad_id) ∷ [])) ≡ Err refused.BadSignature
-  an_event_of_other_arguments = refl
+  refused_events : (checked None (event 9 []) ≡ Err refused.InvalidId)
+      × (checked (Some quad) (event 9 (arg.Uint 1 ∷ [])) ≡ Err refused.UnknownOpcode)
+      × (checked (Some quad) (event 1 (arg.Object (id_in other 0 0 quad_id) ∷ [])) ≡ Err refused.BadSignature)
+  refused_events = (refl, refl, refl)
 
   -- null is looked at before the client of the id is, and that before the object
-  a_null_new_id : checked (Some quad) (event 1 (arg.NewId (id_in other 0 9 registry_id) ∷ [])) ≡ Err refused.NullNewId
-  a_null_new_id = refl
+  refused_new_ids : (checked (Some quad) (event 1 (arg.NewId (id_in other 0 9 registry_id) ∷ [])) ≡ Err refused.NullNewId)
+      × (checked (Some quad) (event 1 (arg.NewId (id_in other 3 2 registry_id) ∷ [])) ≡ Err refused.ForeignObject)
+  refused_new_ids = (refl, refl)
 
-  a_foreign_new_id : checked (Some quad) (event 1 (arg.NewId (id_in other 3 2 registry_id) ∷ [])) ≡ Err refused.ForeignObject
-  a_foreign_new_id = refl
-
-  a_moved : checked (Some quad) (event 0 (arg.Int (pos 7) ∷ [])) ≡ Ok (quad, false)
-  a_moved = refl
-
-  a_gone : checked (Some quad) (event 2 []) ≡ Ok (quad, true)
-  a_gone = refl
+  -- `moved` and `gone`
+  granted_events : (checked (Some quad) (event 0 (arg.Int (pos 7) ∷ [])) ≡ Ok (quad, false)) × (checked (Some quad) (event 2 []) ≡ Ok (quad, true))
+  granted_events = (refl, refl)
 
   -- an object that is not kept comes before one of another interface
   found_objects : (found_fault {U = ℕ} (fits quad_id) None ≡ Some refused.InvalidId) × (found_fault (fits registry_id) (Some quad) ≡ Some refused.WrongInterface)
@@ -88,25 +80,21 @@ module _ (store : Store (Kept ℕ)) where
   null_arguments : (object_argument client store true quad_id 0 ≡ Ok (id_in client 0 0 anonymous_id)) × (object_argument client store false quad_id 0 ≡ Err wrong.NullObject)
   null_arguments = (refl, refl)
 
-  -- two nulls: the first may stand, the second is refused
-  two_nulls : convert client 3 (start objects link_row) [] (arg.Object 0 ∷ arg.Object 0 ∷ []) ≡ Wrong wrong.NullObject objects
-  two_nulls = refl
+  -- two nulls: the first may stand, the second is refused; and a new id of the server's
+  refused_arguments : (convert client 3 (start objects link_row) [] (arg.Object 0 ∷ arg.Object 0 ∷ []) ≡ Wrong wrong.NullObject objects)
+      × (convert client 3 (start objects make_row) [] (arg.NewId 0xFF000000 ∷ []) ≡ Wrong (wrong.InvalidNewId 0xFF000000) objects)
+  refused_arguments = (refl, refl)
 
   objects_found : (object_found {U = ℕ} client quad_id 9 None ≡ Err (wrong.UnknownId 9))
       × (object_found {U = ℕ} client quad_id 2 (Some (fresh_object registry_id 1 1 None)) ≡ Err (wrong.WrongInterface 2 quad_id registry_id))
   objects_found = (refl, refl)
 
-  a_new_id_of_the_server : convert client 3 (start objects make_row) [] (arg.NewId 0xFF000000 ∷ []) ≡ Wrong (wrong.InvalidNewId 0xFF000000) objects
-  a_new_id_of_the_server = refl
-
 -- ---- why an action is not finished
 
 data_wanted : (refusal {U = ℕ} false (Some (id_in client 5 3 quad_id)) None ≡ Some finish.MissingObjectData)
     × (refusal {U = ℕ} true (Some (id_in client 5 3 quad_id)) None ≡ None) × (refusal {U = ℕ} false None None ≡ None)
-data_wanted = (refl, refl, refl)
-
-data_unwanted : (refusal {U = ℕ} false None (Some 1) ≡ Some finish.UnexpectedData) × (refusal {U = ℕ} true None (Some 1) ≡ Some finish.UnexpectedData)
-data_unwanted = (refl, refl)
+    × (refusal {U = ℕ} false None (Some 1) ≡ Some finish.UnexpectedData) × (refusal {U = ℕ} true None (Some 1) ≡ Some finish.UnexpectedData)
+data_wanted = (refl, refl, refl, refl, refl)
 
 -- ---- calls on one client
 

@@ -5,7 +5,7 @@ use Rattle.wl_wire.specs.declared.error.IoFault.{IoFault}
 use Rattle.wl_wire.specs.declared.error.IoFault.TheVariants as fault
 use Rattle.wl_link.specs.Exchange.{Queue, nothing}
 use Rattle.wl_link.specs.Link.{LinkState}
-use Rattle.wl_link.specs.Reader.{Given, Gives, Received, Turn, stops, ReaderState}
+use Rattle.wl_link.specs.Reader.{Given, Gives, ReaderState, Reads, Received, Turn, stops}
 use Rattle.wl_link.specs.Script.{Script}
 use Rattle.wl_link.specs.Served.{Answers, state_as}
 use Rattle.wl_server.specs.declared.error.ActionError.TheVariants.{Io}
@@ -17,7 +17,7 @@ use Rattle.wl_server.specs.Deeds.{Came}
 use Rattle.wl_server.specs.Globals.{Offer}
 use Rattle.wl_server.specs.Part.{Part}
 use Rattle.wl_server.specs.PartStep.{Asked, ReadsFor, World, around, over_scripts}
-use Rattle.wl_server.specs.Reading.{exchanges_in, new_reading}
+use Rattle.wl_server.specs.Reading.{exchanges_in, new_reading, server}
 use Rattle.wl_server.specs.Runs.{Alone, Own}
 use Rattle.wl_server.specs.Server.{Seen}
 use Rattle.wl_server.proofs.OverRuns.Cut.StretchLaws.{stretch_served}
@@ -76,39 +76,14 @@ module _ (offer : Offer ℕ) (p : Part Script ℕ Bool) where
   its_deeds = refl
 
   -- a piece is received, and then nothing can be
+  would_block : Reads w.sends (server (around w client offer)) w.receives 63 (reader_part after) (Received (Err fault.WouldBlock) ∷ []) outcome (reader_part after)
+  would_block = (refl, inl (refl, refl), (62, refl, (link_over (scripted []) half, (inl (tt, refl, refl), refl, refl), λ lacks fits. omega arith, (refl, refl, refl))))
+
+  half_arrives : Reads w.sends (server (around w client offer)) w.receives 64 (reader_part before) turns outcome (reader_part after)
+  half_arrives = (refl, inl (refl, refl), (63, refl, (link_over (scripted []) half, (inl (lit≤ tt, refl, refl), refl, refl), λ lacks fits. omega arith, would_block)))
+
   a_read : ReadsFor w client offer client new_reading (Err (Io fault.WouldBlock)) (record { turns_left = 62; read = 0 }) (held before) false reading.did (held after)
-  a_read = (
-    after,
-    (
-      turns,
-      outcome,
-      reader_part after,
-      (
-        refl,
-        inl (refl, refl),
-        (
-          63,
-          refl,
-          (
-            link_over (scripted []) half,
-            (inl (lit≤ tt, refl, refl), refl, refl),
-            λ lacks fits. omega arith,
-            (
-              refl,
-              inl (refl, refl),
-              (62, refl, (link_over (scripted []) half, (inl (tt, refl, refl), refl, refl), λ lacks fits. omega arith, (refl, refl, refl))),
-            ),
-          ),
-        ),
-      ),
-      refl,
-      refl,
-      refl,
-      refl,
-      refl,
-    ),
-    refl,
-  )
+  a_read = (after, (turns, outcome, reader_part after, half_arrives, refl, refl, refl, refl, refl), refl)
 
   a_reading : Alone w client offer (held before) (reading ∷ []) (held after)
   a_reading = (held after, (Err (Io fault.WouldBlock), record { turns_left = 62; read = 0 }, refl, a_read), refl)

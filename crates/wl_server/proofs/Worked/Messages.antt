@@ -83,39 +83,27 @@ a_sync_is_answered : spelling (done_message (at 2 1)).message ++ spelling (delet
 unfolding word piece
 a_sync_is_answered = refl
 
--- only a client's own numbers are given back
-a_clients_number : deletions 2 ≡ delete_message 2 ∷ []
-a_clients_number = refl
+-- only a client's own numbers are given back: 0xFEFFFFFF is the last of them
+numbers_given_back : (deletions 2 ≡ delete_message 2 ∷ []) × (deletions 0xFEFFFFFF ≡ delete_message 0xFEFFFFFF ∷ []) × (deletions 0xFF000000 ≡ [])
+numbers_given_back = (refl, refl, refl)
 
-the_last_of_them : deletions 0xFEFFFFFF ≡ delete_message 0xFEFFFFFF ∷ []
-the_last_of_them = refl
-
-a_servers_number : deletions 0xFF000000 ≡ []
-a_servers_number = refl
-
-a_global_is_announced : spelling (global_message table (at 2 1) one).message
-    ≡ 2 ∷ 0 ∷ 0 ∷ 0 ∷ 0 ∷ 0 ∷ 0x1c ∷ 0 ∷ 1 ∷ 0 ∷ 0 ∷ 0 ∷ 5 ∷ 0 ∷ 0 ∷ 0 ∷ 0x71 ∷ 0x75 ∷ 0x61 ∷ 0x64 ∷ 0 ∷ 0 ∷ 0 ∷ 0 ∷ 3 ∷ 0 ∷ 0 ∷ 0 ∷ []
+-- 146 announcements of 28 bytes fit into 4096 bytes, and 147 do not
+a_global_is_announced : (spelling (global_message table (at 2 1) one).message
+    ≡ 2 ∷ 0 ∷ 0 ∷ 0 ∷ 0 ∷ 0 ∷ 0x1c ∷ 0 ∷ 1 ∷ 0 ∷ 0 ∷ 0 ∷ 5 ∷ 0 ∷ 0 ∷ 0 ∷ 0x71 ∷ 0x75 ∷ 0x61 ∷ 0x64 ∷ 0 ∷ 0 ∷ 0 ∷ 0 ∷ 3 ∷ 0 ∷ 0 ∷ 0 ∷ [])
+    × (size (global_message table (at 2 1) one).message ≡ 28)
 unfolding word piece
-a_global_is_announced = refl
+a_global_is_announced = (refl, refl)
 
 a_global_is_withdrawn : spelling (removal_message 1 (at 2 1)).message ≡ 2 ∷ 0 ∷ 0 ∷ 0 ∷ 1 ∷ 0 ∷ 0x0c ∷ 0 ∷ 1 ∷ 0 ∷ 0 ∷ 0 ∷ []
 unfolding word piece
 a_global_is_withdrawn = refl
 
--- 146 announcements of 28 bytes fit into 4096 bytes, and 147 do not
-announcements_in_a_buffer : size (global_message table (at 2 1) one).message ≡ 28
-unfolding word piece
-announcements_in_a_buffer = refl
-
 -- ---- texts of errors, and the size of the message of each
 
-new_id_5 : (new_id_text 5 ≡ codes "Invalid new_id: 5.") × (size (error_message 1 0 (new_id_text 5)).message ≡ 40)
+new_ids : (new_id_text 5 ≡ codes "Invalid new_id: 5.") × (size (error_message 1 0 (new_id_text 5)).message ≡ 40)
+    × (new_id_text 0xFF000000 ≡ codes "Invalid new_id: 4278190080.") × (size (error_message 1 0 (new_id_text 0xFF000000)).message ≡ 48)
 unfolding word piece digits utf8_lossy
-new_id_5 = (refl, refl)
-
-new_id_of_the_server : (new_id_text 0xFF000000 ≡ codes "Invalid new_id: 4278190080.") × (size (error_message 1 0 (new_id_text 0xFF000000)).message ≡ 48)
-unfolding word piece digits utf8_lossy
-new_id_of_the_server = (refl, refl)
+new_ids = (refl, refl, refl, refl)
 
 bind_without_name : (bind_text [] 1 1 ≡ codes "Invalid binding of  version 1 for global 1.") × (length (bind_text [] 1 1) ≡ 43)
     × (size (error_message 1 0 (bind_text [] 1 1)).message ≡ 64)
@@ -126,31 +114,23 @@ bind_of_a_hidden_global : bind_text (codes "quad") 3 1 ≡ codes "Invalid bindin
 unfolding digits utf8_lossy utf8_valid_len is_utf8 chars encode
 bind_of_a_hidden_global = refl
 
+-- of an object of the client's, and of the server's
 make_at_version_1 : (since_text 1 1 2 (name_of table 4) 3 ≡ codes "invalid method 1 (since 1 < 2), object quad#3")
     × (size (error_message 1 1 (since_text 1 1 2 (name_of table 4) 3)).message ≡ 68)
-unfolding word piece digits utf8_lossy
-make_at_version_1 = (refl, refl)
-
-make_of_a_servers_object : (since_text 1 1 2 (name_of table 4) 0xFF000000 ≡ codes "invalid method 1 (since 1 < 2), object quad#4278190080")
+    × (since_text 1 1 2 (name_of table 4) 0xFF000000 ≡ codes "invalid method 1 (since 1 < 2), object quad#4278190080")
     × (size (error_message 1 1 (since_text 1 1 2 (name_of table 4) 0xFF000000)).message ≡ 76)
 unfolding word piece digits utf8_lossy
-make_of_a_servers_object = (refl, refl)
+make_at_version_1 = (refl, refl, refl, refl)
 
-link_to_null : (fault_text table quad_id link_row wrong.NullObject ≡ codes "Invalid null object in request quad.link.")
+-- to null, to a registry, and to nothing
+wrong_links : (fault_text table quad_id link_row wrong.NullObject ≡ codes "Invalid null object in request quad.link.")
     × (size (error_message 1 0 (fault_text table quad_id link_row wrong.NullObject)).message ≡ 64)
-unfolding word piece digits utf8_lossy
-link_to_null = (refl, refl)
-
-link_to_a_registry : (fault_text table quad_id link_row (wrong.WrongInterface 2 quad_id registry_id)
-    ≡ codes "Invalid object 2 in request quad.link: expected quad but got wl_registry.")
+    × (fault_text table quad_id link_row (wrong.WrongInterface 2 quad_id registry_id) ≡ codes "Invalid object 2 in request quad.link: expected quad but got wl_registry.")
     × (size (error_message 1 0 (fault_text table quad_id link_row (wrong.WrongInterface 2 quad_id registry_id))).message ≡ 96)
-unfolding word piece digits utf8_lossy
-link_to_a_registry = (refl, refl)
-
-link_to_nothing : (fault_text table quad_id link_row (wrong.UnknownId 9) ≡ codes "Unknown id: 9.")
+    × (fault_text table quad_id link_row (wrong.UnknownId 9) ≡ codes "Unknown id: 9.")
     × (size (error_message 1 0 (fault_text table quad_id link_row (wrong.UnknownId 9))).message ≡ 36)
 unfolding word piece digits utf8_lossy
-link_to_nothing = (refl, refl)
+wrong_links = (refl, refl, refl, refl, refl, refl)
 
 -- an error of the protocol is one on the display
 an_error : error_of table (display_of client) 0 [] ≡ record { code = 0; object_id = 1; object_interface = codes "wl_display"; message = [] }
@@ -159,13 +139,11 @@ an_error = refl
 
 -- ---- ids as texts
 
-a_servers_object : display_text table (id_in client 0xFF000000 1 quad_id) ≡ codes "quad@4278190080[0]"
+-- an object of the server's, and one of no interface
+ids_as_texts : (display_text table (id_in client 0xFF000000 1 quad_id) ≡ codes "quad@4278190080[0]")
+    × (display_text table (id_in other 0 0 (record { 0 = 9 })) ≡ codes "<unknown>@0[1]")
 unfolding digits
-a_servers_object = refl
-
-an_object_of_no_interface : display_text table (id_in other 0 0 (record { 0 = 9 })) ≡ codes "<unknown>@0[1]"
-unfolding digits
-an_object_of_no_interface = refl
+ids_as_texts = (refl, refl)
 
 -- ---- what clients see
 

@@ -80,16 +80,11 @@ module _ (globals : Globals ℕ) (c : Core ℕ Bool) where
       × (may true false None 3 ≡ false)
   binds_that_may_not = (refl, refl, refl, refl, refl)
 
-  -- the global is looked at before the new id is
-  a_bind_of_no_global : binds_to around c 1 (Some (codes "quad")) 3 0xFF000000 None ≡ breaks around c 0 (bind_text (codes "quad") 3 1)
-  a_bind_of_no_global = refl
-
-  a_bind_without_name : binds_to around c 1 None 1 0xFF000000 (Some (quad_global false)) ≡ breaks around c 0 (bind_text [] 1 1)
-  a_bind_without_name = refl
-
-  a_bind_of_the_servers_range : binds_to around (seeing true) 1 (Some (codes "quad")) 3 0xFF000000 (Some (quad_global false))
-      ≡ breaks around (seeing true) 0 (new_id_text 0xFF000000)
-  a_bind_of_the_servers_range = refl
+  -- the global is looked at before the new id is: no global, no name, the server's range
+  refused_binds : (binds_to around c 1 (Some (codes "quad")) 3 0xFF000000 None ≡ breaks around c 0 (bind_text (codes "quad") 3 1))
+      × (binds_to around c 1 None 1 0xFF000000 (Some (quad_global false)) ≡ breaks around c 0 (bind_text [] 1 1))
+      × (binds_to around (seeing true) 1 (Some (codes "quad")) 3 0xFF000000 (Some (quad_global false)) ≡ breaks around (seeing true) 0 (new_id_text 0xFF000000))
+  refused_binds = (refl, refl, refl)
 
   -- a bound object has the version asked for, and no data yet
   a_bind : is_valid_new (objects_in c) 3 ≡ true → binds_to around (seeing true) 1 (Some (codes "quad")) 2 3 (Some (quad_global true))
@@ -125,15 +120,10 @@ module _ (globals : Globals ℕ) (c : Core ℕ Bool) where
   -- ---- which requests these are
 
   -- each object of the display's interface is treated as a display, and each of the registry's as one, whatever its number
-  a_second_display : request_to around c (message 7 0 (arg.NewId 2 ∷ [])) (fresh_object display_id 1 9 None) destroy_row
-      ≡ display_request around c 0 (arg.NewId 2 ∷ [])
-  a_second_display = refl
-
-  a_bound_registry : request_to around c (message 7 0 []) (fresh_object registry_id 1 9 None) destroy_row ≡ registry_request around c []
-  a_bound_registry = refl
-
-  a_request_to_nothing : request around c (message 7 0 []) None None ≡ garbled c
-  a_request_to_nothing = refl
+  requests_to : (request_to around c (message 7 0 (arg.NewId 2 ∷ [])) (fresh_object display_id 1 9 None) destroy_row ≡ display_request around c 0 (arg.NewId 2 ∷ []))
+      × (request_to around c (message 7 0 []) (fresh_object registry_id 1 9 None) destroy_row ≡ registry_request around c [])
+      × (request around c (message 7 0 []) None None ≡ garbled c)
+  requests_to = (refl, refl, refl)
 
   -- ---- what a verdict says
 

@@ -74,17 +74,13 @@ gathered =
     ∷ Destroyed client (id_in client 0xFF000001 2 quad_id) 2
     ∷ []
 
-notes_of_the_killed : notes_of client gathered
+-- of the killed one, and of the other
+notes_of_each : (notes_of client gathered
     ≡ happened.Initialized ∷ happened.Disconnected ConnectionClosed
-    ∷ happened.Destroyed (id_in client 0xFF000000 1 quad_id) 1
-    ∷ happened.Destroyed (id_in client 0xFF000001 2 quad_id) 2 ∷ []
-notes_of_the_killed = refl
-
-notes_of_the_other : notes_of other gathered
-    ≡ happened.Initialized
-    ∷ happened.Destroyed (id_in other 0xFF000000 1 quad_id) 1
-    ∷ happened.Destroyed (id_in other 0xFF000001 2 quad_id) 2 ∷ []
-notes_of_the_other = refl
+    ∷ happened.Destroyed (id_in client 0xFF000000 1 quad_id) 1 ∷ happened.Destroyed (id_in client 0xFF000001 2 quad_id) 2 ∷ [])
+    × (notes_of other gathered
+    ≡ happened.Initialized ∷ happened.Destroyed (id_in other 0xFF000000 1 quad_id) 1 ∷ happened.Destroyed (id_in other 0xFF000001 2 quad_id) 2 ∷ [])
+notes_of_each = (refl, refl)
 
 -- ---- slots
 
@@ -106,34 +102,25 @@ module _ (p : Part ℕ ℕ Bool) where
 abbrev offer : Offer ℕ
 offer = new_offer table
 
--- the version of `quad` is 3, and the table has five interfaces
-a_global_too_high : CreatesGlobal table (no_globals {G = ℕ}) quad_id 4 (Err global.VersionTooHigh)
-a_global_too_high = refl
+-- the version of `quad` is 3, and the table has five interfaces; the one without messages, 0, is of version 0
+refused_globals : CreatesGlobal table (no_globals {G = ℕ}) quad_id 4 (Err global.VersionTooHigh)
+    × CreatesGlobal table (no_globals {G = ℕ}) (record { 0 = 9 }) 1 (Err global.UnknownInterface)
+    × CreatesGlobal table (no_globals {G = ℕ}) (record { 0 = 0 }) 1 (Err global.VersionTooHigh)
+refused_globals = (refl, refl, refl)
 
-a_global_of_no_interface : CreatesGlobal table (no_globals {G = ℕ}) (record { 0 = 9 }) 1 (Err global.UnknownInterface)
-a_global_of_no_interface = refl
-
--- the interface without messages is one of the table, of version 0
-an_anonymous_global_too_high : CreatesGlobal table (no_globals {G = ℕ}) (record { 0 = 0 }) 1 (Err global.VersionTooHigh)
-an_anonymous_global_too_high = refl
-
--- a refused global, or another call, leaves the offer
-an_offer_that_stays : offer_after offer (asked (step.CreateGlobal quad_id 4 7) (reply.CreateGlobal (Err global.VersionTooHigh))) ≡ offer
-an_offer_that_stays = refl
-
-a_new_limit : offer_after offer (asked (step.SetDefaultMaxBufferSize 8192) reply.SetDefaultMaxBufferSize) ≡ record offer { default_limit = 8192 }
-a_new_limit = refl
+-- a refused global leaves the offer, and a new limit changes it
+offers_after : (offer_after offer (asked (step.CreateGlobal quad_id 4 7) (reply.CreateGlobal (Err global.VersionTooHigh))) ≡ offer)
+    × (offer_after offer (asked (step.SetDefaultMaxBufferSize 8192) reply.SetDefaultMaxBufferSize) ≡ record offer { default_limit = 8192 })
+offers_after = (refl, refl)
 
 -- more interfaces follow those of the table; if they are refused, the offer stays
 module _ (rows : List InterfaceRow) where
   abbrev added : Result (Unit {0}) TableError → Call ℕ ℕ ℕ Bool
   added answer = Grown rows answer
 
-  more_interfaces : offer_after offer (added (Ok tt)) ≡ record offer { table = table ++ rows }
-  more_interfaces = refl
-
-  no_more_interfaces : offer_after offer (added (Err (table_error.UnknownInterface 0))) ≡ offer
-  no_more_interfaces = refl
+  more_interfaces : (offer_after offer (added (Ok tt)) ≡ record offer { table = table ++ rows })
+      × (offer_after offer (added (Err (table_error.UnknownInterface 0))) ≡ offer)
+  more_interfaces = (refl, refl)
 
   refused_interfaces : (lacks_growth (added (Err table_error.OutOfMemory)) ≡ true) × (lacks_growth (added (Err (table_error.UnknownInterface 0))) ≡ false)
   refused_interfaces = (refl, refl)
@@ -154,47 +141,31 @@ module _ (w : World ℕ ℕ Bool) (made : List (Happening ℕ)) where
   abbrev Answers : Step ℕ ℕ ℕ Bool → Reply ℕ ℕ → Type 0
   Answers call answer = PartStep w client offer call answer out false [] out
 
-  a_reading_of_none : Answers (step.NextAction client) (reply.NextAction (Err (Io fault.InvalidInput)))
-  a_reading_of_none = (_, new_reading, refl, ((refl, refl), (refl, refl, refl)))
-
   an_event_of_none : (m : Message IdParts Token) → same_client m.sender_id.client client ≡ true → Answers (step.SendEvent m) (reply.SendEvent (Err event.InvalidId))
   an_event_of_none m own = (_, refl, rw own (refl, (refl, refl, refl)))
 
   an_error_of_none : (text : _) → Answers (step.PostError (id_in client 3 2 quad_id) 0 text) reply.PostError
   an_error_of_none text = (refl, (tt, (refl, refl, refl)))
 
-  a_kill_of_none : Answers (step.KillClient client ConnectionClosed) reply.KillClient
-  a_kill_of_none = (refl, (tt, (refl, refl, refl)))
-
-  a_flush_of_none : Answers (step.Flush (Some client)) (reply.Flush (Ok tt))
-  a_flush_of_none = (_, refl, (refl, (refl, refl, refl)))
-
-  a_new_object_of_none : Answers (step.CreateObject client quad_id 3 9) (reply.CreateObject (Err create.InvalidId))
-  a_new_object_of_none = (_, refl, (refl, (refl, refl, refl)))
-
-  an_end_of_none : Answers (step.DestroyObject (id_in client 3 2 quad_id)) (reply.DestroyObject (Err destroy.InvalidId))
-  an_end_of_none = (_, refl, (refl, (refl, refl, refl)))
+  a_reading_of_none : Answers (step.NextAction client) (reply.NextAction (Err (Io fault.InvalidInput)))
+  a_reading_of_none = (_, new_reading, refl, ((refl, refl), (refl, refl, refl)))
 
   data_of_none : Answers (step.SetObjectData (id_in client 3 2 quad_id) 9) (reply.SetObjectData (Err _))
   data_of_none = (_, refl, (refl, (refl, refl, refl)))
 
-  a_finish_of_none : Answers (step.FinishRequest client (Some 9)) (reply.FinishRequest (Err (record { error = finish.InvalidId; user_data = Some 9 })))
-  a_finish_of_none = (_, refl, (refl, (refl, refl, refl)))
-
-  a_bind_of_none : Answers (step.FinishBind client 9) (reply.FinishBind (Err (record { error = finish.InvalidId; user_data = 9 })))
-  a_bind_of_none = (_, refl, (refl, (refl, refl, refl)))
-
-  a_limit_of_none : Answers (step.SetClientMaxBufferSize client 9) reply.SetClientMaxBufferSize
-  a_limit_of_none = (refl, (tt, (refl, refl, refl)))
-
-  a_fault_of_none : Answers (step.ArriveFault client fault.Pipe) (reply.ArriveFault (Err script.InvalidId))
-  a_fault_of_none = (_, refl, (refl, (refl, refl, refl)))
+  calls_of_none : Answers (step.KillClient client ConnectionClosed) reply.KillClient
+      × Answers (step.Flush (Some client)) (reply.Flush (Ok tt))
+      × Answers (step.CreateObject client quad_id 3 9) (reply.CreateObject (Err create.InvalidId))
+      × Answers (step.DestroyObject (id_in client 3 2 quad_id)) (reply.DestroyObject (Err destroy.InvalidId))
+      × Answers (step.FinishRequest client (Some 9)) (reply.FinishRequest (Err (record { error = finish.InvalidId; user_data = Some 9 })))
+      × Answers (step.FinishBind client 9) (reply.FinishBind (Err (record { error = finish.InvalidId; user_data = 9 })))
+      × Answers (step.SetClientMaxBufferSize client 9) reply.SetClientMaxBufferSize
+      × Answers (step.ArriveFault client fault.Pipe) (reply.ArriveFault (Err script.InvalidId))
+  calls_of_none = grind (arith)
 
 -- ---- moves of a transport by script
 
 module _ (s : Script) where
   a_fault_arrives : ScriptMoves s (ArriveFault fault.Pipe) (Ok []) (record s { arrivals = s.arrivals ++ Err fault.Pipe ∷ [] })
-  a_fault_arrives = (refl, refl)
-
-  what_was_sent : ScriptMoves s TakeSent (Ok s.sent) (record s { sent = [] })
-  what_was_sent = (refl, refl)
+      × ScriptMoves s TakeSent (Ok s.sent) (record s { sent = [] })
+  a_fault_arrives = ((refl, refl), (refl, refl))

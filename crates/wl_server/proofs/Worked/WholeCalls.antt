@@ -10,15 +10,16 @@ use Rattle.wl_wire.specs.declared.argument.Argument.TheVariants as arg
 use Rattle.wl_wire.specs.declared.error.IoFault.{IoFault}
 use Rattle.wl_wire.specs.declared.error.IoFault.TheVariants as fault
 use Rattle.wl_wire.specs.Message.{word, piece, spelling}
-use Rattle.wl_wire.specs.Parse.{sender_of, second_word}
+use Rattle.wl_wire.specs.Parse.{ReadsMessage, sender_of, second_word}
 use Rattle.wl_wire.specs.Inside.Cursor.{word_at, counted_at, text_of, argument_at, arguments_at}
 use Rattle.wl_wire.proofs.Spelling.CursorLaws.{arguments_read}
 use Rattle.wl_link.specs.Exchange.{Queue, Sending}
-use Rattle.wl_link.specs.Link.{LinkState}
-use Rattle.wl_link.specs.Puts.{Said}
-use Rattle.wl_link.specs.Reader.{HandedOut, Handled, Queued, stops}
+use Rattle.wl_link.specs.Link.{FlushedBy, Grown, LinkState, Wants, WroteBy, needed}
+use Rattle.wl_link.specs.Puts.{FlushesOut, PutsOut, Said}
+use Rattle.wl_link.specs.Reader.{Given, HandedOut, Handled, Queued, ReaderState, stops}
 use Rattle.wl_link.specs.Store.{held, removed}
 use Rattle.wl_server.specs.declared.error.ActionError.TheVariants.{Io}
+use Rattle.wl_server.specs.declared.notes.DisconnectReason.{DisconnectReason}
 use Rattle.wl_server.specs.declared.notes.DisconnectReason.TheVariants.{ProtocolError as BrokeProtocol, ConnectionClosed}
 use Rattle.wl_server.specs.declared.notes.Happening.TheVariants as happened
 use Rattle.wl_server.specs.Deeds.{Noted, Put, Sent, Left}
@@ -26,7 +27,7 @@ use Rattle.wl_server.specs.Globals.{Globals}
 use Rattle.wl_server.specs.Part.{Part, display_object, objects_of, fresh_object}
 use Rattle.wl_server.specs.Reading.{Around, NextAction, new_reading, server}
 use Rattle.wl_server.specs.Requests.{is_valid_new}
-use Rattle.wl_server.specs.Telling.{Stops, core_of, error_message, killed}
+use Rattle.wl_server.specs.Telling.{Core, Stops, Told, core_of, delete_message, error_message, killed}
 use Rattle.wl_server.proofs.Worked.Messages.{client, says, table, at, id_in, quad_id}
 use Rattle.wl_link.specs.declared.object.Object.{Object}
 use Rattle.wl_link.specs.Stretch.{EndsByPipe}
@@ -58,6 +59,13 @@ the_error = error_message 1 0 (codes "Invalid new_id: 5.")
 abbrev the_send : Sending
 the_send = record { offer = record { bytes = spelling the_error.message; tokens = [] }; answer = Ok 40 }
 
+abbrev why : DisconnectReason
+why = BrokeProtocol (record { code = 0; object_id = 1; object_interface = codes "wl_display"; message = codes "Invalid new_id: 5." })
+
+-- a buffer that has room, or may not grow, stays as it is
+stays : (l : LinkState ℕ) (more : ℕ) → (Wants l.limit (needed l more) l.outgoing_capacity → ⊥) → Grown l more l
+stays l more fits = (record { times = 0; grown = omega arith; wanted = λ k less. absurd (omega (arith, less)); enough = fits }, refl)
+
 -- ---- a reading: the first request is a sync whose new id may not be used
 
 module _ (sends : ℕ → Queue → Result ℕ IoFault → ℕ → Type 0) (receives : ℕ → ℕ → Result Queue IoFault → ℕ → Type 0) (globals : Globals ℕ)
@@ -73,85 +81,61 @@ module _ (sends : ℕ → Queue → Result ℕ IoFault → ℕ → Type 0) (rece
   abbrev after : Part ℕ ℕ Bool
   after = record p { link = link_with 1 [] []; is_killed = true; action = None }
 
-  sync_with_taken_new_id : NextAction sends receives a new_reading before (Err (Io fault.Pipe)) (record { turns_left = 64; read = 1 }) false
-      (Sent the_send ∷ Put the_error ∷ Noted (happened.Disconnected (BrokeProtocol (record { code = 0; object_id = 1; object_interface = codes "wl_display"; message = codes "Invalid new_id: 5." }))) ∷ []) after
-  unfolding word piece digits utf8_lossy utf8_valid_len is_utf8 chars encode sender_of second_word word_at counted_at text_of argument_at arguments_at
-  sync_with_taken_new_id = (
-    Handled (the_send ∷ []) ∷ [],
-    record { gave = Queued the_error ∷ HandedOut (Stops fault.Pipe) ∷ []; stopped = None; refused = false; left = 64 },
-    record { core = killed (core_of before) (BrokeProtocol (record { code = 0; object_id = 1; object_interface = codes "wl_display"; message = codes "Invalid new_id: 5." })); link = link_with 1 [] [] },
-    (
-      refl,
-      (
-        _,
-        link_with 0 [] [],
-        Queued the_error ∷ HandedOut (Stops fault.Pipe) ∷ [],
-        false,
-        record { core = killed (core_of before) (BrokeProtocol (record { code = 0; object_id = 1; object_interface = codes "wl_display"; message = codes "Invalid new_id: 5." })); link = link_with 1 [] [] },
-        stops None false 64,
-        (
-          record { sender = 1; opcode = 0; args = arg.NewId 5 ∷ [] },
-          (
-            Some (kind.NewId ∷ []),
-            rw display refl,
-            (
-              record {
-                whole = record { header = lit≤ tt; counts_header = lit≤ tt; there = lit≤ tt };
-                sender = refl;
-                opcode = refl;
-                args = (arguments_read (kind.NewId ∷ []) (5 ∷ 0 ∷ 0 ∷ 0 ∷ []) [] (arg.NewId 5 ∷ []) [] refl).0;
-              },
-              refl,
-            ),
-          ),
-          refl,
-        ),
-        rw display (rw taken (rw display (inl (
-          [],
-          the_send ∷ [],
-          the_error ∷ [],
-          Ok tt,
-          link_with 0 [] (spelling the_error.message),
-          false,
-          (
-            [],
-            Ok tt,
-            link_with 0 [] (spelling the_error.message),
-            inl (inr (
-              link_with 0 [] [],
-              (
-                record {
-                  times = 0;
-                  grown = refl;
-                  wanted = λ k less. absurd (omega (arith, less));
-                  enough = λ w. absurd (let h = w.0 in omega (arith, h));
-                },
-                refl,
-              ),
-              (refl, inl (refl, refl)),
-            )),
-            ([], [], refl, refl, (refl, refl, refl, refl)),
-          ),
-          (
-            Ok tt,
-            ((1, takes, refl), ((λ e. true≢false (ap is_cons e)), refl, (refl, refl, refl)), refl),
-            refl,
-          ),
-          refl,
-          refl,
-          refl,
-          refl,
-        )))),
-        refl,
-        (refl, refl),
-      ),
-    ),
-    refl,
-    refl,
-    refl,
-    refl,
-    refl,
+  abbrev end : ReaderState ℕ (Core ℕ Bool)
+  end = record { core = killed (core_of before) why; link = link_with 1 [] [] }
+
+  it_is_read : ReadsMessage arrived (kind.NewId ∷ []) [] (record { sender = 1; opcode = 0; args = arg.NewId 5 ∷ [] })
+  unfolding word piece sender_of second_word word_at counted_at text_of argument_at arguments_at
+  it_is_read = record {
+    whole = record { header = lit≤ tt; counts_header = lit≤ tt; there = lit≤ tt };
+    sender = refl;
+    opcode = refl;
+    args = (arguments_read (kind.NewId ∷ []) (5 ∷ 0 ∷ 0 ∷ 0 ∷ []) [] (arg.NewId 5 ∷ []) [] refl).0;
+  }
+
+  it_is_put : PutsOut sends (link_with 0 [] []) (the_error ∷ []) [] (the_error ∷ []) (Ok tt) (link_with 0 [] (spelling the_error.message))
+  unfolding word piece
+  it_is_put = (
+    [],
+    Ok tt,
+    link_with 0 [] (spelling the_error.message),
+    inl (inr (link_with 0 [] [], stays (link_with 0 [] []) 40 (λ w. absurd (let h = w.0 in omega (arith, h))), (refl, inl (refl, refl)))),
+    ([], [], refl, refl, (refl, refl, refl, refl)),
   )
+
+  it_is_sent : FlushesOut sends true (link_with 0 [] (spelling the_error.message)) (the_send ∷ []) false (link_with 1 [] [])
+  unfolding word piece
+  it_is_sent = (Ok tt, ((1, takes, refl), ((λ e. true≢false (ap is_cons e)), refl, (refl, refl, refl)), refl), refl)
+
+  sync_with_taken_new_id : NextAction sends receives a new_reading before (Err (Io fault.Pipe)) (record { turns_left = 64; read = 1 }) false
+      (Sent the_send ∷ Put the_error ∷ Noted (happened.Disconnected why) ∷ []) after
+  unfolding word piece digits utf8_lossy utf8_valid_len is_utf8 chars encode sender_of second_word word_at counted_at text_of argument_at arguments_at
+  sync_with_taken_new_id =
+      let handed : List (Given (Told ℕ)) = Queued the_error ∷ HandedOut (Stops fault.Pipe) ∷ [] in (
+        Handled (the_send ∷ []) ∷ [],
+        record { gave = handed; stopped = None; refused = false; left = 64 },
+        end,
+        (
+          refl,
+          (
+            _,
+            link_with 0 [] [],
+            handed,
+            false,
+            end,
+            stops None false 64,
+            (record { sender = 1; opcode = 0; args = arg.NewId 5 ∷ [] }, (Some (kind.NewId ∷ []), rw display refl, (it_is_read, refl)), refl),
+            rw display (rw taken (rw display (inl ([], the_send ∷ [], the_error ∷ [], Ok tt, _, false, it_is_put, it_is_sent, refl, refl, refl, refl)))),
+            refl,
+            (refl, refl),
+          ),
+        ),
+        refl,
+        refl,
+        refl,
+        refl,
+        refl,
+      )
 
 -- ---- a client as a reader
 
@@ -171,6 +155,10 @@ module _ (sends : ℕ → Queue → Result ℕ IoFault → ℕ → Type 0) (p : 
   abbrev live : Part ℕ ℕ Bool
   live = record p { link = link_with 0 [] []; is_killed = false }
 
+  it_is_written : WroteBy sends (link_with 0 [] []) (said gone).message [] (Ok tt) (link_with 0 [] (spelling (said gone).message))
+  unfolding word piece
+  it_is_written = inr (link_with 0 [] [], stays (link_with 0 [] []) 8 (λ w. absurd (let h = w.0 in omega (arith, h))), (refl, inl (refl, refl)))
+
   -- a destructor event of an object of the server's range: no `delete_id`, the object leaves, and its note waits
   an_event_ends_its_sender : held p.store 0xFF000000 ≡ Some served → held (removed p.store 0xFF000000) 0xFF000000 ≡ None
       → SendsEvent sends client table live gone (Ok tt) false (Put (said gone) ∷ Left (at 0xFF000000 1) ∷ [])
@@ -186,22 +174,10 @@ module _ (sends : ℕ → Queue → Result ℕ IoFault → ℕ → Type 0) (p : 
         Put (said gone) ∷ Left (at 0xFF000000 1) ∷ [],
         Ok tt,
         link_with 0 [] (spelling (said gone).message),
-        inr (
-          link_with 0 [] [],
-          (
-            record {
-              times = 0;
-              grown = refl;
-              wanted = λ k less. absurd (omega (arith, less));
-              enough = λ w. absurd (let h = w.0 in omega (arith, h));
-            },
-            refl,
-          ),
-          (refl, inl (refl, refl)),
-        ),
+        it_is_written,
         (
           Left (at 0xFF000000 1) ∷ [],
-          ([], _, _, inl ([], [], [], Ok tt, link_with 0 [] (spelling (said gone).message), false, (refl, refl, refl, refl), (refl, refl, refl), refl, refl, refl, refl), rw left refl, refl),
+          ([], _, _, inl ([], [], [], Ok tt, _, false, (refl, refl, refl, refl), (refl, refl, refl), refl, refl, refl, refl), rw left refl, refl),
           refl,
           refl,
         ),
@@ -217,57 +193,21 @@ module _ (sends : ℕ → Queue → Result ℕ IoFault → ℕ → Type 0) (p : 
   abbrev failed : Sending
   failed = record { offer = record { bytes = 7 ∷ []; tokens = [] }; answer = Err fault.Pipe }
 
+  abbrev broken : LinkState ℕ
+  broken = record full.link { transport = 1 }
+
+  it_fails : sends 0 (record { bytes = 7 ∷ []; tokens = [] }) (Err fault.Pipe) 1
+      → PutsOut sends full.link (delete_message 3 ∷ []) (failed ∷ []) [] (Err fault.Pipe) broken
+  unfolding word piece
+  it_fails fails =
+      let sent : FlushedBy sends full.link (failed ∷ []) (Err fault.Pipe) broken = ((1, fails, refl), ((λ e. true≢false (ap is_cons e)), refl, (refl, refl, refl)), refl) in
+      (failed ∷ [], Err fault.Pipe, broken, inl (inr (full.link, stays full.link 12 (λ w. absurd (let h = w.1 in omega (arith, h))), (broken, Err fault.Pipe, sent, (refl, refl)))), (refl, refl, refl, refl))
+
   -- where the `delete_id` of a destructor request fails, the sender is noted first, and then the end of the client
   an_end_that_fails : held p.store 3 ≡ Some bound → held (removed p.store 3) 3 ≡ None → sends 0 (record { bytes = 7 ∷ []; tokens = [] }) (Err fault.Pipe) 1
       → FinishesRequest sends client full None (Ok tt) false
       (Sent failed ∷ Noted (happened.Destroyed (id_in client 3 2 quad_id) 6) ∷ Left (at 3 2) ∷ Noted (happened.Disconnected ConnectionClosed) ∷ [])
-      (record full { link = record full.link { transport = 1 }; store = removed p.store 3; is_killed = true; action = None })
+      (record full { link = broken; store = removed p.store 3; is_killed = true; action = None })
   unfolding word piece
   an_end_that_fails there left fails =
-      rw there (
-        refl,
-        (
-          failed ∷ [],
-          _,
-          _,
-          inl (
-            failed ∷ [],
-            [],
-            [],
-            Err fault.Pipe,
-            record full.link { transport = 1 },
-            false,
-            (
-              failed ∷ [],
-              Err fault.Pipe,
-              record full.link { transport = 1 },
-              inl (inr (
-                full.link,
-                (
-                  record {
-                    times = 0;
-                    grown = refl;
-                    wanted = λ k less. absurd (omega (arith, less));
-                    enough = λ w. absurd (let h = w.1 in omega (arith, h));
-                  },
-                  refl,
-                ),
-                (
-                  record full.link { transport = 1 },
-                  Err fault.Pipe,
-                  ((1, fails, refl), ((λ e. true≢false (ap is_cons e)), refl, (refl, refl, refl)), refl),
-                  (refl, refl),
-                ),
-              )),
-              (refl, refl, refl, refl),
-            ),
-            (refl, refl, refl),
-            refl,
-            refl,
-            refl,
-            refl,
-          ),
-          rw left refl,
-          refl,
-        ),
-      )
+      rw there (refl, (failed ∷ [], _, _, inl (failed ∷ [], [], [], Err fault.Pipe, broken, false, it_fails fails, (refl, refl, refl), refl, refl, refl, refl), rw left refl, refl))

@@ -1,6 +1,6 @@
 -- That what is held of each client is what its own calls and the shared ones lead to alone: over every run.
 use Rattle.std.proofs.Common.{◌≡◌, ◌+◌, ◌<◌, ◌≤◌, Bool, true, false, List, [], ◌∷◌, ◌++◌, Some, is_some, Result, Ok, Err, refl, sym, ap, subst, ◌∙◌, arith, true≢false}
-use Rattle.std.specs.Prelude.{MatchBool, if◌then◌else◌}
+use Rattle.std.specs.Prelude.{if◌then◌else◌}
 use Rattle.std.proofs.lemmas.Bool.{cases_lt, eqb-true, eq-eqb, false≢true}
 use Rattle.wl_wire.specs.Table.{InterfaceRow}
 use Rattle.wl_link.specs.Link.{LinkState, IsFresh}
@@ -16,7 +16,7 @@ use Rattle.wl_server.specs.Deeds.{Deed}
 use Rattle.wl_server.specs.Globals.{Offer}
 use Rattle.wl_server.specs.Ids.{ClientParts, same_client}
 use Rattle.wl_server.specs.Part.{Part, fresh_part}
-use Rattle.wl_server.specs.PartStep.{Call, Inserted, InsertedAs, PartCall, PartStep, Unfelt, World}
+use Rattle.wl_server.specs.PartStep.{Call, InsertedAs, PartCall, PartStep, Unfelt, World}
 use Rattle.wl_server.specs.Runs.{Alone, AreOf, EachAlone, Inserts, IsIsolated, IsNeverInserted, IsNotInserted, Leads, Performs, SharedAlone, just_inserted, concerns, mine, offer_over, own_of}
 use Rattle.wl_server.specs.Server.{Seen, ServerState, new_server, nothing_seen, seen}
 use Rattle.wl_server.specs.Steps.{Entry, InsertsNext, NumbersClient, inserted_by, offer_after}
@@ -102,29 +102,18 @@ module _ {T U G C : Type 0} where
       → Leads w before run after → Alone w id before.offer (seen id before) (mine id run) (seen id after)
   alone_run w id before after [] born same = ap (λ (s : ServerState T U G C). seen id s) same
   alone_run w id before after (e ∷ run) born (mid, by, leads) =
-      alone_more w id (seen id before) (seen id mid) (seen id after) before.offer e run (concerns id e.call) refl
-      (λ new inserts. later_differs new id (let next = (numbered before e.call new by.client inserts).2 in omega (arith, born, next)))
-      (by.each id)
-      (subst (λ (o : Offer G). Alone w id o (seen id mid) (mine id run) (seen id after)) by.offer
-      (alone_run w id mid after run (let grown = by.last in omega (arith, born, grown)) leads))
+      grind (arith, alone_more w id (seen id before) (seen id mid) (seen id after) before.offer e run, later_differs, numbered, alone_run w id mid after run)
 
   -- ---- the insertion
-
-  begins : (w : World T G C) (id : ClientParts) (offer : Offer G) (transport : T) (client_data : C) (before : Seen T U C) (lacked : Bool) (did : List (Deed U)) (after : Seen T U C)
-      (b : Bool) → b ≡ true → before ≡ nothing_seen
-      → MatchBool b (Inserted w id offer transport client_data before lacked did after) (Unfelt before lacked did after)
-      → (link : LinkState T) × IsFresh transport (Some offer.default_limit) link × (after ≡ just_inserted link client_data)
-  begins w id offer transport client_data before lacked did after false is nothing h = absurd (false≢true is)
-  begins w id offer transport client_data before lacked did after true is nothing (link, fresh, no_memory, deeds, same) =
-      (link, fresh, same ∙ ap (λ (s : Seen T U C). record { part = Some (fresh_part link client_data); made = s.made ++ Initialized ∷ [] }) nothing)
 
   inserted_as : (w : World T G C) (id : ClientParts) (offer : Offer G) (transport : T) (client_data : C) (before : Seen T U C) (lacked : Bool) (did : List (Deed U)) (after : Seen T U C)
       → before ≡ nothing_seen
       → PartStep w id offer (step.InsertClient transport client_data) (reply.InsertClient (Ok id)) before lacked did after
       → (link : LinkState T) × IsFresh transport (Some offer.default_limit) link × (after ≡ just_inserted link client_data)
   inserted_as w id offer transport client_data before lacked did after nothing (r, is, h) =
-      begins w id offer transport client_data before lacked did after (same_client id id) (same_self id) nothing
-      (subst (λ (r : Result ClientParts InsertClientError). InsertedAs w id offer transport client_data r before lacked did after) (sym (ap inserted_in is)) h)
+      let inserted = subst (λ (r : Result ClientParts InsertClientError). InsertedAs w id offer transport client_data r before lacked did after) (sym (ap inserted_in is)) h in
+      let (link, fresh, no_memory, deeds, same) = rw (same_self id) at inserted in
+      (link, fresh, same ∙ ap (λ (s : Seen T U C). record { part = Some (fresh_part link client_data); made = s.made ++ Initialized ∷ [] }) nothing)
 
   new_unborn : (table : List InterfaceRow) → Unborn (new_server {T = T} {U = U} {G = G} {C = C} table)
   new_unborn table = record { each = λ id late. refl }
@@ -142,14 +131,12 @@ module _ {T U G C : Type 0} where
       let offered = offer_run w (new_server table) mid earlier first in
       let born = unborn_run w (new_server table) mid earlier (new_unborn table) first in
       let number : id.serial ≡ mid.last_client + 1 = (numbered mid e.call id by.client (transport, client_data, inserts)).2 in
-      let one : inserted_by e.call ≡ 1 = one_more e.call id (transport, client_data, inserts) in
-      let grown : next.last_client ≡ mid.last_client + inserted_by e.call = by.last in
       let (link, fresh, begun_so) =
       inserted_as w id mid.offer transport client_data (seen id mid) (e.lacks id) (e.did id) (seen id next) (born.each id (omega (arith, number)))
       (subst (λ (c : Call T U G C). PartCall w id mid.offer c (seen id mid) (e.lacks id) (e.did id) (seen id next)) inserts (by.each id)) in (
         link,
         subst (λ (o : Offer G). IsFresh transport (Some o.default_limit) link) offered fresh,
-        grind (arith, just_inserted, mine, seen, offer_after, offer_over_one, new_server, alone_run),
+        grind (arith, just_inserted, mine, seen, offer_after, offer_over_one, new_server, alone_run, one_more e.call id (transport, client_data, inserts)),
       )
 
   -- ---- clients that are not inserted

@@ -29,9 +29,9 @@ use Rattle.wl_server.specs.PartStep.{Asked, Call, CleanedAs, PartCall, World}
 use Rattle.wl_server.specs.Runs.{Leads, concerns}
 use Rattle.wl_server.specs.Server.{NoteTimes, Seen, ServerState, Stored, client_at, if_serial, new_server, notes_of, seen, stored_at, told_of}
 use Rattle.wl_server.specs.Steps.{Entry, GathersNotes, NotesGoOn, OneStep, StepOf}
-use Rattle.wl_server.proofs.CallSteps.Numbering.{GivesWithin, all_waiting, no_numbers, rise_up, within_both, within_none}
+use Rattle.wl_server.proofs.CallSteps.Numbering.{GivesWithin, each_turn, no_numbers, rise_up, times_stored, within_both, within_none}
 use Rattle.wl_server.proofs.CallSteps.Slots.{slot_of_client, same_slots}
-use Rattle.wl_server.proofs.CleanupSteps.Gathering.{notes_append}
+use Rattle.wl_server.proofs.CleanupSteps.Gathering.{both_none, notes_append}
 use Rattle.wl_server.proofs.OverRuns.Alone.IsolationLaw.{numbered, other_call}
 use Rattle.wl_server.proofs.OverRuns.Moves.BaseMoves.{Doings, Goes, Moves, any, followed, handed_out, notes_taken, moved, stayed, taken_out, unfelt, within}
 use Rattle.wl_server.proofs.OverRuns.Moves.BaseMovesLaw.{call_goes, gathers_in}
@@ -42,7 +42,6 @@ use Rattle.wl_server.proofs.OverRuns.Outcome.SameNotes.{fronts_one}
 use Rattle.wl_server.proofs.OverRuns.Outcome.ShareLaws.{same_client_is}
 use Rattle.wl_server.proofs.OverRuns.Outcome.WholeLaws.{found as stored_found}
 use Rattle.wl_server.proofs.CleanupSteps.Cleaning.{noted_notes}
-use Rattle.wl_server.proofs.Touched.Gathered.{none_first, times_stored}
 
 -- ---- lists
 
@@ -67,10 +66,6 @@ split_at f (x ∷ xs) (m ∷ ms) ns is =
     let rest : map f xs ≡ ms ++ ns = cc in
     let (a, b, are, one, two) = split_at f xs ms ns rest in
     (x ∷ a, b, ap (λ l. x ∷ l) are, ap (λ k. k ∷ map f a) here ∙ ap (λ l. m ∷ l) one, two)
-
-later_empty : {A : Type 0} (a b : List A) → a ++ b ≡ [] → b ≡ []
-later_empty [] b is = is
-later_empty (x ∷ a) b is = let long : suc (length (a ++ b)) ≡ 0 = ap length is in absurd (omega (arith, long))
 
 -- ---- what a call does to the notes of a client that wait
 
@@ -178,7 +173,7 @@ module _ {T U G C : Type 0} (w : World T G C) where
       at (Asked step.TakeNotes (reply.TakeNotes (Ok out))) is h each =
           given_none s t k h.numbers (same_waiting s t (λ id. let (r, is, h) = each id in grind (arith)) all h.numbered h.first k)
       at (Asked step.Cleanup (reply.Cleanup (Ok out))) is h each = absurd (none out is)
-      at _ is h each = all_waiting _ _ _ _ h.times k
+      at _ is h each = let (slots, all) = h.times in each_turn (λ t. t.waiting) slots k _ _ _ _ all.waiting (all.others k)
 
   run_given : (s : ServerState T U G C) (run : List (Entry T U G C)) (t : ServerState T U G C) → Leads w s run t → NothingCleaned run → AllNumbered s.clients → (k : ℕ)
       → Given s t k
@@ -337,9 +332,9 @@ module _ {T U G C : Type 0} (w : World T G C) (s : ServerState T U G C) (e : Ent
       at : (o : Option (Stored T U C)) → client_at id s.clients ≡ o → (notes_of id made ≡ made_of id s.clients) × (notes_of id waited ≡ waits_at id s)
       at None none =
           let nothing = sym (notes_append id made (waited ++ gathers.ends)) ∙ none_told id none in
-          let later = later_empty (notes_of id made) (notes_of id (waited ++ gathers.ends)) nothing in (
-            grind (arith, none_first, notes_of, made, waited, gathers, option_map_or),
-            none_first (notes_of id waited) (notes_of id gathers.ends) (sym (notes_append id waited gathers.ends) ∙ later)
+          let later = (both_none (notes_of id made) (notes_of id (waited ++ gathers.ends)) nothing).1 in (
+            grind (arith, both_none, notes_of, made, waited, gathers, option_map_or),
+            (both_none (notes_of id waited) (notes_of id gathers.ends) (sym (notes_append id waited gathers.ends) ∙ later)).0
                 ∙ sym (ap (λ (o : Option (Stored T U C)). waiting_of (option_map (λ s. s.part) o)) none),
           )
       at (Some c) here =

@@ -12,6 +12,7 @@ use Rattle.wl_server.specs.declared.runs.step.Step.TheVariants as step
 use Rattle.wl_server.specs.Globals.{Offer, with_table, name_range}
 use Rattle.wl_server.specs.Ids.{ClientParts, GlobalParts}
 use Rattle.wl_server.proofs.OverRuns.Alone.IsolationLaw.{offer_run}
+use Rattle.wl_server.proofs.OverRuns.Alone.OwnRuns.{are_mine}
 use Rattle.wl_server.specs.Outcome.{AreAmple, AreNumbered, AreOwn, OffersHaveOneOutcome, SameCall, SameSteps, SharedAnswer, SharedSame}
 use Rattle.wl_server.specs.PartStep.{Asked, Call, Changed, Grown, World}
 use Rattle.wl_server.specs.Runs.{Leads, Own, concerns, is_about, mine, offer_over, own_of}
@@ -26,11 +27,7 @@ use Rattle.wl_server.proofs.OverRuns.Outcome.NumberLaws.{global_is}
 pub growth_same : (T U G C : Type 0) (offer : Offer G) (rows rows' : List InterfaceRow) (p q : Result (Unit {0}) TableError) → rows ≡ rows'
     → lacks_growth {T = T} {U = U} {G = G} {C = C} (Grown rows p) ≡ false → lacks_growth {T = T} {U = U} {G = G} {C = C} (Grown rows' q) ≡ false
     → AnswersGrowth offer.table rows p → AnswersGrowth offer.table rows' q → p ≡ q
-growth_same T U G C offer rows rows' p q same ample ample' n n' =
-    AnswersGrowth-unique offer.table rows p q (λ lacks. true≢false (subst (λ z. lacks_growth {T = T} {U = U} {G = G} {C = C}
-    (Grown rows z) ≡ false) lacks ample)) (λ lacks. true≢false (subst (λ z. lacks_growth {T = T} {U = U} {G = G} {C = C}
-    (Grown rows' z) ≡ false) lacks ample')) n
-    (subst (λ these. AnswersGrowth offer.table these q) (sym same) n')
+growth_same T U G C offer rows rows' p q same ample ample' n n' = grind (arith, true≢false, AnswersGrowth-unique)
 
 module _ {T U G C : Type 0} where
   -- ---- a call
@@ -76,16 +73,11 @@ module _ {T U G C : Type 0} where
   own_offer_one : (id : ClientParts) (offer : Offer G) (run run' : List (Own T U G C)) → AreOwn id run → SameSteps run run' → AreAmple run → AreAmple run'
       → AreNumbered offer run → AreNumbered offer run' → AreAnswered run → AreAnswered run' → own_offer offer run ≡ own_offer offer run'
   own_offer_one id offer [] [] own same ample ample' n n' h g = refl
-  own_offer_one id offer [] (f ∷ run') own same ample ample' n n' h g = absurd same
-  own_offer_one id offer (e ∷ run) [] own same ample ample' n n' h g = absurd same
   own_offer_one id offer (e ∷ run) (f ∷ run') (own, owns) (same, others) (ample, rest) (ample', rest') (n, more) (n', more') (h, answered) (g, answered') =
       let shared = shared_call id offer e.call f.call same own ample ample' n n' h g in
       let numbers = subst (λ (o : Offer G). AreNumbered o run') (sym shared.1) more' in
       own_offer_one id (offer_after offer e.call) run run' owns others rest rest' more numbers answered answered' ∙ ap (λ (o : Offer G). own_offer o run') shared.1
-
-  pub mine_own : (id : ClientParts) (run : List (Entry T U G C)) → AreOwn id (mine id run)
-  mine_own id [] = tt
-  mine_own id (e ∷ run) = grind (arith, concerns id e.call, mine_own id run)
+  own_offer_one id offer _ _ own same ample ample' n n' h g = absurd same
 
   pub mine_numbered : (w : World T G C) (id : ClientParts) (before after : ServerState T U G C) (run : List (Entry T U G C)) → Leads w before run after
       → AreNumbered before.offer (mine id run)
@@ -108,4 +100,4 @@ module _ {T U G C : Type 0} where
   mine_offer id offer (e ∷ run) = offer_more id offer e run (concerns id e.call) refl (mine_offer id (offer_after offer e.call) run)
 
   pub offers_one : (w : World T G C) → OffersHaveOneOutcome U w
-  offers_one w table id run run' after after' leads leads' same ample ample' = grind (arith, offer_run, new_server, mine_offer, own_offer_one, mine, mine_own, mine_numbered, mine_answered)
+  offers_one w table id run run' after after' leads leads' same ample ample' = grind (arith, offer_run, new_server, mine_offer, own_offer_one, mine, are_mine, mine_numbered, mine_answered)

@@ -1,8 +1,7 @@
 -- What a cleanup hands out is determined by the share that each client has in it.
-use Rattle.std.proofs.Common.{◌≡◌, ℕ, zero, suc, ◌<◌, ◌⊎◌, true, false, List, [], ◌∷◌, length, refl, sym, subst, ◌∙◌, true≢false, arith}
+use Rattle.std.proofs.Common.{◌≡◌, ℕ, suc, ◌+◌, ◌<◌, ◌≤◌, true, List, [], ◌∷◌, length, refl, sym, ◌∙◌, true≢false, arith}
 use Rattle.std.specs.Prelude.{slice_index_or}
-use mathlib.Core.Logic.{inl, inr}
-use Rattle.std.proofs.lemmas.Bool.{cases_Bool, cases_order, eqb-true, false≢true}
+use Rattle.std.proofs.lemmas.Bool.{eqb-true, false≢true}
 use Rattle.wl_server.specs.Ids.{ClientParts, same_client}
 use Rattle.wl_server.proofs.OverRuns.Alone.IsolationLaw.{same_self}
 use Rattle.wl_server.specs.PartStep.{share_of}
@@ -16,63 +15,55 @@ same_client_is a b same = same_parts a b (grind (arith, eqb-true, true≢false))
 
 -- ---- lists
 
--- each stands above that slot
-abbrev Above : {T : Type 0} → ℕ → List (ClientParts × T) → Type 0
-Above {T = T} slot out = (j : ℕ) (d : ClientParts × T) → j < length out → slot < (slice_index_or out j d).0.slot
+-- the slots rise, from this one on
+abbrev RiseFrom : {T : Type 0} → ℕ → List (ClientParts × T) → Type 0
+RiseFrom low [] = Unit {0}
+RiseFrom low (e ∷ rest) = (low ≤ e.0.slot) × RiseFrom (e.0.slot + 1) rest
 
 module _ {T : Type 0} where
-  rest_rises : (e : ClientParts × T) (rest : List (ClientParts × T)) → RiseBySlot (e ∷ rest) → RiseBySlot rest
-  rest_rises e rest rises i j d less within = rises (suc i) (suc j) d (omega (arith, less)) (omega (arith, within))
+  rise_from : (low : ℕ) (out : List (ClientParts × T)) → RiseBySlot out
+      → ((j : ℕ) (d : ClientParts × T) → j < length out → low ≤ (slice_index_or out j d).0.slot) → RiseFrom low out
+  rise_from low [] rises above = tt
+  rise_from low (e ∷ rest) rises above = (
+    above 0 e (omega arith),
+    rise_from (e.0.slot + 1) rest (λ i j d less within. rises (suc i) (suc j) d (omega (arith, less)) (omega (arith, within)))
+        (λ j d within. let up = rises 0 (suc j) d (omega arith) (omega (arith, within)) in omega (arith, up)),
+  )
 
-  rest_above : (e : ClientParts × T) (rest : List (ClientParts × T)) → RiseBySlot (e ∷ rest) → Above e.0.slot rest
-  rest_above e rest rises j d within = rises zero (suc j) d (omega arith) (omega (arith, within))
+  -- a client that has a share stands no lower
+  shared_above : (low : ℕ) (id : ClientParts) (out : List (ClientParts × T)) (t : T) (ts : List T) → RiseFrom low out → share_of id out ≡ t ∷ ts → low ≤ id.slot
+  shared_above low id [] t ts rises is = absurd cc
+  shared_above low id (e ∷ rest) t ts (first, rises) is = grind (arith, eqb-true, shared_above (e.0.slot + 1) id rest t ts rises)
 
-  all_above : (slot : ℕ) (e : ClientParts × T) (rest : List (ClientParts × T)) → slot < e.0.slot → RiseBySlot (e ∷ rest) → Above slot (e ∷ rest)
-  all_above slot e rest less rises zero d within = less
-  all_above slot e rest less rises (suc j) d within = let above = rest_above e rest rises j d (omega (arith, within)) in omega (arith, less, above)
+  own_share : (e : ClientParts × T) (rest : List (ClientParts × T)) → share_of e.0 (e ∷ rest) ≡ e.1 ∷ share_of e.0 rest
+  own_share e rest = rw (same_self e.0) refl
 
-  -- the share of a client at the front
-  share_first : (id : ClientParts) (e : ClientParts × T) (rest : List (ClientParts × T)) → same_client e.0 id ≡ true → share_of id (e ∷ rest) ≡ e.1 ∷ share_of id rest
-  share_first id e rest is = rw is refl
-
-  share_later : (id : ClientParts) (e : ClientParts × T) (rest : List (ClientParts × T)) → same_client e.0 id ≡ false → share_of id (e ∷ rest) ≡ share_of id rest
-  share_later id e rest is = rw is refl
-
-  -- none where all stand above its slot
-  none_above : (id : ClientParts) (out : List (ClientParts × T)) → Above id.slot out → share_of id out ≡ []
-  none_above id [] above = refl
-  none_above id (e ∷ rest) above = at (none_above id rest (λ j d within. above (suc j) d (omega (arith, within)))) (cases_Bool (same_client e.0 id))
+  one_from : (low low' : ℕ) (out out' : List (ClientParts × T)) → RiseFrom low out → RiseFrom low' out' → ((id : ClientParts) → share_of id out ≡ share_of id out')
+      → out ≡ out'
+  one_from low low' [] [] up up' shares = refl
+  one_from low low' [] (f ∷ rest') up up' shares = absurd (grind (arith, shares f.0, own_share f rest'))
+  one_from low low' (e ∷ rest) [] up up' shares = absurd (grind (arith, shares e.0, own_share e rest))
+  one_from low low' (e ∷ rest) (f ∷ rest') (first, up) (first', up') shares = grind (arith, own_share, same, one_from (e.0.slot + 1) (f.0.slot + 1) rest rest' up up' later)
     where
-      at : share_of id rest ≡ [] → (same_client e.0 id ≡ true) ⊎ (same_client e.0 id ≡ false) → share_of id (e ∷ rest) ≡ []
-      at none (inl same) = let slots : e.0.slot ≡ id.slot = grind (arith, eqb-true, true≢false, e.0) in let more = above zero e
-          (omega arith) in absurd (omega (arith, slots, more))
-      at none (inr other) = share_later id e rest other ∙ none
+      e_there : share_of e.0 (f ∷ rest') ≡ e.1 ∷ share_of e.0 rest
+      e_there = sym (shares e.0) ∙ own_share e rest
 
-  -- a client at the front has a share
-  has_share : (e : ClientParts × T) (rest : List (ClientParts × T)) → share_of e.0 (e ∷ rest) ≡ [] → ⊥
-  has_share e rest none = grind (arith, e.1, share_of e.0 rest, sym (share_first e.0 e rest (same_self e.0)) ∙ none)
+      f_there : share_of f.0 (e ∷ rest) ≡ f.1 ∷ share_of f.0 rest'
+      f_there = shares f.0 ∙ own_share f rest'
 
-  module _ (e f : ClientParts × T) (rest rest' : List (ClientParts × T)) (shares : (id : ClientParts) → share_of id (e ∷ rest) ≡ share_of id (f ∷ rest'))
-      (rises : RiseBySlot (e ∷ rest)) (rises' : RiseBySlot (f ∷ rest')) (later : ((id : ClientParts) → share_of id rest ≡ share_of id rest') → rest ≡ rest') where
-    found : same_client f.0 e.0 ≡ true → e ∷ rest ≡ f ∷ rest'
-    found same = grind (arith, share_of, share_first, same_self, same_client_is, share_later, cases_Bool)
+      ids : f.0 ≡ e.0
+      ids =
+          let up_e = shared_above f.0.slot e.0 (f ∷ rest') e.1 (share_of e.0 rest) (omega arith, up') e_there in
+          let up_f = shared_above e.0.slot f.0 (e ∷ rest) f.1 (share_of f.0 rest') (omega arith, up) f_there in
+          grind (arith, same_client_is, shared_above (f.0.slot + 1) e.0 rest' e.1 (share_of e.0 rest) up', e_there)
 
-    one_slot : e.0.slot ≡ f.0.slot → (same_client f.0 e.0 ≡ true) ⊎ (same_client f.0 e.0 ≡ false) → e ∷ rest ≡ f ∷ rest'
-    one_slot slots (inl same) = found same
-    one_slot slots (inr other) =
-        absurd (has_share e rest (shares e.0 ∙ share_later e.0 f rest' other ∙ none_above e.0 rest' (subst (λ (n : ℕ). Above n rest') (sym slots) (rest_above f rest' rises'))))
+      same : e ≡ f
+      same = grind (arith, ids, e_there, own_share f rest')
 
-    fronts : e ∷ rest ≡ f ∷ rest'
-    fronts =
-        elim (cases_order e.0.slot f.0.slot) [
-          | inl slots ↦ one_slot slots (cases_Bool (same_client f.0 e.0))
-          | inr (inl less) ↦ absurd (has_share e rest (shares e.0 ∙ none_above e.0 (f ∷ rest') (all_above e.0.slot f rest' less rises')))
-          | inr (inr less) ↦ absurd (has_share f rest' (sym (shares f.0) ∙ none_above f.0 (e ∷ rest) (all_above f.0.slot e rest less rises)))
-        ]
+      later : (id : ClientParts) → share_of id rest ≡ share_of id rest'
+      later id = grind (arith, same, shares id)
 
   -- the shares determine the list
   pub shares_one : (out out' : List (ClientParts × T)) → RiseBySlot out → RiseBySlot out' → ((id : ClientParts) → share_of id out ≡ share_of id out') → out ≡ out'
-  shares_one [] [] rises rises' shares = refl
-  shares_one [] (f ∷ rest') rises rises' shares = absurd (has_share f rest' (sym (shares f.0)))
-  shares_one (e ∷ rest) [] rises rises' shares = absurd (has_share e rest (shares e.0))
-  shares_one (e ∷ rest) (f ∷ rest') rises rises' shares = grind (arith, fronts, rest_rises, shares_one rest rest' (rest_rises e rest rises) (rest_rises f rest' rises'))
+  shares_one out out' rises rises' shares =
+      one_from 0 0 out out' (rise_from 0 out rises (λ j d within. omega arith)) (rise_from 0 out' rises' (λ j d within. omega arith)) shares

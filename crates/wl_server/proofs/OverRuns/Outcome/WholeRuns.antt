@@ -1,9 +1,7 @@
 -- That each call of a server has one outcome, where memory is not refused, and so each run of calls.
-use Rattle.std.proofs.Common.{◌≡◌, ◌≢◌, ℕ, Bool, false, List, [], ◌∷◌, Result, Ok, Err, Vec, refl, sym, ap, subst, ◌∙◌, true≢false, arith}
+use Rattle.std.proofs.Common.{◌≡◌, Bool, true, false, List, [], ◌∷◌, Ok, Vec, refl, sym, ap, subst, true≢false, arith}
 use Rattle.std.specs.Global.{Global}
 use Rattle.std.specs.Prelude.{IsTrue}
-use Rattle.wl_server.specs.declared.error.InsertClientError.{InsertClientError}
-use Rattle.wl_server.specs.declared.error.InsertClientError.TheVariants as insert
 use Rattle.wl_server.specs.declared.notes.Note.{Note}
 use Rattle.wl_server.specs.declared.runs.step.Reply.{Reply}
 use Rattle.wl_server.specs.declared.runs.step.Reply.TheVariants as reply
@@ -14,13 +12,13 @@ use Rattle.wl_server.specs.Globals.{Offer, with_table}
 use Rattle.wl_server.specs.Ids.{ClientParts}
 use Rattle.wl_server.proofs.OverRuns.Outcome.NumberLaws.{inserts_next_one}
 use Rattle.wl_server.proofs.OverRuns.Outcome.Determined.{IsDetermined}
-use Rattle.wl_server.specs.Outcome.{SameCall, SameStep, SharedAnswer, SharedSame}
+use Rattle.wl_server.specs.Outcome.{SameAnswer, SameCall, SameOutcome, SharedAnswer, SharedSame}
 use Rattle.wl_server.proofs.OverRuns.Outcome.OutcomeLaws.{call_one, part_as}
-use Rattle.wl_server.proofs.OverRuns.Outcome.PartOutcome.{SameFelt}
 use Rattle.wl_server.specs.PartStep.{Asked, Call, Changed, Grown, PartCall, PartStep, World}
 use Rattle.wl_server.proofs.OverRuns.Outcome.OfferLaws.{growth_same, offer_one, shared_same}
+use Rattle.wl_server.specs.Runs.{concerns}
 use Rattle.wl_server.specs.Server.{Seen, ServerState, seen}
-use Rattle.wl_server.specs.Steps.{Entry, InsertsNext, NumbersClient, AnswersShared, OneStep, RisesBySlot, inserted_by, lacks_growth, offer_after}
+use Rattle.wl_server.specs.Steps.{Entry, NumbersClient, AnswersShared, OneStep, RisesBySlot, inserted_by, lacks_growth, offer_after}
 use Rattle.wl_server.proofs.OverRuns.Outcome.SameNotes.{notes_one, out_one}
 use Rattle.wl_server.proofs.OverRuns.Outcome.WholeLaws.{ample_by, inserts_there, slots_same, whole_one}
 use Rattle.wl_server.specs.Outcome.Whole.{HoldsSame, PerformancesHaveOneOutcome, RunsHaveOneOutcome, SameServer, WholeAnswer}
@@ -40,52 +38,38 @@ module _ {T U G C : Type 0} where
 
   -- ---- a call
 
-  module _ (w : World T G C) (known : IsDetermined w) (ordered : Bool) (s t : ServerState T U G C) (same_server : HoldsSame s t) (d e : ClientParts → List (Deed U)) (x y : ClientParts → Seen T U C) where
+  module _ (w : World T G C) (known : IsDetermined w) (ordered : Bool) (s t : ServerState T U G C) (same_server : HoldsSame s t)
+      (any : ClientParts) (d e : List (Deed U)) (x y : Seen T U C) where
     abbrev Ample : Step T U G C → Reply T U → Type 0
     Ample step answer = lacks_growth (Asked step answer) ≡ false
 
-    inserted_allowed : (step : Step T U G C) (r : Result ClientParts InsertClientError) → Ample step (reply.InsertClient r) → r ≢ Err insert.OutOfMemory
-    inserted_allowed step r ample is = grind (arith, true≢false)
-
     -- what is shared determines the answers that tell it
-    whole_shared : (any : ClientParts) (k : Step T U G C) (p q : Reply T U) → Ample k p → Ample k q → NumbersClient s (Asked k p) → NumbersClient t (Asked k q)
-        → AnswersShared s.offer (Asked k p) → AnswersShared s.offer (Asked k q) → PartStep w any s.offer k p (seen any s) false (d any) (x any)
-        → PartStep w any s.offer k q (seen any s) false (e any) (y any) → SharedSame k p q
-    whole_shared any (step.InsertClient transport client_data) p q ample ample' c c' n n' (r, is, h) (r', is', g) =
-        let k : Step T U G C = step.InsertClient transport client_data in
-        let here = subst (λ (z : Reply T U). NumbersClient s (Asked k z)) is c in
-        let there = subst (λ (z : Reply T U). NumbersClient t (Asked k z)) is' c' in
-        let back = inserts_there s.last_client t.clients s.clients (λ j. sym (slots_same s t same_server j)) r' (subst (λ (l : ℕ). InsertsNext l t.clients r') (sym same_server.last) there) in
-        let one = inserts_next_one s.last_client s.clients r r' (inserted_allowed k r (subst (λ z. Ample k z) is ample)) (inserted_allowed k r' (subst (λ z. Ample k z) is' ample')) here back in
-        is ∙ ap (λ (z : Result ClientParts InsertClientError). let a : Reply T U = reply.InsertClient z in a) one ∙ sym is'
-    whole_shared any (step.CreateGlobal i version handler) p q ample ample' c c' n n' h g = grind (arith, shared_same)
-    whole_shared any k p q ample ample' c c' n n' h g = tt
+    whole_shared : (k : Step T U G C) (p q : Reply T U) → Ample k p → Ample k q → NumbersClient s (Asked k p) → NumbersClient t (Asked k q)
+        → AnswersShared s.offer (Asked k p) → AnswersShared s.offer (Asked k q) → PartStep w any s.offer k p (seen any s) false d x
+        → PartStep w any s.offer k q (seen any s) false e y → SharedSame k p q
+    whole_shared (step.InsertClient transport client_data) p q ample ample' c c' n n' (r, is, h) (r', is', g) =
+        grind (arith, true≢false, inserts_next_one s.last_client s.clients r r', inserts_there s.last_client t.clients s.clients, slots_same s t same_server)
+    whole_shared (step.CreateGlobal i version handler) p q ample ample' c c' n n' h g = grind (arith, shared_same)
+    whole_shared k p q ample ample' c c' n n' h g = tt
 
-    call_whole : (call call' : Call T U G C) → SameCall call call' → lacks_growth call ≡ false → lacks_growth call' ≡ false → NumbersClient s call → NumbersClient t call'
-        → AnswersShared s.offer call → AnswersShared s.offer call' → RisesBySlot call → RisesBySlot call'
+    call_whole : (call call' : Call T U G C) → SameCall call call' → lacks_growth call ≡ false → lacks_growth call' ≡ false → NumbersClient s call
+        → NumbersClient t call' → AnswersShared s.offer call → AnswersShared s.offer call' → RisesBySlot call → RisesBySlot call'
         → ((out out' : Vec (Note U) Global) → call ≡ Asked step.TakeNotes (reply.TakeNotes (Ok out))
         → call' ≡ Asked step.TakeNotes (reply.TakeNotes (Ok out')) → IsTrue ordered → out.items ≡ out'.items)
-        → ((id : ClientParts) → PartCall w id s.offer call (seen id s) false (d id) (x id)) → ((id : ClientParts) → PartCall w id s.offer call' (seen id s) false (e id) (y id))
-        → WholeAnswer ordered call call' × SharedAnswer call call' × ((id : ClientParts) → SameFelt (d id) (e id) (x id) (y id))
-    call_whole (Asked k p) (Asked k' q) same ample ample' c c' n n' rises rises' took h g =
-        let any : ClientParts = record { slot = 0; serial = 0 } in
-        let there = part_as w known any s.offer (seen any s) (d any) (e any) (x any) (y any) k k' q same (g any) in
-        let shared = whole_shared any k p q ample ample' c (grind (arith)) n (grind (arith, s.offer)) (h any) there in (
-          whole_one ordered w any s.offer (seen any s) (d any) (e any) (x any) (y any) k p q
-              (λ id own. (call_one w known id s.offer (seen id s) (d id) (e id) (x id) (y id) (Asked k p) (Asked k' q) same ample ample' shared (h id) (g id)).0 own)
-              shared ample ample' rises (grind (arith))
-              (λ out out' taking is is'. took out out' (ap (λ (z : Step T U G C). Asked z p) taking ∙ ap (Asked step.TakeNotes) is)
-              (ap (λ (z : Step T U G C). Asked z q) (sym (subst (λ (z : Step T U G C). SameStep z k') taking same)) ∙ ap (Asked step.TakeNotes) is'))
-              (h any) there,
+        → (SharedAnswer call call' → (id : ClientParts) → concerns id call ≡ true → SameAnswer id call call')
+        → PartCall w any s.offer call (seen any s) false d x → PartCall w any s.offer call' (seen any s) false e y
+        → WholeAnswer ordered call call' × SharedAnswer call call'
+    call_whole (Asked k p) (Asked k' q) same ample ample' c c' n n' rises rises' took each h g =
+        let there = part_as w known any s.offer (seen any s) d e x y k k' q same g in
+        let shared = whole_shared k p q ample ample' c (grind (arith)) n (grind (arith, s.offer)) h there in (
+          whole_one ordered w any s.offer (seen any s) d e x y k p q (each shared) shared ample ample' rises (grind (arith))
+              (λ out out' taking is is'. took out out' (cc) (grind (arith, taking))) h there,
           shared,
-          λ id. (call_one w known id s.offer (seen id s) (d id) (e id) (x id) (y id) (Asked k p) (Asked k' q) same ample ample' shared (h id) (g id)).1,
         )
-    call_whole (Changed target v) (Changed target' v') same ample ample' c c' n n' rises rises' took h g =
-        (tt, tt, λ id. (call_one w known id s.offer (seen id s) (d id) (e id) (x id) (y id) (Changed target v) (Changed target' v') same ample ample' tt (h id) (g id)).1)
-    call_whole (Grown rows p) (Grown rows' q) same ample ample' c c' n n' rises rises' took h g =
-        let answers = growth_same T U G C s.offer rows rows' p q same ample ample' n n' in
-        (answers, answers, λ id. (call_one w known id s.offer (seen id s) (d id) (e id) (x id) (y id) (Grown rows p) (Grown rows' q) same ample ample' answers (h id) (g id)).1)
-    call_whole _ _ same ample ample' c c' n n' rises rises' took h g = absurd same
+    call_whole (Changed target v) (Changed target' v') same ample ample' c c' n n' rises rises' took each h g = (tt, tt)
+    call_whole (Grown rows p) (Grown rows' q) same ample ample' c c' n n' rises rises' took each h g =
+        let answers = growth_same T U G C s.offer rows rows' p q same ample ample' n n' in (answers, answers)
+    call_whole _ _ same ample ample' c c' n n' rises rises' took each h g = absurd same
 
   -- each call has one outcome
   pub entry_one : (w : World T G C) → IsDetermined w → (s t x y : ServerState T U G C) (e f : Entry T U G C) (ordered : Bool) → SameServer ordered s t → SameCall e.call f.call
@@ -100,14 +84,19 @@ module _ {T U G C : Type 0} where
       let there : (id : ClientParts) → PartCall w id s.offer f.call (seen id s) false (f.did id) (seen id y)
       = grind (arith, seen) in
       let numbers = subst (λ (o : Offer G). AnswersShared o f.call) (sym same.offer) by'.global in
-      let one = call_whole w known ordered s t same (λ id. e.did id) (λ id. f.did id) (λ id. seen id x) (λ id. seen id y) e.call f.call same_call ample.0 ample'.0 by.client by'.client
-      by.global numbers by.order by'.order (λ out out' is is' counts. (out_one s t (whole.order counts) same.each out.items out'.items
-      (takes_of w s e x out is by) (takes_of w t f y out' is' by'))) here there in (
+      let any : ClientParts = record { slot = 0; serial = 0 } in
+      let each : SharedAnswer e.call f.call → (id : ClientParts) → SameOutcome id e.call f.call (e.did id) (f.did id) (seen id x) (seen id y)
+      = λ shared id. call_one w known id s.offer (seen id s) (e.did id) (f.did id) (seen id x) (seen id y) e.call f.call same_call ample.0 ample'.0
+      shared (here id) (there id) in
+      let one = call_whole w known ordered s t same any (e.did any) (f.did any) (seen any x) (seen any y) e.call f.call same_call ample.0 ample'.0
+      by.client by'.client by.global numbers by.order by'.order
+      (λ out out' is is' counts. out_one s t (whole.order counts) same.each out.items out'.items (takes_of w s e x out is by) (takes_of w t f y out' is' by'))
+      (λ shared id own. (each shared id).reply own) (here any) (there any) in (
         one.0,
-        λ id. (one.2 id).did,
+        λ id. (each one.1 id).deeds,
         record {
-          held = grind (arith, offer_one, offer_after, with_table, grown, call_inserted, inserted_by);
-          order = λ counts. notes_one w s t x y e f (whole.order counts) (λ id. (one.2 id).after) same_call ample.0 ample'.0 by by';
+          held = grind (arith, offer_one, offer_after, with_table, grown, call_inserted, inserted_by, each one.1);
+          order = λ counts. notes_one w s t x y e f (whole.order counts) (λ id. (each one.1 id).held) same_call ample.0 ample'.0 by by';
         },
       )
 
@@ -115,22 +104,18 @@ module _ {T U G C : Type 0} where
 
   pub run_one : (w : World T G C) → IsDetermined w → RunsHaveOneOutcome U w
   run_one w known ordered s t x y [] [] same calls h g = grind (arith)
-  run_one w known ordered s t x y [] (f ∷ run') same calls h g = absurd calls
-  run_one w known ordered s t x y (e ∷ run) [] same calls h g = absurd calls
   run_one w known ordered s t x y (e ∷ run) (f ∷ run') same (call, none, none', calls) (mid, by, leads) (mid', by', leads') =
       let one = entry_one w known s t mid mid' e f ordered same call none none' by by' in
       let rest = run_one w known ordered mid mid' x y run run' one.2 calls leads leads' in
       ((one.0, one.1, rest.0), rest.1)
+  run_one w known ordered s t x y _ _ same calls h g = absurd calls
 
   -- ---- steps with their replies
 
   pub performance_one : (w : World T G C) → IsDetermined w → PerformancesHaveOneOutcome U w
   performance_one w known ordered s t x y [] [] [] n n' same h g = grind (arith)
-  performance_one w known ordered s t x y [] (p ∷ replies) replies' n n' same h g = absurd (omega (arith, n))
-  performance_one w known ordered s t x y [] [] (q ∷ replies') n n' same h g = absurd (omega (arith, n'))
-  performance_one w known ordered s t x y (k ∷ steps) [] replies' n n' same h g = absurd (omega (arith, n))
-  performance_one w known ordered s t x y (k ∷ steps) (p ∷ replies) [] n n' same h g = absurd (omega (arith, n'))
   performance_one w known ordered s t x y (k ∷ steps) (p ∷ replies) (q ∷ replies') n n' same (mid, (e, call, none, by), leads) (mid', (f, call', none', by'), leads') =
       let one = entry_one w known s t mid mid' e f ordered same (grind (arith, e.call, f.call)) none none' by by' in
       let rest = performance_one w known ordered mid mid' x y steps replies replies' (omega (arith, n)) (omega (arith, n')) one.2 leads leads' in
       (((grind (arith, e.call, f.call, one.0)), rest.0), rest.1)
+  performance_one w known ordered s t x y _ _ _ n n' same h g = absurd (omega (arith, n, n'))

@@ -14,24 +14,16 @@ use Rattle.wl_server.specs.Runs.{just_inserted, mine, offer_over}
 use Rattle.wl_server.specs.Server.{seen}
 use Rattle.wl_server.specs.Telling.{reader_part}
 
-pub returns-clause-reading : goal.returns-clause-reading
-returns-clause-reading g c = λ a. reading_cuts g.T.Transport.sends g.T.Transport.receives a
-
-pub returns-clause-finish : goal.returns-clause-finish
-returns-clause-finish g c = λ a. (λ p end u es gave off ends finishes. finish_law g.T.Transport.sends g.T.Transport.receives AsTold
-    (server a) told_function p end u es gave off ends finishes)
-
-pub returns-clause-one : goal.returns-clause-one
-returns-clause-one g c = one_served
-
-pub returns-clause-calls : goal.returns-clause-calls
-returns-clause-calls g c = λ views. histories_cut (over g.T.Transport.sends g.T.Transport.receives views)
-
-pub returns-clause-some : goal.returns-clause-some
-returns-clause-some g c = some_served
-
-pub returns-clause-each : goal.returns-clause-each
-returns-clause-each g c = λ views. (λ table run after leads id transport client_data earlier later e split inserts p there more finishes. let
-    (link, fresh, alone) = (is_isolated (over g.T.Transport.sends g.T.Transport.receives views) table run after leads).each id transport client_data earlier later e split inserts in
-    some_served (around (over g.T.Transport.sends g.T.Transport.receives views) id after.offer) (reader_part p) more finishes
-    (grind (arith, holds_at, seen, run_holds, offer_over, new_offer, just_inserted, mine, are_mine, fresh_holds)))
+pub returns : goal.returns
+returns g c = record {
+  reading = λ a. reading_cuts g.T.Transport.sends g.T.Transport.receives a;
+  finish = λ a. finish_law g.T.Transport.sends g.T.Transport.receives AsTold (server a) told_function;
+  one = one_served;
+  calls = λ views. histories_cut _;
+  some = some_served;
+  each = λ views table run after leads id transport client_data earlier later e split inserts p there more finishes.
+      let w = over g.T.Transport.sends g.T.Transport.receives views in
+      let (link, fresh, alone) = (is_isolated w table run after leads).each id transport client_data earlier later e split inserts in
+      some_served (around w id after.offer) (reader_part p) more finishes
+      (grind (arith, holds_at, seen, run_holds, offer_over, new_offer, just_inserted, mine, are_mine, fresh_holds));
+}

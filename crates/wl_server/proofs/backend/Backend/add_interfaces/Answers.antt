@@ -1,8 +1,7 @@
-use Rattle.std.proofs.Common.{◌≡◌, Bool, List, Result, Err, ap, refl, sym, arith, true≢false}
+use Rattle.std.proofs.Common.{◌≡◌, Bool, List, Result, Err, refl, sym, arith, true≢false}
 use Rattle.wl_wire.specs.declared.protocol.TableError.{TableError}
 use Rattle.wl_wire.specs.declared.protocol.TableError.TheVariants as table_error
 use Rattle.wl_wire.specs.Table.{InterfaceRow, interface_rows, refused_growth}
-use Rattle.wl_server.specs.Globals.{Offer}
 use Rattle.wl_server.specs.PartStep.{Grown}
 use Rattle.wl_server.specs.Steps.{lacks_growth}
 use Rattle.wl_server.proofs.CallSteps.Feeling.{makes_unfelt}
@@ -16,19 +15,10 @@ lacked T U G C rows (Err table_error.OutOfMemory) refused is = sym is
 lacked T U G C rows r refused is = sym is
 
 pub returns-clause-call : goal.returns-clause-call
-returns-clause-call g c =
-    let session = c.self.inside in
-    let rows = interface_rows c.args.interfaces.items in
-    let offer_of : List InterfaceRow → Offer g.row.G.Denot = λ table. record {
-      table = table;
-      globals = record { store = session.globals.store; last_serial = session.last_global };
-      default_limit = session.default_limit;
-    } in
-    rw (← c.self.view_is)
-    (is_growth _ _ _ _ _ (makes_unfelt _ _ _
-    (record { last = refl; client = λ b. tt; order = tt; room = λ b. tt; notes = λ b a h. h }) c.lacks_memory-self-inside.result _
-    (ap offer_of c.extend-answer.ensures.table)
-    c.extend-answer.ensures.answer (lacked g.row.T.Denot g.row.U.Denot g.row.G.Denot g.row.C.Denot rows c.extend-answer.result _ c.lacks_memory-self-inside.ensures)
+returns-clause-call g c = rw (← c.self.view_is, c.extend-answer.ensures.table)
+    (is_growth _ _ _ _ _ (makes_unfelt _ _ _ (record { last = refl; client = λ b. tt; order = tt; room = λ b. tt; notes = λ b a h. h })
+    c.lacks_memory-self-inside.result _ refl c.extend-answer.ensures.answer
+    (lacked g.row.T.Denot g.row.U.Denot g.row.G.Denot g.row.C.Denot (interface_rows c.args.interfaces.items) c.extend-answer.result _ c.lacks_memory-self-inside.ensures)
     (λ id b. (refl, refl, refl)) c.self.invariant.2))
 
 pub returns-clause-answer : goal.returns-clause-answer

@@ -1,63 +1,28 @@
-use Rattle.std.proofs.Common.{◌≡◌, ℕ, Option, Result, Ok, Err, ap, refl, sym}
-use Rattle.std.specs.Prelude.{option_map}
-use Rattle.std.specs.Result.{result_and}
-use Rattle.wl_wire.specs.declared.error.IoFault.{IoFault}
-use Rattle.wl_link.specs.Exchange.{Queue}
-use Rattle.wl_server.proofs.CallSteps.Numbering.{numbered_at, numbers_set}
-use Rattle.wl_server.proofs.OverRuns.Cut.CuttingLaws.{histories_cut}
-use Rattle.wl_server.specs.declared.error.FinishError.TheVariants as finish
-use Rattle.wl_server.specs.declared.error.FinishRefused.{FinishRefused}
-use Rattle.wl_server.specs.Finish.{FinishesRequest}
-use Rattle.wl_server.specs.Inside.Finishing.{lacks_finish}
-use Rattle.wl_server.proofs.CallSteps.OneClient.{done_to, none_stored}
-use Rattle.wl_server.proofs.CallSteps.Slots.{Kind}
-use Rattle.wl_server.proofs.CleanupSteps.Taken.{slots_set}
-use Rattle.wl_server.proofs.Plain.Requests.{ends_open_request}
-use Rattle.wl_server.proofs.Plain.Returning.{request_returns, found_after}
+use Rattle.std.proofs.Common.{refl, ap}
 use Rattle.wl_server.specs.Server.{Stored}
+use Rattle.wl_server.proofs.CallSteps.Kept.{kept_written, with_data}
+use Rattle.wl_server.proofs.CallSteps.OneClient.{done_to, none_stored}
+use Rattle.wl_server.proofs.OverRuns.Cut.CuttingLaws.{histories_cut}
+use Rattle.wl_server.proofs.Plain.Requests.{ends_open_request}
+use Rattle.wl_server.proofs.Plain.Returning.{request_returns}
 use Rattle.wl_server.proofs.backend.Backend.finish_request_returning.Goals as goal
 
-abbrev finishes : {T U C : Type 0} → (T → Queue → Result ℕ IoFault → T → Type 0) → Option U → Result (Unit {0}) (FinishRefused (Option U)) → Kind T U C
-finishes sends u answer id p lacked did q = FinishesRequest sends id p u answer lacked did q
+pub returns-in_default : goal.returns-in_default
+returns-in_default g c = with_data (ends_open_request _ _ _ _ _ _) (λ call. (call.step, histories_cut _ _ _ _)) (λ plain. refl) (rw (← c.self.view_is)
+    (none_stored _ _ _ _ refl c.args.client.now _ _ (λ i l d b a h. (_, refl, h)) _ refl c.in_default.ensures.value refl c.self.invariant.2))
 
-abbrev Unknown : {U : Type 0} → Option U → Result (Unit {0}) (FinishRefused (Option U)) → Type 0
-Unknown u answer = answer ≡ Err (record { error = finish.InvalidId; user_data = u })
-
-pub returns-in_default-clause-call : goal.returns-in_default-clause-call
-returns-in_default-clause-call g c = rw (← c.self.view_is)
-    (none_stored _ _ _ _ refl c.args.client.now (finishes g.T.Transport.sends c.args.user_data (Err (record { error = finish.InvalidId; user_data = c.args.user_data })))
-    (Unknown c.args.user_data (Err (record { error = finish.InvalidId; user_data = c.args.user_data }))) (λ i l d b a h. (_, refl, h))
-    _ refl c.in_default.ensures.value refl c.self.invariant.2)
-
-pub returns-clause-call : goal.returns-clause-call
-returns-clause-call g c = rw (← c.self.view_is, c.lacks_memory-self-inside.ensures)
-    (done_to _ _ _ _ refl c.args.client.now (finishes g.T.Transport.sends c.args.user_data (result_and c.finish_request-answer.result (Ok tt)))
-    (Unknown c.args.user_data (result_and c.finish_request-answer.result (Ok tt))) (λ i l d b a h. (_, refl, h)) _ c.in-Some.stored.now
-    c.finish_request-answer.new.self (lacks_finish (result_and c.finish_request-answer.result (Ok tt))) refl c.in-Some.ensures.value c.finish_request-answer.ensures.done _ c.finish_request-answer.ensures.in_time c.finish_request-answer.ensures.numbered c.self.invariant.2)
-
-pub returns-in_default-clause-cutting : goal.returns-in_default-clause-cutting
-returns-in_default-clause-cutting g c = ((returns-in_default-clause-call g c).step, histories_cut _ _ _ _)
-
-pub returns-clause-cutting : goal.returns-clause-cutting
-returns-clause-cutting g c = ((returns-clause-call g c).step, histories_cut _ _ _ _)
+pub returns : goal.returns
+returns g c = rw (← c.self.view_is, c.lacks_memory-self-inside.ensures)
+    (with_data (ends_open_request _ _ _ _ _ _) (λ call. (call.step, histories_cut _ _ _ _))
+    (request_returns _ _ c.args.client.now c.in-Some.stored.now c.finish_request-answer.new.self c.in-Some.ensures.value
+    (ap (λ (s : Stored _ _ _). s.serial) c.finish_request-answer.ensures.done.3) refl
+    c.args.user_data c.finish_request-answer.result c.finish_request-answer.ensures.back)
+    (done_to _ _ _ _ refl c.args.client.now _ _ (λ i l d b a h. (_, refl, h)) _ c.in-Some.stored.now c.finish_request-answer.new.self _ refl c.in-Some.ensures.value
+    c.finish_request-answer.ensures.done _ c.finish_request-answer.ensures.in_time c.finish_request-answer.ensures.numbered c.self.invariant.2))
 
 pub invariant_of-self : goal.invariant_of-self
 invariant_of-self g c = (c.self.invariant.0, c.self.invariant.1, c.self.invariant.2, c.in_default.ensures.touched c.self.invariant.3)
 
 pub invariant_of-self-2 : goal.invariant_of-self-2
-invariant_of-self-2 g c = (slots_set _ _ _ _ _ c.self.invariant.0, numbers_set _ _ _ _ _ _ c.in-Some.ensures.value c.finish_request-answer.ensures.in_time c.self.invariant.1, numbered_at _ _ _ _ c.in-Some.ensures.value c.finish_request-answer.ensures.numbered c.self.invariant.2, c.in-Some.ensures.touched c.self.invariant.3 _)
-
-pub returns-in_default-clause-plain : goal.returns-in_default-clause-plain
-returns-in_default-clause-plain g c = ends_open_request _ _ _ _ _ _ (returns-in_default-clause-call g c)
-
-pub returns-clause-plain : goal.returns-clause-plain
-returns-clause-plain g c = ends_open_request _ _ _ _ _ _ (returns-clause-call g c)
-
-pub returns-clause-data : goal.returns-clause-data
-returns-clause-data g c =
-    let (did, q, does, same) = c.finish_request-answer.ensures.done in
-    let was = ap (λ (o : Option (Stored _ _ _)). option_map (λ s. s.part) o) (sym c.in-Some.ensures.value) in
-    let is = ap (λ (o : Option (Stored _ _ _)). option_map (λ s. s.part) o)
-    (found_after c.self.inside.clients.items c.args.client.now c.in-Some.stored.now c.finish_request-answer.new.self c.in-Some.ensures.value (ap (λ (s : Stored _ _ _). s.serial) same)) in
-    request_returns _ _ c.args.client.now c.in-Some.stored.now.part c.finish_request-answer.new.self.part c.args.user_data c.finish_request-answer.result (rw (← c.self.view_is) was) is
-    (returns-clause-plain g c) c.finish_request-answer.ensures.back
+invariant_of-self-2 g c = kept_written _ _ _ _ _ _ _ _ _ _ c.in-Some.ensures.value c.finish_request-answer.ensures.in_time
+    c.finish_request-answer.ensures.numbered c.in-Some.ensures.touched c.self.invariant

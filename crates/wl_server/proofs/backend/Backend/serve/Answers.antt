@@ -1,7 +1,5 @@
 use Rattle.std.proofs.Common.{arith}
 use Rattle.std.proofs.lemmas.Grind.{common_steps}
-use Rattle.wl_server.specs.Dispatch.{answering}
-use Rattle.wl_server.specs.PartStep.{over}
 use Rattle.wl_server.proofs.Dispatches.Serving.{all_end, so_far_joins, so_far_none}
 use Rattle.wl_server.proofs.backend.Backend.serve.Goals as goal
 
@@ -9,9 +7,7 @@ pub loop-fault-init : goal.loop-fault-init
 loop-fault-init g c = grind (arith, common_steps, so_far_none)
 
 pub returns-in-Some : goal.returns-in-Some
-returns-in-Some g c =
-    all_end (over g.T.Transport.sends g.T.Transport.receives g.G.GlobalHandler.views) (answering g.H.Handler.requests g.H.Handler.binds) c.args.id.now
-    c.in-Some.fault c.loop-fault.invariant c.serve_some.ensures c.in-Some.is c.answer_of.ensures
+returns-in-Some g c = all_end _ _ c.args.id.now c.in-Some.fault c.loop-fault.invariant c.serve_some.ensures c.in-Some.is c.answer_of.ensures
 
 pub loop-fault-preserved : goal.loop-fault-preserved
 loop-fault-preserved g c = grind (arith, common_steps, so_far_joins)

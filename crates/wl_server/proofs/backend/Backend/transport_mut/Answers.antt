@@ -10,7 +10,7 @@ use Rattle.wl_server.specs.Lending.{over_transport, server_over, state_over}
 use Rattle.wl_server.specs.NoteOrder.{AllNumbered}
 use Rattle.wl_server.specs.PartStep.{World, over}
 use Rattle.wl_server.specs.Server.{ServerState, Stored, client_at}
-use Rattle.wl_server.proofs.CallSteps.Changing.{changed}
+use Rattle.wl_server.proofs.CallSteps.OneClient.{changed}
 use Rattle.wl_server.proofs.CallSteps.Slots.{slot_of_client}
 use Rattle.wl_server.proofs.CleanupSteps.Taken.{slots_set}
 use Rattle.wl_server.proofs.Plain.Transport.{leaves_transport}

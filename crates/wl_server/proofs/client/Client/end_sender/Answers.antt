@@ -1,5 +1,5 @@
-use Rattle.std.proofs.Common.{ap, map, sym, arith}
-use Rattle.wl_server.proofs.CallSteps.Numbering.{still_made, gives_none}
+use Rattle.std.proofs.Common.{refl, ap, map, sym, arith}
+use Rattle.wl_server.proofs.CallSteps.Numbering.{gives_none, in_time_same}
 use Rattle.wl_server.proofs.Readings.Finishing.{ends_taken}
 use Rattle.wl_server.proofs.client.Client.end_sender.Goals as goal
 
@@ -11,10 +11,10 @@ returns-clause-ends g c =
     c.take_out_made.ensures.removed c.take_out_made.ensures.left (ap (map (λ m. m.1)) c.reserve_end.ensures.items))
 
 pub returns-in_default-reserve_end-clause-in_time : goal.returns-in_default-reserve_end-clause-in_time
-returns-in_default-reserve_end-clause-in_time g c = rw (← c.self.view_is) (still_made _ _ _ _ (ap (map (λ m. m.0)) c.reserve_end.ensures.items))
+returns-in_default-reserve_end-clause-in_time g c = rw (← c.self.view_is) (in_time_same _ _ _ _ (cc c.reserve_end.ensures.items) refl)
 
 pub returns-then-is_out_of_memory-clause-in_time : goal.returns-then-is_out_of_memory-clause-in_time
-returns-then-is_out_of_memory-clause-in_time g c = rw (← c.self.view_is) (still_made _ _ _ _ (ap (map (λ m. m.0)) c.reserve_end.ensures.items))
+returns-then-is_out_of_memory-clause-in_time g c = rw (← c.self.view_is) (in_time_same _ _ _ _ (cc c.reserve_end.ensures.items) refl)
 
 pub returns-clause-in_time : goal.returns-clause-in_time
 returns-clause-in_time g c = grind (arith, gives_none, map)

@@ -4,5 +4,4 @@ use Rattle.wl_server.proofs.client.Client.finish_action.Goals as goal
 pub returns-in-Some-Some-clause-back : goal.returns-in-Some-Some-clause-back
 returns-in-Some-Some-clause-back g c =
     rw (c.in-Some-Some.is-0, c.in-Some-Some.is-1)
-    (given_held c.self.inside.objects.map.store c.give_if_kept.new.objects.store c.in-Some-Some.id c.in-Some-Some.user_data c.give_if_kept.result
-    c.give_if_kept.ensures.back c.give_if_kept.ensures.given)
+    (given_held _ _ c.in-Some-Some.id _ _ c.give_if_kept.ensures.back c.give_if_kept.ensures.given)

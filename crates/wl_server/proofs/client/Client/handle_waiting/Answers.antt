@@ -1,6 +1,5 @@
 use Rattle.std.proofs.Common.{◌∙◌, arith}
 use Rattle.std.proofs.lemmas.Grind.{common_steps}
-use Rattle.wl_server.specs.Inside.ReadingLoop.{around_of}
 use Rattle.wl_server.proofs.CallSteps.Numbering.{in_time_both, in_time_none}
 use Rattle.wl_server.proofs.Readings.OneMessage.{goes_ends, goes_goes, goes_none}
 use Rattle.wl_server.proofs.client.Client.handle_waiting.Goals as goal
@@ -13,21 +12,16 @@ loop-end-preserved g c = record {
   place = c.handle_message.ensures.place;
   kept = c.in-Continues.ensures.kept (λ same. cc) ∙ c.loop-end.invariant.kept;
   left = c.in-Continues.ensures.handles.1 ∙ c.loop-end.invariant.left;
-  goes = goes_goes g.T.Transport.sends g.T.Transport.receives (around_of g.G.GlobalHandler.views c.args.around.now) c.args.self.now c.loop-end.self c.handle_message.new.self c.args.reading.now c.loop-end.reading c.handle_message.new.reading
-      c.loop-end.invariant.goes c.in-Continues.ensures.handles.0;
+  goes = goes_goes _ _ _ _ _ _ _ _ _ c.loop-end.invariant.goes c.in-Continues.ensures.handles.0;
   in_time = in_time_both _ _ _ _ _ _ c.loop-end.invariant.in_time c.handle_message.ensures.in_time;
   numbered = λ is. c.handle_message.ensures.numbered (c.loop-end.invariant.numbered is);
 }
 
 pub returns-in-HandsOut-clause-waited : goal.returns-in-HandsOut-clause-waited
-returns-in-HandsOut-clause-waited g c =
-    goes_ends g.T.Transport.sends g.T.Transport.receives (around_of g.G.GlobalHandler.views c.args.around.now) c.args.self.now c.loop-end.self c.handle_message.new.self c.args.reading.now c.loop-end.reading c.handle_message.new.reading _
-    c.loop-end.invariant.goes c.in-HandsOut.ensures.handles
+returns-in-HandsOut-clause-waited g c = goes_ends _ _ _ _ _ _ _ _ _ _ c.loop-end.invariant.goes c.in-HandsOut.ensures.handles
 
 pub returns-in-Ends-clause-waited : goal.returns-in-Ends-clause-waited
-returns-in-Ends-clause-waited g c =
-    goes_ends g.T.Transport.sends g.T.Transport.receives (around_of g.G.GlobalHandler.views c.args.around.now) c.args.self.now c.loop-end.self c.handle_message.new.self c.args.reading.now c.loop-end.reading c.handle_message.new.reading _
-    c.loop-end.invariant.goes c.in-Ends.ensures.handles
+returns-in-Ends-clause-waited g c = goes_ends _ _ _ _ _ _ _ _ _ _ c.loop-end.invariant.goes c.in-Ends.ensures.handles
 
 pub returns-in-Lacks-clause-in_time : goal.returns-in-Lacks-clause-in_time
 returns-in-Lacks-clause-in_time g c = in_time_both _ _ _ _ _ _ c.loop-end.invariant.in_time c.handle_message.ensures.in_time

@@ -1,6 +1,5 @@
 use Rattle.std.proofs.Common.{◌≡◌, ◌-◌, suc, arith, refl, ◌∙◌}
 use Rattle.std.proofs.lemmas.Grind.{common_steps}
-use Rattle.wl_server.specs.Inside.ReadingLoop.{around_of}
 use Rattle.wl_server.proofs.CallSteps.Numbering.{in_time_both, in_time_none}
 use Rattle.wl_server.proofs.Readings.OneMessage.{fills_ends, fills_goes, goes_ends, goes_goes, goes_none, goes_within, none_left}
 use Rattle.wl_server.proofs.client.Client.read.Goals as goal
@@ -9,34 +8,32 @@ pub loop-end-init : goal.loop-end-init
 loop-end-init g c = grind (arith, common_steps, goes_none, in_time_none)
 
 pub returns-in-Some-clause-ends : goal.returns-in-Some-clause-ends
-returns-in-Some-clause-ends g c =
-    goes_ends g.T.Transport.sends g.T.Transport.receives (around_of g.G.GlobalHandler.views c.args.around.now) c.args.self.now c.loop-end.self c.handle_waiting.new.self c.args.reading.now c.loop-end.reading c.handle_waiting.new.reading _ c.loop-end.invariant.goes c.in-Some.ensures.waited
+returns-in-Some-clause-ends g c = goes_ends _ _ _ _ _ _ _ _ _ _ c.loop-end.invariant.goes c.in-Some.ensures.waited
 
 pub returns-then-reading-eq0-clause-ends : goal.returns-then-reading-eq0-clause-ends
 returns-then-reading-eq0-clause-ends g c =
     let waited = c.in_default.ensures.waited in
-    let so = goes_goes g.T.Transport.sends g.T.Transport.receives (around_of g.G.GlobalHandler.views c.args.around.now) c.args.self.now c.loop-end.self c.handle_waiting.new.self c.args.reading.now c.loop-end.reading c.handle_waiting.new.reading c.loop-end.invariant.goes waited.0 in
-    goes_ends g.T.Transport.sends g.T.Transport.receives (around_of g.G.GlobalHandler.views c.args.around.now) c.args.self.now c.handle_waiting.new.self c.handle_waiting.new.self c.args.reading.now c.handle_waiting.new.reading c.handle_waiting.new.reading _ so
-    (none_left g.T.Transport.sends g.T.Transport.receives (around_of g.G.GlobalHandler.views c.args.around.now) c.handle_waiting.new.self c.handle_waiting.new.reading waited.0.live (goes_within g.T.Transport.sends g.T.Transport.receives (around_of g.G.GlobalHandler.views c.args.around.now) c.args.self.now c.handle_waiting.new.self c.args.reading.now c.handle_waiting.new.reading so) waited.2 c.if-reading-eq0.true)
+    let so = goes_goes _ _ _ _ _ _ _ _ _ c.loop-end.invariant.goes waited.0 in
+    goes_ends _ _ _ _ _ _ _ _ _ _ so (none_left _ _ _ _ _ waited.0.live (goes_within _ _ _ _ _ _ _ so) waited.2 c.if-reading-eq0.true)
 
 pub returns-in-Some-receive-clause-ends : goal.returns-in-Some-receive-clause-ends
 returns-in-Some-receive-clause-ends g c =
     let waited = c.in_default.ensures.waited in
     let left : c.handle_waiting.new.reading.turns_left ≡ suc (c.handle_waiting.new.reading.turns_left - 1) = omega (arith, c.if-reading-eq0.false) in
-    let so = goes_goes g.T.Transport.sends g.T.Transport.receives (around_of g.G.GlobalHandler.views c.args.around.now) c.args.self.now c.loop-end.self c.handle_waiting.new.self c.args.reading.now c.loop-end.reading c.handle_waiting.new.reading c.loop-end.invariant.goes waited.0 in
-    goes_ends g.T.Transport.sends g.T.Transport.receives (around_of g.G.GlobalHandler.views c.args.around.now) c.args.self.now c.handle_waiting.new.self c.receive.new.self c.args.reading.now c.handle_waiting.new.reading _ _ so
-    (fills_ends g.T.Transport.sends g.T.Transport.receives (around_of g.G.GlobalHandler.views c.args.around.now) c.handle_waiting.new.self c.handle_waiting.new.reading _ waited.0.live (goes_within g.T.Transport.sends g.T.Transport.receives (around_of g.G.GlobalHandler.views c.args.around.now) c.args.self.now c.handle_waiting.new.self c.args.reading.now c.handle_waiting.new.reading so) waited.2 left refl c.in-Some-receive.end c.receive.new.self c.in-Some-receive.ensures.fills)
+    let so = goes_goes _ _ _ _ _ _ _ _ _ c.loop-end.invariant.goes waited.0 in
+    goes_ends _ _ _ _ _ _ _ _ _ _ so
+    (fills_ends _ _ _ _ _ _ waited.0.live (goes_within _ _ _ _ _ _ _ so) waited.2 left refl c.in-Some-receive.end c.receive.new.self c.in-Some-receive.ensures.fills)
 
 pub loop-end-preserved : goal.loop-end-preserved
 loop-end-preserved g c =
     let waited = c.in_default.ensures.waited in
     let left : c.handle_waiting.new.reading.turns_left ≡ suc (c.handle_waiting.new.reading.turns_left - 1) = omega (arith, c.if-reading-eq0.false) in
-    let so = goes_goes g.T.Transport.sends g.T.Transport.receives (around_of g.G.GlobalHandler.views c.args.around.now) c.args.self.now c.loop-end.self c.handle_waiting.new.self c.args.reading.now c.loop-end.reading c.handle_waiting.new.reading c.loop-end.invariant.goes waited.0 in
+    let so = goes_goes _ _ _ _ _ _ _ _ _ c.loop-end.invariant.goes waited.0 in
     record {
       place = c.handle_waiting.ensures.place;
       kept = c.in_default.ensures.kept ∙ c.loop-end.invariant.kept;
-      goes = goes_goes g.T.Transport.sends g.T.Transport.receives (around_of g.G.GlobalHandler.views c.args.around.now) c.args.self.now c.handle_waiting.new.self c.receive.new.self c.args.reading.now c.handle_waiting.new.reading _ so
-          (fills_goes g.T.Transport.sends g.T.Transport.receives (around_of g.G.GlobalHandler.views c.args.around.now) c.handle_waiting.new.self c.handle_waiting.new.reading _ waited.0.live (goes_within g.T.Transport.sends g.T.Transport.receives (around_of g.G.GlobalHandler.views c.args.around.now) c.args.self.now c.handle_waiting.new.self c.args.reading.now c.handle_waiting.new.reading so) waited.2 left refl c.receive.new.self c.in_default-receive.ensures.fills);
+      goes = goes_goes _ _ _ _ _ _ _ _ _ so
+          (fills_goes _ _ _ _ _ _ waited.0.live (goes_within _ _ _ _ _ _ _ so) waited.2 left refl c.receive.new.self c.in_default-receive.ensures.fills);
       in_time = in_time_both _ _ _ _ _ _ (in_time_both _ _ _ _ _ _ c.loop-end.invariant.in_time c.handle_waiting.ensures.in_time) c.receive.ensures.in_time;
       numbered = λ is. c.receive.ensures.numbered (c.handle_waiting.ensures.numbered (c.loop-end.invariant.numbered is));
     }

@@ -10,7 +10,7 @@ use Rattle.wl_server.proofs.client.Client.tell_globals.Goals as goal
 pub returns-clause-handled : goal.returns-clause-handled
 returns-clause-handled g c h =
     rw (← c.self.view_is)
-    (replied g.T.Transport.sends _ _ c.put_globals-wrote.new.socket
+    (replied _ _ _ c.put_globals-wrote.new.socket
     (introductions c.args.around.now.protocol.now (id_of c.args.registry.now) 0 (shown g.G.GlobalHandler.views (around_of g.G.GlobalHandler.views c.args.around.now).globals c.args.around.now.client c.self.inside.data))
     (Remembered (id_of c.args.registry.now) ∷ []) c.put_globals-wrote.result c.kill_unless_answered.result h (remembered_quiet _)
     (rw (← c.self.view_is) at c.requires) c.put_globals-wrote.ensures c.kill_unless_answered.ensures.replied)

@@ -1,8 +1,8 @@
 use Rattle.std.proofs.Common.{◌∙◌, sym, refl}
 use Rattle.std.proofs.lemmas.Option.{slice_get_read}
-use Rattle.wl_server.specs.NoteOrder.{times_of}
+use Rattle.wl_server.specs.NoteOrder.{IsNumbered, times_of}
 use Rattle.wl_server.proofs.CleanupSteps.Gathering.{map_set}
-use Rattle.wl_server.proofs.CallSteps.Numbering.{numbered_set}
+use Rattle.wl_server.proofs.CallSteps.Numbering.{each_stays}
 use Rattle.wl_server.proofs.CallSteps.Feeling.{none_felt, one_more_felt}
 use Rattle.wl_server.proofs.client.flush.flush_killed.Goals as goal
 
@@ -16,5 +16,5 @@ loop-slot-preserved g c =
       felt = one_more_felt _ _ _ _ _ _ _ _ c.loop-slot.invariant.felt here (c.flush_at-refused.ensures.felt c.loop-slot.slot);
       ends = c.loop-slot.invariant.ends;
       times = map_set times_of _ _ _ _ here c.flush_at-refused.ensures.times ∙ c.loop-slot.invariant.times;
-      numbered = λ all. numbered_set _ _ _ _ here c.flush_at-refused.ensures.numbered (c.loop-slot.invariant.numbered all);
+      numbered = λ all. each_stays IsNumbered _ _ _ _ here c.flush_at-refused.ensures.numbered (c.loop-slot.invariant.numbered all);
     }

@@ -3,9 +3,9 @@ use Rattle.std.specs.Prelude.{slice_set}
 use Rattle.std.proofs.lemmas.List.{length-set}
 use Rattle.std.proofs.lemmas.Option.{slice_get_read}
 use Rattle.wl_server.specs.Inside.Touched.{HasSent, IsQuiet}
-use Rattle.wl_server.specs.NoteOrder.{times_of}
+use Rattle.wl_server.specs.NoteOrder.{IsNumbered, times_of}
 use Rattle.wl_server.proofs.CallSteps.Feeling.{none_felt, one_more_felt}
-use Rattle.wl_server.proofs.CallSteps.Numbering.{numbered_set}
+use Rattle.wl_server.proofs.CallSteps.Numbering.{each_stays}
 use Rattle.wl_server.proofs.CleanupSteps.Gathering.{map_set}
 use Rattle.wl_server.proofs.Touched.Flushed.{felt_on}
 use Rattle.wl_server.proofs.Touched.Kept.{out_set, out_taken}
@@ -42,7 +42,7 @@ loop-slot-preserved g c =
       within = next.within;
       ends = inv.ends;
       times = map_set times_of _ _ _ _ here c.flush_at-refused.ensures.times ∙ inv.times;
-      numbered = λ all. numbered_set _ _ _ _ here c.flush_at-refused.ensures.numbered (inv.numbered all);
+      numbered = λ all. each_stays IsNumbered _ _ _ _ here c.flush_at-refused.ensures.numbered (inv.numbered all);
       sent = sent;
       quiet = λ words all. out_set IsQuiet words c.loop-slot.clients.items c.loop-slot.slot _ _ here c.flush_at-refused.ensures.quiet (inv.quiet words all);
     }

@@ -1,9 +1,7 @@
 use Rattle.std.proofs.Common.{◌≡◌, Option, List, Some, refl, subst, sym, arith, is_some, map}
-use Rattle.wl_server.specs.Inside.Client.{IsInserted}
 use Rattle.wl_server.specs.Inside.Inserting.{IsPut}
 use Rattle.wl_server.specs.Server.{Stored, NoteTimes, no_times}
-use Rattle.wl_server.proofs.CallSteps.Numbering.{numbered_put, all_but, times_in, times_same, times_there}
-use Rattle.wl_server.specs.Inside.Touched.{AreTouched}
+use Rattle.wl_server.proofs.CallSteps.Numbering.{numbered_put, all_but, times_same, times_stored, times_there}
 use Rattle.wl_server.proofs.Touched.Kept.{put_touched, stay_touched}
 use Rattle.wl_server.proofs.client.insert.put_new.Goals as goal
 use Rattle.std.specs.Option.{option_map_or}
@@ -17,21 +15,19 @@ moved xs ys after n m s lists slots put =
 pub returns-clause-put : goal.returns-clause-put
 returns-clause-put g c = (
   c.in_ok-client.client,
-  subst (λ n. IsInserted n c.args.transport (Some c.args.max_buffer_size) c.args.client_data c.in_ok-client.client) c.serial-serial.ensures c.in_ok-client.ensures.inserted,
+  rw c.serial-serial.ensures at c.in_ok-client.ensures.inserted,
   moved _ _ _ _ _ _ c.in_ok-reserve_slot.ensures.items c.slot-slot.ensures c.put_at.ensures.put,
 )
 
 pub returns-clause-in_time : goal.returns-clause-in_time
 returns-clause-in_time g c = λ none.
-    (all_but (map times_of c.args.clients.now.items)
-    (map times_of c.put_at.new.clients.items) c.args.id.now.slot c.args.numbers.now c.new.new.numbers
-    (λ k differ. times_same c.args.clients.now.items c.put_at.new.clients.items k
-    ((moved _ _ _ _ _ _ c.in_ok-reserve_slot.ensures.items c.slot-slot.ensures c.put_at.ensures.put).1 k differ))
+    let put = moved _ _ _ _ _ _ c.in_ok-reserve_slot.ensures.items c.slot-slot.ensures c.put_at.ensures.put in
+    all_but (map times_of c.args.clients.now.items) (map times_of c.put_at.new.clients.items) c.args.id.now.slot c.args.numbers.now c.new.new.numbers
+    (λ k differ. times_same c.args.clients.now.items c.put_at.new.clients.items k (put.1 k differ))
     (subst (λ (t : NoteTimes). NotesInTime t c.args.numbers.now (times_at c.args.id.now.slot
-    (map times_of c.put_at.new.clients.items)) c.new.new.numbers) (sym (grind (arith, times_in, slice_get, option_map_or, no_times, is_some)))
+    (map times_of c.put_at.new.clients.items)) c.new.new.numbers) (sym (grind (arith, times_stored c.args.clients.now.items c.args.id.now.slot, slice_get, option_map_or, no_times, is_some)))
     (subst (λ (t : NoteTimes). NotesInTime no_times c.args.numbers.now t c.new.new.numbers) (sym
-    (times_there c.put_at.new.clients.items c.args.id.now.slot (Some c.in_ok-client.client)
-    (moved _ _ _ _ _ _ c.in_ok-reserve_slot.ensures.items c.slot-slot.ensures c.put_at.ensures.put).0)) c.in_ok-client.ensures.in_time)))
+    (times_there c.put_at.new.clients.items c.args.id.now.slot (Some c.in_ok-client.client) put.0)) c.in_ok-client.ensures.in_time))
 
 pub returns-clause-numbered : goal.returns-clause-numbered
 returns-clause-numbered g c all =
@@ -40,16 +36,11 @@ returns-clause-numbered g c all =
 
 pub returns-clause-touched : goal.returns-clause-touched
 returns-clause-touched g c are =
-    put_touched c.reserve_slot.new.touched c.insert.new.self c.args.clients.now.items c.put_at.new.clients.items c.slot-slot.result c.in_ok-client.client c.insert.ensures.to_send c.insert.ensures.to_note
-    (moved _ _ _ _ _ _ c.in_ok-reserve_slot.ensures.items refl c.put_at.ensures.put)
-    (stay_touched c.args.touched.now c.reserve_slot.new.touched c.args.clients.now.items c.reserve_slot.ensures.touched are)
+    put_touched _ _ _ _ _ c.in_ok-client.client c.insert.ensures.to_send c.insert.ensures.to_note
+    (moved _ _ _ _ _ _ c.in_ok-reserve_slot.ensures.items refl c.put_at.ensures.put) (stay_touched _ _ _ c.reserve_slot.ensures.touched are)
 
 pub returns-in_err-reserve_slot-clause-touched : goal.returns-in_err-reserve_slot-clause-touched
-returns-in_err-reserve_slot-clause-touched g c are =
-    subst (λ (clients : List (Option (Stored _ _ _))). AreTouched c.reserve_slot.new.touched clients) (sym c.reserve_slot.ensures.items)
-    (stay_touched c.args.touched.now c.reserve_slot.new.touched c.args.clients.now.items c.reserve_slot.ensures.touched are)
+returns-in_err-reserve_slot-clause-touched g c are = rw c.reserve_slot.ensures.items (stay_touched _ _ _ c.reserve_slot.ensures.touched are)
 
 pub returns-in_err-client-clause-touched : goal.returns-in_err-client-clause-touched
-returns-in_err-client-clause-touched g c are =
-    subst (λ (clients : List (Option (Stored _ _ _))). AreTouched c.reserve_slot.new.touched clients) (sym c.reserve_slot.ensures.items)
-    (stay_touched c.args.touched.now c.reserve_slot.new.touched c.args.clients.now.items c.reserve_slot.ensures.touched are)
+returns-in_err-client-clause-touched g c are = rw c.reserve_slot.ensures.items (stay_touched _ _ _ c.reserve_slot.ensures.touched are)

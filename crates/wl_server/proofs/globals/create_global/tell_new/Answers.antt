@@ -1,9 +1,9 @@
-use Rattle.std.proofs.Common.{◌≡◌, ◌∙◌, ℕ, ap, arith, length, refl, subst}
+use Rattle.std.proofs.Common.{◌≡◌, ◌∙◌, ap, arith, length, refl}
 use Rattle.std.proofs.lemmas.Option.{slice_get-get_or}
 use Rattle.wl_server.specs.Globals.{shown_as}
-use Rattle.wl_server.specs.Inside.News.{Announced, HearsNew}
-use Rattle.wl_server.specs.Inside.Places.{AllFeel}
-use Rattle.wl_server.proofs.CallSteps.Numbering.{next_in_time, numbered_set, turn_still}
+use Rattle.wl_server.specs.Inside.News.{Announced}
+use Rattle.wl_server.specs.NoteOrder.{IsNumbered}
+use Rattle.wl_server.proofs.CallSteps.Numbering.{next_in_time, each_stays, turn_still}
 use Rattle.wl_server.proofs.CallSteps.Feeling.{none_felt, one_more_felt}
 use Rattle.wl_server.proofs.globals.create_global.tell_new.Goals as goal
 
@@ -19,11 +19,10 @@ loop-slot-preserved g c =
       global = ap (λ (a : Announced). a.global) c.tell_new_at-refused.ensures.same ∙ c.loop-slot.invariant.global;
       ends = refl;
       in_time = next_in_time _ _ _ _ _ _ _ _ c.loop-slot.invariant.in_time here c.tell_new_at-refused.ensures.in_time;
-      numbered = λ all. numbered_set _ _ _ _ here c.tell_new_at-refused.ensures.numbered (c.loop-slot.invariant.numbered all);
+      numbered = λ all. each_stays IsNumbered _ _ _ _ here c.tell_new_at-refused.ensures.numbered (c.loop-slot.invariant.numbered all);
     }
 
 pub returns-clause-felt : goal.returns-clause-felt
 returns-clause-felt g c =
     let end : c.loop-slot.slot ≡ length c.args.clients.now = omega (arith, c.loop-slot-test.false, c.loop-slot.auto.slot-end) in
-    subst (λ (n : ℕ). AllFeel (HearsNew g.T.Transport.sends g.G.GlobalHandler.views c.args.protocol.now c.args.id.now c.args.global.now) c.loop-slot.refused n c.args.clients.now
-    c.loop-slot.clients) end c.loop-slot.invariant.felt
+    rw (← end) c.loop-slot.invariant.felt

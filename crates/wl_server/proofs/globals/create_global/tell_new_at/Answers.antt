@@ -1,8 +1,6 @@
-use Rattle.std.proofs.Common.{◌∙◌, ap, refl, subst, sym}
-use Rattle.wl_server.specs.Felt.{announcements}
+use Rattle.std.proofs.Common.{◌∙◌, ap, refl, sym}
 use Rattle.wl_server.specs.Globals.{Shown}
 use Rattle.wl_server.specs.Inside.News.{HearsNew}
-use Rattle.wl_server.specs.Inside.Puts.{Puts}
 use Rattle.wl_server.specs.Server.{Stored, no_times}
 use Rattle.wl_server.proofs.CallSteps.Feeling.{place_felt}
 use Rattle.wl_server.proofs.Readings.Hearing.{killed_hears, seen_hears, unseen_hears}
@@ -23,8 +21,7 @@ returns-else-not-can_view-clause-felt g c =
     place_felt (HearsNew g.T.Transport.sends g.G.GlobalHandler.views table c.args.id.now c.args.global.now) c.args.slot _ c.from_parts-client_id.result c.in-Some.client
     c.kill_unless_written.new.self c.args.client.now c.kill_unless_written.result c.in-Some.is c.from_parts-client_id.ensures (ap (λ (s : Stored _ _ _). s.serial) c.client.view_is)
     (rw (← c.client.view_is) (seen_hears g.T.Transport.sends table _ told _ _ _ _ _ c.if-not-client.true (sym c.can_view.ensures ∙ c.if-not-can_view.false)
-    (subst (λ (s : Shown). Puts g.T.Transport.sends c.client.inside.socket (announcements table c.client.inside.objects.registries.items s) c.tell-answer.result c.tell-answer.new.socket) c.requires
-    (rw (← c.deref.ensures.value) c.tell-answer.ensures.puts)) c.kill_unless_written.ensures.refused c.kill_unless_written.ensures.closed))
+    (rw c.requires at (rw c.deref.ensures.value at c.tell-answer.ensures.puts)) c.kill_unless_written.ensures.refused c.kill_unless_written.ensures.closed))
 
 pub returns-in_default-clause-felt : goal.returns-in_default-clause-felt
 returns-in_default-clause-felt g c = rw c.in-Some.is (c.in-Some.client, rw (← c.client.view_is) (killed_hears _ (record { serial = _; part = _; made = _; times = no_times }) _ c.if-not-client.false), refl)

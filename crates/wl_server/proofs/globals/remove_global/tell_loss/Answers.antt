@@ -1,8 +1,7 @@
-use Rattle.std.proofs.Common.{◌≡◌, ℕ, arith, length, refl, subst}
+use Rattle.std.proofs.Common.{◌≡◌, arith, length, refl}
 use Rattle.std.proofs.lemmas.Option.{slice_get-get_or}
-use Rattle.wl_server.specs.Felt.{Hears, removals}
-use Rattle.wl_server.specs.Inside.Places.{AllFeel}
-use Rattle.wl_server.proofs.CallSteps.Numbering.{next_in_time, numbered_set, turn_still}
+use Rattle.wl_server.specs.NoteOrder.{IsNumbered}
+use Rattle.wl_server.proofs.CallSteps.Numbering.{next_in_time, each_stays, turn_still}
 use Rattle.wl_server.proofs.CallSteps.Feeling.{none_felt, one_more_felt}
 use Rattle.wl_server.proofs.globals.remove_global.tell_loss.Goals as goal
 
@@ -16,11 +15,10 @@ loop-slot-preserved g c =
       felt = one_more_felt _ _ _ _ _ _ _ _ c.loop-slot.invariant.felt here (c.tell_loss_at-refused.ensures.felt c.loop-slot.slot);
       ends = refl;
       in_time = next_in_time _ _ _ _ _ _ _ _ c.loop-slot.invariant.in_time here c.tell_loss_at-refused.ensures.in_time;
-      numbered = λ all. numbered_set _ _ _ _ here c.tell_loss_at-refused.ensures.numbered (c.loop-slot.invariant.numbered all);
+      numbered = λ all. each_stays IsNumbered _ _ _ _ here c.tell_loss_at-refused.ensures.numbered (c.loop-slot.invariant.numbered all);
     }
 
 pub returns-clause-felt : goal.returns-clause-felt
 returns-clause-felt g c =
     let end : c.loop-slot.slot ≡ length c.args.clients.now = omega (arith, c.loop-slot-test.false, c.loop-slot.auto.slot-end) in
-    subst (λ (n : ℕ). AllFeel (λ id p lacked did q. Hears g.T.Transport.sends p (removals p c.args.name) lacked did q) c.loop-slot.refused n c.args.clients.now c.loop-slot.clients)
-    end c.loop-slot.invariant.felt
+    rw (← end) c.loop-slot.invariant.felt

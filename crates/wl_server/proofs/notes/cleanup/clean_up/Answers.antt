@@ -1,7 +1,5 @@
-use Rattle.std.proofs.Common.{◌∙◌, ◌≤◌, ◌++◌, List, length, append-nil, arith, ap, subst, sym, true, map, Option}
-use Rattle.wl_server.specs.declared.notes.queues.NotePlace.{NotePlace}
-use Rattle.wl_server.specs.NoteOrder.{AllNumbered, AllTakeFirst, Along, IsOrderOf, times_of, times_at}
-use Rattle.wl_server.specs.Server.{NoteTimes, Stored}
+use Rattle.std.proofs.Common.{◌∙◌, ◌≤◌, ◌++◌, length, append-nil, arith, ap, sym}
+use Rattle.wl_server.specs.NoteOrder.{times_at}
 use Rattle.wl_server.specs.Inside.Leaving.{collected, given_at}
 use Rattle.wl_server.proofs.CallSteps.Numbering.{all_take_leave, none_waits, numbered_staying, takes_both, takes_none}
 use Rattle.wl_server.proofs.CleanupSteps.Idle.{none_flushed, none_leaves, none_noted}
@@ -20,7 +18,7 @@ returns-then-capacity-eq0-clause-cleaned g c =
       flushes = none_flushed g.T.Transport.sends c.args.clients.now.items none;
       gathers = c.gather.ensures.gathered;
       all = c.gather.ensures.ended;
-      in_order = (c.args.memory.now.order.items, c.requires.order, subst (λ (l : List NotePlace). Along c.args.notes.now.items c.gather.new.notes.items l) c.deref.ensures.value c.gather.ensures.along);
+      in_order = (c.args.memory.now.order.items, c.requires.order, rw c.deref.ensures.value at c.gather.ensures.along);
       stay = none_leaves 0 c.gather.new.clients.items left;
       noted = sym (append-nil c.gather.new.notes.items) ∙ ap (λ l. c.gather.new.notes.items ++ l) (sym (none_noted c.gather.new.clients.items left));
       gave = c.requires.none ∙ sym (nil_from_length (collected given_at 0 c.gather.new.clients.items) (omega (arith, left)));
@@ -28,8 +26,7 @@ returns-then-capacity-eq0-clause-cleaned g c =
 
 pub gather-requires-2-clause-order : goal.gather-requires-2-clause-order
 gather-requires-2-clause-order g c =
-    subst (λ (l : List NotePlace). IsOrderOf true c.flush_killed-refused.new.clients.items l) (sym c.deref-2.ensures.value)
-    (flushed_order g.T.Transport.sends _ _ _ _ c.flush_killed-refused.ensures.felt c.flush_killed-refused.ensures.times c.requires.order)
+    rw c.deref-2.ensures.value (flushed_order g.T.Transport.sends _ _ _ _ c.flush_killed-refused.ensures.felt c.flush_killed-refused.ensures.times c.requires.order)
 
 pub gather-requires-2-clause-room : goal.gather-requires-2-clause-room
 gather-requires-2-clause-room g c = omega (arith, (flushed_counts g.T.Transport.sends _ _ _ c.flush_killed-refused.ensures.felt).0, c.requires.notes)
@@ -46,22 +43,16 @@ leave_all-requires-clause-given g c =
     omega (arith, same, ap length (gathered_given _ _ _ _ c.gather-2.ensures.gathered), ap length c.requires.none, c.args.memory.now.given.ok.0, c.requires.given)
 
 pub returns-clause-first : goal.returns-clause-first
-returns-clause-first g c =
-    λ k. takes_both (times_at k _) (times_at k _) (times_at k _) ((subst (λ (ts : List NoteTimes). AllTakeFirst ts
-    (map times_of c.gather-2.new.clients.items)) c.flush_killed-refused.ensures.times c.gather-2.ensures.first) k) ((subst (λ (xs : List (Option
-    (Stored _ _ _))). AllTakeFirst (map times_of c.gather-2.new.clients.items) (map times_of xs)) (sym c.leave_all.ensures.stay)
-    (all_take_leave c.gather-2.new.clients.items)) k)
+returns-clause-first g c = rw c.leave_all.ensures.stay
+    (λ k. takes_both (times_at k _) (times_at k _) (times_at k _) ((rw c.flush_killed-refused.ensures.times at c.gather-2.ensures.first) k)
+    (all_take_leave c.gather-2.new.clients.items k))
 
 pub returns-then-capacity-eq0-clause-none_waits : goal.returns-then-capacity-eq0-clause-none_waits
 returns-then-capacity-eq0-clause-none_waits g c = none_waits _ _ c.gather.ensures.no_numbers (λ k. takes_none (times_at k _))
 
 pub returns-clause-none_waits : goal.returns-clause-none_waits
-returns-clause-none_waits g c =
-    none_waits _ _ c.gather-2.ensures.no_numbers
-    (subst (λ (xs : List (Option (Stored _ _ _))). AllTakeFirst (map times_of c.gather-2.new.clients.items) (map times_of xs)) (sym c.leave_all.ensures.stay)
-    (all_take_leave c.gather-2.new.clients.items))
+returns-clause-none_waits g c = rw c.leave_all.ensures.stay (none_waits _ _ c.gather-2.ensures.no_numbers (all_take_leave c.gather-2.new.clients.items))
 
 pub returns-clause-numbered : goal.returns-clause-numbered
-returns-clause-numbered g c all =
-    subst (λ (xs : List (Option (Stored _ _ _))). AllNumbered xs) (sym c.leave_all.ensures.stay)
+returns-clause-numbered g c all = rw c.leave_all.ensures.stay
     (numbered_staying c.gather-2.new.clients.items (c.gather-2.ensures.numbered (c.flush_killed-refused.ensures.numbered all)))

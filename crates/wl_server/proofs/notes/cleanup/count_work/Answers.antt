@@ -6,8 +6,8 @@ use Rattle.wl_server.specs.Inside.Leaving.{ends_at, given_at}
 use Rattle.wl_server.specs.Inside.NoteOrder.{count_places}
 use Rattle.wl_server.specs.NoteOrder.{times_of}
 use Rattle.wl_server.specs.Inside.Touched.{IsQuiet}
-use Rattle.wl_server.proofs.CleanupSteps.Ordering.{drop_past, places_rest}
-use Rattle.wl_server.proofs.CleanupSteps.Gathering.{count_drop}
+use Rattle.wl_server.proofs.CleanupSteps.Gathering.{rest_at}
+use Rattle.std.proofs.lemmas.List.{drop_all}
 use Rattle.wl_server.proofs.CleanupSteps.Outgoing.{counted_fewer, counted_more}
 use Rattle.wl_server.proofs.Touched.Counted.{pass_collected, pass_notes, pass_places, quiet_ends, quiet_given}
 use Rattle.wl_server.proofs.Touched.Kept.{out_taken}
@@ -44,7 +44,8 @@ loop-slot-preserved g c =
     let notes = pass_notes words c.args.clients.now _ to next.from next.within next.skipped quiet true in
     let spots = pass_places words c.args.clients.now _ to next.from next.within next.skipped quiet true in
     let gone = ap length (pass_collected words c.args.clients.now _ to next.from next.within next.skipped quiet given_at quiet_given) in
-    let more = count_drop true c.args.clients.now c.loop-slot.slot c.index-clients-slot.result here in
+    let rest = rest_at c.args.clients.now c.loop-slot.slot c.index-clients-slot.result here in
+    let more = ap (count_leaving true) rest in
     let added = c.saturating_add-gathered.ensures in
     let one = c.count_of.ensures.notes in
     record {
@@ -53,7 +54,7 @@ loop-slot-preserved g c =
           omega (arith, added, below, one, inv.gathered fits, more, notes);
       places = λ below.
           let fits : c.loop-slot.gathered < 0xFFFFFFFFFFFFFFFF = omega (arith, added, below) in
-          omega (arith, added, below, c.count_of.ensures.places, inv.places fits, places_rest true c.args.clients.now c.loop-slot.slot c.index-clients-slot.result here, spots);
+          omega (arith, added, below, c.count_of.ensures.places, inv.places fits, ap (λ xs. count_places true (map times_of xs)) rest, spots);
       few_gathered = omega (arith, added, one, inv.few_gathered, more, notes);
       leaving = λ below.
           let before = counted_more given_at c.args.clients.now c.loop-slot.slot c.index-clients-slot.result c.loop-slot.leaving c.count_given_at.result c.saturating_add-leaving.result here
@@ -72,14 +73,13 @@ loop-slot-preserved g c =
       all = refl;
     }
 
-pub returns-clause-gathered : goal.returns-clause-gathered
-returns-clause-gathered g c below = grind (arith, count_leaving, drop_past)
-
-pub returns-clause-places : goal.returns-clause-places
-returns-clause-places g c below = grind (arith, count_places, map, times_of, drop_past)
-
-pub returns-clause-leaving : goal.returns-clause-leaving
-returns-clause-leaving g c below = grind (arith, common_steps, drop_past)
-
-pub returns-clause-ends : goal.returns-clause-ends
-returns-clause-ends g c below = grind (arith, common_steps, drop_past)
+pub returns : goal.returns
+returns g c = record {
+  quiet = c.loop-slot.invariant.quiet;
+  gathered = λ below. grind (arith, count_leaving, drop_all);
+  places = λ below. grind (arith, count_places, map, times_of, drop_all);
+  few_gathered = grind (arith, common_steps);
+  leaving = λ below. grind (arith, common_steps, drop_all);
+  few_leaving = grind (arith, common_steps);
+  ends = λ below. grind (arith, common_steps, drop_all);
+}

@@ -1,24 +1,24 @@
-use Rattle.std.proofs.Common.{length, true, map, arith}
+use Rattle.std.proofs.Common.{◌≡◌, length, true, map, arith}
 use Rattle.std.specs.Vec.{vec_capacity, vec_len}
 use Rattle.wl_server.specs.Inside.Gathering.{count_leaving}
 use Rattle.wl_server.specs.Inside.Leaving.{collected, ends_at, given_at}
 use Rattle.wl_server.specs.NoteOrder.{times_of}
 use Rattle.wl_server.specs.Inside.NoteOrder.{count_places}
-use Rattle.wl_server.proofs.CleanupSteps.Asking.{at_most, none_both, none_ends, none_leaving, none_of, room_of_none}
+use Rattle.wl_server.proofs.CleanupSteps.Asking.{none_ends, none_leaving, none_of}
 use Rattle.wl_server.proofs.CleanupSteps.Ordering.{none_order}
 use Rattle.wl_server.proofs.notes.cleanup.memory_for.Goals as goal
 
 pub returns-then-count-eq0-clause-notes : goal.returns-then-count-eq0-clause-notes
-returns-then-count-eq0-clause-notes g c = grind (arith, none_both, none_of, length, collected, given_at, room_of_none, vec_len, vec_capacity, count_leaving, ends_at, none_ends)
+returns-then-count-eq0-clause-notes g c = grind (arith, none_of, length, collected, given_at, vec_len, vec_capacity, count_leaving, ends_at, none_ends)
 
 pub returns-then-count-eq0-clause-given : goal.returns-then-count-eq0-clause-given
-returns-then-count-eq0-clause-given g c = grind (arith, none_both, none_of, length, collected, given_at, at_most, vec_capacity)
+returns-then-count-eq0-clause-given g c = grind (arith, none_of, length, collected, given_at, vec_capacity)
 
 pub returns-then-count-eq0-clause-order : goal.returns-then-count-eq0-clause-order
 returns-then-count-eq0-clause-order g c =
-    let none = none_both c.count_work-work.result.gathered c.count_work-work.result.leaving c.saturating_add-count.result c.saturating_add-count.ensures c.if-count-eq0.true in
-    let notes = none_of c.count_work-work.result.gathered (count_leaving true c.args.clients.now) none.0 c.count_work-work.ensures.gathered in
-    let places = none_of c.count_work-work.result.gathered (count_places true (map times_of c.args.clients.now)) none.0 c.count_work-work.ensures.places in
+    let none : c.count_work-work.result.gathered ≡ 0 = omega (arith, c.saturating_add-count.ensures, c.if-count-eq0.true) in
+    let notes = none_of c.count_work-work.result.gathered (count_leaving true c.args.clients.now) none c.count_work-work.ensures.gathered in
+    let places = none_of c.count_work-work.result.gathered (count_places true (map times_of c.args.clients.now)) none c.count_work-work.ensures.places in
     none_order true c.args.clients.now c.new.result.items c.new.ensures.items (none_leaving true c.args.clients.now notes) places
 
 pub returns-clause-notes : goal.returns-clause-notes

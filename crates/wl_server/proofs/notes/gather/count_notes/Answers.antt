@@ -1,10 +1,12 @@
-use Rattle.std.proofs.Common.{◌≡◌, ◌<◌, [], drop, arith, length-drop, refl}
+use Rattle.std.proofs.Common.{◌≡◌, ◌<◌, [], ap, drop, map, arith, length-drop, refl}
 use Rattle.std.proofs.lemmas.Grind.{common_steps}
 use Rattle.std.proofs.lemmas.List.{nil_from_length}
 use Rattle.std.proofs.lemmas.Option.{slice_get_read}
 use Rattle.wl_server.specs.Inside.Touched.{IsQuiet}
-use Rattle.wl_server.proofs.CleanupSteps.Gathering.{count_drop}
-use Rattle.wl_server.proofs.CleanupSteps.Ordering.{places_rest}
+use Rattle.wl_server.proofs.CleanupSteps.Gathering.{rest_at}
+use Rattle.wl_server.specs.Inside.Gathering.{count_leaving}
+use Rattle.wl_server.specs.Inside.NoteOrder.{count_places}
+use Rattle.wl_server.specs.NoteOrder.{times_of}
 use Rattle.wl_server.proofs.Touched.Counted.{pass_notes, pass_places}
 use Rattle.wl_server.proofs.Touched.Kept.{out_taken}
 use Rattle.wl_server.proofs.notes.gather.count_notes.Goals as goal
@@ -32,7 +34,8 @@ loop-slot-preserved g c =
     here c.is_quiet.ensures inv.quiet in
     let notes = pass_notes c.remove_if.new.self.words.items c.args.clients.now _ c.next_from-slot-in-loop-slot.result next.from next.within next.skipped quiet c.args.waits in
     let places = pass_places c.remove_if.new.self.words.items c.args.clients.now _ c.next_from-slot-in-loop-slot.result next.from next.within next.skipped quiet c.args.waits in
-    let more = count_drop c.args.waits c.args.clients.now c.loop-slot.slot c.index-clients-slot.result here in
+    let rest = rest_at c.args.clients.now c.loop-slot.slot c.index-clients-slot.result here in
+    let more = ap (count_leaving c.args.waits) rest in
     let added = c.saturating_add-count.ensures in
     let one = c.count_of.ensures.notes in
     record {
@@ -41,7 +44,7 @@ loop-slot-preserved g c =
           omega (arith, added, below, one, inv.all fits, more, notes);
       places = λ below.
           let fits : c.loop-slot.count < 0xFFFFFFFFFFFFFFFF = omega (arith, added, below) in
-          omega (arith, added, below, c.count_of.ensures.places, inv.places fits, places_rest c.args.waits c.args.clients.now c.loop-slot.slot c.index-clients-slot.result here, places);
+          omega (arith, added, below, c.count_of.ensures.places, inv.places fits, ap (λ xs. count_places c.args.waits (map times_of xs)) rest, places);
       no_more = omega (arith, added, one, inv.no_more, more, notes);
       quiet = quiet;
       within = next.within;

@@ -1,11 +1,13 @@
 use Rattle.std.proofs.Common.{◌∙◌, [], arith, drop, sym, append-nil, refl, ap, length, map}
 use Rattle.std.proofs.lemmas.Option.{slice_get_read}
 use Rattle.std.proofs.lemmas.Grind.{common_steps}
-use Rattle.wl_server.proofs.CallSteps.Numbering.{numbered_set, take_set, takes_both, takes_none}
+use Rattle.wl_server.proofs.CallSteps.Numbering.{each_stays, take_set, takes_both, takes_none, times_stored}
 use Rattle.wl_server.proofs.CleanupSteps.Gathering.{gathers_at, gathers_more, gathers_none, count_at}
-use Rattle.wl_server.proofs.CleanupSteps.Ordering.{along_more, drop_past, none_numbered, place_left, place_some, place_within, set_numbered, places_among, places_moved, times_stored}
+use Rattle.wl_server.proofs.CleanupSteps.Ordering.{along_more, none_numbered, place_left, place_some, place_within, places_among, places_moved}
 use Rattle.wl_server.proofs.notes.gather.gather.Goals as goal
-use Rattle.wl_server.specs.NoteOrder.{all_places, places_of, times_of, to_gather, times_at}
+use Rattle.std.proofs.lemmas.List.{drop_all}
+use Rattle.wl_server.specs.Inside.NoteOrder.{AreNumbered}
+use Rattle.wl_server.specs.NoteOrder.{IsNumbered, all_places, places_of, times_of, to_gather, times_at}
 use Rattle.wl_server.specs.Server.{NoteTimes, note_of}
 
 pub index_mut-requires : goal.index_mut-requires
@@ -41,8 +43,8 @@ loop-place-preserved g c =
           (grind (arith, to_gather, note_of, c.args.waits, c.loop-place.notes.items, c.move_note.new.notes.items, c.slot-slot.result, c.move_note.ensures.moved));
       first = λ k. takes_both (times_at k _) (times_at k _) (times_at k _) (c.loop-place.invariant.first k)
           ((take_set _ _ _ _ here c.move_note.ensures.first) k);
-      numbered = set_numbered c.args.waits c.loop-place.clients.items _ _ _ here c.move_note.ensures.numbered c.loop-place.invariant.numbered;
-      all_numbered = λ all. numbered_set _ _ _ _ here c.move_note.ensures.all_numbered (c.loop-place.invariant.all_numbered all);
+      numbered = each_stays (AreNumbered c.args.waits) c.loop-place.clients.items _ _ _ here (λ was. c.move_note.ensures.numbered) c.loop-place.invariant.numbered;
+      all_numbered = λ all. each_stays IsNumbered _ _ _ _ here c.move_note.ensures.all_numbered (c.loop-place.invariant.all_numbered all);
       capacity = c.move_note.ensures.capacity ∙ c.loop-place.invariant.capacity;
     }
 
@@ -52,7 +54,7 @@ loop-place-init g c = record {
   left = c.requires.order.each;
   along = ([], sym (append-nil _), refl);
   first = λ k. takes_none (times_at k _);
-  numbered = λ k. ap (λ (t : NoteTimes). length (places_of c.args.waits 0 t)) (sym (times_stored c.args.waits _ k))
+  numbered = λ k. ap (λ (t : NoteTimes). length (places_of c.args.waits 0 t)) (sym (times_stored _ k))
       ∙ (sym (places_among c.args.waits 0 k k (map times_of _) (omega arith))
       ∙ (sym (places_moved k (all_places c.args.waits 0 (map times_of _)) _ c.requires.order.numbers) ∙ c.requires.order.each k));
   all_numbered = λ all. all;
@@ -62,7 +64,7 @@ loop-place-init g c = record {
 pub returns-clause-no_numbers : goal.returns-clause-no_numbers
 returns-clause-no_numbers g c =
     none_numbered c.args.waits c.loop-place.clients.items (drop c.loop-place.place-index c.args.order.now)
-    (drop_past c.args.order.now c.loop-place.place-index (omega (arith, c.loop-place-test.false))) c.loop-place.invariant.left c.loop-place.invariant.numbered
+    (drop_all c.loop-place.place-index c.args.order.now (omega (arith, c.loop-place-test.false))) c.loop-place.invariant.left c.loop-place.invariant.numbered
 
 pub returns-clause-ended : goal.returns-clause-ended
 returns-clause-ended g c = grind (arith, common_steps)

@@ -1,15 +1,11 @@
-use Rattle.std.proofs.Common.{◌≡◌, ◌∙◌, ◌∷◌, [], ℕ, List, Option, Result, Some, map, subst, sym, arith}
-use Rattle.std.specs.Prelude.{IfSome}
+use Rattle.std.proofs.Common.{◌≡◌, ◌∙◌, ◌∷◌, [], ℕ, List, Result, Some, map, sym, arith}
 use Rattle.wl_wire.specs.declared.argument.Argument.TheVariants as arg
-use Rattle.wl_wire.specs.declared.argument.Token.{Token}
 use Rattle.wl_wire.specs.declared.error.IoFault.{IoFault}
-use Rattle.wl_wire.specs.declared.message.Message.{Message}
 use Rattle.wl_wire.specs.Argument.{WireArgument}
 use Rattle.wl_wire.specs.Table.{InterfaceRow, name_of}
 use Rattle.wl_link.specs.Exchange.{Queue}
 use Rattle.wl_link.specs.Link.{LinkState}
 use Rattle.wl_server.specs.Globals.{Shown}
-use Rattle.wl_server.specs.Inside.News.{IsNews}
 use Rattle.wl_server.specs.Inside.Puts.{Puts}
 use Rattle.wl_server.specs.Telling.{by_object, making}
 use Rattle.std.proofs.lemmas.Bool.{eqb-true}
@@ -34,14 +30,10 @@ told_each sends before after table g rs opcode args answer same_opcode same_args
 pub returns-in-Some-clause-puts : goal.returns-in-Some-clause-puts
 returns-in-Some-clause-puts g c =
     let a = c.self.inside in
-    let told : Shown = record { name = a.name; interface = a.interface; version = a.version } in
-    let news = subst (λ (m : Option (Message ℕ Token)). IfSome m (IsNews a.protocol.now told)) c.in-Some.is c.self.invariant in
-    rw (← c.self.view_is)
-    (told_each g.T.Transport.sends c.args.socket.now c.put_to_each.new.socket a.protocol.now told c.args.registries.now _ _ c.put_to_each.result news.0 news.1 c.put_to_each.ensures.news)
+    let news = rw c.in-Some.is at c.self.invariant in
+    rw (← c.self.view_is) (told_each g.T.Transport.sends _ _ a.protocol.now (record { name = a.name; interface = a.interface; version = a.version }) c.args.registries.now _ _ _ news.0 news.1 c.put_to_each.ensures.news)
 
 pub returns-clause-puts : goal.returns-clause-puts
 returns-clause-puts g c =
     let a = c.self.inside in
-    let told : Shown = record { name = a.name; interface = a.interface; version = a.version } in
-    rw (← c.self.view_is)
-    (told_each g.T.Transport.sends c.args.socket.now c.put_to_each-wrote.new.socket a.protocol.now told c.args.registries.now _ _ c.put_to_each-wrote.result c.in-Ok.ensures.0 c.in-Ok.ensures.1 c.put_to_each-wrote.ensures.news)
+    rw (← c.self.view_is) (told_each g.T.Transport.sends _ _ a.protocol.now (record { name = a.name; interface = a.interface; version = a.version }) c.args.registries.now _ _ _ c.in-Ok.ensures.0 c.in-Ok.ensures.1 c.put_to_each-wrote.ensures.news)
